@@ -1,0 +1,12 @@
+pub mod NumberingLaws
+pub mod BoxLaws
+pub mod PieceLaws
+pub mod ArrayLaws
+pub mod RunLaws
+pub mod PartLaws
+pub mod MissLaws
+pub mod GridLaws
+pub mod LocateLaws
+pub mod SameLaws
+pub mod FillLaws
+pub mod RangeLaws

@@ -1,0 +1,19 @@
+-- What a codec is asked to serve: arrays of one shape and type, with a fill value.
+use Rattle.std.specs.Prelude.{◌≡◌, ℕ, List, length}
+use Rattle.std.specs.List.{All}
+use Rattle.zarr_parts.specs.declared.data_type.DataType.{DataType}
+use Rattle.zarr_parts.specs.Numbering.{count_of}
+use Rattle.zarr_parts.specs.Types.{size_of, FitsKind}
+
+pub record Geo : Type 0 where
+  pub shape : List ℕ
+  pub data_type : DataType
+  pub fill : List ℕ
+
+abbrev pub geo : List ℕ → DataType → List ℕ → Geo
+geo shape data_type fill = record { shape = shape; data_type = data_type; fill = fill }
+
+-- the elements of an array of this geo: as many as the shape has cells, each fitting the type
+pub record IsArrayOf (g : Geo) (elements : List (List ℕ)) : Type 0 where
+  pub counted : length elements ≡ count_of g.shape
+  pub fitting : All (FitsKind (size_of g.data_type)) elements

@@ -1,0 +1,11 @@
+pub mod Numbering
+pub mod Boxes
+pub mod Grid
+pub mod Types
+pub mod Geo
+pub mod Order
+pub mod Pieces
+pub mod Arrays
+pub mod Runs
+pub mod Refusals
+pub mod Laws

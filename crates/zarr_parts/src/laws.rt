@@ -1,0 +1,40 @@
+// The laws of the definitions, each as the contract of a function that does nothing.
+ghost use Rattle.zarr_parts.specs.Boxes.{LiesIn};
+ghost use Rattle.zarr_parts.specs.Grid.{Divides};
+ghost use Rattle.zarr_parts.specs.Laws.{NumberingLaw, GridLaw, BoxLaw};
+
+use crate::subset::ArraySubset;
+
+/// Coordinates and numbers correspond one to one.
+pub fn numbering_law(_shape: &[u64])
+    ensures { NumberingLaw _shape.now }
+{}
+
+/// Coordinates and places in subchunks correspond one to one.
+pub fn grid_law(_shape: &[u64], _sub: &[u64])
+    requires { Divides _sub.now _shape.now }
+    ensures { GridLaw _shape.now _sub.now }
+{}
+
+/// A box of a shape misses the points that it misses on some axis.
+pub fn box_law(subset: &ArraySubset, _shape: &[u64])
+    requires { LiesIn subset.now _shape.now }
+    ensures { BoxLaw subset.now _shape.now }
+{
+    let _len = subset.shape();
+}
+
+#[cfg(test)]
+mod tests {
+    use super::*;
+    use std::test::Fail;
+
+    #[test]
+    fn the_laws_can_be_called(rt: HostRuntime) -> Result<(), Fail> {
+        numbering_law(&[4, 4]);
+        grid_law(&[4, 4], &[2, 2]);
+        let whole = ArraySubset::new_with_shape(rt.alloc(), [4, 4].to_vec(rt.alloc())?)?;
+        box_law(&whole, &[4, 4]);
+        Ok(())
+    }
+}

@@ -1,0 +1,105 @@
+// Row-major numbers of coordinates.
+ghost use Rattle.std.specs.Prelude.{◌≡◌, ℕ, ◌+◌, ◌*◌, ◌^◌, ◌<◌, List, SomeIff, IfOk, MatchOption};
+ghost use Rattle.zarr_parts.specs.Numbering.{count_of, IsInside, number_of, point_of, HasPoint};
+
+use std::alloc::{AllocError, Global};
+
+// The product of a shape's numbers, if it fits.
+pub(crate) fn count(shape: &[u64]) -> Option<u64>
+    ensures { SomeIff result (count_of shape.now < 2 ^ 64) (count_of shape.now) }
+{
+    if shape.contains(&0) {
+        return Some(0);
+    }
+    let mut product = 1u64;
+    for axis in shape {
+        product = product.checked_mul(*axis)?;
+    }
+    Some(product)
+}
+
+/// The row-major (C order) number of a coordinate in a shape. `None` where their numbers of axes differ,
+/// an index is not below its axis, or the shape's count passes `u64::MAX`. Takes no memory.
+pub fn ravel_indices(indices: &[u64], shape: &[u64]) -> Option<u64>
+    ensures { SomeIff result (IsInside indices.now shape.now × (count_of shape.now < 2 ^ 64))
+        (number_of indices.now shape.now) }
+{
+    if indices.len() != shape.len() {
+        return None;
+    }
+    let mut number = 0;
+    let mut stride = 1u64;
+    for axis in (0..shape.len()).rev() {
+        let index = indices[axis];
+        if index >= shape[axis] {
+            return None;
+        }
+        let longer = stride.checked_mul(shape[axis])?;
+        number += index * stride;
+        stride = longer;
+    }
+    Some(number)
+}
+
+/// The coordinate of a shape with a row-major (C order) number. `None` where the number is not below the
+/// shape's count, or the count passes `u64::MAX`. Refused only as out of memory.
+pub fn unravel_index(
+    alloc: Global,
+    number: u64,
+    shape: &[u64],
+) -> Result<Option<Vec<u64>>, AllocError>
+    ensures { IfOk result (λ found. MatchOption found
+        (¬ HasPoint number shape.now)
+        (λ point. HasPoint number shape.now × (point.items ≡ point_of number shape.now))) }
+{
+    let Some(total) = count(shape) else {
+        return Ok(None);
+    };
+    if number >= total {
+        return Ok(None);
+    }
+    let mut point = Vec::new(alloc);
+    let mut rest = number;
+    let mut stride = total;
+    for axis in shape {
+        stride /= *axis;
+        point.push(rest / stride)?;
+        rest %= stride;
+    }
+    Ok(Some(point))
+}
+
+#[cfg(test)]
+mod tests {
+    use super::*;
+    use std::test::Fail;
+
+    #[test]
+    fn a_number_has_one_coordinate(rt: HostRuntime) -> Result<(), Fail> {
+        let point = unravel_index(rt.alloc(), 6, &[4, 4])?.expect(&rt, "6 is below 16");
+        assert_eq!(rt; point.as_slice(), [1, 2].as_slice());
+        assert_eq!(rt; unravel_index(rt.alloc(), 16, &[4, 4])?, None);
+        assert_eq!(rt; unravel_index(rt.alloc(), 0, &[4, 0])?, None);
+        assert_eq!(rt; unravel_index(rt.alloc(), 0, &[1 << 32, 1 << 32])?, None);
+        Ok(())
+    }
+
+    #[test]
+    fn a_coordinate_has_one_number(rt: HostRuntime) {
+        assert_eq!(rt; ravel_indices(&[1, 2], &[4, 4]), Some(6));
+        assert_eq!(rt; ravel_indices(&[1, 2, 3], &[2, 3, 4]), Some(23));
+        assert_eq!(rt; ravel_indices(&[], &[]), Some(0));
+        assert_eq!(rt; ravel_indices(&[1], &[4, 4]), None, "unequal lengths");
+        assert_eq!(rt;
+            ravel_indices(&[1, 4], &[4, 4]),
+            None,
+            "an index at its axis"
+        );
+        assert_eq!(rt;
+            ravel_indices(&[0, 0], &[1 << 32, 1 << 32]),
+            None,
+            "a count past the limit"
+        );
+        assert_eq!(rt; ravel_indices(&[1, 0], &[u64::MAX, 1]), Some(1));
+    }
+}
