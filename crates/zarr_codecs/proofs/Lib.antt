@@ -1,0 +1,2 @@
+pub mod BytesCodecSteps
+pub mod CodecLaws

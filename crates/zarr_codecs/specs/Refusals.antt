@@ -1,0 +1,43 @@
+-- Why a codec may refuse.
+use Rattle.std.specs.Prelude.{◌≡◌, ◌≤◌, ◌<◌, ◌^◌, ◌⊎◌, ⊤, ℕ, Option, None, List, length, slice_index, slice_index_or}
+use Rattle.std.specs.List.{sum_by}
+use Rattle.zarr_parts.specs.declared.error.CodecError.{CodecError}
+use Rattle.zarr_parts.specs.declared.error.CodecError.TheVariants.{OutOfMemory, TooLarge, CannotEncode, Fault}
+use Rattle.zarr_codecs.specs.Cells.{all_there, cell_length}
+
+-- the cells at some places, no two of them one, have lengths that add up past what memory can address
+pub record AreTooLong (cells : List (Option (List ℕ))) : Type 0 where
+  pub places : List ℕ
+  pub below : (i : ℕ) → i < length places → slice_index places i < length cells
+  pub apart : (i j : ℕ) → i < j → j < length places → ¬ (slice_index places i ≡ slice_index places j)
+  pub long : 2 ^ 64 ≤ sum_by (λ place. cell_length (slice_index_or cells place None)) places
+
+-- some cell isn't there
+abbrev pub AreDamaged : List (Option (List ℕ)) → Type 0
+AreDamaged cells = all_there cells ≡ None
+
+-- a codec refuses by its own tests, and only what it doesn't serve
+abbrev pub RefusesUnserved : Type 0 → (CodecError → Type 0) → CodecError → Type 0
+RefusesUnserved Serves tests e = (¬ Serves) × tests e
+
+-- how `encode` may refuse an array that is served
+abbrev pub MayRefuseEncode : Type 0 → Type 0 → CodecError → Type 0
+MayRefuseEncode Encodable Fits OutOfMemory = ⊤
+MayRefuseEncode Encodable Fits CannotEncode = ¬ Encodable
+MayRefuseEncode Encodable Fits TooLarge = ¬ Fits
+MayRefuseEncode Encodable Fits _ = ⊥
+
+-- how `decode` may refuse bytes that stand for these cells
+abbrev pub MayRefuseDecode : List (Option (List ℕ)) → CodecError → Type 0
+MayRefuseDecode cells OutOfMemory = ⊤
+MayRefuseDecode cells TooLarge = AreTooLong cells ⊎ AreDamaged cells
+MayRefuseDecode cells Fault = ⊥
+MayRefuseDecode cells _ = AreDamaged cells
+
+-- how `compact` may refuse bytes that stand for these cells
+abbrev pub MayRefuseCompact : List (Option (List ℕ)) → CodecError → Type 0
+MayRefuseCompact cells OutOfMemory = ⊤
+MayRefuseCompact cells TooLarge = ⊤
+MayRefuseCompact cells CannotEncode = ⊤
+MayRefuseCompact cells Fault = ⊥
+MayRefuseCompact cells _ = AreDamaged cells

@@ -1,0 +1,182 @@
+// What the sharding codec asks of a codec from arrays to bytes, and keeps itself.
+ghost use Rattle.std.specs.Prelude.{◌≡◌, ◌<◌, ℕ, List, Option, Some, None, IfOk, IfErr, OnOk, IfSome, IsSome, map, length, slice_index_or};
+ghost use Rattle.zarr_parts.specs.Order.{◌or◌then◌, ◌or_as◌then◌, done, RefusedBy};
+ghost use Rattle.zarr_parts.specs.Numbering.{count_of};
+ghost use Rattle.zarr_parts.specs.Geo.{Geo, geo, IsArrayOf};
+ghost use Rattle.zarr_parts.specs.Types.{size_of, FitsKind};
+ghost use Rattle.zarr_parts.specs.Arrays.{Array};
+ghost use Rattle.zarr_parts.specs.declared.error.CodecError.{CodecError};
+ghost use Rattle.zarr_parts.specs.declared.error.CodecError.TheVariants.{TooLarge};
+ghost use Rattle.zarr_codecs.specs.Refusals.{RefusesUnserved, MayRefuseEncode, MayRefuseDecode, MayRefuseCompact};
+ghost use Rattle.zarr_codecs.specs.Representations.{IsWithin};
+ghost use Rattle.zarr_codecs.specs.declared.representation.BytesRepresentation.{BytesRepresentation};
+
+use crate::concurrency::RecommendedConcurrency;
+use crate::representation::BytesRepresentation;
+use std::alloc::Global;
+use zarr_parts::{ArrayBytes, ChunkShape, CodecError, CodecOptions, DataType, FillValue};
+
+/// A codec from arrays to bytes (Zarr V3 core, "Codecs"). Every call takes the shape, the data type and the
+/// fill value of the array that it is about. Every call makes the tests of `check` first.
+pub trait ArrayToBytesCodecTraits {
+    // which arrays the codec serves
+    ghost serves: { Self → Geo → Type 0 };
+
+    // what bytes stand for: as many cells as the shape has, each an element or none
+    ghost cells: { Self → Geo → List ℕ → List (Option (List ℕ)) };
+
+    // the bytes are an encoding of the elements
+    ghost written: { Self → Geo → List (List ℕ) → List ℕ → Type 0 };
+
+    // the elements have an encoding
+    ghost encodable: { Self → Geo → List (List ℕ) → Type 0 };
+
+    // what is made of the elements on the way can be addressed
+    ghost fits: { Self → Geo → List (List ℕ) → Type 0 };
+
+    // how long encodings are, or none where no number can say it
+    ghost representation: { Self → Geo → Option BytesRepresentation };
+
+    // how `check` refuses: its tests in their order
+    ghost check_tests: { Self → Geo → CodecError → Type 0 };
+
+    // how `encode` refuses after the tests of `check`
+    ghost encode_tests: { Self → Geo → Array → CodecError → Type 0 };
+
+    // how `decode` refuses after the tests of `check`
+    ghost decode_tests: { Self → Geo → List ℕ → CodecError → Type 0 };
+
+    // the second bytes are the first ones, rewritten without what isn't needed
+    ghost compacted: { Self → Geo → List ℕ → List ℕ → Type 0 } = { λ _ _ _ _. ⊥ };
+
+    // how `compact` refuses: its tests in their order
+    ghost compact_tests: { Self → Geo → List ℕ → CodecError → Type 0 } = { λ _ _ _ _. ⊥ };
+
+    // how many workers can share the work on an array of a shape
+    ghost concurrency: { Self → List ℕ → ℕ };
+
+    // how `recommended_concurrency` refuses: its tests in their order
+    ghost concurrency_tests: { Self → List ℕ → CodecError → Type 0 };
+
+    /// Tests whether the codec serves these arrays. Each codec states its refusals and their order.
+    fn check(
+        &self,
+        alloc: Global,
+        shape: &ChunkShape,
+        data_type: &DataType,
+        fill_value: &FillValue,
+    ) -> Result<(), CodecError>
+        ensures serves { OnOk result (serves self.now (geo shape.now data_type.now fill_value.now)) }
+        ensures refused { let g = geo shape.now data_type.now fill_value.now in
+            IfErr result (RefusedBy (RefusesUnserved (serves self.now g) (check_tests self.now g))) };
+
+    /// Encodes the elements of an array, which come in row-major order. Refused as `check` refuses, then as
+    /// `WrongElementKind`, `InvalidNumberOfElements`, `CannotEncode` or `TooLarge`.
+    fn encode(
+        &self,
+        alloc: Global,
+        bytes: &ArrayBytes,
+        shape: &ChunkShape,
+        data_type: &DataType,
+        fill_value: &FillValue,
+        options: &CodecOptions,
+    ) -> Result<Vec<u8>, CodecError>
+        ensures serves { OnOk result (serves self.now (geo shape.now data_type.now fill_value.now)) }
+        ensures array { let g = geo shape.now data_type.now fill_value.now in
+            OnOk result ((bytes.now.kind ≡ size_of data_type.now) × IsArrayOf g bytes.now.elements) }
+        ensures written { let g = geo shape.now data_type.now fill_value.now in
+            IfOk result (λ encoded. written self.now g bytes.now.elements encoded.items) }
+        ensures lawful { let g = geo shape.now data_type.now fill_value.now in
+            IfErr result (λ e. serves self.now g → bytes.now.kind ≡ size_of data_type.now → IsArrayOf g bytes.now.elements
+            → MayRefuseEncode (encodable self.now g bytes.now.elements) (fits self.now g bytes.now.elements) e) }
+        ensures refused { let g = geo shape.now data_type.now fill_value.now in
+            IfErr result (RefusedBy (
+            serves self.now g or_as RefusesUnserved (serves self.now g) (check_tests self.now g) then
+            encode_tests self.now g bytes.now)) };
+
+    /// Decodes an array. The answer may lend the bytes on. Refused as `check` refuses, then as the codec's
+    /// bytes may be bad, or as `TooLarge`.
+    fn decode<'a>(
+        &self,
+        alloc: Global,
+        bytes: &'a [u8],
+        shape: &ChunkShape,
+        data_type: &DataType,
+        fill_value: &FillValue,
+        options: &CodecOptions,
+    ) -> Result<ArrayBytes<'a>, CodecError>
+        ensures serves { OnOk result (serves self.now (geo shape.now data_type.now fill_value.now)) }
+        ensures array { let g = geo shape.now data_type.now fill_value.now in
+            IfOk result (λ array. (array.kind ≡ size_of data_type.now) × IsArrayOf g array.elements) }
+        ensures cells { let g = geo shape.now data_type.now fill_value.now in
+            IfOk result (λ array. cells self.now g bytes.now ≡ map Some array.elements) }
+        ensures lawful { let g = geo shape.now data_type.now fill_value.now in
+            IfErr result (λ e. serves self.now g → MayRefuseDecode (cells self.now g bytes.now) e) }
+        ensures refused { let g = geo shape.now data_type.now fill_value.now in
+            IfErr result (RefusedBy (
+            serves self.now g or_as RefusesUnserved (serves self.now g) (check_tests self.now g) then
+            decode_tests self.now g bytes.now)) };
+
+    /// The bytes rewritten without what is not needed, or `None` where there is nothing to gain; they stand for the
+    /// same cells. By default `None`, with no test. Each codec that compacts states its refusals and their order.
+    fn compact(
+        &self,
+        alloc: Global,
+        bytes: &[u8],
+        shape: &ChunkShape,
+        data_type: &DataType,
+        fill_value: &FillValue,
+        options: &CodecOptions,
+    ) -> Result<Option<Vec<u8>>, CodecError>
+        ensures compacted { let g = geo shape.now data_type.now fill_value.now in
+            IfOk result (λ answer. IfSome answer (λ new. compacted self.now g bytes.now new.items)) }
+        ensures lawful { let g = geo shape.now data_type.now fill_value.now in
+            IfErr result (λ e. serves self.now g → MayRefuseCompact (cells self.now g bytes.now) e) }
+        ensures refused { IfErr result (RefusedBy (compact_tests self.now (geo shape.now data_type.now fill_value.now) bytes.now)) }
+    {
+        Ok(None)
+    }
+
+    /// How many workers can share the work on an array of a shape. Takes no memory and makes no test of the fill
+    /// value. Each codec states its refusals and their order.
+    fn recommended_concurrency(
+        &self,
+        shape: &ChunkShape,
+        data_type: &DataType,
+    ) -> Result<RecommendedConcurrency, CodecError>
+        ensures recommended { IfOk result (λ told. told ≡ concurrency self.now shape.now) }
+        ensures refused { IfErr result (concurrency_tests self.now shape.now) };
+
+    /// How long the encodings of such an array are. Refused as `check` refuses, then as `TooLarge` where no
+    /// 64-bit number can say it.
+    fn encoded_representation(
+        &self,
+        alloc: Global,
+        shape: &ChunkShape,
+        data_type: &DataType,
+        fill_value: &FillValue,
+    ) -> Result<BytesRepresentation, CodecError>
+        ensures serves { OnOk result (serves self.now (geo shape.now data_type.now fill_value.now)) }
+        ensures told { let g = geo shape.now data_type.now fill_value.now in
+            IfOk result (λ told. representation self.now g ≡ Some told) }
+        ensures refused { let g = geo shape.now data_type.now fill_value.now in
+            IfErr result (RefusedBy (
+            serves self.now g or_as RefusesUnserved (serves self.now g) (check_tests self.now g) then
+            IsSome (representation self.now g) or TooLarge then
+            done)) };
+
+    // bytes stand for as many cells as the shape has
+    ghost cells_counted: { (x : Self) (g : Geo) (b : List ℕ) → serves x g → length (cells x g b) ≡ count_of g.shape };
+
+    // a cell that is there fits the type
+    ghost cells_fitting: { (x : Self) (g : Geo) (b : List ℕ) (i : ℕ) → serves x g → i < count_of g.shape → IfSome (slice_index_or (cells x g b) i None) (FitsKind (size_of g.data_type)) };
+
+    // an encoding stands for the array that was encoded
+    ghost written_cells: { (x : Self) (g : Geo) (a : List (List ℕ)) (b : List ℕ) → serves x g → IsArrayOf g a → written x g a b → cells x g b ≡ map Some a };
+
+    // what is compacted stands for the same cells
+    ghost compacted_cells: { (x : Self) (g : Geo) (old new : List ℕ) → serves x g → compacted x g old new → cells x g new ≡ cells x g old };
+
+    // an encoding is as long as the representation says
+    ghost bounded: { (x : Self) (g : Geo) (a : List (List ℕ)) (b : List ℕ) → serves x g → IsArrayOf g a → written x g a b → IsWithin (representation x g) (length b) };
+}
