@@ -1,0 +1,116 @@
+-- A compacted shard compacts no further.
+use Rattle.std.proofs.Common.{◌≡◌, ◌≢◌, ℕ, ◌+◌, ◌*◌, ◌^◌, ◌<◌, ◌≤◌, ◌⊎◌, inl, inr, List, Option, Some, None, length, map, refl, sym, ap, ◌∙◌, subst, arith}
+use Rattle.zarr_parts.specs.Geo.{Geo, IsArrayOf}
+use Rattle.zarr_parts.specs.Numbering.{count_of}
+use Rattle.zarr_parts.specs.Grid.{grid_of}
+use Rattle.zarr_parts.specs.Order.{RefusedBy}
+use Rattle.zarr_parts.specs.declared.error.CodecError.{CodecError}
+use Rattle.zarr_parts.specs.declared.error.CodecError.TheVariants.{OutOfMemory}
+use Rattle.zarr_codecs.specs.Refusals.{AreTooLong}
+use Rattle.zarr_codecs.specs.declared.representation.BytesRepresentation.{BytesRepresentation}
+use Rattle.zarrs_sharding.specs.Index.{index_geo, index_part, slot_at, numbers_in_index}
+use Rattle.zarrs_sharding.specs.Cells.{Layout}
+use Rattle.zarrs_sharding.specs.Encoding.{slot_size}
+use Rattle.zarrs_sharding.specs.Serves.{fixed_size, layout, ShardServes}
+use Rattle.zarrs_sharding.specs.Compacting.{IsMoved, IsGood, IsCompact, IsCompacted, compact_size, CompactTests}
+use Rattle.zarrs_sharding.specs.Laws.{numbers_of_index}
+use Rattle.zarrs_sharding.specs.declared.location.ShardingIndexLocation.{ShardingIndexLocation}
+use Rattle.zarrs_sharding.specs.declared.order.SubchunkWriteOrder.{SubchunkWriteOrder}
+use Rattle.zarrs_sharding.specs.declared.slot.Slot.{Slot}
+use Rattle.zarrs_sharding.specs.declared.slot.Slot.TheVariants.{Absent, InRange, Bad}
+use Rattle.zarrs_sharding.proofs.LayingLemmas.{sum_same}
+use Rattle.zarrs_sharding.proofs.RefusalLemmas.{passed_refusal, long_enough, damaged_index}
+
+moved_good : (old new : List ℕ) (s t : Slot) (place : ℕ) → IsMoved old s place new t → IsGood t
+moved_good old new Absent t place h = rw h tt
+moved_good old new (InRange offset size) t place h = rw h.0 tt
+moved_good old new Bad t place h = absurd h
+
+moved_size : (old new : List ℕ) (s t : Slot) (place : ℕ) → IsMoved old s place new t → slot_size t ≡ slot_size s
+moved_size old new Absent t place h = rw h refl
+moved_size old new (InRange offset size) t place h = rw h.0 refl
+moved_size old new Bad t place h = absurd h
+
+module _ (IndexServed InnerServed : Type 0) (index_check : CodecError → Type 0) (representation : Option BytesRepresentation) (index_decode : List ℕ → CodecError → Type 0)
+    (index_cells : List ℕ → List (Option (List ℕ))) (index_written : List (List ℕ) → List ℕ → Type 0) (index_encodable index_fits : List (List ℕ) → Type 0)
+    (sub : List ℕ) (location : ShardingIndexLocation) (order : SubchunkWriteOrder) (g : Geo) where
+  abbrev l : Layout
+  l = layout sub location order representation g
+
+  -- what was compacted is compact
+  pub again_compact : (old new : List ℕ)
+      → ((e : List (List ℕ)) (bytes : List ℕ) → IsArrayOf (index_geo (grid_of g.shape sub)) e → index_written e bytes → index_cells bytes ≡ map Some e)
+      → IsCompacted index_cells index_written l old new → IsCompact index_cells l new
+  again_compact old new law h =
+      let r = h.rewritten in
+      let n : ℕ = count_of (grid_of g.shape sub) in
+      record {
+        numbers = r.numbers;
+        read = record {
+          told = numbers_of_index index_cells index_written sub g location (fixed_size representation) new r.numbers law (omega (arith, r.long)) r.counted r.below r.index;
+          good = λ k below. moved_good old new (slot_at (length old) h.old_numbers k) (slot_at (length new) r.numbers k) _ (r.moved k below);
+        };
+        same_size =
+            ap (λ m. fixed_size representation + m)
+            (sum_same (λ k. slot_size (slot_at (length new) r.numbers k)) (λ k. slot_size (slot_at (length old) h.old_numbers k)) n
+            (λ k below. moved_size old new (slot_at (length old) h.old_numbers k) (slot_at (length new) r.numbers k) _ (r.moved k below)))
+            ∙ sym r.long;
+      }
+
+  module _ (b : List ℕ) (h : IsCompact index_cells l b) where
+    -- what is compact isn't compacted
+    pub never_compacted : (new : List ℕ) → ¬ (IsCompacted index_cells index_written l b new)
+    never_compacted new k =
+        let both : Some h.numbers ≡ Some k.old_numbers = sym h.read.told ∙ k.read.told in
+        let same : h.numbers ≡ k.old_numbers = cc in
+        k.other_size (subst (λ ns. compact_size l (slot_at (length b) ns) ≡ length b) same h.same_size)
+
+    never_damaged : ¬ (numbers_in_index index_cells location (fixed_size representation) b ≡ None)
+    never_damaged none =
+        let both : Some h.numbers ≡ None = sym h.read.told ∙ none in
+        cc
+
+    -- and is refused only for memory
+    pub refused_for_memory : (e : CodecError) → ShardServes InnerServed IndexServed representation sub g → ((x : List ℕ) → ¬ (AreTooLong (index_cells x))) → length b + 1 < 2 ^ 64
+        → RefusedBy (CompactTests IndexServed index_check representation index_decode index_cells index_encodable index_fits l b) e → e ≡ OutOfMemory
+    refused_for_memory e serves short small k =
+        let size : ℕ = fixed_size representation in
+        let part : List ℕ = index_part location size b in
+        let told : numbers_in_index index_cells location size b ≡ Some h.numbers = h.read.told in
+        elim k [
+          | inl memory ↦ memory
+          | inr tests ↦ elim tests [
+            | inl axes ↦ absurd (axes.0 serves.same_axes)
+            | inr after_axes ↦ elim after_axes.1 [
+              | inl uneven ↦ absurd (uneven.0 serves.divides)
+              | inr after_divides ↦ elim after_divides.1 [
+                | inl large ↦ absurd (large.0 (serves.cells_fit, serves.index_fits))
+                | inr after_fits ↦ elim after_fits.1 [
+                  | inl unserved ↦ absurd (unserved.0 serves.index_served.served)
+                  | inr after_served ↦ elim after_served.1 [
+                    | inl long ↦ absurd (long.0 (rw serves.index_served.fixed refl))
+                    | inr after_some ↦ elim after_some.1 [
+                      | inl variable ↦ absurd (variable.0 serves.index_served.fixed)
+                      | inr after_fixed ↦ elim after_fixed.1 [
+                        | inl too_short ↦ absurd (too_short.0 (long_enough index_cells location size b h.numbers told))
+                        | inr after_length ↦ elim after_length.1 [
+                          | inl index ↦ elim (passed_refusal (index_cells part) index.inner e index.lawful index.no_memory index.passed_on) [
+                            | inl large ↦ elim large.1 [ inl long ↦ absurd (short part long) | inr d ↦ absurd (never_damaged (damaged_index index_cells location size b d)) ]
+                            | inr d ↦ absurd (never_damaged (damaged_index index_cells location size b d.1))
+                          ]
+                          | inr after_index ↦ elim after_index.1 [
+                            | inl bad ↦ absurd (bad.1.2 (rw told (h.read.good bad.0 bad.1.0)))
+                            | inr after_pairs ↦ elim after_pairs.1 [
+                              | inl large ↦ absurd (large.0 (rw told (omega (arith, h.same_size, small))))
+                              | inr after_size ↦ absurd (after_size.1.0 (rw told h.same_size))
+                            ]
+                          ]
+                        ]
+                      ]
+                    ]
+                  ]
+                ]
+              ]
+            ]
+          ]
+        ]

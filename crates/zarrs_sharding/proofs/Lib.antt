@@ -1,0 +1,14 @@
+pub mod QuotientLemmas
+pub mod PlanLemmas
+pub mod CellLemmas
+pub mod DecodingLemmas
+pub mod RefusalLemmas
+pub mod BoxLemmas
+pub mod LayingLemmas
+pub mod EncodingLemmas
+pub mod EncodeRefusals
+pub mod CallerLemmas
+pub mod PackingLemmas
+pub mod CompactRefusals
+pub mod CompactAgain
+pub mod CompactionLemmas

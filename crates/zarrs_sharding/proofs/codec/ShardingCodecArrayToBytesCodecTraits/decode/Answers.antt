@@ -1,0 +1,98 @@
+use Rattle.std.proofs.Common.{◌∙◌, arith, inl, inr}
+use Rattle.zarr_parts.specs.Geo.{geo}
+use Rattle.zarr_parts.specs.Grid.{grid_of}
+use Rattle.zarrs_sharding.specs.Index.{index_geo}
+use Rattle.zarrs_sharding.specs.Serves.{sub_geo, layout, fixed_size}
+use Rattle.zarrs_sharding.proofs.DecodingLemmas.{IsArrayOf-gathered, cells-gathered}
+use Rattle.zarrs_sharding.proofs.RefusalLemmas.{passed_on, lawful, index_first, subchunks_next}
+use Rattle.zarrs_sharding.proofs.codec.ShardingCodecArrayToBytesCodecTraits.decode.Goals as goal
+
+pub returns-in_err-numbers-clause-lawful : goal.returns-in_err-numbers-clause-lawful
+returns-in_err-numbers-clause-lawful g c =
+    let s = c.args.self.now in
+    let asked = geo c.args.shape.now c.args.data_type.now c.args.fill_value.now in
+    let index_g = index_geo (grid_of c.args.shape.now s.subchunk_shape) in
+    let inner_decode = g.I.ArrayToBytesCodecTraits.decode_tests s.inner (sub_geo s.subchunk_shape asked) in
+    let index_decode = g.X.ArrayToBytesCodecTraits.decode_tests s.index_codec index_g in
+    let inner_cells = g.I.ArrayToBytesCodecTraits.cells s.inner (sub_geo s.subchunk_shape asked) in
+    let index_cells = g.X.ArrayToBytesCodecTraits.cells s.index_codec index_g in
+    let representation = g.X.ArrayToBytesCodecTraits.representation s.index_codec index_g in
+    let plan = c.in_ok-plan.ensures.plan in
+    let e = c.in_err-numbers.field-0.0 in
+    let tests = index_first inner_decode index_decode inner_cells index_cells (layout s.subchunk_shape s.location s.order representation asked) c.args.bytes.now e
+    (rw (plan.grid, plan.index.size) at c.in_err-numbers.ensures.refused) in
+    passed_on _ e _ c.from_residual-in_err-numbers.ensures.1 (λ serves. lawful inner_decode index_decode inner_cells index_cells _ _ representation s.subchunk_shape s.location s.order asked c.args.bytes.now e
+    serves (rw plan.subchunks at plan.some) plan.places
+    (g.met.I.ArrayToBytesCodecTraits.cells_counted s.inner _) (g.met.X.ArrayToBytesCodecTraits.cells_counted s.index_codec _) (g.met.X.ArrayToBytesCodecTraits.cells_fitting s.index_codec _) tests)
+
+pub returns-in_err-subchunks-clause-lawful : goal.returns-in_err-subchunks-clause-lawful
+returns-in_err-subchunks-clause-lawful g c =
+    let s = c.args.self.now in
+    let asked = geo c.args.shape.now c.args.data_type.now c.args.fill_value.now in
+    let index_g = index_geo (grid_of c.args.shape.now s.subchunk_shape) in
+    let inner_decode = g.I.ArrayToBytesCodecTraits.decode_tests s.inner (sub_geo s.subchunk_shape asked) in
+    let index_decode = g.X.ArrayToBytesCodecTraits.decode_tests s.index_codec index_g in
+    let inner_cells = g.I.ArrayToBytesCodecTraits.cells s.inner (sub_geo s.subchunk_shape asked) in
+    let index_cells = g.X.ArrayToBytesCodecTraits.cells s.index_codec index_g in
+    let representation = g.X.ArrayToBytesCodecTraits.representation s.index_codec index_g in
+    let plan = c.in_ok-plan.ensures.plan in
+    let e = c.in_err-subchunks.field-0.0 in
+    let counted = rw plan.grid at c.in_ok-numbers.ensures.counted in
+    let tests = subchunks_next inner_decode index_decode inner_cells index_cells (layout s.subchunk_shape s.location s.order representation asked) c.args.bytes.now c.in_ok-numbers.numbers.items _ e
+    (rw (plan.grid, plan.index.size) at c.in_ok-numbers.ensures.numbers) (omega (arith, counted)) (rw c.deref.ensures.value at c.in_err-subchunks.ensures.refused) in
+    passed_on _ e _ c.from_residual-in_err-subchunks.ensures.1 (λ serves. lawful inner_decode index_decode inner_cells index_cells _ _ representation s.subchunk_shape s.location s.order asked c.args.bytes.now e
+    serves (rw plan.subchunks at plan.some) plan.places
+    (g.met.I.ArrayToBytesCodecTraits.cells_counted s.inner _) (g.met.X.ArrayToBytesCodecTraits.cells_counted s.index_codec _) (g.met.X.ArrayToBytesCodecTraits.cells_fitting s.index_codec _) tests)
+
+pub returns-in_err-subchunks-clause-refused : goal.returns-in_err-subchunks-clause-refused
+returns-in_err-subchunks-clause-refused g c =
+    let s = c.args.self.now in
+    let asked = geo c.args.shape.now c.args.data_type.now c.args.fill_value.now in
+    let index_g = index_geo (grid_of c.args.shape.now s.subchunk_shape) in
+    let inner_decode = g.I.ArrayToBytesCodecTraits.decode_tests s.inner (sub_geo s.subchunk_shape asked) in
+    let index_decode = g.X.ArrayToBytesCodecTraits.decode_tests s.index_codec index_g in
+    let inner_cells = g.I.ArrayToBytesCodecTraits.cells s.inner (sub_geo s.subchunk_shape asked) in
+    let index_cells = g.X.ArrayToBytesCodecTraits.cells s.index_codec index_g in
+    let representation = g.X.ArrayToBytesCodecTraits.representation s.index_codec index_g in
+    let plan = c.in_ok-plan.ensures.plan in
+    let e = c.in_err-subchunks.field-0.0 in
+    let counted = rw plan.grid at c.in_ok-numbers.ensures.counted in
+    let tests = subchunks_next inner_decode index_decode inner_cells index_cells (layout s.subchunk_shape s.location s.order representation asked) c.args.bytes.now c.in_ok-numbers.numbers.items _ e
+    (rw (plan.grid, plan.index.size) at c.in_ok-numbers.ensures.numbers) (omega (arith, counted)) (rw c.deref.ensures.value at c.in_err-subchunks.ensures.refused) in
+    let serves = c.in_ok-plan.ensures.serves in
+    passed_on _ e _ c.from_residual-in_err-subchunks.ensures.1 (elim tests [ inl memory ↦ inl memory | inr refused ↦ inr (inr (serves, refused)) ])
+
+pub returns-clause-array : goal.returns-clause-array
+returns-clause-array g c =
+    let s = c.args.self.now in
+    let asked = geo c.args.shape.now c.args.data_type.now c.args.fill_value.now in
+    let inner_cells = g.I.ArrayToBytesCodecTraits.cells s.inner (sub_geo s.subchunk_shape asked) in
+    let index_cells = g.X.ArrayToBytesCodecTraits.cells s.index_codec (index_geo (grid_of c.args.shape.now s.subchunk_shape)) in
+    let size = fixed_size (g.X.ArrayToBytesCodecTraits.representation s.index_codec (index_geo (grid_of c.args.shape.now s.subchunk_shape))) in
+    let plan = c.in_ok-plan.ensures.plan in
+    let serves = c.in_ok-plan.ensures.serves in
+    let found = rw c.deref.ensures.value at c.in_ok-subchunks.ensures.decoded in
+    let many = rw c.deref.ensures.value at c.in_ok-subchunks.ensures.counted in
+    let counted = rw plan.grid at c.in_ok-numbers.ensures.counted in
+    let elements = rw (c.deref-2.ensures.value, c.as_ne_bytes.ensures) at c.in_ok-array.ensures.elements in (
+      c.in_ok-array.ensures.kind ∙ c.size.ensures,
+      IsArrayOf-gathered inner_cells index_cells s.subchunk_shape s.location s.order size asked c.args.bytes.now
+          c.in_ok-numbers.numbers.items c.in_ok-subchunks.subchunks.items c.in_ok-array.array.elements serves.divides (λ k below. found k (omega (arith, many, counted))) elements serves.fill_fits,
+    )
+
+pub returns-clause-cells : goal.returns-clause-cells
+returns-clause-cells g c =
+    let s = c.args.self.now in
+    let asked = geo c.args.shape.now c.args.data_type.now c.args.fill_value.now in
+    let inner_cells = g.I.ArrayToBytesCodecTraits.cells s.inner (sub_geo s.subchunk_shape asked) in
+    let index_cells = g.X.ArrayToBytesCodecTraits.cells s.index_codec (index_geo (grid_of c.args.shape.now s.subchunk_shape)) in
+    let size = fixed_size (g.X.ArrayToBytesCodecTraits.representation s.index_codec (index_geo (grid_of c.args.shape.now s.subchunk_shape))) in
+    let plan = c.in_ok-plan.ensures.plan in
+    let serves = c.in_ok-plan.ensures.serves in
+    let found = rw c.deref.ensures.value at c.in_ok-subchunks.ensures.decoded in
+    let many = rw c.deref.ensures.value at c.in_ok-subchunks.ensures.counted in
+    let counted = rw plan.grid at c.in_ok-numbers.ensures.counted in
+    let elements = rw (c.deref-2.ensures.value, c.as_ne_bytes.ensures) at c.in_ok-array.ensures.elements in
+    cells-gathered inner_cells index_cells s.subchunk_shape s.location s.order size asked c.args.bytes.now
+    c.in_ok-numbers.numbers.items c.in_ok-subchunks.subchunks.items c.in_ok-array.array.elements serves.divides (λ k below. found k (omega (arith, many, counted))) elements
+    (rw (plan.grid, plan.index.size) at c.in_ok-numbers.ensures.numbers)

@@ -1,0 +1,30 @@
+use Rattle.std.proofs.Common.{arith}
+use Rattle.zarr_parts.specs.Geo.{geo}
+use Rattle.zarr_parts.specs.Grid.{grid_of}
+use Rattle.zarr_parts.specs.Types.{size_of, byte_size}
+use Rattle.zarrs_sharding.specs.Index.{index_geo}
+use Rattle.zarrs_sharding.specs.Cells.{shard_cells}
+use Rattle.zarrs_sharding.specs.Serves.{sub_geo, layout, fixed_size}
+use Rattle.zarrs_sharding.specs.Laws.{length-shard_cells, shard_cells_fitting}
+use Rattle.zarrs_sharding.proofs.CellLemmas.{not_too_long}
+use Rattle.zarrs_sharding.proofs.CallerLemmas.{sound_refused}
+use Rattle.zarrs_sharding.proofs.laws.decode_sound.Goals as goal
+
+pub returns : goal.returns
+returns g c =
+    let s = c.args.codec.now in
+    let b = c.args.bytes.now in
+    let asked = geo c.args.shape.now c.args.data_type.now c.args.fill_value.now in
+    let index_g = index_geo (grid_of c.args.shape.now s.subchunk_shape) in
+    let inner = g.I.ArrayToBytesCodecTraits.cells s.inner (sub_geo s.subchunk_shape asked) in
+    let index = g.X.ArrayToBytesCodecTraits.cells s.index_codec index_g in
+    let representation = g.X.ArrayToBytesCodecTraits.representation s.index_codec index_g in
+    let serves = c.requires.serves in
+    let cells = shard_cells inner index (layout s.subchunk_shape s.location s.order representation asked) b in
+    let counted = length-shard_cells inner index (layout s.subchunk_shape s.location s.order representation asked) b in
+    sound_refused c.decode.result _ cells serves c.requires.sound
+    (not_too_long (byte_size (size_of c.args.data_type.now)) cells
+    (λ i below. rw c.requires.fixed at (shard_cells_fitting inner index s.subchunk_shape s.location s.order (fixed_size representation) asked b i serves.fill_fits serves.divides (omega (arith, below, counted))
+    (λ x j inside. g.met.I.ArrayToBytesCodecTraits.cells_fitting s.inner _ x j serves.inner_served inside)))
+    (rw counted serves.bytes_fit))
+    c.decode.ensures.lawful

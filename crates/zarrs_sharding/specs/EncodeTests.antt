@@ -1,0 +1,54 @@
+-- Why an array may be refused: the tests of encoding, in their order.
+use Rattle.std.specs.Prelude.{◌≡◌, ◌≤◌, ◌<◌, ◌^◌, ◌⊎◌, ℕ, ◌+◌, ◌*◌, List, length, map}
+use Rattle.std.specs.List.{All}
+use Rattle.zarr_parts.specs.Order.{◌or◌then◌, ◌or_as◌then◌, EachAs}
+use Rattle.zarr_parts.specs.Numbering.{count_of}
+use Rattle.zarr_parts.specs.Grid.{grid_of, subchunk}
+use Rattle.zarr_parts.specs.Arrays.{Array}
+use Rattle.zarr_parts.specs.declared.data_type.DataTypeSize.{DataTypeSize}
+use Rattle.zarr_parts.specs.declared.error.CodecError.{CodecError}
+use Rattle.zarr_parts.specs.declared.error.CodecError.TheVariants.{TooLarge, CannotEncode, WrongElementKind, InvalidNumberOfElements}
+use Rattle.zarrs_sharding.specs.Index.{element_of_number}
+use Rattle.zarrs_sharding.specs.Cells.{Layout}
+use Rattle.zarrs_sharding.specs.Encoding.{IsAllFill}
+use Rattle.zarrs_sharding.specs.Serves.{IsPart, total_size}
+
+-- how another codec may refuse to encode, save for memory
+abbrev pub RefusesToEncode : Type 0 → Type 0 → CodecError → Type 0
+RefusesToEncode Encodable Fits e = ((e ≡ CannotEncode) × (¬ Encodable)) ⊎ ((e ≡ TooLarge) × (¬ Fits))
+
+-- how a subchunk may be refused, which is to be stored
+abbrev pub RefusesToStore : (inner_encodable inner_fits : List (List ℕ) → Type 0) → List ℕ → List (List ℕ) → CodecError → Type 0
+RefusesToStore inner_encodable inner_fits fill elements e = (¬ (IsAllFill fill elements)) × RefusesToEncode (inner_encodable elements) (inner_fits elements) e
+
+-- a subchunk can be stored
+abbrev pub HasPart : (List (List ℕ) → List ℕ → Type 0) → List ℕ → List (List ℕ) → Type 0
+HasPart inner_written fill elements = (part : List ℕ) × IsPart inner_written fill elements part
+
+-- the tests of the first n subchunks, ascending: the first that is refused gives the refusal
+abbrev pub StoreTests : (inner_encodable inner_fits : List (List ℕ) → Type 0) → (List (List ℕ) → List ℕ → Type 0) → List ℕ → (ℕ → List (List ℕ)) → ℕ → (CodecError → Type 0) → CodecError → Type 0
+StoreTests inner_encodable inner_fits inner_written fill subchunks n later =
+    EachAs n (λ k. HasPart inner_written fill (subchunks k)) (λ k. RefusesToStore inner_encodable inner_fits fill (subchunks k))
+    later
+
+-- some parts of the subchunks have, with the index, a size with P
+pub record SomeTotal (inner_written : List (List ℕ) → List ℕ → Type 0) (l : Layout) (a : List (List ℕ)) (P : ℕ → Type 0) : Type 0 where
+  pub parts : ℕ → List ℕ
+  pub each : (k : ℕ) → k < count_of (grid_of l.shape l.sub) → IsPart inner_written l.fill (subchunk l.shape l.sub a k) (parts k)
+  pub total : P (total_size l parts)
+
+-- how the index of so many subchunks may be refused
+pub record RefusesIndex (index_encodable index_fits : List (List ℕ) → Type 0) (subchunks : ℕ) (e : CodecError) : Type 0 where
+  pub numbers : List ℕ
+  pub counted : length numbers ≡ 2 * subchunks
+  pub below : All (λ n. n < 2 ^ 64) numbers
+  pub refuses : RefusesToEncode (index_encodable (map element_of_number numbers)) (index_fits (map element_of_number numbers)) e
+
+-- the tests of a whole array after those of `check`
+abbrev pub EncodeTests : (inner_encodable inner_fits index_encodable index_fits : List (List ℕ) → Type 0) → (List (List ℕ) → List ℕ → Type 0) → Layout → DataTypeSize → Array → CodecError → Type 0
+EncodeTests inner_encodable inner_fits index_encodable index_fits inner_written l kind array =
+    array.kind ≡ kind or WrongElementKind then
+    length array.elements ≡ count_of l.shape or InvalidNumberOfElements then
+    StoreTests inner_encodable inner_fits inner_written l.fill (subchunk l.shape l.sub array.elements) (count_of (grid_of l.shape l.sub))
+    (SomeTotal inner_written l array.elements (λ n. n + 1 < 2 ^ 64) or_as (λ e. (e ≡ TooLarge) × SomeTotal inner_written l array.elements (λ n. 2 ^ 64 ≤ n + 1)) then
+    RefusesIndex index_encodable index_fits (count_of (grid_of l.shape l.sub)))

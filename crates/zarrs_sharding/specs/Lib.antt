@@ -1,0 +1,16 @@
+pub mod Index
+pub mod Cells
+pub mod Encoding
+pub mod Serves
+pub mod Grids
+pub mod Plans
+pub mod DecodeTests
+pub mod EncodeTests
+pub mod Laying
+pub mod Decoding
+pub mod Compacting
+pub mod Holding
+pub mod Packing
+pub mod Scratch
+pub mod Laws
+pub mod ScratchLaws

@@ -1,0 +1,132 @@
+// The tests that every call makes first, and what they find.
+ghost use Rattle.std.specs.Prelude.{◌≡◌, ◌<◌, ◌^◌, ◌*◌, IfOk, IfErr, OnOk, length};
+ghost use Rattle.zarr_parts.specs.Order.{◌or◌then◌, done, RefusedBy};
+ghost use Rattle.zarr_parts.specs.Numbering.{count_of};
+ghost use Rattle.zarr_parts.specs.Grid.{grid_of};
+ghost use Rattle.zarr_parts.specs.Geo.{Geo, geo};
+ghost use Rattle.zarr_parts.specs.Types.{size_of, HasElements, FitsKind, byte_size};
+ghost use Rattle.zarr_parts.specs.declared.error.CodecError.TheVariants.{UnsupportedDataType, BadFillValue};
+ghost use Rattle.zarr_codecs.specs.Refusals.{RefusesUnserved};
+ghost use Rattle.zarrs_sharding.specs.Index.{index_geo};
+ghost use Rattle.zarrs_sharding.specs.Serves.{sub_geo, fixed_size, IndexServes, ShardServes, IndexCodecTests, CheckTests};
+ghost use Rattle.zarrs_sharding.specs.Plans.{IsIndexPlan, IsPlan};
+
+use crate::codec::ShardingCodec;
+use crate::grid::{calculate_chunks_per_shard, sharding_index_shape};
+use std::alloc::Global;
+use zarr_codecs::{ArrayToBytesCodecTraits, BytesRepresentation};
+use zarr_parts::{ChunkShape, CodecError, DataType, DataTypeSize, FillValue};
+
+/// The size of a shard's index, and what the index codec is asked to serve.
+#[derive(Drop)]
+pub(crate) struct IndexPlan {
+    pub size: u64,
+    pub shape: ChunkShape,
+    pub fill: FillValue,
+}
+
+/// What is known of a shard before its bytes are looked at.
+#[derive(Drop)]
+pub(crate) struct Plan {
+    pub cells: u64,
+    pub subchunks: u64,
+    pub grid: ChunkShape,
+    pub index: IndexPlan,
+}
+
+// The bytes of one element of a type that the fill value fits, 0 where that varies.
+fn element_size(data_type: &DataType, fill_value: &FillValue) -> Result<u64, CodecError>
+    ensures size { IfOk result (λ size. size ≡ byte_size (size_of data_type.now)) }
+    ensures supported { OnOk result (HasElements data_type.now) }
+    ensures fits { OnOk result (FitsKind (size_of data_type.now) fill_value.now) }
+    ensures refused { IfErr result (
+        HasElements data_type.now or UnsupportedDataType then
+        FitsKind (size_of data_type.now) fill_value.now or BadFillValue then
+        done) }
+{
+    match data_type.size() {
+        DataTypeSize::Fixed(size) => {
+            if size == 0 {
+                return Err(CodecError::UnsupportedDataType);
+            }
+            if fill_value.as_ne_bytes().len() != size {
+                return Err(CodecError::BadFillValue);
+            }
+            Ok(size as u64)
+        }
+        DataTypeSize::Variable => Ok(0),
+    }
+}
+
+impl<I, X: ArrayToBytesCodecTraits> ShardingCodec<I, X> {
+    // Tests the index codec on the index of a grid.
+    pub(crate) fn index_plan(
+        &self,
+        alloc: Global,
+        grid: &ChunkShape,
+    ) -> Result<IndexPlan, CodecError>
+        ensures serves { let x = self.now.index_codec in let g = index_geo grid.now in
+            OnOk result (IndexServes (X.serves x g) (X.representation x g)) }
+        ensures plan { IfOk result (IsIndexPlan (fixed_size (X.representation self.now.index_codec (index_geo grid.now))) grid.now) }
+        ensures refused { let x = self.now.index_codec in let g = index_geo grid.now in
+            IfErr result (RefusedBy (IndexCodecTests (X.serves x g) (X.check_tests x g) (X.representation x g) done)) }
+    {
+        let shape = sharding_index_shape(alloc, grid)?;
+        let fill = FillValue::new(vec![in alloc; 255u8; 8]?);
+        let data_type = DataType::UInt64;
+        let told = self
+            .index_codec
+            .encoded_representation(alloc, &shape, &data_type, &fill)?;
+        let BytesRepresentation::FixedSize(size) = told else {
+            return Err(CodecError::VariableIndexSize);
+        };
+        Ok(IndexPlan { size, shape, fill })
+    }
+}
+
+impl<I: ArrayToBytesCodecTraits, X: ArrayToBytesCodecTraits> ShardingCodec<I, X> {
+    // Makes the tests of `check`.
+    pub(crate) fn prepared(
+        &self,
+        alloc: Global,
+        shape: &ChunkShape,
+        data_type: &DataType,
+        fill_value: &FillValue,
+    ) -> Result<Plan, CodecError>
+        ensures serves { let g = geo shape.now data_type.now fill_value.now in let s = self.now in
+            let inner_g = sub_geo s.subchunk_shape g in let index_g = index_geo (grid_of g.shape s.subchunk_shape) in
+            OnOk result (ShardServes (I.serves s.inner inner_g) (X.serves s.index_codec index_g) (X.representation s.index_codec index_g) s.subchunk_shape g) }
+        ensures plan { let s = self.now in
+            IfOk result (IsPlan (fixed_size (X.representation s.index_codec (index_geo (grid_of shape.now s.subchunk_shape)))) shape.now s.subchunk_shape) }
+        ensures refused { let g = geo shape.now data_type.now fill_value.now in let s = self.now in
+            let inner_g = sub_geo s.subchunk_shape g in let index_g = index_geo (grid_of g.shape s.subchunk_shape) in
+            IfErr result (RefusedBy (RefusesUnserved
+            (ShardServes (I.serves s.inner inner_g) (X.serves s.index_codec index_g) (X.representation s.index_codec index_g) s.subchunk_shape g)
+            (CheckTests (I.serves s.inner inner_g) (X.serves s.index_codec index_g) (I.check_tests s.inner inner_g) (X.check_tests s.index_codec index_g)
+            (X.representation s.index_codec index_g) s.subchunk_shape g))) }
+    {
+        let size = element_size(data_type, fill_value)?;
+        let grid = calculate_chunks_per_shard(alloc, shape, &self.subchunk_shape)?;
+        let Some(cells) = shape.num_elements() else {
+            return Err(CodecError::TooLarge);
+        };
+        let Some(_) = cells.checked_mul(size) else {
+            return Err(CodecError::TooLarge);
+        };
+        let Some(subchunks) = grid.num_elements() else {
+            return Err(CodecError::TooLarge);
+        };
+        let Some(_) = subchunks.checked_mul(16) else {
+            return Err(CodecError::TooLarge);
+        };
+        let index = self.index_plan(alloc, &grid)?;
+        self.inner
+            .check(alloc, &self.subchunk_shape, data_type, fill_value)?;
+        Ok(Plan {
+            cells,
+            subchunks,
+            grid,
+            index,
+        })
+    }
+}

@@ -1,0 +1,306 @@
+// The sharding codec, as a codec from arrays to bytes.
+ghost use Rattle.std.specs.Prelude.{IfSome, IfNone, ◌≡◌, ◌<◌, ◌^◌, Some, IfOk, IfErr, OnOk, SomeIff, length};
+ghost use Rattle.zarr_parts.specs.Order.{RefusedBy};
+ghost use Rattle.zarr_parts.specs.Numbering.{count_of};
+ghost use Rattle.zarr_parts.specs.Grid.{grid_of, grid_box};
+ghost use Rattle.zarr_parts.specs.Types.{size_of};
+ghost use Rattle.zarrs_sharding.specs.Index.{index_geo};
+ghost use Rattle.zarrs_sharding.specs.Cells.{shard_cells};
+ghost use Rattle.zarrs_sharding.specs.Encoding.{IsEncoding};
+ghost use Rattle.zarrs_sharding.specs.Serves.{sub_geo, fixed_size, layout, ShardServes, ShardEncodable, ShardFits, shard_representation, CheckTests};
+ghost use Rattle.zarrs_sharding.specs.DecodeTests.{DecodeTests};
+ghost use Rattle.zarrs_sharding.specs.EncodeTests.{EncodeTests};
+ghost use Rattle.zarrs_sharding.specs.Grids.{SubsetTests, EndsFit, ConcurrencyTests};
+ghost use Rattle.zarrs_sharding.specs.Compacting.{IsCompacted, IsCompact, CompactTests};
+ghost use Rattle.zarr_codecs.specs.Refusals.{MayRefuseCompact};
+ghost use Rattle.zarr_parts.specs.Geo.{geo};
+ghost use Rattle.zarrs_sharding.specs.declared.order.SubchunkWriteOrder.TheVariants.{Unordered};
+
+use crate::compact::{compact_size, present_slots};
+use crate::decode::gathered;
+use crate::grid::{count_subchunks, subchunk_subset};
+use crate::location::ShardingIndexLocation;
+use crate::order::SubchunkWriteOrder;
+use std::alloc::Global;
+use zarr_codecs::{ArrayToBytesCodecTraits, BytesRepresentation, RecommendedConcurrency};
+use zarr_parts::{
+    ArrayBytes, ArraySubset, ChunkShape, CodecError, CodecOptions, DataType, FillValue,
+};
+
+/// The codec `sharding_indexed` (Zarr V3): cuts an array into equal subchunks, encodes each that is not wholly the
+/// fill value by the inner codec `I`, and lays them beside an index, which the index codec `X` encodes.
+#[derive(Debug, Drop)]
+pub struct ShardingCodec<I, X> {
+    pub(crate) subchunk_shape: ChunkShape,
+    pub(crate) inner: I,
+    pub(crate) index_codec: X,
+    pub(crate) location: ShardingIndexLocation,
+    pub(crate) order: SubchunkWriteOrder,
+}
+
+impl<I, X> ShardingCodec<I, X> {
+    /// The codec of these parts, which writes subchunks in the order `Unordered`.
+    pub fn new(
+        subchunk_shape: ChunkShape,
+        inner_codec: I,
+        index_codec: X,
+        index_location: ShardingIndexLocation,
+    ) -> Self
+        ensures { result ≡ record { subchunk_shape = subchunk_shape; inner = inner_codec; index_codec = index_codec; location = index_location; order = Unordered } }
+    {
+        ShardingCodec {
+            subchunk_shape,
+            inner: inner_codec,
+            index_codec,
+            location: index_location,
+            order: SubchunkWriteOrder::Unordered,
+        }
+    }
+
+    /// The same codec with another order in which subchunks are written.
+    pub fn with_subchunk_write_order(self, order: SubchunkWriteOrder) -> Self
+        ensures { result ≡ record self { order = order } }
+    {
+        let ShardingCodec {
+            subchunk_shape,
+            inner,
+            index_codec,
+            location,
+            order: _,
+        } = self;
+        ShardingCodec {
+            subchunk_shape,
+            inner,
+            index_codec,
+            location,
+            order,
+        }
+    }
+
+    /// The box of the cells of a subchunk of a shard, by the subchunk's number in the grid `chunks_per_shard`; `None`
+    /// where the grid has no such number. Refused, in this order, as `IncompatibleDimensionality` where grid and
+    /// subchunk shape differ in their number of axes, as `TooLarge` where the grid's count or an end of the box passes
+    /// `u64::MAX`; or as `OutOfMemory`.
+    pub fn chunk_index_to_subset(
+        &self,
+        alloc: Global,
+        chunk_index: u64,
+        chunks_per_shard: &ChunkShape,
+    ) -> Result<Option<ArraySubset>, CodecError>
+        ensures subset { IfOk result (λ found. SomeIff found (chunk_index < count_of chunks_per_shard.now) (grid_box chunks_per_shard.now self.now.subchunk_shape chunk_index)) }
+        ensures served { OnOk result ((length chunks_per_shard.now ≡ length self.now.subchunk_shape)
+            × (count_of chunks_per_shard.now < 2 ^ 64) × EndsFit chunks_per_shard.now self.now.subchunk_shape chunk_index) }
+        ensures refused { IfErr result (RefusedBy (SubsetTests chunks_per_shard.now self.now.subchunk_shape chunk_index)) }
+    {
+        subchunk_subset(alloc, chunk_index, chunks_per_shard, &self.subchunk_shape)
+    }
+}
+
+impl<I: ArrayToBytesCodecTraits, X: ArrayToBytesCodecTraits> ArrayToBytesCodecTraits
+    for ShardingCodec<I, X> {
+    ghost serves = { λ s g. let inner_g = sub_geo s.subchunk_shape g in let index_g = index_geo (grid_of g.shape s.subchunk_shape) in
+        ShardServes (I.serves s.inner inner_g) (X.serves s.index_codec index_g) (X.representation s.index_codec index_g) s.subchunk_shape g };
+
+    ghost cells = { λ s g b. let inner_g = sub_geo s.subchunk_shape g in let index_g = index_geo (grid_of g.shape s.subchunk_shape) in
+        shard_cells (I.cells s.inner inner_g) (X.cells s.index_codec index_g) (layout s.subchunk_shape s.location s.order (X.representation s.index_codec index_g) g) b };
+
+    ghost written = { λ s g a b. let inner_g = sub_geo s.subchunk_shape g in let index_g = index_geo (grid_of g.shape s.subchunk_shape) in
+        IsEncoding (I.written s.inner inner_g) (X.written s.index_codec index_g) (layout s.subchunk_shape s.location s.order (X.representation s.index_codec index_g) g) a b };
+
+    ghost encodable = { λ s g a. let inner_g = sub_geo s.subchunk_shape g in let index_g = index_geo (grid_of g.shape s.subchunk_shape) in
+        ShardEncodable (I.encodable s.inner inner_g) (X.encodable s.index_codec index_g) (layout s.subchunk_shape s.location s.order (X.representation s.index_codec index_g) g) a };
+
+    ghost fits = { λ s g a. let inner_g = sub_geo s.subchunk_shape g in let index_g = index_geo (grid_of g.shape s.subchunk_shape) in
+        ShardFits (I.fits s.inner inner_g) (X.fits s.index_codec index_g) (I.written s.inner inner_g)
+        (layout s.subchunk_shape s.location s.order (X.representation s.index_codec index_g) g) a };
+
+    ghost representation = { λ s g. let inner_g = sub_geo s.subchunk_shape g in let index_g = index_geo (grid_of g.shape s.subchunk_shape) in
+        shard_representation (I.representation s.inner inner_g) (count_of (grid_of g.shape s.subchunk_shape)) (fixed_size (X.representation s.index_codec index_g)) };
+
+    ghost check_tests = { λ s g. let inner_g = sub_geo s.subchunk_shape g in let index_g = index_geo (grid_of g.shape s.subchunk_shape) in
+        CheckTests (I.serves s.inner inner_g) (X.serves s.index_codec index_g) (I.check_tests s.inner inner_g) (X.check_tests s.index_codec index_g)
+        (X.representation s.index_codec index_g) s.subchunk_shape g };
+
+    ghost encode_tests = { λ s g a. let inner_g = sub_geo s.subchunk_shape g in let index_g = index_geo (grid_of g.shape s.subchunk_shape) in
+        EncodeTests (I.encodable s.inner inner_g) (I.fits s.inner inner_g) (X.encodable s.index_codec index_g) (X.fits s.index_codec index_g) (I.written s.inner inner_g)
+        (layout s.subchunk_shape s.location s.order (X.representation s.index_codec index_g) g) (size_of g.data_type) a };
+
+    ghost decode_tests = { λ s g b. let inner_g = sub_geo s.subchunk_shape g in let index_g = index_geo (grid_of g.shape s.subchunk_shape) in
+        DecodeTests (I.decode_tests s.inner inner_g) (X.decode_tests s.index_codec index_g) (I.cells s.inner inner_g) (X.cells s.index_codec index_g)
+        (layout s.subchunk_shape s.location s.order (X.representation s.index_codec index_g) g) b };
+
+    ghost compacted = { λ s g old new. let index_g = index_geo (grid_of g.shape s.subchunk_shape) in
+        IsCompacted (X.cells s.index_codec index_g) (X.written s.index_codec index_g) (layout s.subchunk_shape s.location s.order (X.representation s.index_codec index_g) g) old new };
+
+    ghost compact_tests = { λ s g b. let index_g = index_geo (grid_of g.shape s.subchunk_shape) in
+        CompactTests (X.serves s.index_codec index_g) (X.check_tests s.index_codec index_g) (X.representation s.index_codec index_g)
+        (X.decode_tests s.index_codec index_g) (X.cells s.index_codec index_g) (X.encodable s.index_codec index_g) (X.fits s.index_codec index_g)
+        (layout s.subchunk_shape s.location s.order (X.representation s.index_codec index_g) g) b };
+
+    ghost concurrency = { λ s shape. count_of (grid_of shape s.subchunk_shape) };
+
+    ghost concurrency_tests = { λ s shape. ConcurrencyTests shape s.subchunk_shape };
+
+    ghost use Rattle.zarrs_sharding.specs.Laws.{length-shard_cells, shard_cells_fitting, cells_of_encoding, cells_of_compacted, shard_bounded};
+
+    ghost cells_counted = { λ s g b h. length-shard_cells _ _ _ b };
+
+    ghost cells_fitting = { λ s g b i h below. shard_cells_fitting _ _ s.subchunk_shape s.location s.order _ g b i h.fill_fits h.divides below
+        (λ x j inside. I.cells_fitting s.inner _ x j h.inner_served inside) };
+
+    ghost written_cells = { λ s g a b h array e. cells_of_encoding _ _ _ _ s.subchunk_shape s.location s.order _ g a b h.divides array
+        (λ x y array written. I.written_cells s.inner _ x y h.inner_served array written)
+        (λ x y array written. X.written_cells s.index_codec _ x y h.index_served.served array written) e };
+
+    ghost compacted_cells = { λ s g old new h rewritten. cells_of_compacted _ _ _ s.subchunk_shape s.location s.order _ g old new h.divides
+        (λ x y array written. X.written_cells s.index_codec _ x y h.index_served.served array written) rewritten };
+
+    ghost bounded = { λ s g a b h array e. shard_bounded _ _ _ s.subchunk_shape s.location s.order _ g a b h.divides array
+        (λ x y array written. I.bounded s.inner _ x y h.inner_served array written) e };
+
+    /// Refused, in this order, as `UnsupportedDataType` (`Optional`, `Raw(0)`), `BadFillValue` (a fill value of another
+    /// length than the fixed type), `IncompatibleDimensionality` (shape and subchunk shape), `InvalidSubchunkShape` (an
+    /// axis is not divided evenly), `TooLarge` (the count of cells, their bytes, or 16 bytes for each subchunk), as the
+    /// index codec's `check` refuses, as `TooLarge` or `VariableIndexSize` where the index has no fixed size, and as the
+    /// inner codec's `check` refuses; or as `OutOfMemory`.
+    fn check(
+        &self,
+        alloc: Global,
+        shape: &ChunkShape,
+        data_type: &DataType,
+        fill_value: &FillValue,
+    ) -> Result<(), CodecError> {
+        let _ = self.prepared(alloc, shape, data_type, fill_value)?;
+        Ok(())
+    }
+
+    /// Stores each subchunk that is not wholly the fill value. Refused as `check` refuses, then as `WrongElementKind`,
+    /// `InvalidNumberOfElements`, as the inner codec refuses the lowest refused subchunk (`CannotEncode`, `TooLarge`),
+    /// as `TooLarge` where the shard would reach `usize::MAX` bytes, and as the index codec refuses; or as `OutOfMemory`.
+    fn encode(
+        &self,
+        alloc: Global,
+        bytes: &ArrayBytes,
+        shape: &ChunkShape,
+        data_type: &DataType,
+        fill_value: &FillValue,
+        options: &CodecOptions,
+    ) -> Result<Vec<u8>, CodecError> {
+        let plan = self.prepared(alloc, shape, data_type, fill_value)?;
+        self.encode_planned(alloc, bytes, &plan, shape, data_type, fill_value, options)
+    }
+
+    /// Refused as `check` refuses, then as `ShardTooShort`, as `Damaged` where the index does not decode, as the lowest
+    /// refused subchunk is (`BadIndexEntry` with its number, `Damaged`, `TooLarge`), and as `TooLarge` where the lengths
+    /// of the cells pass `usize::MAX`; or as `OutOfMemory`.
+    fn decode<'a>(
+        &self,
+        alloc: Global,
+        bytes: &'a [u8],
+        shape: &ChunkShape,
+        data_type: &DataType,
+        fill_value: &FillValue,
+        options: &CodecOptions,
+    ) -> Result<ArrayBytes<'a>, CodecError> {
+        let plan = self.prepared(alloc, shape, data_type, fill_value)?;
+        let numbers = self.numbers(alloc, bytes, &plan.grid, &plan.index, options)?;
+        let subchunks = self.decode_slots(alloc, bytes, &numbers, data_type, fill_value, options)?;
+        let array = gathered(
+            alloc,
+            &subchunks,
+            plan.cells,
+            shape,
+            &self.subchunk_shape,
+            data_type.size(),
+            fill_value.as_ne_bytes(),
+        )?;
+        Ok(array)
+    }
+
+    /// The index and the present slices in ascending subchunk number without gaps, each copied for itself; `None` exactly
+    /// where the shard has as many bytes as its index and its present slices, whatever their order. Refused, in this order,
+    /// as `IncompatibleDimensionality`, `InvalidSubchunkShape`, `TooLarge` (the count of cells, or 16 bytes for each
+    /// subchunk), as the index codec's `check` refuses, as `TooLarge` or `VariableIndexSize` where the index has no fixed
+    /// size, as `ShardTooShort`, as `Damaged` where the index does not decode, as `BadIndexEntry` with the lowest bad pair,
+    /// as `TooLarge` where the compacted shard would reach `usize::MAX` bytes, and as the index codec refuses; or as
+    /// `OutOfMemory`. The data type and the fill value are not looked at.
+    fn compact(
+        &self,
+        alloc: Global,
+        bytes: &[u8],
+        shape: &ChunkShape,
+        data_type: &DataType,
+        fill_value: &FillValue,
+        options: &CodecOptions,
+    ) -> Result<Option<Vec<u8>>, CodecError>
+        ensures compacted { let s = self.now in let g = geo shape.now data_type.now fill_value.now in let index_g = index_geo (grid_of g.shape s.subchunk_shape) in
+            let l = layout s.subchunk_shape s.location s.order (X.representation s.index_codec index_g) g in
+            IfOk result (λ answer. IfSome answer (λ new. IsCompacted (X.cells s.index_codec index_g) (X.written s.index_codec index_g) l bytes.now new.items)) }
+        ensures kept { let s = self.now in let g = geo shape.now data_type.now fill_value.now in let index_g = index_geo (grid_of g.shape s.subchunk_shape) in
+            let l = layout s.subchunk_shape s.location s.order (X.representation s.index_codec index_g) g in
+            IfOk result (λ answer. IfNone answer (IsCompact (X.cells s.index_codec index_g) l bytes.now)) }
+        ensures lawful { let s = self.now in let g = geo shape.now data_type.now fill_value.now in
+            let inner_g = sub_geo s.subchunk_shape g in let index_g = index_geo (grid_of g.shape s.subchunk_shape) in
+            IfErr result (λ e. ShardServes (I.serves s.inner inner_g) (X.serves s.index_codec index_g) (X.representation s.index_codec index_g) s.subchunk_shape g
+            → MayRefuseCompact (shard_cells (I.cells s.inner inner_g) (X.cells s.index_codec index_g)
+            (layout s.subchunk_shape s.location s.order (X.representation s.index_codec index_g) g) bytes.now) e) }
+        ensures refused { let s = self.now in let g = geo shape.now data_type.now fill_value.now in let index_g = index_geo (grid_of g.shape s.subchunk_shape) in
+            IfErr result (RefusedBy (CompactTests (X.serves s.index_codec index_g) (X.check_tests s.index_codec index_g) (X.representation s.index_codec index_g)
+            (X.decode_tests s.index_codec index_g) (X.cells s.index_codec index_g) (X.encodable s.index_codec index_g) (X.fits s.index_codec index_g)
+            (layout s.subchunk_shape s.location s.order (X.representation s.index_codec index_g) g) bytes.now)) }
+    {
+        let plan = self.compact_plan(alloc, shape)?;
+        let numbers = self.numbers(alloc, bytes, &plan.grid, &plan.index, options)?;
+        let len = bytes.len() as u64;
+        let slots = present_slots(alloc, len, &numbers)?;
+        let Some(total) = compact_size(&slots, plan.index.size) else {
+            return Err(CodecError::TooLarge);
+        };
+        if total == len {
+            return Ok(None);
+        }
+        let shard = self.rewritten(alloc, bytes, &slots, total, &plan, options)?;
+        Ok(Some(shard))
+    }
+
+    /// As many workers as the shard has subchunks. Refused, in this order, as `IncompatibleDimensionality`,
+    /// `InvalidSubchunkShape`, and `TooLarge` where the count of subchunks passes `u64::MAX`.
+    fn recommended_concurrency(
+        &self,
+        shape: &ChunkShape,
+        _data_type: &DataType,
+    ) -> Result<RecommendedConcurrency, CodecError> {
+        let subchunks = count_subchunks(shape.as_slice(), self.subchunk_shape.as_slice())?;
+        Ok(RecommendedConcurrency::new_maximum(subchunks as usize))
+    }
+
+    /// `BoundedSize` of as many times the inner codec's size as there are subchunks, and the index; `UnboundedSize`
+    /// where the inner codec says so. Refused as `check` refuses, then as `TooLarge`.
+    fn encoded_representation(
+        &self,
+        alloc: Global,
+        shape: &ChunkShape,
+        data_type: &DataType,
+        fill_value: &FillValue,
+    ) -> Result<BytesRepresentation, CodecError> {
+        let plan = self.prepared(alloc, shape, data_type, fill_value)?;
+        let told = self
+            .inner
+            .encoded_representation(alloc, &self.subchunk_shape, data_type, fill_value)?;
+        let size = match told {
+            BytesRepresentation::FixedSize(size) => size,
+            BytesRepresentation::BoundedSize(size) => size,
+            BytesRepresentation::UnboundedSize => return Ok(BytesRepresentation::UnboundedSize),
+        };
+        let Some(all) = plan.subchunks.checked_mul(size) else {
+            return Err(CodecError::TooLarge);
+        };
+        let Some(total) = all.checked_add(plan.index.size) else {
+            return Err(CodecError::TooLarge);
+        };
+        Ok(BytesRepresentation::BoundedSize(total))
+    }
+}
+
+#[cfg(test)]
+pub(crate) mod tests;

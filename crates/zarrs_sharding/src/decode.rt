@@ -1,0 +1,160 @@
+// From the bytes of a shard to its cells.
+ghost use Rattle.std.specs.Prelude.{◌≡◌, ◌≢◌, ◌≤◌, ◌<◌, ◌/◌, ◌*◌, ℕ, Option, Some, None, IfOk, IfErr, map, length, slice_index_or};
+ghost use Rattle.std.specs.List.{range_with_len};
+ghost use Rattle.zarr_parts.specs.Order.{done, RefusedBy};
+ghost use Rattle.zarr_parts.specs.Numbering.{count_of, AllPositive};
+ghost use Rattle.zarr_parts.specs.Grid.{Divides, grid_of};
+ghost use Rattle.zarr_parts.specs.Geo.{geo};
+ghost use Rattle.zarr_parts.specs.Types.{FitsKind};
+ghost use Rattle.zarr_parts.specs.declared.data_type.DataTypeSize.TheVariants.{Fixed};
+ghost use Rattle.zarr_parts.specs.declared.error.CodecError.TheVariants.{OutOfMemory};
+ghost use Rattle.zarrs_sharding.specs.Index.{slot_at};
+ghost use Rattle.zarrs_sharding.specs.DecodeTests.{stored_refusal, RefusesSubchunk, SubchunkTests};
+ghost use Rattle.zarrs_sharding.specs.Decoding.{IsDecoded, FitsSlot, AreChunks, IsChunkOf, element_at, element_in};
+
+use crate::codec::ShardingCodec;
+use crate::slot::{Slot, slot_of};
+use std::alloc::Global;
+use zarr_codecs::ArrayToBytesCodecTraits;
+use zarr_parts::{
+    ArrayBuilder, ArrayBytes, ChunkShape, CodecError, CodecOptions, DataType, DataTypeSize,
+    FillValue, Located, locate,
+};
+
+// What becomes of another codec's refusal of stored bytes.
+pub(crate) fn of_stored(error: CodecError) -> CodecError
+    ensures { result ≡ stored_refusal error }
+{
+    match error {
+        CodecError::OutOfMemory => CodecError::OutOfMemory,
+        CodecError::TooLarge => CodecError::TooLarge,
+        CodecError::Fault => CodecError::Fault,
+        _ => CodecError::Damaged,
+    }
+}
+
+impl<I: ArrayToBytesCodecTraits, X> ShardingCodec<I, X> {
+    // The subchunk that a slot names, decoded, or nothing where it is absent.
+    fn decode_slot<'a>(
+        &self,
+        alloc: Global,
+        bytes: &'a [u8],
+        number: u64,
+        slot: Slot,
+        data_type: &DataType,
+        fill_value: &FillValue,
+        options: &CodecOptions,
+    ) -> Result<Option<ArrayBytes<'a>>, CodecError>
+        requires fits { FitsSlot (length bytes.now) slot }
+        requires serves { I.serves self.now.inner (geo self.now.subchunk_shape data_type.now fill_value.now) }
+        ensures decoded { let g = geo self.now.subchunk_shape data_type.now fill_value.now in
+            IfOk result (IsDecoded (I.cells self.now.inner g) g bytes.now slot) }
+        ensures refused { let g = geo self.now.subchunk_shape data_type.now fill_value.now in
+            IfErr result (RefusedBy (RefusesSubchunk (I.decode_tests self.now.inner g) (I.cells self.now.inner g) bytes.now slot number)) }
+    {
+        match slot {
+            Slot::Absent => Ok(None),
+            Slot::InRange { offset, size } => {
+                let rest = &bytes[offset as usize..];
+                let part = &rest[..size as usize];
+                match self.inner.decode(
+                    alloc,
+                    part,
+                    &self.subchunk_shape,
+                    data_type,
+                    fill_value,
+                    options,
+                ) {
+                    Ok(array) => Ok(Some(array)),
+                    Err(error) => Err(of_stored(error)),
+                }
+            }
+            Slot::Bad => Err(CodecError::BadIndexEntry { number }),
+        }
+    }
+
+    // Each subchunk decoded, in ascending order.
+    pub(crate) fn decode_slots<'a>(
+        &self,
+        alloc: Global,
+        bytes: &'a [u8],
+        numbers: &[u64],
+        data_type: &DataType,
+        fill_value: &FillValue,
+        options: &CodecOptions,
+    ) -> Result<Vec<Option<ArrayBytes<'a>>>, CodecError>
+        requires serves { I.serves self.now.inner (geo self.now.subchunk_shape data_type.now fill_value.now) }
+        ensures counted { IfOk result (λ found. length found.items ≡ length numbers.now / 2) }
+        ensures decoded { let g = geo self.now.subchunk_shape data_type.now fill_value.now in
+            IfOk result (λ found. (k : ℕ) → k < length found.items
+            → IsDecoded (I.cells self.now.inner g) g bytes.now (slot_at (length bytes.now) numbers.now k) (slice_index_or found.items k None)) }
+        ensures refused { let g = geo self.now.subchunk_shape data_type.now fill_value.now in
+            IfErr result (RefusedBy (SubchunkTests (I.decode_tests self.now.inner g) (I.cells self.now.inner g) bytes.now (Some numbers.now) (length numbers.now / 2) done)) }
+    {
+        let mut found = Vec::new(alloc);
+        for k in 0..numbers.len() / 2 {
+            let slot = slot_of(bytes.len() as u64, numbers[2 * k], numbers[2 * k + 1]);
+            let subchunk = self.decode_slot(
+                alloc, bytes, k as u64, slot, data_type, fill_value, options,
+            )?;
+            found.push(subchunk)?;
+        }
+        Ok(found)
+    }
+}
+
+// The element at a place of a decoded subchunk, which is the fill value where it is absent.
+fn element_of<'a>(
+    subchunk: &'a Option<ArrayBytes<'_>>,
+    place: usize,
+    _kind: DataTypeSize,
+    fill: &'a [u8],
+) -> &'a [u8]
+    requires subchunk { IsChunkOf _kind place subchunk.now }
+    requires fill { FitsKind _kind fill.now }
+    ensures element { result.now ≡ element_at fill.now subchunk.now place }
+    ensures fits { FitsKind _kind result.now }
+{
+    match subchunk {
+        None => fill,
+        Some(array) => array.element(place),
+    }
+}
+
+// The cells of a shard, gathered from its decoded subchunks.
+pub(crate) fn gathered(
+    alloc: Global,
+    subchunks: &[Option<ArrayBytes>],
+    cells: u64,
+    shape: &ChunkShape,
+    sub: &ChunkShape,
+    kind: DataTypeSize,
+    fill: &[u8],
+) -> Result<ArrayBytes<'static>, CodecError>
+    requires kind { kind ≢ Fixed 0 }
+    requires fill { FitsKind kind fill.now }
+    requires cells { cells ≡ count_of shape.now }
+    requires divides { Divides sub.now shape.now }
+    requires some { 0 < count_of (grid_of shape.now sub.now) }
+    requires subchunks { AreChunks kind sub.now (count_of (grid_of shape.now sub.now)) subchunks.now }
+    ensures refused { IfErr result (λ e. e ≡ OutOfMemory) }
+    ensures kind { IfOk result (λ array. array.kind ≡ kind) }
+    ensures elements { IfOk result (λ array. array.elements ≡ map (element_in subchunks.now fill.now shape.now sub.now) (range_with_len 0 (count_of shape.now))) }
+{
+    let mut elements = ArrayBuilder::new(alloc, kind)?;
+    let many = subchunks.len() as u64;
+    let places = cells / many;
+    for i in 0..cells {
+        let Located { subchunk, place } = locate(
+            i,
+            cells,
+            many,
+            places,
+            shape.as_slice(),
+            sub.as_slice(),
+        );
+        let element = element_of(&subchunks[subchunk as usize], place as usize, kind, fill);
+        elements.push(element)?;
+    }
+    Ok(elements.finish())
+}

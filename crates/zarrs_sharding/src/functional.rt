@@ -1,0 +1,69 @@
+// The sharding codec, where each array has one encoding.
+ghost use Rattle.std.specs.Prelude.{◌&&◌};
+ghost use Rattle.zarr_parts.specs.Grid.{grid_of};
+ghost use Rattle.zarrs_sharding.specs.Index.{index_geo};
+ghost use Rattle.zarrs_sharding.specs.Serves.{sub_geo, layout};
+ghost use Rattle.zarrs_sharding.specs.Scratch.{is_ordered, scratch};
+
+use crate::codec::ShardingCodec;
+use crate::order::SubchunkWriteOrder;
+use zarr_codecs::FunctionalCodec;
+
+impl<I: FunctionalCodec, X: FunctionalCodec> FunctionalCodec for ShardingCodec<I, X> {
+    ghost functional = { λ s. is_ordered s.order && (I.functional s.inner && X.functional s.index_codec) };
+
+    ghost encoding = { λ s g a. let inner_g = sub_geo s.subchunk_shape g in let index_g = index_geo (grid_of g.shape s.subchunk_shape) in
+        scratch (I.encoding s.inner inner_g) (X.encoding s.index_codec index_g) (layout s.subchunk_shape s.location s.order (X.representation s.index_codec index_g) g) a };
+
+    /// Where subchunks are written in the order `C`, and the inner codec and the index codec each have one encoding of
+    /// an array.
+    fn is_functional(&self) -> bool {
+        match self.order {
+            SubchunkWriteOrder::C => self.inner.is_functional() && self.index_codec.is_functional(),
+            SubchunkWriteOrder::Unordered => false,
+        }
+    }
+
+    ghost use Rattle.zarrs_sharding.specs.ScratchLaws.{scratch_of_encoding, IsFunctional, functional_parts};
+
+    ghost one_encoding = { λ s g a b functional h array e.
+        let parts : IsFunctional s.order (I.functional s.inner) (X.functional s.index_codec) = functional_parts s.order (I.functional s.inner) (X.functional s.index_codec) functional in
+        scratch_of_encoding _ _ _ _ s.subchunk_shape s.location s.order _ g a b h.divides array parts.ordered
+        (λ x y array written. I.one_encoding s.inner _ x y parts.inner h.inner_served array written)
+        (λ x y array written. X.one_encoding s.index_codec _ x y parts.index h.index_served.served array written) e };
+}
+
+#[cfg(test)]
+mod tests {
+    use super::*;
+    use crate::location::ShardingIndexLocation;
+    use std::alloc::Global;
+    use std::test::Fail;
+    use zarr_codecs::BytesCodec;
+    use zarr_parts::ChunkShape;
+
+    type Plain = ShardingCodec<BytesCodec, BytesCodec>;
+
+    fn plain(alloc: Global, order: SubchunkWriteOrder) -> Result<Plain, Fail> {
+        let sub = ChunkShape::new(alloc, &[2, 2])?.ok_or("no axis is 0")?;
+        let codec = ShardingCodec::new(
+            sub,
+            BytesCodec::big(),
+            BytesCodec::little(),
+            ShardingIndexLocation::End,
+        );
+        Ok(codec.with_subchunk_write_order(order))
+    }
+
+    #[test]
+    fn one_encoding_in_order_only(rt: HostRuntime) -> Result<(), Fail> {
+        for (order, functional) in [
+            (SubchunkWriteOrder::C, true),
+            (SubchunkWriteOrder::Unordered, false),
+        ] {
+            let codec = plain(rt.alloc(), order)?;
+            assert_eq!(rt; codec.is_functional(), functional, "{order:?}");
+        }
+        Ok(())
+    }
+}

@@ -1,0 +1,8 @@
+/// In which order the encoded subchunks of a shard are written. The format leaves it free.
+#[derive(Debug, Clone, Copy)]
+pub enum SubchunkWriteOrder {
+    /// In ascending row-major (C) order of the subchunks, without gaps.
+    C,
+    /// In any order, without gaps.
+    Unordered,
+}
