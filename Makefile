@@ -1,0 +1,18 @@
+# make run    proves shard_tool and what it stands on, builds it, and feeds it the example script
+# make try    runs the same script in seconds, with no proof
+# make test   the whole gate: every proof from nothing, the must-fail edits, the tests and the program
+.PHONY: run try test
+
+SCRIPT := $(CURDIR)/crates/shard_tool/stdin
+
+run:
+	@echo "Proving zarr_parts, zarr_codecs, zarrs_sharding and shard_tool, then building it."
+	@echo "The first time this takes some minutes; what it says of each function comes as it goes."
+	@cd crates/shard_tool && rt run < $(SCRIPT)
+
+try:
+	@echo "Running the example script with no proof."
+	@cd crates/shard_tool && rt try < $(SCRIPT)
+
+test:
+	rt ci

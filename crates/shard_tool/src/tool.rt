@@ -1,0 +1,251 @@
+// What a script works on: the codec of its last `shard` and the object that it stored.
+ghost use Rattle.std.specs.Prelude.{◌≡◌, ◌≤◌, Some, None, IfOk, IfSome, IfNone, IsSomeAnd, OnOk, OnErr, length, vec_len};
+ghost use Rattle.std.specs.List.{All};
+
+use crate::command::{Command, Settings};
+use crate::element_type::ElementType;
+use crate::print::{
+    write_cells, write_compacted, write_done, write_index, write_none, write_object, write_refusal,
+    write_stored,
+};
+use crate::stop::Stop;
+use std::alloc::Global;
+use std::io;
+use std::io::Write;
+use zarr_codecs::{ArrayToBytesCodecTraits, BytesCodec};
+use zarr_parts::{ArrayBytes, ChunkShape, CodecError, CodecOptions, FillValue};
+use zarrs_sharding::{ShardingCodec, SubchunkWriteOrder, calculate_chunks_per_shard};
+
+// A shard of one shape and type, and its object once something was stored.
+#[derive(Drop)]
+struct Shard {
+    codec: ShardingCodec<BytesCodec, BytesCodec>,
+    shape: ChunkShape,
+    chunks_per_shard: ChunkShape,
+    element_type: ElementType,
+    fill_value: FillValue,
+    object: Option<Vec<u8>>,
+}
+
+impl Shard {
+    // The shard of these settings, without an object. Refused as the codec's `check` refuses.
+    fn new(alloc: Global, settings: Settings) -> Result<Self, CodecError>
+        ensures { IfOk result (λ shard. shard.object ≡ None) }
+    {
+        let Settings {
+            shape,
+            subchunk_shape,
+            element_type,
+            fill_value,
+            location,
+        } = settings;
+        let codec = ShardingCodec::new(
+            subchunk_shape,
+            BytesCodec::little(),
+            BytesCodec::little(),
+            location,
+        )
+        .with_subchunk_write_order(SubchunkWriteOrder::C);
+        codec.check(alloc, &shape, &element_type.data_type(), &fill_value)?;
+        let chunks_per_shard = calculate_chunks_per_shard(
+            alloc,
+            &shape,
+            codec.partial_decode_granularity(),
+        )?;
+        Ok(Shard {
+            codec,
+            shape,
+            chunks_per_shard,
+            element_type,
+            fill_value,
+            object: None,
+        })
+    }
+
+    // Stores the encoding of these elements, and answers its length. Where that is refused the object stays.
+    fn encode(&mut self, alloc: Global, elements: &ArrayBytes) -> Result<usize, CodecError>
+        ensures ok { IfOk result (λ len. IsSomeAnd self.new.object (λ object. vec_len object ≡ len)) }
+        ensures err { OnErr result (self.new.object ≡ self.old.object) }
+    {
+        let object = self.codec.encode(
+            alloc,
+            elements,
+            &self.shape,
+            &self.element_type.data_type(),
+            &self.fill_value,
+            &CodecOptions::default(),
+        )?;
+        Ok(self.store(object))
+    }
+
+    // The elements of the object, where there is one.
+    fn decode(&self, alloc: Global) -> Result<Option<ArrayBytes<'_>>, CodecError>
+        ensures { IfOk result (λ found. IfSome found (λ cells. All (λ element. length element ≤ 8) cells.elements)) }
+    {
+        let Some(object) = &self.object else {
+            return Ok(None);
+        };
+        let cells = self.codec.decode(
+            alloc,
+            object,
+            &self.shape,
+            &self.element_type.data_type(),
+            &self.fill_value,
+            &CodecOptions::default(),
+        )?;
+        Ok(Some(cells))
+    }
+
+    // The numbers of the object's index, where there is one.
+    fn index(&self, alloc: Global) -> Result<Option<Vec<u64>>, CodecError> {
+        let Some(object) = &self.object else {
+            return Ok(None);
+        };
+        let options = CodecOptions::default();
+        let numbers = self
+            .codec
+            .decode_index(alloc, object, &self.chunks_per_shard, &options)?;
+        Ok(Some(numbers))
+    }
+
+    // Stores these bytes as the object, and answers its length.
+    fn store(&mut self, bytes: Vec<u8>) -> usize
+        ensures stored { self.new.object ≡ Some bytes }
+        ensures len { result ≡ vec_len bytes }
+    {
+        let len = bytes.len();
+        self.object = Some(bytes);
+        len
+    }
+
+    // Compacts the object, and answers its new length; `None`, and the object stays, where there is nothing to gain
+    // or no object. Where that is refused the object stays.
+    fn compact(&mut self, alloc: Global) -> Result<Option<usize>, CodecError>
+        ensures compacted { IfOk result (λ answer. IfSome answer (λ len. IsSomeAnd self.new.object (λ object. vec_len object ≡ len))) }
+        ensures kept { IfOk result (λ answer. IfNone answer (self.new.object ≡ self.old.object)) }
+        ensures err { OnErr result (self.new.object ≡ self.old.object) }
+    {
+        let Some(object) = &self.object else {
+            return Ok(None);
+        };
+        let compacted = self.codec.compact(
+            alloc,
+            object,
+            &self.shape,
+            &self.element_type.data_type(),
+            &self.fill_value,
+            &CodecOptions::default(),
+        )?;
+        match compacted {
+            Some(bytes) => Ok(Some(self.store(bytes))),
+            None => Ok(None),
+        }
+    }
+
+    // Stores elements, and answers the object's length.
+    fn run_encode<W: Write>(
+        &mut self,
+        alloc: Global,
+        elements: &ArrayBytes,
+        out: &mut W,
+    ) -> io::Result<()> {
+        match self.encode(alloc, elements) {
+            Ok(len) => write_stored(out, len),
+            Err(error) => write_refusal(out, error),
+        }
+    }
+
+    // Answers the elements of the object.
+    fn run_decode<W: Write>(&self, alloc: Global, out: &mut W) -> io::Result<()> {
+        match self.decode(alloc) {
+            Ok(Some(cells)) => write_cells(out, &cells),
+            Ok(None) => write_none(out),
+            Err(error) => write_refusal(out, error),
+        }
+    }
+
+    // Answers the numbers of the object's index.
+    fn run_index<W: Write>(&self, alloc: Global, out: &mut W) -> io::Result<()> {
+        match self.index(alloc) {
+            Ok(Some(numbers)) => write_index(out, &numbers),
+            Ok(None) => write_none(out),
+            Err(error) => write_refusal(out, error),
+        }
+    }
+
+    // Answers the object's bytes.
+    fn run_object<W: Write>(&self, out: &mut W) -> io::Result<()> {
+        match &self.object {
+            Some(object) => write_object(out, object),
+            None => write_none(out),
+        }
+    }
+
+    // Compacts the object, and answers its new length where it changed.
+    fn run_compact<W: Write>(&mut self, alloc: Global, out: &mut W) -> io::Result<()> {
+        match self.compact(alloc) {
+            Ok(answer) => write_compacted(out, answer),
+            Err(error) => write_refusal(out, error),
+        }
+    }
+}
+
+/// What a script works on.
+#[derive(Drop)]
+pub struct Tool {
+    shard: Option<Shard>,
+}
+
+impl Tool {
+    /// Nothing to work on yet.
+    pub fn new() -> Self {
+        Tool { shard: None }
+    }
+
+    // Takes another shard. Where it is refused everything stays as it was.
+    fn open(&mut self, alloc: Global, settings: Settings) -> Result<(), CodecError>
+        ensures ok { OnOk result (IsSomeAnd self.new.shard (λ shard. shard.object ≡ None)) }
+        ensures err { OnErr result (self.new ≡ self.old) }
+    {
+        self.shard = Some(Shard::new(alloc, settings)?);
+        Ok(())
+    }
+
+    // The type of the elements, where there is a shard.
+    fn element_type(&self) -> Option<ElementType> {
+        match &self.shard {
+            Some(shard) => Some(shard.element_type),
+            None => None,
+        }
+    }
+
+    // Takes another shard, and answers that it did.
+    fn run_shard<W: Write>(
+        &mut self,
+        alloc: Global,
+        settings: Settings,
+        out: &mut W,
+    ) -> io::Result<()> {
+        match self.open(alloc, settings) {
+            Ok(()) => write_done(out),
+            Err(error) => write_refusal(out, error),
+        }
+    }
+
+    /// Runs a line that is not empty, and writes its answer. `Malformed` where the line is no command's, and nothing
+    /// is written then; `Failed` where a write fails or a growth of the script's own is refused.
+    pub fn run<W: Write>(&mut self, alloc: Global, line: &[u8], out: &mut W) -> Result<(), Stop> {
+        let command = Command::parse(alloc, line, self.element_type())?;
+        match (command, &mut self.shard) {
+            (Command::Shard(settings), _) => self.run_shard(alloc, settings, out)?,
+            (Command::Encode(elements), Some(shard)) => shard.run_encode(alloc, &elements, out)?,
+            (Command::Index, Some(shard)) => shard.run_index(alloc, out)?,
+            (Command::Decode, Some(shard)) => shard.run_decode(alloc, out)?,
+            (Command::Object, Some(shard)) => shard.run_object(out)?,
+            (Command::Store(bytes), Some(shard)) => write_stored(out, shard.store(bytes))?,
+            (Command::Compact, Some(shard)) => shard.run_compact(alloc, out)?,
+            (_, None) => return Err(Stop::Malformed),
+        }
+        Ok(())
+    }
+}
