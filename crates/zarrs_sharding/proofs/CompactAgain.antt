@@ -18,6 +18,7 @@ use Rattle.zarrs_sharding.specs.declared.location.ShardingIndexLocation.{Shardin
 use Rattle.zarrs_sharding.specs.declared.order.SubchunkWriteOrder.{SubchunkWriteOrder}
 use Rattle.zarrs_sharding.specs.declared.slot.Slot.{Slot}
 use Rattle.zarrs_sharding.specs.declared.slot.Slot.TheVariants.{Absent, InRange, Bad}
+use Rattle.zarrs_sharding.proofs.CompactionLemmas.{size_moved}
 use Rattle.zarrs_sharding.proofs.LayingLemmas.{sum_same}
 use Rattle.zarrs_sharding.proofs.RefusalLemmas.{passed_refusal, long_enough, damaged_index}
 
@@ -25,11 +26,6 @@ moved_good : (old new : List ℕ) (s t : Slot) (place : ℕ) → IsMoved old s p
 moved_good old new Absent t place h = rw h tt
 moved_good old new (InRange offset size) t place h = rw h.0 tt
 moved_good old new Bad t place h = absurd h
-
-moved_size : (old new : List ℕ) (s t : Slot) (place : ℕ) → IsMoved old s place new t → slot_size t ≡ slot_size s
-moved_size old new Absent t place h = rw h refl
-moved_size old new (InRange offset size) t place h = rw h.0 refl
-moved_size old new Bad t place h = absurd h
 
 module _ (IndexServed InnerServed : Type 0) (index_check : CodecError → Type 0) (representation : Option BytesRepresentation) (index_decode : List ℕ → CodecError → Type 0)
     (index_cells : List ℕ → List (Option (List ℕ))) (index_written : List (List ℕ) → List ℕ → Type 0) (index_encodable index_fits : List (List ℕ) → Type 0)
@@ -53,7 +49,7 @@ module _ (IndexServed InnerServed : Type 0) (index_check : CodecError → Type 0
         same_size =
             ap (λ m. fixed_size representation + m)
             (sum_same (λ k. slot_size (slot_at (length new) r.numbers k)) (λ k. slot_size (slot_at (length old) h.old_numbers k)) n
-            (λ k below. moved_size old new (slot_at (length old) h.old_numbers k) (slot_at (length new) r.numbers k) _ (r.moved k below)))
+            (λ k below. size_moved old new (slot_at (length old) h.old_numbers k) (slot_at (length new) r.numbers k) _ (r.moved k below)))
             ∙ sym r.long;
       }
 

@@ -1,18 +1,15 @@
 -- A compaction of a shard that holds an array is an encoding of it, in order `C`.
-use Rattle.std.proofs.Common.{◌≡◌, ℕ, suc, ◌+◌, ◌^◌, ◌<◌, ◌≤◌, inl, List, [], ◌∷◌, Option, Some, length, map, refl, sym, ap, ◌∙◌, subst, arith}
-use Rattle.std.specs.List.{All, range_with_len, sum_by}
-use Rattle.std.proofs.lemmas.Bool.{le-leb}
-use Rattle.std.proofs.lemmas.Nat.{from_le_bytes-to_le_bytes_8}
+use Rattle.std.proofs.Common.{◌≡◌, ℕ, ◌+◌, ◌<◌, ◌≤◌, inl, List, Option, Some, length, map, refl, sym, ap, ◌∙◌, subst, arith}
+use Rattle.std.specs.List.{range_with_len, sum_by}
 use Rattle.zarr_parts.specs.Geo.{Geo, IsArrayOf}
 use Rattle.zarr_parts.specs.Numbering.{count_of}
 use Rattle.zarr_parts.specs.Grid.{grid_of, Divides, subchunk}
-use Rattle.zarr_codecs.specs.Cells.{all_there}
-use Rattle.zarrs_sharding.specs.Index.{slot_at, index_part, data_start, data_end, index_geo, number_of_element, element_of_number, numbers_in_index}
+use Rattle.zarrs_sharding.specs.Index.{slot_at, data_start, data_end, index_geo}
 use Rattle.zarrs_sharding.specs.Cells.{Layout}
 use Rattle.zarrs_sharding.specs.Encoding.{StandsAt, AreApart, BeginsAt, slot_size, IsEncodingBy, IsEncoding}
 use Rattle.zarrs_sharding.specs.Compacting.{IsMoved, IsCompaction, IsCompacted, present_size}
 use Rattle.zarrs_sharding.specs.Holding.{Holds}
-use Rattle.zarrs_sharding.specs.Laws.{all_there-map_some, IsArrayOf-index}
+use Rattle.zarrs_sharding.specs.Laws.{numbers_of_index}
 use Rattle.zarrs_sharding.specs.Scratch.{scratch}
 use Rattle.zarrs_sharding.specs.ScratchLaws.{scratch_of_encoding}
 use Rattle.zarrs_sharding.specs.Serves.{sub_geo, layout_of}
@@ -46,7 +43,7 @@ begins_moved old new Absent t place h = rw h tt
 begins_moved old new (InRange offset n) t place h = rw h.0 refl
 begins_moved old new Bad t place h = absurd h
 
-size_moved : (old new : List ℕ) (s t : Slot) (place : ℕ) → IsMoved old s place new t → slot_size t ≡ slot_size s
+pub size_moved : (old new : List ℕ) (s t : Slot) (place : ℕ) → IsMoved old s place new t → slot_size t ≡ slot_size s
 size_moved old new Absent t place h = rw h refl
 size_moved old new (InRange offset n) t place h = rw h.0 refl
 size_moved old new Bad t place h = absurd h
@@ -91,10 +88,6 @@ encoding_of_compaction inner_written index_written sub location order size g a o
       in_order = λ _ k below. subst (λ p. BeginsAt (start + p) (is k)) (sym (sums k (omega arith))) (begins k below);
     }
 
-numbers_back : (ns : List ℕ) → All (λ n. n < 2 ^ 64) ns → map number_of_element (map element_of_number ns) ≡ ns
-numbers_back [] h = refl
-numbers_back (n ∷ ns) h = rw (from_le_bytes-to_le_bytes_8 n (h 0 0 (omega arith)), numbers_back ns (λ k d below. h (suc k) d (omega arith))) refl
-
 some_same : (x y : List ℕ) → Some x ≡ Some y → x ≡ y
 some_same x y h = cc
 
@@ -104,14 +97,11 @@ pub holds_encoded : (index_cells : List ℕ → List (Option (List ℕ))) (inner
     → ((e : List (List ℕ)) (bytes : List ℕ) → IsArrayOf (index_geo (grid_of g.shape sub)) e → index_written e bytes → index_cells bytes ≡ map Some e)
     → IsEncoding inner_written index_written (layout_of sub location order size g) a b
     → Holds inner_written index_cells (layout_of sub location order size g) a b
-unfolding numbers_in_index
 holds_encoded index_cells inner_written index_written sub location order size g a b law h =
     let by = h.holds in
-    let elements : List (List ℕ) = map element_of_number h.numbers in
-    let cells = law elements (index_part location size b) (IsArrayOf-index sub g h.numbers by.counted) by.index in
     record {
       numbers = h.numbers;
-      told = rw (le-leb size (length b) by.long_enough, cells, all_there-map_some elements, numbers_back h.numbers by.below) refl;
+      told = numbers_of_index index_cells index_written sub g location size b h.numbers law by.long_enough by.counted by.below by.index;
       stand = by.stand;
     }
 
