@@ -191,8 +191,8 @@ impl<I: ArrayToBytesCodecTraits, X: ArrayToBytesCodecTraits> ArrayToBytesCodecTr
     }
 
     /// Refused as `check` refuses, then as `ShardTooShort`, as `Damaged` where the index does not decode, as the lowest
-    /// refused subchunk is (`BadIndexEntry` with its number, `Damaged`, `TooLarge`), and as `TooLarge` where the lengths
-    /// of the cells pass `usize::MAX`; or as `OutOfMemory`.
+    /// refused subchunk is (`BadIndexEntry` with its number, `Damaged`, `TooLarge`), and as `TooLarge` or `OutOfMemory`
+    /// where the lengths of the cells pass `usize::MAX`; or as `OutOfMemory`.
     fn decode<'a>(
         &self,
         alloc: Global,
