@@ -1,19 +1,22 @@
 -- Arrays by their elements.
 use Rattle.std.proofs.Common.{◌≡◌, ℕ, zero, suc, ◌+◌, ◌-◌, ◌*◌, ◌/◌, ◌<◌, ◌≤◌, List, [], ◌∷◌, ◌++◌, length, get_or, take, drop, refl, ap, sym, ◌∙◌, arith, map, inl, inr, Option, Some, None, SomeIff, IsSome, IfSome, set, ◌≢◌}
-use Rattle.std.proofs.lemmas.List.FromFn.{length-map-range_with_len, get_or-map-range_with_len}
+use Rattle.std.proofs.lemmas.List.FromFn.{length-map-range_with_len, get_or-map-range_with_len, sum_by-map-range_with_len_more}
+use Rattle.std.proofs.lemmas.List.Sums.{sum_by-cons}
 use Rattle.std.proofs.lemmas.List.{take_at, drop_all, take_all, get_or_past, length-take-le, length-drop, length-append, get_or-set_same, get_or-set_other}
 use Rattle.std.proofs.lemmas.Option.{same_Some}
 use Rattle.std.proofs.lemmas.Bool.{cases_lt, cases_eq}
 use Rattle.std.proofs.lemmas.Nat.{div-add-mod', row_fits, mul-le}
 use Rattle.std.proofs.Math.Nat.{div-eq_of_eq-mul_left, mul-mod_left}
-use Rattle.std.specs.List.{range_with_len, flat_map, AllZip, All, concat}
+use Rattle.std.specs.List.{range_with_len, flat_map, AllZip, All, concat, sum_by}
 use Rattle.zarr_parts.specs.Numbering.{count_of, zip_with}
 use Rattle.zarr_parts.specs.Boxes.{Region, LiesIn, number_in, numbers_in}
 use Rattle.zarr_parts.specs.Pieces.{piece, pieces, IsUpdated}
-use Rattle.zarr_parts.specs.Arrays.{element_of, IsWhole, AreOffsets, fixed_array, variable_array, part, parts, extracted, IsOverlaid, SourcesAre, chosen}
+use Rattle.zarr_parts.specs.Arrays.{Array, element_of, IsWhole, AreOffsets, fixed_array, variable_array, part, parts, extracted, IsOverlaid, SourcesAre, chosen, array_of, IsHeld}
 use Rattle.zarr_parts.specs.Types.{FitsKind}
+use Rattle.zarr_parts.specs.declared.array_bytes.Held.{Held}
+use Rattle.zarr_parts.specs.declared.array_bytes.Held.TheVariants as held
 use Rattle.zarr_parts.specs.declared.data_type.DataTypeSize.TheVariants.{Fixed}
-use Rattle.zarr_parts.proofs.PieceLaws.{pieces_more, length-concat, pieces-concat, concat-pieces, All-pieces, gathered, map-map, map_range_same, number_in_below, updated_more}
+use Rattle.zarr_parts.proofs.PieceLaws.{pieces_more, length-concat, piece_of-concat, pieces-concat, concat-pieces, All-pieces, gathered, map-map, map_range_same, number_in_below, updated_more}
 
 pub length-fixed_array : (n : ℕ) (bytes : List ℕ) → length (fixed_array n bytes).elements ≡ length bytes / n
 length-fixed_array n bytes = length-map-range_with_len (piece n bytes) 0 (length bytes / n)
@@ -219,3 +222,36 @@ fixed_array-push n bytes e h long =
     let whole = whole_bytes n bytes h in
     let count : length (bytes ++ e) / n ≡ length bytes / n + 1 = div-eq_of_eq-mul_left h.0 (omega (arith, length-append bytes e, whole)) in
     ap (λ m. pieces n m (bytes ++ e)) count ∙ pieces_more n (length bytes / n) bytes e whole long
+
+-- an array of elements of one size is cut back out of its bytes
+pub cut_elements : (array : Array) (size count : ℕ) (bytes : List ℕ) → array.kind ≡ Fixed size → All (FitsKind array.kind) array.elements → bytes ≡ concat array.elements → length array.elements ≡ count
+    → (length bytes ≡ count * size) × ((k : ℕ) → k < count → piece size bytes k ≡ element_of array k)
+cut_elements array size count bytes kind fits is many =
+    let sized : All (λ e. length e ≡ size) array.elements = rw kind at fits in
+    (ap length is ∙ (length-concat size array.elements sized ∙ ap (λ n. n * size) many), λ k lt. ap (λ xs. piece size xs k) is ∙ piece_of-concat size array.elements k sized (omega arith))
+
+-- the lengths of lists add up to that of the lists joined
+length-concat_by : (xs : List (List ℕ)) → length (concat xs) ≡ sum_by length xs
+length-concat_by [] = refl
+length-concat_by (x ∷ xs) = omega (arith, length-append x (concat xs), length-concat_by xs, sum_by-cons length x xs)
+
+-- the lengths of the first parts add up to the offset where they end
+sum_of_parts : (offsets bytes : List ℕ) (i : ℕ) → AreOffsets offsets (length bytes) → i < length offsets → sum_by length (map (part bytes offsets) (range_with_len 0 i)) ≡ get_or offsets i 0
+sum_of_parts offsets bytes zero h lt = sym h.begins
+sum_of_parts offsets bytes (suc i) h lt =
+    let next : i + 1 ≡ suc i = omega arith in
+    let more = sum_by-map-range_with_len_more length (part bytes offsets) 0 i i (omega arith) in
+    let start = get_or offsets i 0 in
+    let end = get_or offsets (i + 1) 0 in
+    let within = offset_within offsets (length bytes) (i + 1) h (omega arith) in
+    let long : length (part bytes offsets i) ≡ end - start =
+    length-take-le (end - start) (drop start bytes) (omega (arith, within, length-drop start bytes)) in
+    let all : sum_by length (map (part bytes offsets) (range_with_len 0 (i + 1))) ≡ get_or offsets (i + 1) 0 =
+    omega (arith, more, long, h.rises i (omega arith), sum_of_parts offsets bytes i h (omega arith)) in
+    rw next at all
+
+-- the elements of an array have as many bytes together as hold them
+pub sum_of_held : (held : Held) (bytes : List ℕ) → IsHeld held bytes → sum_by length (array_of held bytes).elements ≡ length bytes
+sum_of_held (held.Fixed n) bytes h = sym (length-concat_by (fixed_array n bytes).elements) ∙ ap length (concat-fixed_array n bytes h)
+sum_of_held (held.Variable offsets) bytes h =
+    sum_of_parts offsets.items bytes (length offsets.items - 1) h (omega (arith, h.some)) ∙ h.ends

@@ -168,10 +168,10 @@ is_box_from_zero start shape e fits =
     all_zip_from_each (λ first len. first + len < 2 ^ 64) start shape long
     (λ k lt. omega (arith, fits k (omega arith), ap (λ xs. get_or xs k 0) e, get_or-replicate {A = ℕ} (length shape) k 0 0 (omega arith)))
 
--- one end of a box more
-pub ends_more : (start shape : List ℕ) (axis a b : ℕ) (ends more : List ℕ) → length start ≡ length shape → axis < length start → a ≡ get_or start axis 0 → b ≡ get_or shape axis 0
-    → ends ≡ take axis (zip_with ◌+◌ start shape) → more ≡ ends ++ (a + b) ∷ [] → more ≡ take (axis + 1) (zip_with ◌+◌ start shape)
-ends_more start shape axis a b ends more same lt ae be so e =
-    let long = length-zip_with ◌+◌ start shape same in
-    let at = get_or-zip_with ◌+◌ start shape axis lt (omega arith) in
-    rw (e, so, ae, be, ← at) (sym (take_more (zip_with ◌+◌ start shape) axis 0 (omega arith)))
+-- one more number of two lists joined number by number
+pub zip_with_more : (f : ℕ → ℕ → ℕ) (xs ys : List ℕ) (axis a b : ℕ) (so more : List ℕ) → length xs ≡ length ys → axis < length xs → a ≡ get_or xs axis 0 → b ≡ get_or ys axis 0
+    → so ≡ take axis (zip_with f xs ys) → more ≡ so ++ f a b ∷ [] → more ≡ take (axis + 1) (zip_with f xs ys)
+zip_with_more f xs ys axis a b so more same lt ae be before e =
+    let long = length-zip_with f xs ys same in
+    let at = get_or-zip_with f xs ys axis lt (omega arith) in
+    rw (e, before, ae, be, ← at) (sym (take_more (zip_with f xs ys) axis 0 (omega arith)))

@@ -10,3 +10,6 @@ pub mod LocateLaws
 pub mod SameLaws
 pub mod FillLaws
 pub mod RangeLaws
+pub mod CoordinateLaws
+pub mod SelectionLemmas
+pub mod OverlapLaws

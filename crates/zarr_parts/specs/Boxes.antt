@@ -1,5 +1,5 @@
 -- Boxes of coordinates, and the numbers of a box's coordinates in the array that it lies in.
-use Rattle.std.specs.Prelude.{ℕ, ◌+◌, ◌-◌, ◌^◌, ◌<◌, ◌≤◌, List, map}
+use Rattle.std.specs.Prelude.{◌≡◌, ℕ, ◌+◌, ◌-◌, ◌*◌, ◌^◌, ◌<◌, ◌≤◌, List, map}
 use Rattle.std.specs.List.{AllZip, range_with_len}
 use Rattle.std.specs.declared.ops.Range.{Range}
 use Rattle.zarr_parts.specs.Numbering.{count_of, number_of, point_of, zip_with}
@@ -16,6 +16,10 @@ region_of_ranges ranges = record { start = map (λ range. range.start) ranges; s
 -- as many starts as lengths, and each end fits 64 bits
 abbrev pub IsBox : List ℕ → List ℕ → Type 0
 IsBox start shape = AllZip (λ first len. first + len < 2 ^ 64) start shape
+
+-- where a box ends along each axis, the end excluded
+abbrev pub end_of : Region → List ℕ
+end_of box = zip_with ◌+◌ box.start box.shape
 
 -- the point of a box with a number among the box's points, in row-major order
 abbrev pub point_in : Region → ℕ → List ℕ
@@ -40,3 +44,9 @@ numbers_in box shape = map (number_in box shape) (range_with_len 0 (count_of box
 -- the box lies in a shape whose count fits 64 bits
 abbrev pub IsServed : Region → List ℕ → Type 0
 IsServed box shape = LiesIn box shape × (count_of shape < 2 ^ 64)
+
+-- so many bytes are an array of the shape, with elements of one size, in which the box lies
+pub record IsTarget (bytes size : ℕ) (shape : List ℕ) (box : Region) : Type 0 where
+  pub served : IsServed box shape
+  pub some : 0 < size
+  pub whole : bytes ≡ count_of shape * size

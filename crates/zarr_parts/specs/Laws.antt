@@ -3,6 +3,7 @@ use Rattle.std.specs.Prelude.{◌≡◌, ◌≢◌, ℕ, ◌+◌, ◌<◌, ◌�
 use Rattle.zarr_parts.specs.Numbering.{count_of, IsInside, number_of, point_of}
 use Rattle.zarr_parts.specs.Grid.{grid_of, subchunk_of, place_of, joined}
 use Rattle.zarr_parts.specs.Boxes.{Region, number_in}
+use Rattle.zarr_parts.specs.Overlaps.{overlap_of}
 
 -- the coordinates inside a shape and the numbers below its count correspond one to one
 pub record NumberingLaw (shape : List ℕ) : Type 0 where
@@ -24,6 +25,10 @@ pub record GridLaw (shape sub : List ℕ) : Type 0 where
 abbrev pub IsOnAxis : Region → List ℕ → ℕ → Type 0
 IsOnAxis box point axis = (slice_index box.start axis ≤ slice_index point axis) × (slice_index point axis < slice_index box.start axis + slice_index box.shape axis)
 
+-- a point lies in a box: it has as many numbers, each one of the box's along its axis
+abbrev pub IsInBox : Region → List ℕ → Type 0
+IsInBox box point = (length point ≡ length box.start) × ((axis : ℕ) → axis < length point → IsOnAxis box point axis)
+
 -- no place of a box has the number
 abbrev pub IsElsewhere : Region → List ℕ → ℕ → Type 0
 IsElsewhere box shape i = (k : ℕ) → k < count_of box.shape → number_in box shape k ≢ i
@@ -33,3 +38,8 @@ pub record BoxLaw (box : Region) (shape : List ℕ) : Type 0 where
   pub missed : (point : List ℕ) → IsInside point shape → IsElsewhere box shape (number_of point shape) → (axis : ℕ) × (axis < length shape) × ¬ IsOnAxis box point axis
   pub elsewhere : (point : List ℕ) (axis : ℕ) → IsInside point shape → axis < length shape → ¬ IsOnAxis box point axis → IsElsewhere box shape (number_of point shape)
   pub place : (point : List ℕ) → IsInside point shape → ((axis : ℕ) → axis < length shape → IsOnAxis box point axis) → (k : ℕ) × (k < count_of box.shape) × (number_in box shape k ≡ number_of point shape)
+
+-- a point lies in the overlap of two boxes exactly where it lies in both
+pub record OverlapLaw (box other : Region) : Type 0 where
+  pub in_both : (point : List ℕ) → IsInBox (overlap_of box other) point → IsInBox box point × IsInBox other point
+  pub in_overlap : (point : List ℕ) → IsInBox box point → IsInBox other point → IsInBox (overlap_of box other) point

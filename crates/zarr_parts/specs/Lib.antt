@@ -1,5 +1,6 @@
 pub mod Numbering
 pub mod Boxes
+pub mod Overlaps
 pub mod Grid
 pub mod Types
 pub mod Geo
@@ -7,5 +8,8 @@ pub mod Order
 pub mod Pieces
 pub mod Arrays
 pub mod Runs
+pub mod Selections
 pub mod Refusals
+pub mod TargetLaws
+pub mod Targets
 pub mod Laws

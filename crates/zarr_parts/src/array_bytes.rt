@@ -1,6 +1,6 @@
 // Arrays of elements, each a string of bytes.
 ghost use Rattle.std.specs.Prelude.{◌≡◌, ◌≢◌, ◌+◌, ◌*◌, ◌/◌, ◌%◌, ◌<◌, SomeIff, IfErr, OnOk, IfSome, IfNone, IsTrue, All, ◌↔◌, length, Option};
-ghost use Rattle.std.specs.List.{concat};
+ghost use Rattle.std.specs.List.{concat, sum_by};
 ghost use Rattle.std.specs.Cow.{cow_slice_items};
 ghost use Rattle.zarr_parts.specs.Order.{done};
 ghost use Rattle.zarr_parts.specs.Arrays.{Array, element_of, fixed_array, variable_array, IsWhole, AreOffsets, part};
@@ -12,6 +12,7 @@ mod builder;
 mod compare;
 mod extract;
 mod fill;
+mod numbered;
 mod owned;
 mod update;
 
@@ -137,6 +138,13 @@ impl<'a> ArrayBytes<'a> {
             Held::Fixed(size) => piece_at(&self.bytes, *size, i),
             Held::Variable(offsets) => part_at(&self.bytes, offsets, i),
         }
+    }
+
+    /// How many bytes the elements have together.
+    pub fn byte_len(&self) -> usize
+        ensures { result ≡ sum_by length self.now.elements }
+    {
+        self.bytes.len()
     }
 
     /// The elements one after the other, where they have one size. `None` where each has its own.

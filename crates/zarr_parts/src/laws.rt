@@ -1,7 +1,8 @@
 // The laws of the definitions, each as the contract of a function that does nothing.
+ghost use Rattle.std.specs.Prelude.{◌≡◌, length};
 ghost use Rattle.zarr_parts.specs.Boxes.{LiesIn};
 ghost use Rattle.zarr_parts.specs.Grid.{Divides};
-ghost use Rattle.zarr_parts.specs.Laws.{NumberingLaw, GridLaw, BoxLaw};
+ghost use Rattle.zarr_parts.specs.Laws.{NumberingLaw, GridLaw, BoxLaw, OverlapLaw};
 
 use crate::subset::ArraySubset;
 
@@ -24,6 +25,15 @@ pub fn box_law(subset: &ArraySubset, _shape: &[u64])
     let _len = subset.shape();
 }
 
+/// A point lies in the overlap of two boxes exactly where it lies in both.
+pub fn overlap_law(subset: &ArraySubset, other: &ArraySubset)
+    requires { length subset.now.start ≡ length other.now.start }
+    ensures { OverlapLaw subset.now other.now }
+{
+    let _start = subset.start();
+    let _other_start = other.start();
+}
+
 #[cfg(test)]
 mod tests {
     use super::*;
@@ -35,6 +45,7 @@ mod tests {
         grid_law(&[4, 4], &[2, 2]);
         let whole = ArraySubset::new_with_shape(rt.alloc(), [4, 4].to_vec(rt.alloc())?)?;
         box_law(&whole, &[4, 4]);
+        overlap_law(&whole, &whole);
         Ok(())
     }
 }

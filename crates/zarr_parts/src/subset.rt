@@ -1,9 +1,11 @@
 // Boxes of coordinates: what they are made of, and where their points lie in an array.
-ghost use Rattle.std.specs.Prelude.{◌≡◌, ℕ, ◌+◌, ◌*◌, ◌^◌, ◌<◌, ◌≤◌, List, SomeIff, IfOk, IfErr, OnOk, IsTrue, ◌↔◌, length, replicate, All};
+ghost use Rattle.std.specs.Prelude.{◌≡◌, ℕ, ◌+◌, ◌*◌, ◌^◌, ◌<◌, ◌≤◌, List, SomeIff, IfOk, IfErr, OnOk, OnErr, IsTrue, ◌↔◌, length, replicate, All};
 ghost use Rattle.zarr_parts.specs.Order.{done};
-ghost use Rattle.zarr_parts.specs.Numbering.{count_of, zip_with};
-ghost use Rattle.zarr_parts.specs.Boxes.{Region, region_of_ranges, IsBox, LiesIn, number_in, IsServed};
+ghost use Rattle.zarr_parts.specs.Numbering.{count_of};
+ghost use Rattle.zarr_parts.specs.Boxes.{Region, region_of_ranges, IsBox, end_of, LiesIn, number_in, IsServed};
 ghost use Rattle.zarr_parts.specs.Refusals.{BoxTests};
+
+mod overlap;
 
 use crate::error::CodecError;
 use crate::numbering::count;
@@ -122,7 +124,7 @@ impl ArraySubset {
 
     /// Where the box ends along each axis, the end excluded. Refused only as out of memory.
     pub fn end_exc(&self, alloc: Global) -> Result<Vec<u64>, AllocError>
-        ensures { IfOk result (λ end. end.items ≡ zip_with ◌+◌ self.now.start self.now.shape) }
+        ensures { IfOk result (λ end. end.items ≡ end_of self.now) }
     {
         let mut end = Vec::new(alloc);
         for axis in 0..self.start.len() {
@@ -212,6 +214,7 @@ impl ArraySubset {
 pub(crate) fn check_box(subset: &ArraySubset, shape: &[u64]) -> Result<u64, CodecError>
     ensures served { OnOk result (IsServed subset.now shape.now) }
     ensures total { IfOk result (λ total. total ≡ count_of shape.now) }
+    ensures unserved { OnErr result (¬ IsServed subset.now shape.now) }
     ensures refused { IfErr result (BoxTests subset.now shape.now done) }
 {
     if subset.start().len() != shape.len() {

@@ -51,6 +51,15 @@ fn elements_are_pushed_and_read(rt: HostRuntime) -> Result<(), Fail> {
 }
 
 #[test]
+fn bytes_are_counted(rt: HostRuntime) -> Result<(), Fail> {
+    let alloc = rt.alloc();
+    assert_eq!(rt; fixed(&[1, 0, 2, 0], 2)?.byte_len(), 4);
+    assert_eq!(rt; variable(alloc, b"abc", &[0, 2, 2, 3])?.byte_len(), 3);
+    assert_eq!(rt; variable(alloc, b"", &[0, 0])?.byte_len(), 0);
+    Ok(())
+}
+
+#[test]
 fn fill_values_are_repeated(rt: HostRuntime) -> Result<(), Fail> {
     let alloc = rt.alloc();
     assert_eq!(rt;
@@ -86,6 +95,18 @@ fn elements_of_a_box_are_extracted(rt: HostRuntime) -> Result<(), Fail> {
     let corner = subset(alloc, &[1, 0], &[2, 1])?;
     let part = array.extract_array_subset(alloc, &corner, &[4, 4], &DataType::UInt8)?;
     assert_eq!(rt; part, fixed(&[4, 8], 1)?);
+    Ok(())
+}
+
+#[test]
+fn elements_with_given_numbers_are_extracted(rt: HostRuntime) -> Result<(), Fail> {
+    let alloc = rt.alloc();
+    let array = fixed(&[10, 11, 12], 1)?;
+    assert_eq!(rt; array.len(), 3);
+    assert_eq!(rt;
+        array.extract_numbers(alloc, &[2, 0, 2])?,
+        fixed(&[12, 10, 12], 1)?
+    );
     Ok(())
 }
 

@@ -2,7 +2,7 @@ use Rattle.std.proofs.Common.{◌+◌, ◌^◌, ◌<◌, ◌∙◌, arith}
 use Rattle.std.proofs.lemmas.List.{get_or_read, take_all}
 use Rattle.std.proofs.lemmas.List.Elements.{length_all_zip}
 use Rattle.zarr_parts.specs.Numbering.{zip_with}
-use Rattle.zarr_parts.proofs.BoxLaws.{length-zip_with, ends_more}
+use Rattle.zarr_parts.proofs.BoxLaws.{length-zip_with, zip_with_more}
 use Rattle.zarr_parts.proofs.subset.ArraySubset.end_exc.Goals as goal
 
 pub loop-axis-preserved : goal.loop-axis-preserved
@@ -12,7 +12,7 @@ loop-axis-preserved c =
     let same = length_all_zip (λ first len. first + len < 2 ^ 64) start shape c.self.invariant in
     let first = get_or_read start _ _ (omega arith) c.index.ensures 0 in
     let many = get_or_read shape _ _ (omega arith) c.index-in-loop-axis.ensures 0 in
-    rw (← c.self.view_is) (ends_more start shape c.loop-axis.axis _ _ _ _ same (omega arith) first many (rw (← c.self.view_is) at c.loop-axis.invariant) c.in_ok-push.ensures.items)
+    rw (← c.self.view_is) (zip_with_more ◌+◌ start shape c.loop-axis.axis _ _ _ _ same (omega arith) first many (rw (← c.self.view_is) at c.loop-axis.invariant) c.in_ok-push.ensures.items)
 
 pub returns : goal.returns
 returns c =

@@ -1,0 +1,27 @@
+-- What is written into a box of lent bytes.
+use Rattle.std.specs.Prelude.{◌≡◌, ℕ, List, length}
+use Rattle.zarr_parts.specs.Order.{◌or◌then◌}
+use Rattle.zarr_parts.specs.Numbering.{count_of}
+use Rattle.zarr_parts.specs.Boxes.{number_in}
+use Rattle.zarr_parts.specs.Pieces.{piece, IsUpdated}
+use Rattle.zarr_parts.specs.declared.data_type.DataTypeSize.{DataTypeSize}
+use Rattle.zarr_parts.specs.declared.data_type.DataTypeSize.TheVariants.{Fixed}
+use Rattle.zarr_parts.specs.declared.error.CodecError.{CodecError}
+use Rattle.zarr_parts.specs.declared.error.CodecError.TheVariants.{InvalidNumberOfElements, WrongElementKind}
+use Rattle.zarr_parts.specs.declared.target.FixedTarget.{FixedTarget}
+
+-- a target's box was overwritten by elements in row-major order of the box; all other elements of the same lent bytes stay
+pub record IsWritten (old new : FixedTarget) (element : ℕ → List ℕ) : Type 0 where
+  pub reference : new.bytes.ghost_name ≡ old.bytes.ghost_name
+  pub element_size : new.element_size ≡ old.element_size
+  pub shape : new.shape.now ≡ old.shape.now
+  pub subset : new.subset.now ≡ old.subset.now
+  pub length : length new.bytes.now ≡ length old.bytes.now
+  pub elements : IsUpdated (count_of old.subset.now.shape) (number_in old.subset.now old.shape.now) (piece old.element_size old.bytes.now) element (piece old.element_size new.bytes.now)
+
+-- the tests of elements that are to be written into a target's box
+abbrev pub TargetTests : DataTypeSize → ℕ → FixedTarget → (CodecError → Type 0) → CodecError → Type 0
+TargetTests kind count target later =
+    kind ≡ Fixed target.element_size or WrongElementKind then
+    count_of target.subset.now.shape ≡ count or InvalidNumberOfElements then
+    later

@@ -1,0 +1,232 @@
+// What is asked of an array, tested against its shape and numbered in it.
+ghost use Rattle.std.specs.Prelude.{◌≡◌, ℕ, ◌^◌, ◌<◌, List, [], IfOk, IfErr, OnOk, IsTrue, ◌↔◌, All, length, map, slice_index_or};
+ghost use Rattle.zarr_parts.specs.Order.{done};
+ghost use Rattle.zarr_parts.specs.Numbering.{count_of, number_of, IsInside};
+ghost use Rattle.zarr_parts.specs.Boxes.{numbers_in, IsServed};
+ghost use Rattle.zarr_parts.specs.Selections.{IsSelectionOf, LiesWithin, SelectionTests};
+
+use crate::error::CodecError;
+use crate::indexer::Indexer;
+use crate::shape::ChunkShape;
+use crate::subset::ArraySubset;
+use std::alloc::{AllocError, Global};
+
+// Whether a coordinate that is asked is inside a shape.
+fn is_inside<N: Indexer>(indexer: &N, i: u64, shape: &[u64]) -> bool
+    requires axes { (N.selection indexer.now).axes ≡ length shape.now }
+    requires place { i < length (N.selection indexer.now).points }
+    requires whole { length (slice_index_or (N.selection indexer.now).points i []) ≡ length shape.now }
+    ensures { IsTrue result ↔ IsInside (slice_index_or (N.selection indexer.now).points i []) shape.now }
+{
+    for axis in 0..shape.len() {
+        if indexer.index_at(i, axis) >= shape[axis] {
+            return false;
+        }
+    }
+    true
+}
+
+// Whether what is asked lies in a shape: a subset by its ends, other coordinates one by one. A shape of no axes has every
+// coordinate of no numbers inside: these take no memory, so there may be more than can be looked at.
+fn lies_within<N: Indexer>(indexer: &N, shape: &[u64]) -> bool
+    requires axes { (N.selection indexer.now).axes ≡ length shape.now }
+    requires each { (i : ℕ) → i < length (N.selection indexer.now).points → length (slice_index_or (N.selection indexer.now).points i []) ≡ length shape.now }
+    ensures { IsTrue result ↔ LiesWithin (N.selection indexer.now).box (N.selection indexer.now).points shape.now }
+{
+    if let Some(subset) = indexer.as_array_subset() {
+        return subset.lies_in(shape);
+    }
+    if shape.is_empty() {
+        return true;
+    }
+    for i in 0..indexer.len().unwrap() {
+        if !is_inside(indexer, i, shape) {
+            return false;
+        }
+    }
+    true
+}
+
+/// How many coordinates an indexer asks of a shape. Refused, in this order, as `IncompatibleDimensionality`, as
+/// `OutOfBounds` where a coordinate is not inside the shape or a subset, also an empty one, ends outside it, and
+/// as `TooLarge` where their count passes `u64::MAX`. Takes no memory.
+pub fn check_selection<N: Indexer>(indexer: &N, shape: &ChunkShape) -> Result<u64, CodecError>
+    ensures count { IfOk result (λ count. count ≡ length (N.selection indexer.now).points) }
+    ensures selection { OnOk result (IsSelectionOf shape.now (N.selection indexer.now)) }
+    ensures inside { OnOk result (All (λ point. IsInside point shape.now) (N.selection indexer.now).points) }
+    ensures refused { IfErr result (SelectionTests shape.now (N.selection indexer.now) done) }
+{
+    let shape = shape.as_slice();
+    if indexer.dimensionality() != shape.len() {
+        return Err(CodecError::IncompatibleDimensionality);
+    }
+    if !lies_within(indexer, shape) {
+        return Err(CodecError::OutOfBounds);
+    }
+    indexer.len().ok_or(CodecError::TooLarge)
+}
+
+// The row-major number in a shape of a coordinate that is asked, from the last axis to the first.
+fn number_asked<N: Indexer>(indexer: &N, i: u64, shape: &[u64]) -> u64
+    requires axes { (N.selection indexer.now).axes ≡ length shape.now }
+    requires place { i < length (N.selection indexer.now).points }
+    requires inside { IsInside (slice_index_or (N.selection indexer.now).points i []) shape.now }
+    requires fits { count_of shape.now < 2 ^ 64 }
+    ensures value { result ≡ number_of (slice_index_or (N.selection indexer.now).points i []) shape.now }
+    ensures below { result < count_of shape.now }
+{
+    let mut stride = 1;
+    let mut number = 0;
+    for axis in (0..shape.len()).rev() {
+        number += indexer.index_at(i, axis) * stride;
+        stride *= shape[axis];
+    }
+    number
+}
+
+// The row-major numbers in a shape of the points of a box, run by run. `count` is how many there are.
+fn box_numbers(
+    alloc: Global,
+    subset: &ArraySubset,
+    count: u64,
+    shape: &[u64],
+) -> Result<Vec<u64>, AllocError>
+    requires { IsServed subset.now shape.now }
+    ensures { IfOk result (λ numbers. numbers.items ≡ numbers_in subset.now shape.now) }
+{
+    let mut numbers = Vec::with_capacity(alloc, count as usize)?;
+    for (first, len) in subset.runs_in(shape) {
+        numbers.extend(first..first + len)?;
+    }
+    Ok(numbers)
+}
+
+/// The row-major (C order) numbers in a shape of the coordinates that an indexer asks, in its order. `count` is
+/// how many there are. Refused only as out of memory.
+pub fn point_numbers<N: Indexer>(
+    alloc: Global,
+    indexer: &N,
+    count: u64,
+    shape: &ChunkShape,
+) -> Result<Vec<u64>, AllocError>
+    requires selection { IsSelectionOf shape.now (N.selection indexer.now) }
+    requires count { count ≡ length (N.selection indexer.now).points }
+    requires fits { count_of shape.now < 2 ^ 64 }
+    ensures numbers { IfOk result (λ numbers. numbers.items ≡ map (λ point. number_of point shape.now) (N.selection indexer.now).points) }
+    ensures below { IfOk result (λ numbers. All (λ number. number < count_of shape.now) numbers.items) }
+{
+    let shape = shape.as_slice();
+    if let Some(subset) = indexer.as_array_subset() {
+        return box_numbers(alloc, subset, count, shape);
+    }
+    let mut numbers = Vec::with_capacity(alloc, count as usize)?;
+    for i in 0..count {
+        numbers.push(number_asked(indexer, i, shape))?;
+    }
+    Ok(numbers)
+}
+
+#[cfg(test)]
+mod tests {
+    use super::*;
+    use crate::indexer::Coordinates;
+    use std::ops::Range;
+    use std::test::Fail;
+
+    fn shape(alloc: Global, axes: &[u64]) -> Result<ChunkShape, Fail> {
+        Ok(ChunkShape::new(alloc, axes)?.ok_or("no axis is 0")?)
+    }
+
+    fn subset(alloc: Global, ranges: &[Range<u64>]) -> Result<ArraySubset, Fail> {
+        Ok(ArraySubset::new_with_ranges(alloc, ranges)?.ok_or("no start passes its end")?)
+    }
+
+    fn listed(
+        alloc: Global,
+        dimensionality: usize,
+        count: u64,
+        flat: &[u64],
+    ) -> Result<Coordinates, Fail> {
+        let flat = flat.to_vec(alloc)?;
+        Ok(Coordinates::new(dimensionality, count, flat).ok_or("as many numbers")?)
+    }
+
+    #[test]
+    fn a_subset_is_numbered(rt: HostRuntime) -> Result<(), Fail> {
+        let square = shape(rt.alloc(), &[4, 4])?;
+        assert_eq!(rt; square.num_elements(), Some(16));
+        let column = subset(rt.alloc(), &[1..3, 0..1])?;
+        let count = check_selection(&column, &square)?;
+        assert_eq!(rt; count, 2);
+        let numbers = point_numbers(rt.alloc(), &column, count, &square)?;
+        assert_eq!(rt; numbers.as_slice(), [4, 8].as_slice());
+        Ok(())
+    }
+
+    #[test]
+    fn coordinates_are_numbered(rt: HostRuntime) -> Result<(), Fail> {
+        let square = shape(rt.alloc(), &[4, 4])?;
+        assert_eq!(rt; square.num_elements(), Some(16));
+        let corners = listed(rt.alloc(), 2, 3, &[3, 3, 0, 0, 3, 3])?;
+        let count = check_selection(&corners, &square)?;
+        assert_eq!(rt; count, 3);
+        let numbers = point_numbers(rt.alloc(), &corners, count, &square)?;
+        assert_eq!(rt; numbers.as_slice(), [15, 0, 15].as_slice());
+        Ok(())
+    }
+
+    #[test]
+    fn coordinates_of_no_axes_are_numbered(rt: HostRuntime) -> Result<(), Fail> {
+        let point = shape(rt.alloc(), &[])?;
+        assert_eq!(rt; point.num_elements(), Some(1));
+        let twice = listed(rt.alloc(), 0, 2, &[])?;
+        let count = check_selection(&twice, &point)?;
+        let numbers = point_numbers(rt.alloc(), &twice, count, &point)?;
+        assert_eq!(rt; numbers.as_slice(), [0, 0].as_slice());
+        Ok(())
+    }
+
+    #[test]
+    fn any_number_of_coordinates_of_no_axes_is_inside(rt: HostRuntime) -> Result<(), Fail> {
+        let point = shape(rt.alloc(), &[])?;
+        let many = listed(rt.alloc(), 0, u64::MAX, &[])?;
+        assert_eq!(rt; check_selection(&many, &point), Ok(u64::MAX));
+        Ok(())
+    }
+
+    #[test]
+    fn what_is_not_inside_is_refused(rt: HostRuntime) -> Result<(), Fail> {
+        let square = shape(rt.alloc(), &[4, 4])?;
+        assert_eq!(rt;
+            check_selection(&listed(rt.alloc(), 2, 2, &[0, 0, 3, 4])?, &square),
+            Err(CodecError::OutOfBounds)
+        );
+        assert_eq!(rt;
+            check_selection(&listed(rt.alloc(), 1, 1, &[4])?, &square),
+            Err(CodecError::IncompatibleDimensionality)
+        );
+        Ok(())
+    }
+
+    #[test]
+    fn an_empty_subset_ends_inside(rt: HostRuntime) -> Result<(), Fail> {
+        let line = shape(rt.alloc(), &[4])?;
+        assert_eq!(rt;
+            check_selection(&subset(rt.alloc(), &[5..5])?, &line),
+            Err(CodecError::OutOfBounds)
+        );
+        assert_eq!(rt;
+            check_selection(&subset(rt.alloc(), &[4..4])?, &line),
+            Ok(0)
+        );
+        Ok(())
+    }
+
+    #[test]
+    fn the_count_fits_64_bits(rt: HostRuntime) -> Result<(), Fail> {
+        let wide = shape(rt.alloc(), &[1 << 32, 1 << 32])?;
+        let all = subset(rt.alloc(), &[0..1 << 32, 0..1 << 32])?;
+        assert_eq!(rt; check_selection(&all, &wide), Err(CodecError::TooLarge));
+        Ok(())
+    }
+}
