@@ -1,11 +1,15 @@
 -- The steps of the calls of the codec `bytes`.
-use Rattle.std.proofs.Common.{◌≡◌, ◌≢◌, ℕ, ◌+◌, ◌*◌, ◌/◌, ◌^◌, ◌<◌, ◌≤◌, Bool, true, false, List, [], ◌∷◌, Option, Some, length, take, drop, map, reverse, refl, sym, ap, ◌∙◌, arith, below_more}
+use Rattle.std.proofs.Common.{◌≡◌, ◌≢◌, ℕ, ◌+◌, ◌*◌, ◌/◌, ◌^◌, ◌<◌, ◌≤◌, Bool, true, false, List, [], ◌∷◌, Option, Some, length, take, drop, map, get_or, reverse, refl, sym, ap, ◌∙◌, arith, below_more}
 use Rattle.std.proofs.Math.Nat.{div-eq_of_eq-mul_left}
 use Rattle.std.proofs.lemmas.List.{length-map, length-reverse}
-use Rattle.std.proofs.lemmas.List.Elements.{All-head, All-tail}
+use Rattle.std.proofs.lemmas.List.Elements.{All-head, All-tail, All-map}
+use Rattle.zarr_codecs.specs.Refusals.{AreTooLong}
+use Rattle.zarr_codecs.specs.Reads.{cells_at}
+use Rattle.zarr_codecs.proofs.ReadLemmas.{elements_at, sized_too_long}
+use Rattle.zarr_parts.proofs.SelectionLemmas.{numbers_below}
 use Rattle.std.specs.List.{All, range_with_len, concat}
 use borrow.Rule.Slice.PartMut.{put_mid}
-use Rattle.zarr_parts.specs.Numbering.{count_of, AllPositive}
+use Rattle.zarr_parts.specs.Numbering.{count_of, number_of, AllPositive, IsInside}
 use Rattle.zarr_parts.specs.Geo.{Geo, IsArrayOf}
 use Rattle.zarr_parts.specs.Types.{size_of, byte_size, FitsKind}
 use Rattle.zarr_parts.specs.Pieces.{piece, pieces}
@@ -155,3 +159,23 @@ pub whole_swapped : (n : ℕ) (reversed : Bool) (b items : List ℕ) → IsWhole
 whole_swapped n reversed b items whole is =
     let elements = (fixed_array n b).elements in
     rw is (whole-concat n (map (swapped reversed) elements) whole.0 (All-swapped n reversed elements (All-fixed_array n b whole)))
+
+-- more cells are asked than the bytes of their elements fit
+pub asked_past : (endianness : Option Endianness) (g : Geo) (size count total : ℕ) (reversed : Bool) (many : ℕ) (b : List ℕ) (points : List (List ℕ)) → IsMeasured endianness g size count total reversed
+    → length b ≡ total → All (λ point. IsInside point g.shape) points → many ≡ length points → ¬ (many * size < 2 ^ 64) → AreTooLong (cells_at (bytes_cells endianness g b) g.shape points)
+asked_past endianness g size count total reversed many b points m long inside counted past =
+    let n = element_size g in
+    let len : length b ≡ count_of g.shape * n = long ∙ m.total_is in
+    let codec_swaps = swapped (is_reversed endianness g.data_type) in
+    let stored = pieces n (count_of g.shape) b in
+    let elements = map codec_swaps stored in
+    let sized : All (λ e. length e ≡ n) elements = All-swapped n (is_reversed endianness g.data_type) stored (All-pieces n (count_of g.shape) b (omega (arith, len))) in
+    let there : bytes_cells endianness g b ≡ map Some elements = bytes_cells-whole endianness g b len ∙ sym (map-map Some codec_swaps stored) in
+    let elements_counted : length elements ≡ count_of g.shape = length-map stored codec_swaps ∙ length-pieces n (count_of g.shape) b in
+    let numbers = map (λ point. number_of point g.shape) points in
+    let asked = map (λ i. get_or elements i []) numbers in
+    let asked_sized : All (λ e. length e ≡ n) asked = All-map (λ e. length e ≡ n) (λ i. get_or elements i []) numbers (λ k d lt.
+    sized (get_or numbers k d) [] (omega (arith, numbers_below g.shape points inside k d lt, elements_counted))) in
+    let asked_counted : length asked ≡ many = length-map numbers (λ i. get_or elements i []) ∙ (length-map points (λ point. number_of point g.shape) ∙ sym counted) in
+    sized_too_long (cells_at (bytes_cells endianness g b) g.shape points) asked n (elements_at _ elements g.shape points there elements_counted inside) asked_sized
+    (rw (asked_counted, ← m.size_is) (omega (arith, past)))

@@ -1,2 +1,5 @@
 pub mod BytesCodecSteps
 pub mod CodecLaws
+pub mod HandleRows
+pub mod HandleLaws
+pub mod ReadLemmas

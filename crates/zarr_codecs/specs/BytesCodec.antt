@@ -112,3 +112,10 @@ abbrev pub BytesDecodeTests : Geo → List ℕ → CodecError → Type 0
 BytesDecodeTests g b =
     length b ≡ count_of g.shape * element_size g or Damaged then
     done
+
+-- the tests of a read of some cells
+abbrev pub BytesReadTests : Geo → List ℕ → List (List ℕ) → CodecError → Type 0
+BytesReadTests g b points =
+    length b ≡ count_of g.shape * element_size g or Damaged then
+    length points * element_size g < 2 ^ 64 or TooLarge then
+    done

@@ -14,7 +14,11 @@ use Rattle.zarr_parts.specs.declared.data_type.DataTypeSize.TheVariants.{Fixed}
 use Rattle.zarr_parts.proofs.PieceLaws.{length-pieces, length-concat, pieces-concat, All-pieces}
 use Rattle.zarr_codecs.specs.declared.bytes_codec.Endianness.{Endianness}
 use Rattle.zarr_codecs.specs.Cells.{all_there}
-use Rattle.zarr_codecs.specs.BytesCodec.{is_reversed, swapped, element_size, BytesServes, bytes_of, bytes_cells}
+use Rattle.zarr_parts.specs.declared.error.CodecError.{CodecError}
+use Rattle.zarr_parts.specs.declared.error.CodecError.TheVariants.{UnsupportedDataType, BadFillValue, TooLarge}
+use Rattle.zarr_codecs.specs.Refusals.{IsNoFault}
+use Rattle.zarr_codecs.specs.RefusalLaws.{test_faultless}
+use Rattle.zarr_codecs.specs.BytesCodec.{is_reversed, swapped, element_size, BytesServes, bytes_of, bytes_cells, BytesCheckTests}
 
 -- swapping twice gives the element back, and keeps its length
 pub swapped-swapped : (reversed : Bool) (e : List ℕ) → swapped reversed (swapped reversed e) ≡ e
@@ -113,3 +117,8 @@ bytes_written_cells endianness g elements b s h e =
     ∙ pieces-concat size stored (All-swapped size reversed elements (elements_sized endianness g elements s h))) in
     bytes_cells-whole endianness g b (length-bytes_of endianness g elements b s h e)
     ∙ (ap (map (λ x. Some (swapped reversed x))) cut ∙ cells_swapped reversed elements)
+
+-- `check` refuses nothing as a fault
+pub bytes_check_faultless : (endianness : Option Endianness) (g : Geo) (e : CodecError) → BytesCheckTests endianness g e → IsNoFault e
+bytes_check_faultless endianness g e =
+    test_faultless _ UnsupportedDataType _ tt (test_faultless _ BadFillValue _ tt (test_faultless _ TooLarge _ tt (λ x h. absurd h))) e

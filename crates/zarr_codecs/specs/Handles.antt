@@ -1,19 +1,28 @@
--- What a handle is: an object's contents, bytes or none; whether the handle tells them; and how often it failed.
-use Rattle.std.specs.Prelude.{◌≡◌, ◌≤◌, ◌<◌, ⊤, ℕ, ◌+◌, ◌-◌, Bool, Option, Some, None, List, length, take, drop}
+-- What a handle is: an object's contents, bytes or none; whether the handle tells them; how often it failed; and whether it can be
+-- read in part. And what its reading calls do.
+use Rattle.std.specs.Prelude.{◌≡◌, ◌≤◌, ◌<◌, ⊤, ℕ, ◌+◌, ◌-◌, Bool, IsTrue, Option, Some, None, IfSome, Result, Ok, Err, IfOk, List, length, take, drop}
+use Rattle.std.specs.Borrow.{follows_so, Fml, RattleType, MutBor}
+use mathlib.Core.Option.{none}
 use Rattle.zarr_parts.specs.declared.error.CodecError.{CodecError}
 use Rattle.zarr_parts.specs.declared.error.CodecError.TheVariants.{OutOfMemory, OutOfBounds, Fault}
 use Rattle.zarr_codecs.specs.declared.bytes.ByteRange.{ByteRange}
 use Rattle.zarr_codecs.specs.declared.bytes.ByteRange.TheVariants.{FromStart, Suffix}
 
--- a reading call leaves the contents and whether they are told, and the count of faults never falls
-pub record IsRead {H : Type 0} (tells : H → Bool) (contents : H → Option (List ℕ)) (faults : H → ℕ) (old new : H) : Type 0 where
+-- a reading call leaves the contents, whether they are told and whether they can be read in part; and the count of faults never falls
+pub record IsRead {H : Type 0} (tells : H → Bool) (contents : H → Option (List ℕ)) (faults : H → ℕ) (reads : H → Bool) (old new : H) : Type 0 where
   pub tells_same : tells new ≡ tells old
   pub contents_same : contents new ≡ contents old
   pub faults_kept : faults old ≤ faults new
+  pub reads_same : reads new ≡ reads old
 
 -- a call that may be refused only as a fault, which was counted
 abbrev pub MayFault : ℕ → ℕ → CodecError → Type 0
 MayFault before after e = (e ≡ Fault) × before < after
+
+-- a refusal that is a fault was counted
+abbrev pub IsCounted : ℕ → ℕ → CodecError → Type 0
+IsCounted before after Fault = before < after
+IsCounted before after _ = ⊤
 
 -- the bytes of a range
 abbrev pub range_part : ByteRange → List ℕ → List ℕ
@@ -27,15 +36,57 @@ RangeLiesIn (FromStart offset None) bytes = offset ≤ length bytes
 RangeLiesIn (FromStart offset (Some size)) bytes = offset + size ≤ length bytes
 RangeLiesIn (Suffix size) bytes = size ≤ length bytes
 
--- what an accepted read of a range gives: nothing exactly where there is no object, and else the bytes of the range, which lies in it
-abbrev pub IsRangeOf : ByteRange → Option (List ℕ) → Option (List ℕ) → Type 0
-IsRangeOf range None answer = answer ≡ None
-IsRangeOf range (Some bytes) answer = RangeLiesIn range bytes × (answer ≡ Some (range_part range bytes))
+-- an answer has the length that was asked, where one was asked
+abbrev pub HasAskedLength : ByteRange → List ℕ → Type 0
+HasAskedLength (FromStart offset None) answer = ⊤
+HasAskedLength (FromStart offset (Some size)) answer = length answer ≡ size
+HasAskedLength (Suffix size) answer = length answer ≡ size
 
--- how a read of a range of such contents may be refused: for memory, for a fault that was counted, or out of bounds where the
--- range doesn't lie in them
-abbrev pub MayRefuseRange : ByteRange → Option (List ℕ) → ℕ → ℕ → CodecError → Type 0
-MayRefuseRange range contents before after OutOfMemory = ⊤
-MayRefuseRange range contents before after Fault = before < after
-MayRefuseRange range (Some bytes) before after OutOfBounds = ¬ (RangeLiesIn range bytes)
-MayRefuseRange range contents before after _ = ⊥
+-- what a read of a range gives of the contents: nothing exactly where there is no object, and else the bytes of the range, which lies in it
+abbrev pub IsPart : ByteRange → Option (List ℕ) → Option (List ℕ) → Type 0
+IsPart range None answer = answer ≡ None
+IsPart range (Some bytes) answer = RangeLiesIn range bytes × (answer ≡ Some (range_part range bytes))
+
+-- what an accepted read of a range gives: bytes of the asked length, or nothing; of contents that are told, just the range's bytes
+pub record WasRead (range : ByteRange) (tells : Bool) (contents answer : Option (List ℕ)) : Type 0 where
+  pub asked : IfSome answer (HasAskedLength range)
+  pub told : IsTrue tells → IsPart range contents answer
+
+-- how a read of a range of such contents may be refused: for memory, as a fault, or out of bounds where the range doesn't lie in them
+abbrev pub MayRefuseRange : ByteRange → Option (List ℕ) → CodecError → Type 0
+MayRefuseRange range contents OutOfMemory = ⊤
+MayRefuseRange range contents Fault = ⊤
+MayRefuseRange range (Some bytes) OutOfBounds = ¬ (RangeLiesIn range bytes)
+MayRefuseRange range contents _ = ⊥
+
+-- how a read of a range may be refused: a fault was counted, and contents that are told allow the refusal
+abbrev pub RefusesRead : ByteRange → Bool → Option (List ℕ) → ℕ → ℕ → CodecError → Type 0
+RefusesRead range tells contents before after e = IsCounted before after e × (IsTrue tells → MayRefuseRange range contents e)
+
+-- what a handle is after a read of a range, which gave this refusal or none
+abbrev pub HasRead : {H : Type 0} → (H → Bool) → (H → Option (List ℕ)) → (H → ℕ) → (H → Bool) → ByteRange → H → H → Option CodecError → Type 0
+HasRead tells contents faults reads range old new e =
+    IsRead tells contents faults reads old new × IfSome e (RefusesRead range (tells old) (contents old) (faults old) (faults new))
+
+-- P holds of the value behind the `&mut` s once the borrow of it by a result ends
+abbrev pub Rests : (R : RattleType) → MutBor R.Denot → (R.Denot → Type 0) → Fml
+Rests R s P = follows_so R R s.ghost_name none (λ _ _. ⊤) P
+
+-- the refusal, if it is one
+abbrev pub refusal : {A E : Type 0} → Result A E → Option E
+refusal (Ok x) = None
+refusal (Err e) = Some e
+
+-- f of what is there
+abbrev pub seen : {A B : Type 0} → (A → B) → Option A → Option B
+seen f None = None
+seen f (Some x) = Some (f x)
+
+-- the second result has the refusal of the first, or its bytes
+pub record Agrees {A B E : Type 0} (f : A → List ℕ) (g : B → List ℕ) (r : Result (Option A) E) (s : Result (Option B) E) : Type 0 where
+  pub same_refusal : refusal s ≡ refusal r
+  pub same_bytes : IfOk s (λ o. IfOk r (λ p. seen g o ≡ seen f p))
+
+-- a refusal of a range that doesn't lie in the bytes
+abbrev pub IsOutside : ByteRange → List ℕ → CodecError → Type 0
+IsOutside range bytes e = (e ≡ OutOfBounds) × (¬ (RangeLiesIn range bytes))

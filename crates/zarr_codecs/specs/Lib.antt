@@ -1,5 +1,6 @@
 pub mod Cells
 pub mod Refusals
+pub mod RefusalLaws
 pub mod Representations
 pub mod Handles
 pub mod Reads

@@ -1,14 +1,24 @@
 -- Reads of some cells of an array that stands in an interval of an object.
-use Rattle.std.specs.Prelude.{◌≡◌, ◌≤◌, ◌<◌, ◌^◌, ◌⊎◌, ⊤, ℕ, ◌+◌, Option, Some, None, List, length, map, take, drop, slice_index_or}
+use Rattle.std.specs.Prelude.{◌≡◌, ◌≤◌, ◌<◌, ◌^◌, ◌⊎◌, ⊤, ℕ, ◌+◌, Bool, IsTrue, Option, Some, None, List, [], length, map, take, drop, slice_index_or}
+use Rattle.std.specs.List.{All}
+use Rattle.zarr_parts.specs.Order.{◌or◌then◌}
 use Rattle.zarr_parts.specs.Numbering.{number_of}
+use Rattle.zarr_parts.specs.Geo.{Geo}
+use Rattle.zarr_parts.specs.Types.{size_of, FitsKind}
+use Rattle.zarr_parts.specs.Arrays.{Array}
+use Rattle.zarr_parts.specs.Targets.{IsWritten}
+use Rattle.zarr_parts.specs.declared.target.FixedTarget.{FixedTarget}
+use Rattle.zarr_parts.specs.Selections.{Selection, IsSelectionOf, SelectionTests}
 use Rattle.zarr_parts.specs.declared.error.CodecError.{CodecError}
-use Rattle.zarr_parts.specs.declared.error.CodecError.TheVariants.{OutOfMemory, TooLarge, Fault}
+use Rattle.zarr_parts.specs.declared.error.CodecError.TheVariants.{OutOfMemory, OutOfBounds, TooLarge, Fault}
 use Rattle.zarr_codecs.specs.declared.bytes.Interval.{Interval}
+use Rattle.zarr_codecs.specs.Handles.{MayFault}
 use Rattle.zarr_codecs.specs.Refusals.{AreTooLong, AreDamaged}
 
--- the bytes of an interval
-abbrev pub interval_part : Interval → List ℕ → List ℕ
-interval_part interval bytes = take interval.size (drop interval.offset bytes)
+-- the bytes of an interval of an object; none where there is no object
+abbrev pub interval_part : Interval → Option (List ℕ) → List ℕ
+interval_part interval None = []
+interval_part interval (Some bytes) = take interval.size (drop interval.offset bytes)
 
 -- the interval lies in an object, which is there
 abbrev pub HasInterval : Interval → Option (List ℕ) → Type 0
@@ -19,16 +29,46 @@ HasInterval interval (Some bytes) = interval.offset + interval.size ≤ length b
 abbrev pub cells_at : List (Option (List ℕ)) → List ℕ → List (List ℕ) → List (Option (List ℕ))
 cells_at cells shape points = map (λ point. slice_index_or cells (number_of point shape) None) points
 
--- the elements are those of the interval's cells at the asked coordinates; `cells` says what bytes stand for
-abbrev pub IsReadOf : (List ℕ → List (Option (List ℕ))) → Interval → Option (List ℕ) → List ℕ → List (List ℕ) → List (List ℕ) → Type 0
-IsReadOf cells interval None shape points elements = ⊥
-IsReadOf cells interval (Some bytes) shape points elements =
-    HasInterval interval (Some bytes) × (cells_at (cells (interval_part interval bytes)) shape points ≡ map Some elements)
+-- what an accepted read answers, whether the handle tells its bytes or not: an element of the type for each asked coordinate, which lies in
+-- the shape
+pub record IsAnswer (g : Geo) (selection : Selection) (array : Array) : Type 0 where
+  pub selected : IsSelectionOf g.shape selection
+  pub kind : array.kind ≡ size_of g.data_type
+  pub counted : length array.elements ≡ length selection.points
+  pub fitting : All (FitsKind (size_of g.data_type)) array.elements
 
--- how a read of the asked ones of some cells may be refused: as `decode` for all of them or the asked ones, where more are asked than can
--- be counted, or as a fault that was counted
-abbrev pub MayRefuseRead : (cells asked : List (Option (List ℕ))) → ℕ → ℕ → CodecError → Type 0
-MayRefuseRead cells asked before after OutOfMemory = ⊤
-MayRefuseRead cells asked before after TooLarge = (2 ^ 64 ≤ length asked) ⊎ (AreTooLong asked ⊎ (AreTooLong cells ⊎ AreDamaged cells))
-MayRefuseRead cells asked before after Fault = before < after
-MayRefuseRead cells asked before after _ = AreDamaged cells
+-- the elements are those of the interval's cells at the asked coordinates; `cells` says what bytes stand for
+pub record IsReadOf (cells : List ℕ → List (Option (List ℕ))) (interval : Interval) (contents : Option (List ℕ)) (shape : List ℕ) (points elements : List (List ℕ)) : Type 0 where
+  pub inside : HasInterval interval contents
+  pub read : cells_at (cells (interval_part interval contents)) shape points ≡ map Some elements
+
+-- the target's subset was overwritten by cells, which are all there, in row-major order
+pub record IsDecodedInto (old new : FixedTarget) (cells : List (Option (List ℕ))) : Type 0 where
+  pub elements : List (List ℕ)
+  pub there : cells ≡ map Some elements
+  pub written : IsWritten old new (λ k. slice_index_or elements k [])
+
+-- how a read of the asked ones of some cells may be refused, faults aside: as `decode` for all of them or the asked ones, or where more are
+-- asked than can be counted
+abbrev pub MayRefuseRead : (cells asked : List (Option (List ℕ))) → CodecError → Type 0
+MayRefuseRead cells asked OutOfMemory = ⊤
+MayRefuseRead cells asked TooLarge = (2 ^ 64 ≤ length asked) ⊎ (AreTooLong asked ⊎ (AreTooLong cells ⊎ AreDamaged cells))
+MayRefuseRead cells asked Fault = ⊥
+MayRefuseRead cells asked _ = AreDamaged cells
+
+-- the tests of an interval of an object, which refuse it where there is no object, and of its bytes
+abbrev pub IntervalTests : Interval → Option (List ℕ) → (List ℕ → CodecError → Type 0) → CodecError → Type 0
+IntervalTests interval contents tests =
+    HasInterval interval contents or OutOfBounds then
+    tests (interval_part interval contents)
+
+-- tests that look at an object: a fault that was counted may come at each of them; of an object that the handle does not tell nothing is said
+abbrev pub ObjectTests : Bool → ℕ → ℕ → (CodecError → Type 0) → CodecError → Type 0
+ObjectTests tells before after tests = λ e. IsTrue tells → MayFault before after e ⊎ tests e
+
+-- the tests of what is asked: so many cells as are asked can be answered
+abbrev pub AskedTests : Geo → Selection → (ℕ → Type 0) → (CodecError → Type 0) → CodecError → Type 0
+AskedTests g selection CanAnswer later =
+    SelectionTests g.shape selection (
+    CanAnswer (length selection.points) or TooLarge then
+    later)

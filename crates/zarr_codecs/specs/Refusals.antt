@@ -20,6 +20,11 @@ AreDamaged cells = all_there cells ≡ None
 abbrev pub RefusesUnserved : Type 0 → (CodecError → Type 0) → CodecError → Type 0
 RefusesUnserved Serves tests e = (¬ Serves) × tests e
 
+-- the refusal isn't a fault
+abbrev pub IsNoFault : CodecError → Type 0
+IsNoFault Fault = ⊥
+IsNoFault _ = ⊤
+
 -- how `encode` may refuse an array that is served
 abbrev pub MayRefuseEncode : Type 0 → Type 0 → CodecError → Type 0
 MayRefuseEncode Encodable Fits OutOfMemory = ⊤

@@ -5,17 +5,22 @@ ghost use Rattle.std.specs.Cow.{cow_slice_items};
 ghost use Rattle.zarr_parts.specs.Geo.{geo};
 ghost use Rattle.zarr_parts.specs.Types.{size_of, byte_size};
 ghost use Rattle.zarr_parts.specs.Arrays.{IsWhole, fixed_array};
+ghost use Rattle.zarr_parts.specs.declared.data_type.DataTypeSize.TheVariants.{Fixed};
 ghost use Rattle.zarr_codecs.specs.BytesCodec.{is_whole_number, swapped, KnowsOrder, SwapsAs, IsMeasured, BytesServes, BytesCheckTests};
 ghost use Rattle.zarr_codecs.specs.declared.bytes_codec.Endianness.TheVariants.{Little, Big};
 
+use crate::bytes::{ByteRange, Interval};
 use crate::codec::ArrayToBytesCodecTraits;
 use crate::concurrency::RecommendedConcurrency;
+use crate::handle::{BytesPartialDecoderTraits, lent};
+use crate::interval::check_interval;
 use crate::representation::BytesRepresentation;
 use std::alloc::{AllocError, Global};
 use std::borrow::CowSlice;
 use std::marker::Model;
 use zarr_parts::{
-    ArrayBytes, ChunkShape, CodecError, CodecOptions, DataType, DataTypeSize, FillValue,
+    ArrayBytes, ChunkShape, CodecError, CodecOptions, DataType, DataTypeSize, FillValue, Indexer,
+    check_selection, point_numbers,
 };
 
 /// In which order the bytes of a whole number are stored.
@@ -197,11 +202,28 @@ fn in_memory<'a>(
     Ok(CowSlice::Owned(copied(alloc, bytes, size, reversed)?))
 }
 
+// The array that stored elements are.
+fn array_of_bytes<'a>(
+    alloc: Global,
+    bytes: &'a [u8],
+    size: usize,
+    reversed: bool,
+) -> Result<ArrayBytes<'a>, AllocError>
+    requires { IsWhole size bytes.now }
+    ensures { IfOk result (λ array. array ≡ fixed_array size (concat (map (swapped reversed) (fixed_array size bytes.now).elements))) }
+{
+    let elements = in_memory(alloc, bytes, size, reversed)?;
+    match ArrayBytes::new_flen(elements, size) {
+        Some(array) => Ok(array),
+        None => unreachable!(),
+    }
+}
+
 impl ArrayToBytesCodecTraits for BytesCodec {
     ghost use Rattle.std.specs.Prelude.{◌≡◌, ⊤};
     ghost use Rattle.zarr_parts.specs.Order.{done};
-    ghost use Rattle.zarr_codecs.specs.BytesCodec.{BytesServes, bytes_of, bytes_cells, bytes_representation, BytesCheckTests, BytesEncodeTests, BytesDecodeTests};
-    ghost use Rattle.zarr_codecs.specs.BytesCodecLaws.{bytes_cells_counted, bytes_cells_fitting, bytes_written_cells, length-bytes_of};
+    ghost use Rattle.zarr_codecs.specs.BytesCodec.{BytesServes, bytes_of, bytes_cells, bytes_representation, BytesCheckTests, BytesEncodeTests, BytesDecodeTests, BytesReadTests};
+    ghost use Rattle.zarr_codecs.specs.BytesCodecLaws.{bytes_cells_counted, bytes_cells_fitting, bytes_written_cells, length-bytes_of, bytes_check_faultless};
 
     ghost serves = { λ endianness g. BytesServes endianness g };
 
@@ -224,6 +246,12 @@ impl ArrayToBytesCodecTraits for BytesCodec {
     ghost concurrency = { λ _ _. 1 };
 
     ghost concurrency_tests = { λ _ _. done };
+
+    ghost answerable = { λ _ _ _. ⊤ };
+
+    ghost read_tests = { λ _ g b points. BytesReadTests g b points };
+
+    ghost check_faultless = { λ endianness g e h. bytes_check_faultless endianness g e h };
 
     ghost cells_counted = { λ endianness g b _. bytes_cells_counted endianness g b };
 
@@ -308,11 +336,46 @@ impl ArrayToBytesCodecTraits for BytesCodec {
         if bytes.len() as u64 != total {
             return Err(CodecError::Damaged);
         }
-        let elements = in_memory(alloc, bytes, size, reversed)?;
-        match ArrayBytes::new_flen(elements, size) {
-            Some(array) => Ok(array),
-            None => unreachable!(),
+        let array = array_of_bytes(alloc, bytes, size, reversed)?;
+        Ok(array)
+    }
+
+    /// Reads the whole interval. Refused as the trait says, then as `Damaged` where the interval has another length, and as
+    /// `TooLarge` where the bytes of the asked elements pass `u64::MAX`.
+    fn partial_decode<H: BytesPartialDecoderTraits, N: Indexer>(
+        &self,
+        alloc: Global,
+        handle: &mut H,
+        interval: Interval,
+        shape: &ChunkShape,
+        data_type: &DataType,
+        fill_value: &FillValue,
+        indexer: &N,
+        _options: &CodecOptions,
+    ) -> Result<ArrayBytes<'static>, CodecError> {
+        let Measure {
+            size,
+            total,
+            reversed,
+            ..
+        } = self.measured(shape, data_type, fill_value)?;
+        let count = check_selection(indexer, shape)?;
+        check_interval(handle, interval)?;
+        if interval.size != total {
+            return Err(CodecError::Damaged);
         }
+        let Some(_) = count.checked_mul(size as u64) else {
+            return Err(CodecError::TooLarge);
+        };
+        let numbers = point_numbers(alloc, indexer, count, shape)?;
+        let mut room = Vec::new(alloc);
+        let range = ByteRange::FromStart(interval.offset, Some(total));
+        let Some(bytes) = lent(handle, &mut room, alloc, range)? else {
+            return Err(CodecError::OutOfBounds);
+        };
+        let array = array_of_bytes(alloc, bytes, size, reversed)?;
+        let asked = array.extract_numbers(alloc, &numbers)?;
+        Ok(asked)
     }
 
     /// Each encoding has this length. Refused as `check` refuses.
@@ -329,168 +392,6 @@ impl ArrayToBytesCodecTraits for BytesCodec {
 }
 
 #[cfg(test)]
-mod tests {
-    use super::*;
-    use std::test::Fail;
-
-    fn shape(alloc: Global, axes: &[u64]) -> Result<ChunkShape, Fail> {
-        Ok(ChunkShape::new(alloc, axes)?.ok_or("no axis is 0")?)
-    }
-
-    fn fill(alloc: Global, bytes: &[u8]) -> Result<FillValue, Fail> {
-        Ok(FillValue::new(bytes.to_vec(alloc)?))
-    }
-
-    fn fixed(bytes: &[u8], size: usize) -> Result<ArrayBytes<'_>, Fail> {
-        Ok(ArrayBytes::new_flen(CowSlice::Borrowed(bytes), size).ok_or("whole elements")?)
-    }
-
-    #[test]
-    fn whole_numbers_are_stored_in_their_order(rt: HostRuntime) -> Result<(), Fail> {
-        let alloc = rt.alloc();
-        let options = CodecOptions::default();
-        let six = [1, 2, 3, 4, 5, 6].as_slice();
-        let unordered = BytesCodec::new(None);
-        for (codec, data_type, size, memory, stored) in [
-            (
-                BytesCodec::big(),
-                DataType::UInt16,
-                2,
-                [2, 1].as_slice(),
-                [1, 2].as_slice(),
-            ),
-            (BytesCodec::little(), DataType::UInt16, 2, &[2, 1], &[2, 1]),
-            (BytesCodec::default(), DataType::UInt16, 2, &[2, 1], &[2, 1]),
-            (
-                BytesCodec::big(),
-                DataType::Int16,
-                2,
-                six,
-                &[2, 1, 4, 3, 6, 5],
-            ),
-            (BytesCodec::big(), DataType::UInt8, 1, six, six),
-            (BytesCodec::big(), DataType::Bool, 1, &[1, 0], &[1, 0]),
-            (BytesCodec::big(), DataType::Raw(3), 3, six, six),
-            (unordered, DataType::Raw(3), 3, six, six),
-            (unordered, DataType::UInt8, 1, six, six),
-        ] {
-            let axes = shape(alloc, &[(memory.len() / size) as u64])?;
-            let zero = fill(alloc, &[0; 8][..size])?;
-            let array = fixed(memory, size)?;
-            let encoded = codec.encode(alloc, &array, &axes, &data_type, &zero, &options)?;
-            assert_eq!(rt; encoded.as_slice(), stored, "{data_type:?} by {codec:?}");
-            let decoded = codec.decode(alloc, &encoded, &axes, &data_type, &zero, &options)?;
-            assert_eq!(rt; decoded, array, "{data_type:?} by {codec:?}");
-        }
-        Ok(())
-    }
-
-    #[test]
-    fn types_fill_values_and_shapes_are_tested_in_order(rt: HostRuntime) -> Result<(), Fail> {
-        let alloc = rt.alloc();
-        let (little, unordered) = (BytesCodec::little(), BytesCodec::new(None));
-        let unsupported = Some(CodecError::UnsupportedDataType);
-        let wide = [1 << 63, 2].as_slice();
-        for (codec, data_type, bytes, axes, want) in [
-            (
-                unordered,
-                DataType::UInt16,
-                [0].as_slice(),
-                wide,
-                unsupported,
-            ),
-            (little, DataType::Optional, &[0], wide, unsupported),
-            (little, DataType::Raw(0), &[0], wide, unsupported),
-            (little, DataType::Bytes, &[0], wide, unsupported),
-            (
-                little,
-                DataType::UInt16,
-                &[0],
-                wide,
-                Some(CodecError::BadFillValue),
-            ),
-            (
-                little,
-                DataType::UInt8,
-                &[0],
-                wide,
-                Some(CodecError::TooLarge),
-            ),
-            (
-                little,
-                DataType::UInt16,
-                &[0, 0],
-                &[1 << 63],
-                Some(CodecError::TooLarge),
-            ),
-            (little, DataType::UInt8, &[0], &[u64::MAX], None),
-            (unordered, DataType::Bool, &[0], &[2], None),
-        ] {
-            let axes = shape(alloc, axes)?;
-            let refusal = codec
-                .check(alloc, &axes, &data_type, &fill(alloc, bytes)?)
-                .err();
-            assert_eq!(rt; refusal, want, "{data_type:?} by {codec:?}");
-        }
-        Ok(())
-    }
-
-    #[test]
-    fn arrays_and_bytes_are_tested_in_order(rt: HostRuntime) -> Result<(), Fail> {
-        let alloc = rt.alloc();
-        let options = CodecOptions::default();
-        let codec = BytesCodec::big();
-        let axes = shape(alloc, &[2])?;
-        let zero = fill(alloc, &[0, 0])?;
-        for (size, len, want) in [
-            (1, 3, Some(CodecError::WrongElementKind)),
-            (2, 6, Some(CodecError::InvalidNumberOfElements)),
-            (2, 4, None),
-        ] {
-            let array = fixed(&[0; 8][..len], size)?;
-            let refusal = codec
-                .encode(alloc, &array, &axes, &DataType::UInt16, &zero, &options)
-                .err();
-            assert_eq!(rt; refusal, want, "{len} bytes of size {size}");
-        }
-        let offsets = [0, 2, 4].to_vec(alloc)?;
-        let array = ArrayBytes::new_vlen(CowSlice::Borrowed(&[0; 4]), offsets).ok_or("offsets")?;
-        let refusal = codec
-            .encode(alloc, &array, &axes, &DataType::UInt16, &zero, &options)
-            .err();
-        assert_eq!(rt; refusal, Some(CodecError::WrongElementKind));
-        for (len, want) in [
-            (0, Some(CodecError::Damaged)),
-            (3, Some(CodecError::Damaged)),
-            (6, Some(CodecError::Damaged)),
-            (4, None),
-        ] {
-            let refusal = codec
-                .decode(
-                    alloc,
-                    &[0; 8][..len],
-                    &axes,
-                    &DataType::UInt16,
-                    &zero,
-                    &options,
-                )
-                .err();
-            assert_eq!(rt; refusal, want, "{len} bytes");
-        }
-        Ok(())
-    }
-
-    #[test]
-    fn encodings_have_one_length(rt: HostRuntime) -> Result<(), Fail> {
-        let axes = shape(rt.alloc(), &[4, 4])?;
-        let zero = fill(rt.alloc(), &[0, 0])?;
-        let told = BytesCodec::big().encoded_representation(
-            rt.alloc(),
-            &axes,
-            &DataType::UInt16,
-            &zero,
-        )?;
-        assert_eq!(rt; told, BytesRepresentation::FixedSize(32));
-        Ok(())
-    }
-}
+mod read_tests;
+#[cfg(test)]
+mod tests;

@@ -1,20 +1,49 @@
 // What the sharding codec asks of a codec from arrays to bytes, and keeps itself.
-ghost use Rattle.std.specs.Prelude.{◌≡◌, ◌<◌, ℕ, List, Option, Some, None, IfOk, IfErr, OnOk, IfSome, IsSome, map, length, slice_index_or};
+ghost use Rattle.std.specs.Prelude.{◌≡◌, ◌<◌, ◌⊎◌, ℕ, List, Option, Some, None, IfOk, IfErr, OnOk, OnErr, IfSome, IsSome, IsTrue, map, length, slice_index_or};
 ghost use Rattle.zarr_parts.specs.Order.{◌or◌then◌, ◌or_as◌then◌, done, RefusedBy};
 ghost use Rattle.zarr_parts.specs.Numbering.{count_of};
 ghost use Rattle.zarr_parts.specs.Geo.{Geo, geo, IsArrayOf};
 ghost use Rattle.zarr_parts.specs.Types.{size_of, FitsKind};
 ghost use Rattle.zarr_parts.specs.Arrays.{Array};
 ghost use Rattle.zarr_parts.specs.declared.error.CodecError.{CodecError};
+ghost use Rattle.zarr_parts.specs.Selections.{LiesWithin};
+ghost use Rattle.zarr_parts.specs.Targets.{TargetTests};
+ghost use Rattle.zarr_parts.specs.declared.data_type.DataTypeSize.TheVariants.{Fixed};
 ghost use Rattle.zarr_parts.specs.declared.error.CodecError.TheVariants.{TooLarge};
-ghost use Rattle.zarr_codecs.specs.Refusals.{RefusesUnserved, MayRefuseEncode, MayRefuseDecode, MayRefuseCompact};
+ghost use Rattle.zarr_codecs.specs.Handles.{IsRead, IsCounted, MayFault};
+ghost use Rattle.zarr_codecs.specs.Reads.{IsDecodedInto, interval_part, cells_at, HasInterval, IsAnswer, IsReadOf, MayRefuseRead, AskedTests, ObjectTests, IntervalTests};
+ghost use Rattle.zarr_codecs.specs.Refusals.{IsNoFault, RefusesUnserved, MayRefuseEncode, MayRefuseDecode, MayRefuseCompact};
 ghost use Rattle.zarr_codecs.specs.Representations.{IsWithin};
 ghost use Rattle.zarr_codecs.specs.declared.representation.BytesRepresentation.{BytesRepresentation};
 
+use crate::bytes::Interval;
 use crate::concurrency::RecommendedConcurrency;
+use crate::handle::BytesPartialDecoderTraits;
 use crate::representation::BytesRepresentation;
 use std::alloc::Global;
-use zarr_parts::{ArrayBytes, ChunkShape, CodecError, CodecOptions, DataType, FillValue};
+use zarr_parts::{
+    ArrayBytes, ChunkShape, CodecError, CodecOptions, DataType, DataTypeSize, FillValue,
+    FixedTarget, Indexer,
+};
+
+// Tests that a target has room for an array of a shape and a type.
+fn check_target(
+    target: &FixedTarget,
+    shape: &ChunkShape,
+    data_type: &DataType,
+) -> Result<(), CodecError>
+    ensures kind { OnOk result (size_of data_type.now ≡ Fixed target.now.element_size) }
+    ensures counted { OnOk result (count_of target.now.subset.now.shape ≡ count_of shape.now) }
+    ensures refused { IfErr result (TargetTests (size_of data_type.now) (count_of shape.now) target.now done) }
+{
+    if data_type.size() != DataTypeSize::Fixed(target.element_size()) {
+        return Err(CodecError::WrongElementKind);
+    }
+    if shape.num_elements() != Some(target.num_elements()) {
+        return Err(CodecError::InvalidNumberOfElements);
+    }
+    Ok(())
+}
 
 /// A codec from arrays to bytes (Zarr V3 core, "Codecs"). Every call takes the shape, the data type and the
 /// fill value of the array that it is about. Every call makes the tests of `check` first.
@@ -57,6 +86,12 @@ pub trait ArrayToBytesCodecTraits {
 
     // how `recommended_concurrency` refuses: its tests in their order
     ghost concurrency_tests: { Self → List ℕ → CodecError → Type 0 };
+
+    // so many cells can be answered by one read
+    ghost answerable: { Self → Geo → ℕ → Type 0 };
+
+    // how a read of the cells at some coordinates refuses the bytes that it finds in its interval
+    ghost read_tests: { Self → Geo → List ℕ → List (List ℕ) → CodecError → Type 0 };
 
     /// Tests whether the codec serves these arrays. Each codec states its refusals and their order.
     fn check(
@@ -117,6 +152,37 @@ pub trait ArrayToBytesCodecTraits {
             serves self.now g or_as RefusesUnserved (serves self.now g) (check_tests self.now g) then
             decode_tests self.now g bytes.now)) };
 
+    /// Decodes an array into a target: its elements go to the target's subset, in row-major order. A refusal leaves the
+    /// target. Refused as `check` refuses, then as `WrongElementKind` (a type of another element size or of none),
+    /// `InvalidNumberOfElements` (another number of elements in the target's subset), then as `decode`.
+    fn decode_into(
+        &self,
+        alloc: Global,
+        bytes: &[u8],
+        shape: &ChunkShape,
+        data_type: &DataType,
+        fill_value: &FillValue,
+        target: &mut FixedTarget,
+        options: &CodecOptions,
+    ) -> Result<(), CodecError>
+        ensures serves { OnOk result (serves self.now (geo shape.now data_type.now fill_value.now)) }
+        ensures cells { OnOk result (IsDecodedInto target.old target.new (cells self.now (geo shape.now data_type.now fill_value.now) bytes.now)) }
+        ensures kept { OnErr result (target.new ≡ target.old) }
+        ensures lawful { let g = geo shape.now data_type.now fill_value.now in
+            IfErr result (λ e. serves self.now g → size_of data_type.now ≡ Fixed target.old.element_size
+            → count_of target.old.subset.now.shape ≡ count_of shape.now → MayRefuseDecode (cells self.now g bytes.now) e) }
+        ensures refused { let g = geo shape.now data_type.now fill_value.now in
+            IfErr result (RefusedBy (
+            serves self.now g or_as RefusesUnserved (serves self.now g) (check_tests self.now g) then
+            TargetTests (size_of data_type.now) (count_of shape.now) target.old (
+            decode_tests self.now g bytes.now))) }
+    {
+        self.check(alloc, shape, data_type, fill_value)?;
+        check_target(target, shape, data_type)?;
+        let array = self.decode(alloc, bytes, shape, data_type, fill_value, options)?;
+        target.copy_from(&array)
+    }
+
     /// The bytes rewritten without what is not needed, or `None` where there is nothing to gain; they stand for the
     /// same cells. By default `None`, with no test. Each codec that compacts states its refusals and their order.
     fn compact(
@@ -164,6 +230,44 @@ pub trait ArrayToBytesCodecTraits {
             serves self.now g or_as RefusesUnserved (serves self.now g) (check_tests self.now g) then
             IsSome (representation self.now g) or TooLarge then
             done)) };
+
+    /// Reads the cells that an indexer asks, in its order, of an array that stands in an interval of an object; duplicates are
+    /// kept. Ok or refused, the object stays. Refused as `check` refuses, then, in this order, as `IncompatibleDimensionality`
+    /// (shape and indexer), as `OutOfBounds` (cells outside the shape), as `TooLarge` (their count), as `OutOfBounds` where no
+    /// object has the interval, and as the codec's bytes may be bad; or as `Fault`, where the handle failed, or `OutOfMemory`.
+    fn partial_decode<H: BytesPartialDecoderTraits, N: Indexer>(
+        &self,
+        alloc: Global,
+        handle: &mut H,
+        interval: Interval,
+        shape: &ChunkShape,
+        data_type: &DataType,
+        fill_value: &FillValue,
+        indexer: &N,
+        options: &CodecOptions,
+    ) -> Result<ArrayBytes<'static>, CodecError>
+        ensures serves { OnOk result (serves self.now (geo shape.now data_type.now fill_value.now)) }
+        ensures read { IsRead H.tells H.contents H.faults H.reads handle.old handle.new }
+        ensures answer { IfOk result (IsAnswer (geo shape.now data_type.now fill_value.now) (N.selection indexer.now)) }
+        ensures cells { let g = geo shape.now data_type.now fill_value.now in
+            IfOk result (λ array. IsTrue (H.tells handle.old)
+            → IsReadOf (cells self.now g) interval (H.contents handle.old) shape.now (N.selection indexer.now).points array.elements) }
+        ensures counted { IfErr result (IsCounted (H.faults handle.old) (H.faults handle.new)) }
+        ensures lawful { let g = geo shape.now data_type.now fill_value.now in
+            IfErr result (λ e. serves self.now g → IsTrue (H.tells handle.old) → (N.selection indexer.now).axes ≡ length shape.now
+            → LiesWithin (N.selection indexer.now).box (N.selection indexer.now).points shape.now → HasInterval interval (H.contents handle.old)
+            → MayFault (H.faults handle.old) (H.faults handle.new) e
+            ⊎ MayRefuseRead (cells self.now g (interval_part interval (H.contents handle.old)))
+            (cells_at (cells self.now g (interval_part interval (H.contents handle.old))) shape.now (N.selection indexer.now).points) e) }
+        ensures refused { let g = geo shape.now data_type.now fill_value.now in
+            IfErr result (RefusedBy (
+            serves self.now g or_as RefusesUnserved (serves self.now g) (check_tests self.now g) then
+            AskedTests g (N.selection indexer.now) (answerable self.now g) (
+            ObjectTests (H.tells handle.old) (H.faults handle.old) (H.faults handle.new) (
+            IntervalTests interval (H.contents handle.old) (λ b. read_tests self.now g b (N.selection indexer.now).points))))) };
+
+    // `check` refuses no array as a fault
+    ghost check_faultless: { (x : Self) (g : Geo) (e : CodecError) → check_tests x g e → IsNoFault e };
 
     // bytes stand for as many cells as the shape has
     ghost cells_counted: { (x : Self) (g : Geo) (b : List ℕ) → serves x g → length (cells x g b) ≡ count_of g.shape };

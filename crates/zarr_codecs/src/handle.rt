@@ -1,0 +1,297 @@
+// Objects that are read in part, through a handle.
+ghost use Rattle.std.specs.Prelude.{◌≡◌, ℕ, Bool, IsTrue, List, Option, IfOk, IfErr, is_some, length};
+ghost use Rattle.std.specs.Borrow.{sem};
+ghost use Rattle.std.specs.Cow.{cow_slice_items};
+ghost use Rattle.std.specs.Option.{option_map};
+ghost use Rattle.zarr_codecs.specs.Handles.{Rests, IsRead, HasRead, WasRead, MayFault, RefusesRead, Agrees, refusal, seen};
+
+use crate::bytes::ByteRange;
+use std::alloc::Global;
+use std::borrow::CowSlice;
+use zarr_parts::CodecError;
+
+/// An object that is read in part, or none. A handle of a user's own implements `LendsSlice`, which gives it this trait.
+pub trait BytesPartialDecoderTraits {
+    // whether the handle tells its bytes; this never changes
+    ghost tells: { Self → Bool };
+
+    // the object's bytes, or none where there is no object
+    ghost contents: { Self → Option (List ℕ) };
+
+    // how often the handle failed; this never falls
+    ghost faults: { Self → ℕ };
+
+    // how many bytes the handle holds in memory
+    ghost held: { Self → ℕ };
+
+    // whether the handle can be read in part; this never changes
+    ghost reads: { Self → Bool };
+
+    /// Whether there is an object. Refused only as `Fault`.
+    fn exists(&mut self) -> Result<bool, CodecError>
+        ensures read { IsRead tells contents faults reads self.old self.new }
+        ensures told { IfOk result (λ there. IsTrue (tells self.old) → there ≡ is_some (contents self.old)) }
+        ensures refused { IfErr result (MayFault (faults self.old) (faults self.new)) };
+
+    /// The object's length in bytes, or `None` where there is no object. Refused only as `Fault`.
+    fn len(&mut self) -> Result<Option<u64>, CodecError>
+        ensures read { IsRead tells contents faults reads self.old self.new }
+        ensures told { IfOk result (λ n. IsTrue (tells self.old) → n ≡ option_map length (contents self.old)) }
+        ensures refused { IfErr result (MayFault (faults self.old) (faults self.new)) };
+
+    /// How many bytes the handle holds in memory.
+    fn size_held(&self) -> usize
+        ensures { result ≡ held self.now };
+
+    /// The bytes of a range, or `None` where there is no object. The answer has the asked length, and may lend bytes
+    /// that the handle holds. Refused as `OutOfBounds` where there is an object and the range passes it, or as `Fault`.
+    fn partial_decode(
+        &mut self,
+        alloc: Global,
+        range: ByteRange,
+    ) -> Result<Option<CowSlice<'_, u8>>, CodecError>
+        ensures* read { sem 𝓛 (Rests Self.row self.entry (λ new. HasRead tells contents faults reads range self.old new (refusal result))) }
+        ensures told { IfOk result (λ o. WasRead range (tells self.old) (contents self.old) (seen (λ b. cow_slice_items b) o)) };
+
+    /// Whether the handle can be read in part. The answer never changes.
+    fn supports_partial_decode(&self) -> bool
+        ensures { result ≡ reads self.now };
+}
+
+// What was lent, with bytes that are owned put into the room.
+fn split<'a>(
+    read: Result<Option<CowSlice<'a, u8>>, CodecError>,
+    room: &'a mut Vec<u8>,
+) -> Result<Option<&'a [u8]>, CodecError>
+    ensures { Agrees (λ b. cow_slice_items b) (λ b. b.now) read.entry result }
+{
+    match read {
+        Ok(Some(CowSlice::Borrowed(bytes))) => Ok(Some(bytes)),
+        Ok(Some(CowSlice::Owned(bytes))) => {
+            *room = bytes;
+            Ok(Some(room.as_slice()))
+        }
+        Ok(None) => Ok(None),
+        Err(e) => Err(e),
+    }
+}
+
+/// Reads as `partial_decode`, and lends the bytes: from the handle, or from `room`, which then holds them.
+pub fn lent<'a, H: BytesPartialDecoderTraits>(
+    handle: &'a mut H,
+    room: &'a mut Vec<u8>,
+    alloc: Global,
+    range: ByteRange,
+) -> Result<Option<&'a [u8]>, CodecError>
+    ensures* read { sem 𝓛 (Rests H.row handle.entry (λ new. HasRead H.tells H.contents H.faults H.reads range handle.old new (refusal result))) }
+    ensures told { IfOk result (λ o. WasRead range (H.tells handle.old) (H.contents handle.old) (seen (λ b. b.now) o)) }
+{
+    split(handle.partial_decode(alloc, range), room)
+}
+
+/// Reads as `partial_decode`, and answers a copy.
+pub fn copied<H: BytesPartialDecoderTraits>(
+    handle: &mut H,
+    alloc: Global,
+    range: ByteRange,
+) -> Result<Option<Vec<u8>>, CodecError>
+    ensures read { IsRead H.tells H.contents H.faults H.reads handle.old handle.new }
+    ensures told { IfOk result (λ o. WasRead range (H.tells handle.old) (H.contents handle.old) (seen (λ v. v.items) o)) }
+    ensures refused { IfErr result (RefusesRead range (H.tells handle.old) (H.contents handle.old) (H.faults handle.old) (H.faults handle.new)) }
+{
+    let mut room = Vec::new(alloc);
+    match lent(handle, &mut room, alloc, range)? {
+        Some(bytes) => {
+            let copy = bytes.to_vec(alloc)?;
+            Ok(Some(copy))
+        }
+        None => Ok(None),
+    }
+}
+
+/// A handle that lends a slice of what it holds or has read. It has `BytesPartialDecoderTraits` by this. An
+/// implementation changes its own fields first and makes the slice last, where it answers it.
+pub trait LendsSlice {
+    // whether the handle tells its bytes; this never changes
+    ghost tells: { Self → Bool };
+
+    // the object's bytes, or none where there is no object
+    ghost contents: { Self → Option (List ℕ) };
+
+    // how often the handle failed; this never falls
+    ghost faults: { Self → ℕ };
+
+    // how many bytes the handle holds in memory
+    ghost held: { Self → ℕ };
+
+    // whether the handle can be read in part; this never changes
+    ghost reads: { Self → Bool };
+
+    /// Whether there is an object. Refused only as `Fault`.
+    fn find(&mut self) -> Result<bool, CodecError>
+        ensures read { IsRead tells contents faults reads self.old self.new }
+        ensures told { IfOk result (λ there. IsTrue (tells self.old) → there ≡ is_some (contents self.old)) }
+        ensures refused { IfErr result (MayFault (faults self.old) (faults self.new)) };
+
+    /// The object's length in bytes, or `None` where there is no object. Refused only as `Fault`.
+    fn measure(&mut self) -> Result<Option<u64>, CodecError>
+        ensures read { IsRead tells contents faults reads self.old self.new }
+        ensures told { IfOk result (λ n. IsTrue (tells self.old) → n ≡ option_map length (contents self.old)) }
+        ensures refused { IfErr result (MayFault (faults self.old) (faults self.new)) };
+
+    /// How many bytes the handle holds in memory.
+    fn held_bytes(&self) -> usize
+        ensures { result ≡ held self.now };
+
+    /// The bytes of a range, or `None` where there is no object. The answer has the asked length. Refused as `OutOfBounds`
+    /// where there is an object and the range passes it, or as `Fault`.
+    fn lend(&mut self, alloc: Global, range: ByteRange) -> Result<Option<&[u8]>, CodecError>
+        ensures* read { sem 𝓛 (Rests Self.row self.entry (λ new. HasRead tells contents faults reads range self.old new (refusal result))) }
+        ensures told { IfOk result (λ o. WasRead range (tells self.old) (contents self.old) (seen (λ b. b.now) o)) };
+
+    /// Whether the handle can be read in part. The answer never changes.
+    fn lends_parts(&self) -> bool
+        ensures { result ≡ reads self.now };
+}
+
+// The same bytes, as a value that may own them.
+fn wrap<'a>(
+    read: Result<Option<&'a [u8]>, CodecError>,
+) -> Result<Option<CowSlice<'a, u8>>, CodecError>
+    ensures { Agrees (λ b. b.now) (λ b. cow_slice_items b) read.entry result }
+{
+    match read {
+        Ok(Some(bytes)) => Ok(Some(CowSlice::Borrowed(bytes))),
+        Ok(None) => Ok(None),
+        Err(e) => Err(e),
+    }
+}
+
+impl<T: LendsSlice> BytesPartialDecoderTraits for T {
+    ghost tells = { λ handle. T.tells handle };
+
+    ghost contents = { λ handle. T.contents handle };
+
+    ghost faults = { λ handle. T.faults handle };
+
+    ghost held = { λ handle. T.held handle };
+
+    ghost reads = { λ handle. T.reads handle };
+
+    fn exists(&mut self) -> Result<bool, CodecError> {
+        self.find()
+    }
+
+    fn len(&mut self) -> Result<Option<u64>, CodecError> {
+        self.measure()
+    }
+
+    fn size_held(&self) -> usize {
+        self.held_bytes()
+    }
+
+    fn partial_decode(
+        &mut self,
+        alloc: Global,
+        range: ByteRange,
+    ) -> Result<Option<CowSlice<'_, u8>>, CodecError> {
+        wrap(self.lend(alloc, range))
+    }
+
+    fn supports_partial_decode(&self) -> bool {
+        self.lends_parts()
+    }
+}
+
+#[cfg(test)]
+mod tests {
+    use super::*;
+    use crate::bytes::part_of;
+    use std::test::Fail;
+
+    // Counts the bytes that are read of a text, and fails once, after so many.
+    #[derive(Drop)]
+    struct CountingHandle {
+        text: Vec<u8>,
+        bytes_read: usize,
+        fails_after: usize,
+        faults: u8,
+    }
+
+    impl CountingHandle {
+        fn new(text: Vec<u8>, fails_after: usize) -> Self {
+            CountingHandle {
+                text,
+                bytes_read: 0,
+                fails_after,
+                faults: 0,
+            }
+        }
+    }
+
+    impl LendsSlice for CountingHandle {
+        ghost use Rattle.std.specs.Prelude.{true, Some, length};
+
+        ghost tells = { λ _. true };
+
+        ghost contents = { λ handle. Some handle.text.items };
+
+        ghost faults = { λ handle. handle.faults };
+
+        ghost held = { λ handle. length handle.text.items };
+
+        ghost reads = { λ _. true };
+
+        fn find(&mut self) -> Result<bool, CodecError> {
+            Ok(true)
+        }
+
+        fn measure(&mut self) -> Result<Option<u64>, CodecError> {
+            Ok(Some(self.text.len() as u64))
+        }
+
+        fn held_bytes(&self) -> usize {
+            self.text.len()
+        }
+
+        fn lend(&mut self, alloc: Global, range: ByteRange) -> Result<Option<&[u8]>, CodecError> {
+            if self.faults == 0 && self.bytes_read >= self.fails_after {
+                self.faults = 1;
+                return Err(CodecError::Fault);
+            }
+            let length = part_of(&self.text, range)?.len();
+            self.bytes_read = self.bytes_read.saturating_add(length);
+            let part = part_of(&self.text, range)?;
+            Ok(Some(part))
+        }
+
+        fn lends_parts(&self) -> bool {
+            true
+        }
+    }
+
+    #[test]
+    fn a_handle_counts_what_is_read_and_fails_once(rt: HostRuntime) -> Result<(), Fail> {
+        let alloc = rt.alloc();
+        let mut handle = CountingHandle::new([1, 2, 3, 4, 5].to_vec(alloc)?, 3);
+        let mut room = Vec::new(alloc);
+        for (range, want) in [
+            (
+                ByteRange::FromStart(1, Some(2)),
+                Ok(Some([2, 3].as_slice())),
+            ),
+            (ByteRange::Suffix(6), Err(CodecError::OutOfBounds)),
+            (ByteRange::Suffix(1), Ok(Some(&[5]))),
+            (ByteRange::FromStart(0, None), Err(CodecError::Fault)),
+            (ByteRange::FromStart(0, Some(1)), Ok(Some(&[1]))),
+        ] {
+            let read = lent(&mut handle, &mut room, alloc, range);
+            assert_eq!(rt; read, want, "at {range:?}");
+        }
+        assert_eq!(rt; handle.bytes_read, 4);
+        let copy = copied(&mut handle, alloc, ByteRange::Suffix(2))?;
+        assert_eq!(rt; copy.ok_or("an object")?.as_slice(), [4, 5].as_slice());
+        assert_eq!(rt; handle.bytes_read, 6);
+        Ok(())
+    }
+}
