@@ -1,15 +1,15 @@
 -- Cells that are not there, and cells that are too long.
-use Rattle.std.proofs.Common.{◌≡◌, ℕ, zero, suc, ◌+◌, ◌*◌, ◌^◌, ◌<◌, ◌≤◌, nat_eq, eqb, true, false, List, [], ◌∷◌, Option, Some, None, IfSome, option_and_then, length, get_or, map, refl, sym, ap, ◌∙◌, inl, inr, arith}
-use Rattle.std.specs.List.{All, sum_by, IsDistinct, list_any}
-use Rattle.std.proofs.lemmas.List.Sums.{sum_by-le}
+use Rattle.std.proofs.Common.{◌≡◌, ℕ, zero, suc, ◌*◌, ◌^◌, ◌<◌, ◌≤◌, eqb, true, false, List, [], ◌∷◌, Option, Some, None, IfSome, option_and_then, length, get_or, map, refl, sym, ap, ◌∙◌, inl, inr, arith}
+use Rattle.std.specs.List.{All, sum_by, list_any}
+use Rattle.std.proofs.lemmas.List.Sums.{sum_by-cons, sum_by-le}
 use Rattle.std.proofs.lemmas.List.Elements.{All-from_get_or}
-use Rattle.std.proofs.lemmas.List.{get_or_default}
+use Rattle.std.proofs.lemmas.List.{get_or_default, get_or-map, length-map}
 use Rattle.std.proofs.Math.Nat.{mul-le-mul_right}
 use Rattle.std.proofs.lemmas.Map.Keys.{IsDistinct-from_apart}
 use Rattle.std.proofs.lemmas.Map.Steps.{length-le_from_distinct_below}
 use Rattle.std.proofs.lemmas.Bool.Decides.{eqb_tells}
 use Rattle.zarr_parts.specs.Types.{FitsKind}
-use Rattle.zarr_parts.specs.declared.data_type.DataTypeSize.TheVariants.{Fixed, Variable}
+use Rattle.zarr_parts.specs.declared.data_type.DataTypeSize.TheVariants.{Fixed}
 use Rattle.zarr_codecs.specs.Cells.{all_there, cell_length}
 use Rattle.zarr_codecs.specs.Refusals.{AreTooLong}
 
@@ -62,3 +62,31 @@ not_too_long n cells fits room = λ t.
     All-from_get_or (λ p. cell_length (get_or cells p None) ≤ n) t.places 0 (λ i below. short_cell n _ (fits (get_or t.places i 0) (t.below i below))) in
     let sum = sum_by-le (λ p. cell_length (get_or cells p None)) n t.places each in
     omega (arith, sum, t.long, mul-le-mul_right n (few_places cells t))
+
+-- sums over the same terms are one
+pub same_sum : (f h : ℕ → ℕ) (q : ℕ → ℕ) (ps : List ℕ) → ((i : ℕ) → i < length ps → f (q (get_or ps i 0)) ≡ h (get_or ps i 0)) → sum_by f (map q ps) ≡ sum_by h ps
+same_sum f h q [] each = refl
+same_sum f h q (p ∷ ps) each = omega (arith, sum_by-cons f (q p) (map q ps), sum_by-cons h p ps, each 0 (omega arith), same_sum f h q ps (λ i below. each (suc i) (omega arith)))
+
+-- where cells are among others, each at a place of its own, and are too long, so are the others
+pub too_long_among : (cells all : List (Option (List ℕ))) (q : ℕ → ℕ) → ((i : ℕ) → i < length cells → q i < length all)
+    → ((i j : ℕ) → i < length cells → j < length cells → q i ≡ q j → i ≡ j)
+    → ((i : ℕ) → i < length cells → get_or all (q i) None ≡ get_or cells i None) → AreTooLong cells → AreTooLong all
+too_long_among cells all q inside apart same t =
+    let len : length (map q t.places) ≡ length t.places = length-map t.places q in
+    let at : (i : ℕ) → i < length t.places → get_or (map q t.places) i 0 ≡ q (get_or t.places i 0) = λ i below. get_or-map q t.places i 0 0 below in
+    record {
+      places = map q t.places;
+      below = λ i below.
+          let in_ps : i < length t.places = omega (arith, len) in
+          omega (arith, at i in_ps, inside (get_or t.places i 0) (t.below i in_ps));
+      apart = λ i j before below is.
+          let j_in : j < length t.places = omega (arith, len) in
+          let i_in : i < length t.places = omega arith in
+          t.apart i j before j_in (apart (get_or t.places i 0) (get_or t.places j 0) (t.below i i_in) (t.below j j_in) (sym (at i i_in) ∙ is ∙ at j j_in));
+      long = omega (
+        arith,
+        t.long,
+        same_sum (λ p. cell_length (get_or all p None)) (λ p. cell_length (get_or cells p None)) q t.places (λ i below. ap cell_length (same (get_or t.places i 0) (t.below i below))),
+      );
+    }

@@ -18,9 +18,7 @@ use Rattle.zarrs_sharding.specs.declared.order.SubchunkWriteOrder.{SubchunkWrite
 use Rattle.zarrs_sharding.specs.declared.slot.Slot.{Slot}
 use Rattle.zarrs_sharding.specs.declared.slot.Slot.TheVariants.{Absent, InRange, Bad}
 use Rattle.zarr_parts.specs.Grid.{grid_of, Divides, subchunk_number, place_number}
-use Rattle.std.proofs.lemmas.Bool.{le-leb}
-use Rattle.zarrs_sharding.specs.Laws.{all_there-map_some}
-use Rattle.zarrs_sharding.specs.Index.{slot_at, index_part, number_of_element, numbers_in_index}
+use Rattle.zarrs_sharding.specs.Index.{slot_at, numbers_in_index}
 use Rattle.zarrs_sharding.specs.Cells.{Layout, cell_in, cell_by, shard_cells}
 use Rattle.zarrs_sharding.specs.Serves.{sub_geo, layout_of}
 use Rattle.zarr_parts.proofs.GridLaws.{subchunk_number-below, place_number-below}
@@ -53,7 +51,7 @@ each_more P xs ys x k len each grown here =
     (λ j below. rw (grown, get_or-append xs (x ∷ []) None j (omega arith)) (each j below))
     (rw (grown, get_or_push xs x None k len) here)
 
-cell_of_decoded : (inner_cells : List ℕ → List (Option (List ℕ))) (sub_g : Geo) (fill b : List ℕ) (s : Slot) (o : Option Array) (p : ℕ)
+pub cell_of_decoded : (inner_cells : List ℕ → List (Option (List ℕ))) (sub_g : Geo) (fill b : List ℕ) (s : Slot) (o : Option Array) (p : ℕ)
     → IsDecoded inner_cells sub_g b s o → p < count_of sub_g.shape → cell_in inner_cells fill b s p ≡ Some (element_at fill o p)
 cell_of_decoded inner_cells sub_g fill b Absent None p h below = refl
 cell_of_decoded inner_cells sub_g fill b Absent (Some a) p h below = absurd h
@@ -105,12 +103,3 @@ module _ (inner_cells index_cells : List ℕ → List (Option (List ℕ))) (sub 
       (each k (subchunk_number-below g.shape sub divides i inside)) (place_number-below g.shape sub divides i inside)
       ∙ ap Some (sym (gathered_at i inside))
       ∙ sym (get_or-map Some elements i [] None (omega (arith, gathered_count)))))
-
--- the numbers that were read are those of the index
-pub numbers_read : (index_cells : List ℕ → List (Option (List ℕ))) (location : ShardingIndexLocation) (size : ℕ) (b part : List ℕ) (elements : List (List ℕ)) (items : List ℕ)
-    → size ≤ length b → part ≡ index_part location size b → index_cells part ≡ map Some elements → items ≡ map number_of_element elements
-    → numbers_in_index index_cells location size b ≡ Some items
-unfolding numbers_in_index
-numbers_read index_cells location size b part elements items room is cells read =
-    let there : index_cells (index_part location size b) ≡ map Some elements = ap index_cells (sym is) ∙ cells in
-    rw (le-leb size (length b) room, there, all_there-map_some elements, read) refl

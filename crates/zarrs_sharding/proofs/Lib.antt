@@ -2,9 +2,17 @@ pub mod QuotientLemmas
 pub mod PlanLemmas
 pub mod CellLemmas
 pub mod DecodingLemmas
+pub mod IntervalLemmas
+pub mod ReadIndexLemmas
+pub mod DecoderLemmas
+pub mod ReadSlotLemmas
+pub mod ReadGroupLemmas
 pub mod RefusalLemmas
+pub mod ReadLemmas
+pub mod ReadRefusals
 pub mod BoxLemmas
 pub mod LayingLemmas
+pub mod LengthLemmas
 pub mod EncodingLemmas
 pub mod EncodeRefusals
 pub mod CallerLemmas
@@ -12,3 +20,4 @@ pub mod PackingLemmas
 pub mod CompactRefusals
 pub mod CompactAgain
 pub mod CompactionLemmas
+pub mod GroupingLemmas

@@ -1,26 +1,23 @@
 -- A refusal of a shard's bytes is one that the codec laws allow.
-use Rattle.std.proofs.Common.{◌≡◌, ◌≢◌, ℕ, zero, suc, ◌+◌, ◌*◌, ◌^◌, ◌<◌, ◌≤◌, nat_le, true, false, List, [], ◌∷◌, Option, Some, None, IsSome, IfSome, ◌⊎◌, inl, inr, length, get_or, map, take, drop, refl, sym, ap, ◌∙◌, arith}
-use Rattle.std.specs.List.{sum_by, range_with_len}
+use Rattle.std.proofs.Common.{◌≡◌, ◌≢◌, ℕ, ◌*◌, ◌^◌, ◌<◌, ◌≤◌, nat_le, true, false, List, Option, Some, None, IfSome, ◌⊎◌, inl, inr, length, get_or, map, take, drop, refl, sym, ap, ◌∙◌, arith}
 use Rattle.std.specs.Option.{option_map}
 use Rattle.std.proofs.Common.{Result, Ok, Err, IfErr, IsErrAnd, subst}
 use Rattle.std.proofs.Common.{if◌then◌else◌}
 use Rattle.std.proofs.lemmas.Bool.{lt-leb}
 use Rattle.std.proofs.lemmas.Bool.Decides.{leb_tells}
-use Rattle.std.proofs.lemmas.List.{get_or-map, length-map}
-use Rattle.std.proofs.lemmas.List.Sums.{sum_by-cons}
 use Rattle.std.proofs.lemmas.List.FromFn.{get_or-map-range_with_len, length-map-range_with_len}
 use Rattle.zarr_parts.specs.Geo.{Geo}
 use Rattle.zarr_parts.specs.Numbering.{count_of}
 use Rattle.zarr_parts.specs.Arrays.{Array}
 use Rattle.zarr_parts.specs.Types.{FitsKind}
 use Rattle.zarr_parts.specs.declared.data_type.DataTypeSize.TheVariants.{Fixed}
-use Rattle.zarr_parts.specs.Order.{◌or◌then◌, ◌or_as◌then◌, EachAs, done, RefusedBy}
+use Rattle.zarr_parts.specs.Order.{◌or◌then◌, ◌or_as◌then◌, done, RefusedBy}
 use Rattle.zarr_parts.specs.declared.error.CodecError.{CodecError}
-use Rattle.zarr_parts.specs.declared.error.CodecError.TheVariants.{OutOfMemory, TooLarge, Fault, Damaged, ShardTooShort, BadIndexEntry}
-use Rattle.zarr_codecs.specs.Cells.{all_there, cell_length}
+use Rattle.zarr_parts.specs.declared.error.CodecError.TheVariants.{OutOfMemory, TooLarge, Fault, Damaged}
+use Rattle.zarr_codecs.specs.Cells.{all_there}
 use Rattle.zarr_codecs.specs.Refusals.{AreTooLong, AreDamaged, MayRefuseDecode}
 use Rattle.zarr_codecs.specs.declared.representation.BytesRepresentation.{BytesRepresentation}
-use Rattle.zarrs_sharding.proofs.CellLemmas.{damaged_place, damaged_at, not_too_long}
+use Rattle.zarrs_sharding.proofs.CellLemmas.{damaged_place, damaged_at, not_too_long, too_long_among}
 use Rattle.zarrs_sharding.specs.declared.location.ShardingIndexLocation.{ShardingIndexLocation}
 use Rattle.zarrs_sharding.specs.declared.order.SubchunkWriteOrder.{SubchunkWriteOrder}
 use Rattle.zarrs_sharding.specs.declared.slot.Slot.{Slot}
@@ -32,7 +29,7 @@ use Rattle.zarrs_sharding.specs.Index.{slot_at, index_part, index_shape, number_
 use Rattle.zarrs_sharding.specs.Cells.{Layout, cell_in, cell_by, shard_cells}
 use Rattle.zarrs_sharding.specs.Serves.{fixed_size, layout_of, layout, ShardServes}
 use Rattle.zarrs_sharding.specs.Decoding.{IsDecoded}
-use Rattle.zarrs_sharding.specs.DecodeTests.{stored_refusal, RefusesStored, HasArray, RefusesSubchunk, slot_by, IndexTests, SubchunkTests, DecodeTests}
+use Rattle.zarrs_sharding.specs.DecodeTests.{stored_refusal, HasArray, RefusesSubchunk, slot_by, IndexTests, SubchunkTests, DecodeTests}
 
 -- a refusal that `?` passes on
 pub passed_on : {T : Type 0} (r : Result T CodecError) (e : CodecError) (P : CodecError → Type 0) → IsErrAnd r (λ x. x ≡ e) → P e → IfErr r P
@@ -56,19 +53,14 @@ HasArray-decoded inner_cells sub_g b (InRange offset size) None h = absurd h
 HasArray-decoded inner_cells sub_g b (InRange offset size) (Some a) h = rw (h.1, all_there-map_some a.elements) refl
 HasArray-decoded inner_cells sub_g b Bad o h = absurd h
 
--- sums over the same terms are one
-same_sum : (f h : ℕ → ℕ) (q : ℕ → ℕ) (ps : List ℕ) → ((i : ℕ) → i < length ps → f (q (get_or ps i 0)) ≡ h (get_or ps i 0)) → sum_by f (map q ps) ≡ sum_by h ps
-same_sum f h q [] each = refl
-same_sum f h q (p ∷ ps) each = omega (arith, sum_by-cons f (q p) (map q ps), sum_by-cons h p ps, each 0 (omega arith), same_sum f h q ps (λ i below. each (suc i) (omega arith)))
-
-cell_by_slot : (inner_cells : List ℕ → List (Option (List ℕ))) (l : Layout) (b : List ℕ) (numbers : Option (List ℕ)) (i : ℕ)
+pub cell_by_slot : (inner_cells : List ℕ → List (Option (List ℕ))) (l : Layout) (b : List ℕ) (numbers : Option (List ℕ)) (i : ℕ)
     → cell_by inner_cells l b numbers i ≡ cell_in inner_cells l.fill b (slot_by (length b) numbers (subchunk_number l.shape l.sub i)) (place_number l.shape l.sub i)
 cell_by_slot inner_cells l b None i = refl
 cell_by_slot inner_cells l b (Some numbers) i = refl
 
 module _ (inner_cells index_cells : List ℕ → List (Option (List ℕ))) (sub : List ℕ) (location : ShardingIndexLocation) (order : SubchunkWriteOrder) (size : ℕ) (g : Geo) (b : List ℕ) (divides : Divides sub g.shape) where
   -- the shard's cell at place p of subchunk k
-  cell_here : (k p : ℕ) → k < count_of (grid_of g.shape sub) → p < count_of sub
+  pub cell_here : (k p : ℕ) → k < count_of (grid_of g.shape sub) → p < count_of sub
       → get_or (shard_cells inner_cells index_cells (layout_of sub location order size g) b) (cell_number g.shape sub k p) None
       ≡ cell_in inner_cells g.fill b (slot_by (length b) (numbers_in_index index_cells location size b) k) p
   unfolding shard_cells
@@ -81,7 +73,7 @@ module _ (inner_cells index_cells : List ℕ → List (Option (List ℕ))) (sub 
       ∙ ap (λ j. cell_in inner_cells g.fill b (slot_by (length b) numbers j) (place_number g.shape sub i)) (subchunk_number-cell_number g.shape sub divides k p hk hp)
       ∙ ap (cell_in inner_cells g.fill b (slot_by (length b) numbers k)) (place_number-cell_number g.shape sub divides k p hk hp)
 
-  cells_counted : length (shard_cells inner_cells index_cells (layout_of sub location order size g) b) ≡ count_of g.shape
+  pub cells_counted : length (shard_cells inner_cells index_cells (layout_of sub location order size g) b) ≡ count_of g.shape
   unfolding shard_cells
   cells_counted =
       let l : Layout = layout_of sub location order size g in
@@ -98,41 +90,28 @@ module _ (inner_cells index_cells : List ℕ → List (Option (List ℕ))) (sub 
   pub long_slice : (k offset n : ℕ) → k < count_of (grid_of g.shape sub) → slot_by (length b) (numbers_in_index index_cells location size b) k ≡ InRange offset n
       → length (inner_cells (take n (drop offset b))) ≡ count_of sub → AreTooLong (inner_cells (take n (drop offset b)))
       → AreTooLong (shard_cells inner_cells index_cells (layout_of sub location order size g) b)
-  long_slice k offset n hk is counted t =
-      let slice : List ℕ = take n (drop offset b) in
-      let q : ℕ → ℕ = cell_number g.shape sub k in
-      let cells : List (Option (List ℕ)) = shard_cells inner_cells index_cells (layout_of sub location order size g) b in
-      let len : length (map q t.places) ≡ length t.places = length-map t.places q in
-      let at : (i : ℕ) → i < length t.places → get_or (map q t.places) i 0 ≡ q (get_or t.places i 0) = λ i below. get_or-map q t.places i 0 0 below in
-      let inside : (i : ℕ) → i < length t.places → get_or t.places i 0 < count_of sub = λ i below. omega (arith, t.below i below, counted) in
-      record {
-        places = map q t.places;
-        below = λ i below.
-            let in_ps : i < length t.places = omega (arith, len) in
-            omega (arith, cells_counted, at i in_ps, cell_number-below g.shape sub divides k (get_or t.places i 0) hk (inside i in_ps));
-        apart = λ i j before below same.
-            let in_ps : j < length t.places = omega (arith, len) in
-            let i_in : i < length t.places = omega arith in
-            t.apart i j before in_ps
-            (sym (place_number-cell_number g.shape sub divides k (get_or t.places i 0) hk (inside i i_in))
-            ∙ ap (place_number g.shape sub) (sym (at i i_in) ∙ same ∙ at j in_ps)
-            ∙ place_number-cell_number g.shape sub divides k (get_or t.places j 0) hk (inside j in_ps));
-        long = omega (
-          arith,
-          t.long,
-          same_sum (λ p. cell_length (get_or cells p None)) (λ p. cell_length (get_or (inner_cells slice) p None)) q t.places
-              (λ i below. ap cell_length (cell_here k (get_or t.places i 0) hk (inside i below)
-              ∙ ap (λ s. cell_in inner_cells g.fill b s (get_or t.places i 0)) is)),
-        );
-      }
+  long_slice k offset n hk is counted =
+      let cells : List (Option (List ℕ)) = inner_cells (take n (drop offset b)) in
+      let place : (p : ℕ) → p < length cells → p < count_of sub = λ p below. omega (arith, counted) in
+      too_long_among cells (shard_cells inner_cells index_cells (layout_of sub location order size g) b) (cell_number g.shape sub k)
+      (λ p below. omega (arith, cells_counted, cell_number-below g.shape sub divides k p hk (place p below)))
+      (λ p q p_in q_in same.
+      sym (place_number-cell_number g.shape sub divides k p hk (place p p_in)) ∙ ap (place_number g.shape sub) same ∙ place_number-cell_number g.shape sub divides k q hk (place q q_in))
+      (λ p below. cell_here k p hk (place p below) ∙ ap (λ s. cell_in inner_cells g.fill b s p) is)
+
+  -- a slice that is damaged damages the shard
+  pub damaged_slice : (k offset n : ℕ) → k < count_of (grid_of g.shape sub) → slot_by (length b) (numbers_in_index index_cells location size b) k ≡ InRange offset n
+      → length (inner_cells (take n (drop offset b))) ≡ count_of sub → AreDamaged (inner_cells (take n (drop offset b)))
+      → AreDamaged (shard_cells inner_cells index_cells (layout_of sub location order size g) b)
+  damaged_slice k offset n hk is counted d =
+      let place = damaged_place (inner_cells (take n (drop offset b))) d in
+      damaged_cell k place.0 hk (omega (arith, place.1.0, counted)) (ap (λ s. cell_in inner_cells g.fill b s place.0) is ∙ place.1.1)
 
   bad_stored : (k offset n : ℕ) (e : CodecError) → k < count_of (grid_of g.shape sub) → slot_by (length b) (numbers_in_index index_cells location size b) k ≡ InRange offset n
       → length (inner_cells (take n (drop offset b))) ≡ count_of sub → StoredRefused (inner_cells (take n (drop offset b))) e
       → MayRefuseDecode (shard_cells inner_cells index_cells (layout_of sub location order size g) b) e
   bad_stored k offset n e hk is counted h =
-      let damaged = λ (d : AreDamaged (inner_cells (take n (drop offset b)))).
-      let place = damaged_place (inner_cells (take n (drop offset b))) d in
-      damaged_cell k place.0 hk (omega (arith, place.1.0, counted)) (ap (λ s. cell_in inner_cells g.fill b s place.0) is ∙ place.1.1) in
+      let damaged = damaged_slice k offset n hk is counted in
       elim h [
         | inl large ↦ rw large.0 (elim large.1 [ inl long ↦ inl (long_slice k offset n hk is counted long) | inr d ↦ inr (damaged d) ])
         | inr d ↦ rw d.0 (damaged d.1)

@@ -1,6 +1,6 @@
 -- The steps of decoding: each subchunk that is there decoded, and the cells of the shard gathered from them.
-use Rattle.std.specs.Prelude.{◌≡◌, ◌≤◌, ◌<◌, ℕ, ◌+◌, List, [], Option, Some, None, map, length, slice_index_or}
-use Rattle.std.specs.List.{All}
+use Rattle.std.specs.Prelude.{◌≡◌, ◌≤◌, ◌<◌, ℕ, ◌+◌, ◌*◌, List, [], Option, Some, None, map, length, slice_index_or}
+use Rattle.std.specs.List.{All, sum_by}
 use Rattle.zarr_parts.specs.Numbering.{count_of}
 use Rattle.zarr_parts.specs.Grid.{subchunk_number, place_number}
 use Rattle.zarr_parts.specs.Geo.{Geo, IsArrayOf}
@@ -48,3 +48,12 @@ element_in chunks fill shape sub i = element_at fill (slice_index_or chunks (sub
 abbrev pub IsChunkOf : DataTypeSize → ℕ → Option Array → Type 0
 IsChunkOf kind place None = Unit {0}
 IsChunkOf kind place (Some a) = (place < length a.elements) × FitsKind kind (slice_index_or a.elements place [])
+
+-- how many bytes the elements of a decoded subchunk have together: those of a fill value for each of so many places where it is absent
+abbrev pub bytes_in : List ℕ → ℕ → Option Array → ℕ
+bytes_in fill places None = places * length fill
+bytes_in fill places (Some a) = sum_by length a.elements
+
+-- how many bytes the elements of all decoded subchunks have together
+abbrev pub bytes_gathered : List ℕ → ℕ → List (Option Array) → ℕ
+bytes_gathered fill places chunks = sum_by (bytes_in fill places) chunks

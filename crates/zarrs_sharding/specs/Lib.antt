@@ -6,11 +6,16 @@ pub mod Grids
 pub mod Plans
 pub mod DecodeTests
 pub mod EncodeTests
+pub mod ReadTests
 pub mod Laying
 pub mod Decoding
+pub mod Grouping
+pub mod Reading
+pub mod Decoders
 pub mod Compacting
 pub mod Holding
 pub mod Packing
 pub mod Scratch
+pub mod Faultless
 pub mod Laws
 pub mod ScratchLaws

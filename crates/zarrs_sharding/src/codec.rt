@@ -1,15 +1,16 @@
 // The sharding codec, as a codec from arrays to bytes.
-ghost use Rattle.std.specs.Prelude.{IfSome, IfNone, ◌≡◌, ◌<◌, ◌^◌, Some, IfOk, IfErr, OnOk, SomeIff, length};
+ghost use Rattle.std.specs.Prelude.{IfSome, IfNone, ◌≡◌, ◌<◌, ◌^◌, ◌*◌, Some, IfOk, IfErr, OnOk, SomeIff, length};
 ghost use Rattle.zarr_parts.specs.Order.{RefusedBy};
 ghost use Rattle.zarr_parts.specs.Numbering.{count_of};
 ghost use Rattle.zarr_parts.specs.Grid.{grid_of, grid_box};
-ghost use Rattle.zarr_parts.specs.Types.{size_of};
+ghost use Rattle.zarr_parts.specs.Types.{size_of, byte_size};
 ghost use Rattle.zarrs_sharding.specs.Index.{index_geo};
 ghost use Rattle.zarrs_sharding.specs.Cells.{shard_cells};
 ghost use Rattle.zarrs_sharding.specs.Encoding.{IsEncoding};
 ghost use Rattle.zarrs_sharding.specs.Serves.{sub_geo, fixed_size, layout, ShardServes, ShardEncodable, ShardFits, shard_representation, CheckTests};
 ghost use Rattle.zarrs_sharding.specs.DecodeTests.{DecodeTests};
 ghost use Rattle.zarrs_sharding.specs.EncodeTests.{EncodeTests};
+ghost use Rattle.zarrs_sharding.specs.ReadTests.{AnswerTests, ReadTests};
 ghost use Rattle.zarrs_sharding.specs.Grids.{SubsetTests, EndsFit, ConcurrencyTests};
 ghost use Rattle.zarrs_sharding.specs.Compacting.{IsCompacted, IsCompact, CompactTests};
 ghost use Rattle.zarr_codecs.specs.Refusals.{MayRefuseCompact};
@@ -21,10 +22,14 @@ use crate::decode::gathered;
 use crate::grid::{count_subchunks, subchunk_subset};
 use crate::location::ShardingIndexLocation;
 use crate::order::SubchunkWriteOrder;
+use crate::read_cells::check_asked;
 use std::alloc::Global;
-use zarr_codecs::{ArrayToBytesCodecTraits, BytesRepresentation, RecommendedConcurrency};
+use zarr_codecs::{
+    ArrayToBytesCodecTraits, BytesPartialDecoderTraits, BytesRepresentation, Interval,
+    RecommendedConcurrency,
+};
 use zarr_parts::{
-    ArrayBytes, ArraySubset, ChunkShape, CodecError, CodecOptions, DataType, FillValue,
+    ArrayBytes, ArraySubset, ChunkShape, CodecError, CodecOptions, DataType, FillValue, Indexer,
 };
 
 /// The codec `sharding_indexed` (Zarr V3): cuts an array into equal subchunks, encodes each that is not wholly the
@@ -141,6 +146,19 @@ impl<I: ArrayToBytesCodecTraits, X: ArrayToBytesCodecTraits> ArrayToBytesCodecTr
 
     ghost concurrency_tests = { λ s shape. ConcurrencyTests shape s.subchunk_shape };
 
+    ghost answerable = { λ _ g n. n * byte_size (size_of g.data_type) < 2 ^ 64 };
+
+    ghost read_tests = { λ s g b points. let inner_g = sub_geo s.subchunk_shape g in let index_g = index_geo (grid_of g.shape s.subchunk_shape) in
+        ReadTests (AnswerTests (I.answerable s.inner inner_g) (I.read_tests s.inner inner_g)) (X.decode_tests s.index_codec index_g) (I.cells s.inner inner_g) (X.cells s.index_codec index_g)
+        (layout s.subchunk_shape s.location s.order (X.representation s.index_codec index_g) g) b points };
+
+    ghost use Rattle.zarrs_sharding.specs.Faultless.{check_tests_faultless};
+
+    ghost check_faultless = { λ s g e h. let inner_g = sub_geo s.subchunk_shape g in let index_g = index_geo (grid_of g.shape s.subchunk_shape) in
+        check_tests_faultless (I.serves s.inner inner_g) (X.serves s.index_codec index_g) (I.check_tests s.inner inner_g) (X.check_tests s.index_codec index_g)
+        (X.representation s.index_codec index_g) s.subchunk_shape g
+        (λ x refused. I.check_faultless s.inner inner_g x refused) (λ x refused. X.check_faultless s.index_codec index_g x refused) e h };
+
     ghost use Rattle.zarrs_sharding.specs.Laws.{length-shard_cells, shard_cells_fitting, cells_of_encoding, cells_of_compacted, shard_bounded};
 
     ghost cells_counted = { λ s g b h. length-shard_cells _ _ _ b };
@@ -191,8 +209,8 @@ impl<I: ArrayToBytesCodecTraits, X: ArrayToBytesCodecTraits> ArrayToBytesCodecTr
     }
 
     /// Refused as `check` refuses, then as `ShardTooShort`, as `Damaged` where the index does not decode, as the lowest
-    /// refused subchunk is (`BadIndexEntry` with its number, `Damaged`, `TooLarge`), and as `TooLarge` or `OutOfMemory`
-    /// where the lengths of the cells pass `usize::MAX`; or as `OutOfMemory`.
+    /// refused subchunk is (`BadIndexEntry` with its number, `Damaged`, `TooLarge`), and as `TooLarge` where the lengths of
+    /// the cells pass `usize::MAX`; or as `OutOfMemory`.
     fn decode<'a>(
         &self,
         alloc: Global,
@@ -274,6 +292,31 @@ impl<I: ArrayToBytesCodecTraits, X: ArrayToBytesCodecTraits> ArrayToBytesCodecTr
         Ok(RecommendedConcurrency::new_maximum(subchunks as usize))
     }
 
+    /// Reads the index and, of each subchunk in which cells are asked, these cells; the others are not looked at. Refused as
+    /// `check` refuses, then, in this order, as `IncompatibleDimensionality` (shape and indexer), as `OutOfBounds` (cells
+    /// outside the shape), as `TooLarge` (their count or, where they have one size, their bytes), as `OutOfBounds` where no
+    /// object has the interval, as `ShardTooShort`, as `Damaged` where the index does not decode, as the lowest refused
+    /// subchunk is (`BadIndexEntry` with its number, `Damaged`, `TooLarge`), and as `TooLarge` where the
+    /// lengths of the asked cells pass `usize::MAX`; or as `Fault`, where the handle failed, or `OutOfMemory`.
+    fn partial_decode<H: BytesPartialDecoderTraits, N: Indexer>(
+        &self,
+        alloc: Global,
+        handle: &mut H,
+        interval: Interval,
+        shape: &ChunkShape,
+        data_type: &DataType,
+        fill_value: &FillValue,
+        indexer: &N,
+        options: &CodecOptions,
+    ) -> Result<ArrayBytes<'static>, CodecError> {
+        let plan = self.prepared(alloc, shape, data_type, fill_value)?;
+        let count = check_asked(indexer, shape, data_type)?;
+        let cells = self.read_planned(
+            alloc, handle, interval, &plan, count, shape, data_type, fill_value, indexer, options,
+        )?;
+        Ok(cells)
+    }
+
     /// `BoundedSize` of as many times the inner codec's size as there are subchunks, and the index; `UnboundedSize`
     /// where the inner codec says so. Refused as `check` refuses, then as `TooLarge`.
     fn encoded_representation(
@@ -302,5 +345,7 @@ impl<I: ArrayToBytesCodecTraits, X: ArrayToBytesCodecTraits> ArrayToBytesCodecTr
     }
 }
 
+#[cfg(test)]
+mod read_tests;
 #[cfg(test)]
 pub(crate) mod tests;

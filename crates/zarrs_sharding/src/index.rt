@@ -1,14 +1,17 @@
 // The index of a shard: from its bytes to numbers, and from slots to its bytes.
-ghost use Rattle.std.specs.Prelude.{◌≡◌, ◌≤◌, ◌<◌, ◌^◌, ◌*◌, ℕ, Some, IfOk, IfErr, OnOk, map, length, slice_index_or};
+ghost use Rattle.std.specs.Prelude.{◌≡◌, ◌≤◌, ◌<◌, ◌+◌, ◌^◌, ◌*◌, ℕ, IsTrue, Some, IfOk, IfErr, OnOk, map, length, slice_index_or};
 ghost use Rattle.std.specs.List.{All};
 ghost use Rattle.zarr_parts.specs.Order.{◌or◌then◌, done, RefusedBy};
 ghost use Rattle.zarr_parts.specs.Numbering.{count_of};
 ghost use Rattle.zarr_parts.specs.declared.data_type.DataTypeSize.TheVariants.{Fixed};
 ghost use Rattle.zarr_parts.specs.declared.error.CodecError.TheVariants.{OutOfMemory, TooLarge};
+ghost use Rattle.zarr_codecs.specs.Handles.{IsRead, IsCounted};
+ghost use Rattle.zarr_codecs.specs.Reads.{interval_part, HasInterval, ObjectTests};
 ghost use Rattle.zarrs_sharding.specs.Index.{index_geo, index_part, data_start, numbers_in_index, number_of_element, element_of_number};
 ghost use Rattle.zarrs_sharding.specs.Serves.{fixed_size, IndexServes, IndexCodecTests};
 ghost use Rattle.zarrs_sharding.specs.Plans.{IsIndexPlan};
-ghost use Rattle.zarrs_sharding.specs.DecodeTests.{IndexTests};
+ghost use Rattle.zarrs_sharding.specs.DecodeTests.{RefusesStored, IndexTests};
+ghost use Rattle.zarrs_sharding.specs.Reading.{index_start, numbers_of_cells};
 ghost use Rattle.zarrs_sharding.specs.EncodeTests.{RefusesIndex};
 ghost use Rattle.zarrs_sharding.specs.Laying.{offset_number, size_number, EndsBelow, AreNumbersOf, IsIndexOf};
 ghost use Rattle.zarrs_sharding.specs.declared.slot.Slot.TheVariants.{Bad};
@@ -19,7 +22,7 @@ use crate::decode::of_stored;
 use crate::location::ShardingIndexLocation;
 use crate::slot::Slot;
 use std::alloc::Global;
-use zarr_codecs::ArrayToBytesCodecTraits;
+use zarr_codecs::{ArrayToBytesCodecTraits, ByteRange, BytesPartialDecoderTraits, Interval, lent};
 use zarr_parts::{
     ArrayBuilder, ArrayBytes, ChunkShape, CodecError, CodecOptions, DataType, DataTypeSize,
 };
@@ -42,6 +45,17 @@ pub(crate) fn start_of_data(location: ShardingIndexLocation, index_size: u64) ->
     match location {
         ShardingIndexLocation::Start => index_size,
         ShardingIndexLocation::End => 0,
+    }
+}
+
+// Where the index begins in a shard of so many bytes.
+fn start_of_index(location: ShardingIndexLocation, index_size: u64, len: u64) -> u64
+    requires { index_size ≤ len }
+    ensures { result ≡ index_start location index_size len }
+{
+    match location {
+        ShardingIndexLocation::Start => 0,
+        ShardingIndexLocation::End => len - index_size,
     }
 }
 
@@ -127,6 +141,34 @@ fn array_of_numbers(alloc: Global, numbers: &[u64]) -> Result<ArrayBytes<'static
 }
 
 impl<I, X: ArrayToBytesCodecTraits> ShardingCodec<I, X> {
+    // The numbers that the bytes of an index stand for.
+    fn index_numbers(
+        &self,
+        alloc: Global,
+        part: &[u8],
+        grid: &ChunkShape,
+        plan: &IndexPlan,
+        options: &CodecOptions,
+    ) -> Result<Vec<u64>, CodecError>
+        requires plan { IsIndexPlan (fixed_size (X.representation self.now.index_codec (index_geo grid.now))) grid.now plan.now }
+        requires serves { X.serves self.now.index_codec (index_geo grid.now) }
+        ensures numbers { IfOk result (λ numbers. numbers_of_cells (X.cells self.now.index_codec (index_geo grid.now) part.now) ≡ Some numbers.items) }
+        ensures counted { IfOk result (λ numbers. length numbers.items ≡ 2 * count_of grid.now) }
+        ensures refused { let x = self.now.index_codec in let g = index_geo grid.now in
+            IfErr result (RefusedBy (RefusesStored (X.decode_tests x g part.now) (X.cells x g part.now))) }
+    {
+        let data_type = DataType::UInt64;
+        let index = match self
+            .index_codec
+            .decode(alloc, part, &plan.shape, &data_type, &plan.fill, options)
+        {
+            Ok(index) => index,
+            Err(error) => return Err(of_stored(error)),
+        };
+        let numbers = numbers_of_array(alloc, &index)?;
+        Ok(numbers)
+    }
+
     // The numbers of the index of a shard's bytes.
     pub(crate) fn numbers(
         &self,
@@ -148,15 +190,43 @@ impl<I, X: ArrayToBytesCodecTraits> ShardingCodec<I, X> {
             return Err(CodecError::ShardTooShort);
         }
         let part = index_bytes(bytes, self.location, plan.size as usize);
-        let data_type = DataType::UInt64;
-        let index = match self
-            .index_codec
-            .decode(alloc, part, &plan.shape, &data_type, &plan.fill, options)
-        {
-            Ok(index) => index,
-            Err(error) => return Err(of_stored(error)),
+        let numbers = self.index_numbers(alloc, part, grid, plan, options)?;
+        Ok(numbers)
+    }
+
+    // The numbers of the index of a shard that stands in an interval of an object.
+    pub(crate) fn read_index<H: BytesPartialDecoderTraits>(
+        &self,
+        alloc: Global,
+        handle: &mut H,
+        outer: Interval,
+        grid: &ChunkShape,
+        plan: &IndexPlan,
+        options: &CodecOptions,
+    ) -> Result<Vec<u64>, CodecError>
+        requires plan { IsIndexPlan (fixed_size (X.representation self.now.index_codec (index_geo grid.now))) grid.now plan.now }
+        requires serves { X.serves self.now.index_codec (index_geo grid.now) }
+        requires room { outer.offset + outer.size < 2 ^ 64 }
+        requires inside { IsTrue (H.tells handle.old) → HasInterval outer (H.contents handle.old) }
+        ensures read { IsRead H.tells H.contents H.faults H.reads handle.old handle.new }
+        ensures counted { IfOk result (λ numbers. length numbers.items ≡ 2 * count_of grid.now) }
+        ensures numbers { IfOk result (λ numbers. IsTrue (H.tells handle.old)
+            → numbers_in_index (X.cells self.now.index_codec (index_geo grid.now)) self.now.location plan.now.size (interval_part outer (H.contents handle.old)) ≡ Some numbers.items) }
+        ensures fault { IfErr result (IsCounted (H.faults handle.old) (H.faults handle.new)) }
+        ensures refused { let x = self.now.index_codec in let g = index_geo grid.now in
+            IfErr result (RefusedBy (ObjectTests (H.tells handle.old) (H.faults handle.old) (H.faults handle.new)
+            (IndexTests (X.decode_tests x g) (X.cells x g) self.now.location plan.now.size (interval_part outer (H.contents handle.old)) done))) }
+    {
+        if outer.size < plan.size {
+            return Err(CodecError::ShardTooShort);
+        }
+        let start = outer.offset + start_of_index(self.location, plan.size, outer.size);
+        let range = ByteRange::FromStart(start, Some(plan.size));
+        let mut room = Vec::new(alloc);
+        let Some(part) = lent(handle, &mut room, alloc, range)? else {
+            return Err(CodecError::OutOfBounds);
         };
-        let numbers = numbers_of_array(alloc, &index)?;
+        let numbers = self.index_numbers(alloc, part, grid, plan, options)?;
         Ok(numbers)
     }
 

@@ -140,6 +140,10 @@ pub fn compact_encoded<I: FunctionalCodec, X: FunctionalCodec>(
         let inner_g = sub_geo s.subchunk_shape g in let index_g = index_geo (grid_of g.shape s.subchunk_shape) in
         IfErr result (MayRefuseCompact (shard_cells (I.cells s.inner inner_g) (X.cells s.index_codec index_g)
         (layout s.subchunk_shape s.location s.order (X.representation s.index_codec index_g) g) encoded.now)) }
+    ensures refused { let g = geo shape.now data_type.now fill_value.now in let s = codec.now in let index_g = index_geo (grid_of g.shape s.subchunk_shape) in
+        IfErr result (RefusedBy (CompactTests (X.serves s.index_codec index_g) (X.check_tests s.index_codec index_g) (X.representation s.index_codec index_g)
+        (X.decode_tests s.index_codec index_g) (X.cells s.index_codec index_g) (X.encodable s.index_codec index_g) (X.fits s.index_codec index_g)
+        (layout s.subchunk_shape s.location s.order (X.representation s.index_codec index_g) g) encoded.now)) }
 {
     codec.compact(alloc, encoded, shape, data_type, fill_value, options)
 }

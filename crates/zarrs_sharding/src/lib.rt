@@ -9,11 +9,15 @@ mod decode;
 mod encode;
 mod functional;
 mod grid;
+mod grouping;
 mod index;
 mod laws;
 mod location;
 mod options;
 mod order;
+mod partial_decoder;
+mod read;
+mod read_cells;
 mod slot;
 
 pub use capabilities::{PartialDecoderCapability, PartialEncoderCapability};
@@ -23,3 +27,4 @@ pub use laws::{compact_again, compact_encoded, decode_served, decode_sound, enco
 pub use location::ShardingIndexLocation;
 pub use options::ShardingCodecOptions;
 pub use order::SubchunkWriteOrder;
+pub use partial_decoder::ShardingPartialDecoder;

@@ -31,6 +31,21 @@ pub(crate) fn plain(
     Ok(codec.with_subchunk_write_order(SubchunkWriteOrder::C))
 }
 
+// A sharding codec around another codec, with its index at the end.
+pub(crate) fn around<I: Drop>(
+    alloc: Global,
+    sub: &[u64],
+    inner: I,
+) -> Result<ShardingCodec<I, BytesCodec>, CodecError> {
+    let codec = ShardingCodec::new(
+        shape_of(alloc, sub)?,
+        inner,
+        BytesCodec::little(),
+        ShardingIndexLocation::End,
+    );
+    Ok(codec.with_subchunk_write_order(SubchunkWriteOrder::C))
+}
+
 fn array_of(alloc: Global, bytes: &[u8], size: usize) -> Result<ArrayBytes<'static>, CodecError> {
     let copy = Vec::from_slice(alloc, bytes)?;
     ArrayBytes::new_flen(CowSlice::Owned(copy), size).ok_or(CodecError::WrongElementKind)
@@ -41,7 +56,7 @@ pub(crate) fn fill_of(alloc: Global, bytes: &[u8]) -> Result<FillValue, CodecErr
 }
 
 // The numbers from 0 on, each of two bytes.
-fn counted(alloc: Global, many: u8) -> Result<Vec<u8>, AllocError> {
+pub(crate) fn counted(alloc: Global, many: u8) -> Result<Vec<u8>, AllocError> {
     let mut bytes = Vec::new(alloc);
     for i in 0..many {
         bytes.push(i)?;
@@ -58,9 +73,9 @@ pub(crate) fn index_bytes_of(alloc: Global, numbers: &[u64]) -> Result<Vec<u8>, 
     Ok(bytes)
 }
 
-pub(crate) fn encoded(
+pub(crate) fn encoded<C: ArrayToBytesCodecTraits>(
     alloc: Global,
-    codec: &Plain,
+    codec: &C,
     shape: &[u64],
     data_type: DataType,
     fill: &[u8],
@@ -78,7 +93,7 @@ pub(crate) fn encoded(
     Ok(bytes)
 }
 
-fn decoded<C: ArrayToBytesCodecTraits>(
+pub(crate) fn decoded<C: ArrayToBytesCodecTraits>(
     alloc: Global,
     codec: &C,
     shape: &[u64],
@@ -230,18 +245,9 @@ fn no_axes(rt: HostRuntime) -> Result<(), Fail> {
 fn nested(rt: HostRuntime) -> Result<(), Fail> {
     let alloc = rt.alloc();
     let inner = plain(alloc, &[1], ShardingIndexLocation::End)?;
-    let outer = ShardingCodec::new(
-        shape_of(alloc, &[2])?,
-        inner,
-        BytesCodec::little(),
-        ShardingIndexLocation::End,
-    );
-    let codec = outer.with_subchunk_write_order(SubchunkWriteOrder::C);
-    let elements = array_of(alloc, &[1, 0, 0, 0], 1)?;
-    let shape = shape_of(alloc, &[4])?;
-    let fill = fill_of(alloc, &[0])?;
+    let codec = around(alloc, &[2], inner)?;
     let options = CodecOptions::default();
-    let bytes = codec.encode(alloc, &elements, &shape, &DataType::UInt8, &fill, &options)?;
+    let bytes = encoded(alloc, &codec, &[4], DataType::UInt8, &[0], &[1, 0, 0, 0])?;
     assert_eq!(rt; bytes.len(), 65);
     let numbers = codec.decode_index(alloc, &bytes, &shape_of(alloc, &[2])?, &options)?;
     assert_eq!(rt; numbers.as_slice(), [0, 33, ABSENT, ABSENT].as_slice());

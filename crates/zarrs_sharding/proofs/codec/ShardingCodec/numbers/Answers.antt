@@ -1,19 +1,22 @@
-use Rattle.std.proofs.Common.{◌∙◌, ap, length, arith}
-use Rattle.std.proofs.lemmas.List.{length-map}
-use Rattle.zarrs_sharding.specs.Index.{index_geo, number_of_element}
-use Rattle.zarrs_sharding.specs.Laws.{count-append_two}
-use Rattle.zarrs_sharding.proofs.DecodingLemmas.{numbers_read}
+use Rattle.std.proofs.Common.{arith}
+use Rattle.zarrs_sharding.specs.Index.{index_geo}
+use Rattle.zarrs_sharding.proofs.RefusalLemmas.{passed_on}
+use Rattle.zarrs_sharding.proofs.ReadIndexLemmas.{numbers_of_part, part_refused}
 use Rattle.zarrs_sharding.proofs.codec.ShardingCodec.numbers.Goals as goal
+
+pub returns-in_err-numbers-clause-refused : goal.returns-in_err-numbers-clause-refused
+returns-in_err-numbers-clause-refused g c =
+    let a = c.args in
+    let x = g.X.ArrayToBytesCodecTraits in
+    let s = a.self.now in
+    let e = c.in_err-numbers.field-0.0 in
+    passed_on _ e _ c.from_residual.ensures.1
+    (part_refused (x.decode_tests s.index_codec (index_geo a.grid.now)) (x.cells s.index_codec (index_geo a.grid.now)) s.location a.plan.now.size a.bytes.now c.index_bytes-part.result.now e
+    (omega arith) c.index_bytes-part.ensures c.in_err-numbers.ensures.refused)
 
 pub returns-clause-numbers : goal.returns-clause-numbers
 returns-clause-numbers g c =
     let a = c.args in
-    let read = rw (c.requires.plan.shape, c.requires.plan.fill) at c.in-Ok.ensures.cells in
-    numbers_read (g.X.ArrayToBytesCodecTraits.cells a.self.now.index_codec (index_geo a.grid.now)) a.self.now.location a.plan.now.size
-    a.bytes.now c.index_bytes-part.result.now c.in-Ok.index.elements c.in_ok-numbers.numbers.items
-    (omega arith) c.index_bytes-part.ensures read c.in_ok-numbers.ensures.numbers
-
-pub returns-clause-counted : goal.returns-clause-counted
-returns-clause-counted g c =
-    let read = rw (c.requires.plan.shape, c.requires.plan.fill) at c.in-Ok.ensures.array in
-    ap length c.in_ok-numbers.ensures.numbers ∙ length-map c.in-Ok.index.elements number_of_element ∙ read.1.counted ∙ count-append_two _
+    let s = a.self.now in
+    numbers_of_part (g.X.ArrayToBytesCodecTraits.cells s.index_codec (index_geo a.grid.now)) s.location a.plan.now.size a.bytes.now c.index_bytes-part.result.now c.in_ok-numbers.numbers.items
+    (omega arith) c.index_bytes-part.ensures c.in_ok-numbers.ensures.numbers

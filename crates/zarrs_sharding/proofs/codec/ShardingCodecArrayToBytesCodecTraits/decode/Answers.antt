@@ -4,6 +4,7 @@ use Rattle.zarr_parts.specs.Grid.{grid_of}
 use Rattle.zarrs_sharding.specs.Index.{index_geo}
 use Rattle.zarrs_sharding.specs.Serves.{sub_geo, layout, fixed_size}
 use Rattle.zarrs_sharding.proofs.DecodingLemmas.{IsArrayOf-gathered, cells-gathered}
+use Rattle.zarrs_sharding.proofs.LengthLemmas.{lengths_last}
 use Rattle.zarrs_sharding.proofs.RefusalLemmas.{passed_on, lawful, index_first, subchunks_next}
 use Rattle.zarrs_sharding.proofs.codec.ShardingCodecArrayToBytesCodecTraits.decode.Goals as goal
 
@@ -96,3 +97,47 @@ returns-clause-cells g c =
     cells-gathered inner_cells index_cells s.subchunk_shape s.location s.order size asked c.args.bytes.now
     c.in_ok-numbers.numbers.items c.in_ok-subchunks.subchunks.items c.in_ok-array.array.elements serves.divides (λ k below. found k (omega (arith, many, counted))) elements
     (rw (plan.grid, plan.index.size) at c.in_ok-numbers.ensures.numbers)
+
+pub returns-in_err-array-clause-lawful : goal.returns-in_err-array-clause-lawful
+returns-in_err-array-clause-lawful g c =
+    let s = c.args.self.now in
+    let asked = geo c.args.shape.now c.args.data_type.now c.args.fill_value.now in
+    let index_g = index_geo (grid_of c.args.shape.now s.subchunk_shape) in
+    let inner_decode = g.I.ArrayToBytesCodecTraits.decode_tests s.inner (sub_geo s.subchunk_shape asked) in
+    let index_decode = g.X.ArrayToBytesCodecTraits.decode_tests s.index_codec index_g in
+    let inner_cells = g.I.ArrayToBytesCodecTraits.cells s.inner (sub_geo s.subchunk_shape asked) in
+    let index_cells = g.X.ArrayToBytesCodecTraits.cells s.index_codec index_g in
+    let representation = g.X.ArrayToBytesCodecTraits.representation s.index_codec index_g in
+    let plan = c.in_ok-plan.ensures.plan in
+    let serves = c.in_ok-plan.ensures.serves in
+    let e = c.in_err-array.field-0.0 in
+    let found = rw c.deref.ensures.value at c.in_ok-subchunks.ensures.decoded in
+    let many = rw c.deref.ensures.value at c.in_ok-subchunks.ensures.counted in
+    let counted = rw plan.grid at c.in_ok-numbers.ensures.counted in
+    let tests = lengths_last inner_cells index_cells s.subchunk_shape s.location s.order (fixed_size representation) asked c.args.bytes.now c.in_ok-numbers.numbers.items c.in_ok-subchunks.subchunks.items
+    serves.divides (rw (plan.grid, plan.index.size) at c.in_ok-numbers.ensures.numbers) (omega (arith, many, counted)) (λ k below. found k (omega (arith, many, counted)))
+    inner_decode index_decode _ e plan.places (rw (c.deref-2.ensures.value, c.as_ne_bytes.ensures) at c.in_err-array.ensures.refused) in
+    passed_on _ e _ c.from_residual-in_err-array.ensures.1 (λ serves. lawful inner_decode index_decode inner_cells index_cells _ _ representation s.subchunk_shape s.location s.order asked c.args.bytes.now e
+    serves (rw plan.subchunks at plan.some) plan.places
+    (g.met.I.ArrayToBytesCodecTraits.cells_counted s.inner _) (g.met.X.ArrayToBytesCodecTraits.cells_counted s.index_codec _) (g.met.X.ArrayToBytesCodecTraits.cells_fitting s.index_codec _) tests)
+
+pub returns-in_err-array-clause-refused : goal.returns-in_err-array-clause-refused
+returns-in_err-array-clause-refused g c =
+    let s = c.args.self.now in
+    let asked = geo c.args.shape.now c.args.data_type.now c.args.fill_value.now in
+    let index_g = index_geo (grid_of c.args.shape.now s.subchunk_shape) in
+    let inner_decode = g.I.ArrayToBytesCodecTraits.decode_tests s.inner (sub_geo s.subchunk_shape asked) in
+    let index_decode = g.X.ArrayToBytesCodecTraits.decode_tests s.index_codec index_g in
+    let inner_cells = g.I.ArrayToBytesCodecTraits.cells s.inner (sub_geo s.subchunk_shape asked) in
+    let index_cells = g.X.ArrayToBytesCodecTraits.cells s.index_codec index_g in
+    let representation = g.X.ArrayToBytesCodecTraits.representation s.index_codec index_g in
+    let plan = c.in_ok-plan.ensures.plan in
+    let serves = c.in_ok-plan.ensures.serves in
+    let e = c.in_err-array.field-0.0 in
+    let found = rw c.deref.ensures.value at c.in_ok-subchunks.ensures.decoded in
+    let many = rw c.deref.ensures.value at c.in_ok-subchunks.ensures.counted in
+    let counted = rw plan.grid at c.in_ok-numbers.ensures.counted in
+    let tests = lengths_last inner_cells index_cells s.subchunk_shape s.location s.order (fixed_size representation) asked c.args.bytes.now c.in_ok-numbers.numbers.items c.in_ok-subchunks.subchunks.items
+    serves.divides (rw (plan.grid, plan.index.size) at c.in_ok-numbers.ensures.numbers) (omega (arith, many, counted)) (λ k below. found k (omega (arith, many, counted)))
+    inner_decode index_decode _ e plan.places (rw (c.deref-2.ensures.value, c.as_ne_bytes.ensures) at c.in_err-array.ensures.refused) in
+    passed_on _ e _ c.from_residual-in_err-array.ensures.1 (elim tests [ inl memory ↦ inl memory | inr refused ↦ inr (inr (serves, refused)) ])

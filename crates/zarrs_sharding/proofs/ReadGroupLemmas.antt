@@ -1,0 +1,124 @@
+-- Reads of the groups of asked cells, by their subchunks in ascending order.
+use Rattle.std.proofs.Common.{◌≡◌, ◌≢◌, ℕ, ◌<◌, ◌≤◌, List, [], ◌∷◌, Option, Some, None, Bool, IsTrue, ◌⊎◌, inl, inr, length, map, get_or, refl, sym, ap, ◌∙◌, arith, Vec, Global}
+use Rattle.std.proofs.lemmas.Bool.Decides.{leb_tells}
+use Rattle.std.proofs.lemmas.List.{get_or-map, length-map}
+use Rattle.zarr_parts.specs.Order.{done, RefusedBy}
+use Rattle.zarr_parts.specs.Numbering.{count_of}
+use Rattle.zarr_parts.specs.Grid.{grid_of}
+use Rattle.zarr_parts.specs.Arrays.{Array}
+use Rattle.zarr_parts.specs.declared.error.CodecError.{CodecError}
+use Rattle.zarr_codecs.specs.declared.bytes.Interval.{Interval}
+use Rattle.zarr_codecs.specs.Handles.{IsRead}
+use Rattle.zarr_codecs.specs.Reads.{interval_part, HasInterval, ObjectTests}
+use Rattle.zarrs_sharding.specs.Index.{slot_at}
+use Rattle.zarrs_sharding.specs.Laws.{all_there-map_some}
+use Rattle.zarrs_sharding.specs.ReadTests.{places_in, HasPlaces, RefusesPlaces, PlacesTests}
+use Rattle.zarrs_sharding.specs.Grouping.{AreUsed, AreGrouped, lists_of}
+use Rattle.zarrs_sharding.specs.declared.grouping.Grouping.{Grouping}
+use Rattle.zarrs_sharding.specs.Reading.{IsReadAt}
+use Rattle.zarrs_sharding.specs.declared.slot.Slot.{Slot}
+use Rattle.zarrs_sharding.specs.declared.slot.Slot.TheVariants.{Absent, InRange, Bad}
+use Rattle.zarr_codecs.proofs.ReadLemmas.{length-interval_part}
+
+-- as many lists as numbers of which they are made
+lists_counted : (h : ℕ → List ℕ) (xs : List (List ℕ)) (ys : List ℕ) → xs ≡ map h ys → length xs ≡ length ys
+lists_counted h xs ys same = ap length same ∙ length-map ys h
+
+-- a group has a list of places
+pub group_below : {shape sub numbers : List ℕ} {groups : Grouping} → AreGrouped shape sub numbers groups → (j : ℕ) → j < length groups.subchunks.items → j < length (lists_of groups)
+group_below {shape} {sub} {numbers} {groups} asked j below = omega (arith, lists_counted (places_in shape sub numbers) (lists_of groups) groups.subchunks.items asked.places)
+
+-- which is what is read of it
+pub group_read : {shape sub numbers : List ℕ} {groups : Grouping} → AreGrouped shape sub numbers groups → (j : ℕ) → j < length groups.subchunks.items
+    → (places : Vec ℕ Global) (items : List ℕ) → places ≡ get_or groups.places.items j places → items ≡ places.items → items ≡ get_or (lists_of groups) j []
+group_read {shape} {sub} {numbers} {groups} asked j below places items is read =
+    let items_of : Vec ℕ Global → List ℕ = λ places. places.items in
+    read ∙ ap items_of is ∙ sym (get_or-map items_of groups.places.items j places [] (omega (arith, length-map groups.places.items items_of, group_below asked j below)))
+
+-- one read after another
+pub read_then : {H : Type 0} (tells : H → Bool) (contents : H → Option (List ℕ)) (faults : H → ℕ) (reads : H → Bool) (a b c : H)
+    → IsRead tells contents faults reads a b → IsRead tells contents faults reads b c → IsRead tells contents faults reads a c
+read_then tells contents faults reads a b c h k = record {
+  tells_same = k.tells_same ∙ h.tells_same;
+  contents_same = k.contents_same ∙ h.contents_same;
+  faults_kept = omega (arith, h.faults_kept, k.faults_kept);
+  reads_same = k.reads_same ∙ h.reads_same;
+}
+
+is_empty : (xs : List ℕ) → (xs ≡ []) ⊎ (xs ≢ [])
+is_empty [] = inl refl
+is_empty (x ∷ xs) = inr (λ is. cc)
+
+-- of a subchunk of which no cells are asked, all that are asked are there
+unused : (inner_cells : List ℕ → List (Option (List ℕ))) (bytes : List ℕ) (slot : Slot) (places : List ℕ) → places ≡ [] → HasPlaces inner_cells bytes slot places
+unused inner_cells bytes Absent places none = tt
+unused inner_cells bytes (InRange offset size) places none = rw none refl
+unused inner_cells bytes Bad places none = none
+
+-- cells that were read are there
+there : (inner_cells : List ℕ → List (Option (List ℕ))) (bytes : List ℕ) (slot : Slot) (places : List ℕ) (found : Option Array) → IsReadAt inner_cells bytes slot places found → HasPlaces inner_cells bytes slot places
+there inner_cells bytes Absent places found h = tt
+there inner_cells bytes (InRange offset size) places None h = absurd h
+there inner_cells bytes (InRange offset size) places (Some a) h = rw (h, all_there-map_some a.elements) refl
+there inner_cells bytes Bad places found h = absurd h
+
+module _ (shape sub numbers subchunks : List ℕ) (lists : List (List ℕ))
+    (used : AreUsed shape sub numbers subchunks) (are : lists ≡ map (places_in shape sub numbers) subchunks) where
+  -- the list of a group
+  pub list_at : (j : ℕ) → j < length subchunks → get_or lists j [] ≡ places_in shape sub numbers (get_or subchunks j 0)
+  list_at j below = ap (λ xs. get_or xs j []) are ∙ get_or-map (places_in shape sub numbers) subchunks j 0 [] below
+
+  -- some places of it are asked
+  pub some_at : (j : ℕ) → j < length subchunks → get_or lists j [] ≢ []
+  some_at j below none = used.asked j below (sym (list_at j below) ∙ none)
+
+  -- lower subchunks have earlier groups
+  earlier : (i j : ℕ) → i < length subchunks → j < length subchunks → get_or subchunks i 0 < get_or subchunks j 0 → i < j
+  earlier i j i_below j_below lower =
+      elim (leb_tells j i) [
+        | inl not_below ↦ elim (leb_tells i j) [
+          | inl not_above ↦ let same : i ≡ j = omega (arith, not_below.1, not_above.1) in absurd (omega (arith, lower, ap (λ n. get_or subchunks n 0) same))
+          | inr above ↦ absurd (omega (arith, lower, used.rising j i above.1 i_below))
+        ]
+        | inr first ↦ first.1
+      ]
+
+  module _ (inner_read : List ℕ → List (List ℕ) → CodecError → Type 0) (inner_cells : List ℕ → List (Option (List ℕ))) (bytes index : List ℕ) (size : ℕ) (parts : List (Option Array)) (j : ℕ) (below : j < length subchunks)
+      (read : (i : ℕ) → i < j → IsReadAt inner_cells bytes (slot_at size index (get_or subchunks i 0)) (get_or lists i []) (get_or parts i None)) where
+    -- what is asked of the subchunks before a group is there
+    before_there : (k : ℕ) → k < get_or subchunks j 0 → HasPlaces inner_cells bytes (slot_at size index k) (places_in shape sub numbers k)
+    before_there k lower =
+        elim (is_empty (places_in shape sub numbers k)) [
+          | inl none ↦ unused inner_cells bytes (slot_at size index k) (places_in shape sub numbers k) none
+          | inr some ↦
+              let i = (used.all k some).0 in
+              let i_below : i < length subchunks = (used.all k some).1 in
+              let is : get_or subchunks i 0 ≡ k = (used.all k some).2 in
+              let first : i < j = earlier i j i_below below (omega arith) in
+              let h = there inner_cells bytes (slot_at size index (get_or subchunks i 0)) (get_or lists i []) (get_or parts i None) (read i first) in
+              rw (list_at i i_below, is) at h
+        ]
+
+    -- the first group that is refused
+    refused_at : (e : CodecError) → size ≡ length bytes → get_or subchunks j 0 < count_of (grid_of shape sub)
+        → RefusesPlaces inner_read inner_cells sub bytes (slot_at size index (get_or subchunks j 0)) (get_or lists j []) (get_or subchunks j 0) e
+        → PlacesTests inner_read inner_cells shape sub bytes (Some index) numbers done e
+    refused_at e long inside refused =
+        inl (get_or subchunks j 0, (inside, rw long at before_there, rw (long, list_at j below) at refused))
+
+  -- the first group that is refused, where the shard stands in an interval
+  pub group_refused : (inner_read : List ℕ → List (List ℕ) → CodecError → Type 0) (inner_cells : List ℕ → List (Option (List ℕ))) (tells : Bool) (first before after : ℕ) (outer : Interval) (contents : Option (List ℕ)) (index : List ℕ) (parts : List (Option Array)) (j : ℕ) (e : CodecError)
+      → first ≤ before → (IsTrue tells → HasInterval outer contents) → j < length subchunks → get_or subchunks j 0 < count_of (grid_of shape sub)
+      → (IsTrue tells → (i : ℕ) → i < j
+      → IsReadAt inner_cells (interval_part outer contents) (slot_at outer.size index (get_or subchunks i 0)) (get_or lists i []) (get_or parts i None))
+      → RefusedBy (ObjectTests tells before after
+      (RefusesPlaces inner_read inner_cells sub (interval_part outer contents) (slot_at outer.size index (get_or subchunks j 0)) (get_or lists j []) (get_or subchunks j 0))) e
+      → RefusedBy (ObjectTests tells first after (PlacesTests inner_read inner_cells shape sub (interval_part outer contents) (Some index) numbers done)) e
+  group_refused inner_read inner_cells tells first before after outer contents index parts j e since has below inside read h =
+      elim h [
+        | inl memory ↦ inl memory
+        | inr refused ↦ inr (λ t. elim (refused t) [
+          | inl fault ↦ inl (fault.0, omega (arith, since, fault.1))
+          | inr places ↦ inr (refused_at inner_read inner_cells (interval_part outer contents) index outer.size parts j below (read t) e (sym (length-interval_part outer contents (has t))) inside places)
+        ])
+      ]

@@ -1,0 +1,31 @@
+use Rattle.std.proofs.Common.{arith}
+use Rattle.zarr_parts.specs.Geo.{geo}
+use Rattle.zarrs_sharding.proofs.ReadSlotLemmas.{places_read, places_refused}
+use Rattle.zarrs_sharding.proofs.codec.ShardingCodec.read_slot.Goals as goal
+
+pub returns-in-Ok-clause-cells : goal.returns-in-Ok-clause-cells
+returns-in-Ok-clause-cells g c =
+    let a = c.args in
+    let s = a.self.now in
+    let x = g.I.ArrayToBytesCodecTraits in
+    let h = g.H.BytesPartialDecoderTraits in
+    let sub_g = geo s.subchunk_shape a.data_type.now a.fill_value.now in
+    let fits = rw c.in-InRange.is at c.requires.fits in
+    let read = rw c.new-asked.ensures at c.in-Ok.ensures.cells in
+    λ t. rw c.in-InRange.is
+    (places_read (x.cells s.inner sub_g) sub_g a.outer (h.contents a.handle.now) c.in-InRange.offset c.in-InRange.size a.places.now fits c.requires.below c.in-Ok.array.elements (read t))
+
+pub returns-in-Err-clause-refused : goal.returns-in-Err-clause-refused
+returns-in-Err-clause-refused g c =
+    let a = c.args in
+    let s = a.self.now in
+    let x = g.I.ArrayToBytesCodecTraits in
+    let h = g.H.BytesPartialDecoderTraits in
+    let sub_g = geo s.subchunk_shape a.data_type.now a.fill_value.now in
+    let fits = rw c.in-InRange.is at c.requires.fits in
+    let law = rw c.new-asked.ensures at c.in-Err.ensures.lawful in
+    let refused = rw c.new-asked.ensures at c.in-Err.ensures.refused in
+    rw c.in-InRange.is
+    (places_refused (x.cells s.inner sub_g) sub_g a.outer (h.contents a.handle.now) c.in-InRange.offset c.in-InRange.size a.places.now fits c.requires.below
+    (x.serves s.inner sub_g) (x.check_tests s.inner sub_g) (x.answerable s.inner sub_g) (x.read_tests s.inner sub_g) (h.tells a.handle.now) (h.faults a.handle.now) (h.faults c.partial_decode.new.handle)
+    c.in-Err.error c.of_stored.result c.requires.serves (omega arith) c.requires.inside law refused c.of_stored.ensures a.number c.requires.some)

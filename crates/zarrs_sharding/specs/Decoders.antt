@@ -1,0 +1,122 @@
+-- A shard that is read in part through a handle, by its index, which was read once.
+use Rattle.std.specs.Prelude.{◌≡◌, ◌≢◌, ◌<◌, ◌^◌, ℕ, ◌+◌, ◌-◌, ◌*◌, min, Bool, IsTrue, List, Option, Some, None, IfSome, length, replicate}
+use Rattle.zarr_parts.specs.Order.{◌or◌then◌, ◌or_as◌then◌, done}
+use Rattle.zarr_parts.specs.Numbering.{count_of, number_of, IsInside}
+use Rattle.zarr_parts.specs.Grid.{grid_of}
+use Rattle.zarr_parts.specs.Geo.{Geo, geo}
+use Rattle.zarr_parts.specs.declared.error.CodecError.{CodecError}
+use Rattle.zarr_parts.specs.declared.error.CodecError.TheVariants.{TooLarge, IncompatibleDimensionality, OutOfBounds, BadIndexEntry}
+use Rattle.zarr_codecs.specs.Handles.{IsRead, WasRead, seen}
+use Rattle.zarr_codecs.specs.Reads.{cells_at}
+use Rattle.zarr_codecs.specs.declared.bytes.ByteRange.{ByteRange}
+use Rattle.zarr_codecs.specs.declared.bytes.ByteRange.TheVariants.{FromStart}
+use Rattle.zarr_codecs.specs.declared.representation.BytesRepresentation.{BytesRepresentation}
+use Rattle.zarrs_sharding.specs.Index.{index_geo, slot_at, numbers_in_index}
+use Rattle.zarrs_sharding.specs.Serves.{sub_geo, fixed_size, ShardServes}
+use Rattle.zarrs_sharding.specs.Cells.{Layout, shard_cells}
+use Rattle.zarrs_sharding.specs.DecodeTests.{IndexTests, RefusesLengths}
+use Rattle.zarrs_sharding.specs.ReadTests.{CellsTests}
+use Rattle.zarrs_sharding.specs.declared.codec.ShardingCodec.{ShardingCodec}
+use Rattle.zarrs_sharding.specs.declared.location.ShardingIndexLocation.{ShardingIndexLocation}
+use Rattle.zarrs_sharding.specs.declared.slot.Slot.{Slot}
+use Rattle.zarrs_sharding.specs.declared.slot.Slot.TheVariants.{Absent, InRange, Bad}
+use Rattle.zarrs_sharding.specs.declared.partial_decoder.OpenShard.{OpenShard}
+
+-- what contracts see of a decoder: its codec, what it is asked to serve, its handle, and what was read when it was opened: the object's
+-- length, and the numbers of its index, or none where there was no object
+pub record Opened (C H : Type 0) : Type 0 where
+  pub codec : C
+  pub geo : Geo
+  pub handle : H
+  pub len : ℕ
+  pub index : Option (List ℕ)
+
+-- the held length and index are those of the object; `index_in` says which numbers the index of some bytes has
+abbrev pub HoldsIndex : (List ℕ → Option (List ℕ)) → Option (List ℕ) → ℕ → Option (List ℕ) → Type 0
+HoldsIndex index_in None len index = index ≡ None
+HoldsIndex index_in (Some bytes) len None = ⊥
+HoldsIndex index_in (Some bytes) len (Some numbers) = (length bytes ≡ len) × (index_in bytes ≡ Some numbers)
+
+-- the numbers of the index of a shard with this codec and geo
+abbrev pub index_in : {I X : Type 0} → (X → Geo → Option BytesRepresentation) → (X → Geo → List ℕ → List (Option (List ℕ))) → ShardingCodec I X → Geo → List ℕ → Option (List ℕ)
+index_in representation index_cells codec g bytes =
+    let index_g = index_geo (grid_of g.shape codec.subchunk_shape) in
+    numbers_in_index (index_cells codec.index_codec index_g) codec.location (fixed_size (representation codec.index_codec index_g)) bytes
+
+-- the codec serves what the decoder reads, and where the handle tells its bytes, the held index is that of the object
+pub record IsOpen {I X H : Type 0} (inner_serves : I → Geo → Type 0) (index_serves : X → Geo → Type 0) (representation : X → Geo → Option BytesRepresentation)
+    (index_cells : X → Geo → List ℕ → List (Option (List ℕ))) (tells : H → Bool) (contents : H → Option (List ℕ)) (d : Opened (ShardingCodec I X) H) : Type 0 where
+  pub serves : let sub = d.codec.subchunk_shape in let index_g = index_geo (grid_of d.geo.shape sub) in
+      ShardServes (inner_serves d.codec.inner (sub_geo sub d.geo)) (index_serves d.codec.index_codec index_g) (representation d.codec.index_codec index_g) sub d.geo
+  pub room : d.len + 1 < 2 ^ 64
+  pub counted : IfSome d.index (λ numbers. length numbers ≡ 2 * count_of (grid_of d.geo.shape d.codec.subchunk_shape))
+  pub held : IsTrue (tells d.handle) → HoldsIndex (index_in representation index_cells d.codec d.geo) (contents d.handle) d.len d.index
+
+-- the decoder of a codec and a handle that knows this of a shard
+abbrev pub opened : {C H : Type 0} → C → H → OpenShard → Opened C H
+opened codec handle shard =
+    record { codec = codec; geo = geo shard.shape shard.data_type shard.fill_value; handle = handle; len = shard.held.len; index = seen (λ numbers. numbers.items) shard.held.index }
+
+-- what is known of a shard: the decoder is open, and the counts and the grid are its own
+pub record IsKnown {I X H : Type 0} (inner_serves : I → Geo → Type 0) (index_serves : X → Geo → Type 0) (representation : X → Geo → Option BytesRepresentation)
+    (index_cells : X → Geo → List ℕ → List (Option (List ℕ))) (tells : H → Bool) (contents : H → Option (List ℕ)) (codec : ShardingCodec I X) (handle : H) (shard : OpenShard) : Type 0 where
+  pub is_open : IsOpen inner_serves index_serves representation index_cells tells contents (opened codec handle shard)
+  pub cells : shard.cells ≡ count_of shard.shape
+  pub grid : shard.grid ≡ grid_of shard.shape codec.subchunk_shape
+  pub subchunks : shard.subchunks ≡ count_of (grid_of shard.shape codec.subchunk_shape)
+
+-- a reading call leaves all but the handle, and the object
+pub record Unmoved {C H : Type 0} (tells : H → Bool) (contents : H → Option (List ℕ)) (faults : H → ℕ) (reads : H → Bool) (old new : Opened C H) : Type 0 where
+  pub codec : new.codec ≡ old.codec
+  pub geo : new.geo ≡ old.geo
+  pub len : new.len ≡ old.len
+  pub index : new.index ≡ old.index
+  pub handle : IsRead tells contents faults reads old.handle new.handle
+
+-- the bytes that a decoder holds in memory: the handle's, and 8 for each number of the held index
+abbrev pub bytes_held : ℕ → Option (List ℕ) → ℕ
+bytes_held handle None = handle
+bytes_held handle (Some numbers) = min (handle + 8 * length numbers) (2 ^ 64 - 1)
+
+-- the tests of an object that is opened: that its length can be counted, and those of its index
+abbrev pub OpenTests : (List ℕ → CodecError → Type 0) → (List ℕ → List (Option (List ℕ))) → ShardingIndexLocation → ℕ → Option (List ℕ) → CodecError → Type 0
+OpenTests index_decode index_cells location size None = done
+OpenTests index_decode index_cells location size (Some bytes) =
+    length bytes + 1 < 2 ^ 64 or TooLarge then
+    IndexTests index_decode index_cells location size bytes
+    done
+
+-- what the held index says of subchunk k: without an object each is absent
+abbrev pub held_slot : ℕ → Option (List ℕ) → ℕ → Slot
+held_slot len None k = Absent
+held_slot len (Some numbers) k = slot_at len numbers k
+
+-- the range of the bytes that a slot names: none where the subchunk is absent
+abbrev pub IsRangeOf : Slot → Option ByteRange → Type 0
+IsRangeOf Absent range = range ≡ None
+IsRangeOf (InRange offset size) range = range ≡ Some (FromStart offset (Some size))
+IsRangeOf Bad range = ⊥
+
+-- what is read of the bytes that a slot names: none where the subchunk is absent; of contents that are told, just these bytes
+abbrev pub IsSliceRead : Slot → Bool → Option (List ℕ) → Option (List ℕ) → Type 0
+IsSliceRead Absent tells contents answer = answer ≡ None
+IsSliceRead (InRange offset size) tells contents answer = WasRead (FromStart offset (Some size)) tells contents answer
+IsSliceRead Bad tells contents answer = ⊥
+
+-- the tests of a subchunk of a grid that is asked by its coordinate, and of which an index says this
+abbrev pub SlotTests : (grid subchunk : List ℕ) → Slot → (CodecError → Type 0) → CodecError → Type 0
+SlotTests grid subchunk slot later =
+    length subchunk ≡ length grid or IncompatibleDimensionality then
+    IsInside subchunk grid or OutOfBounds then
+    slot ≢ Bad or BadIndexEntry (number_of subchunk grid) then
+    later
+
+-- the cells of a shard: without an object each is the fill value
+abbrev pub object_cells : (inner_cells index_cells : List ℕ → List (Option (List ℕ))) → Layout → Option (List ℕ) → List (Option (List ℕ))
+object_cells inner_cells index_cells l None = replicate (count_of l.shape) (Some l.fill)
+object_cells inner_cells index_cells l (Some bytes) = shard_cells inner_cells index_cells l bytes
+
+-- the tests of a read of the cells at some coordinates of a shard whose index was read before; without an object those of their lengths alone
+abbrev pub ObjectCellsTests : (List ℕ → List (List ℕ) → CodecError → Type 0) → (inner_cells index_cells : List ℕ → List (Option (List ℕ))) → Layout → Option (List ℕ) → List (List ℕ) → CodecError → Type 0
+ObjectCellsTests inner_read inner_cells index_cells l None points = RefusesLengths (cells_at (object_cells inner_cells index_cells l None) l.shape points)
+ObjectCellsTests inner_read inner_cells index_cells l (Some bytes) points = CellsTests inner_read inner_cells index_cells l bytes (numbers_in_index index_cells l.location l.index_size bytes) points

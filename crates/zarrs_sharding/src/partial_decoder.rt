@@ -1,0 +1,259 @@
+// A shard that is read in part through a handle, by its index, which is read once.
+ghost use Rattle.std.specs.Prelude.{◌≡◌, ◌+◌, ◌^◌, ◌<◌, ◌*◌, IsTrue, IfOk, IfErr, IfSome, is_some, length};
+ghost use Rattle.zarr_parts.specs.Order.{◌or_as◌then◌, RefusedBy};
+ghost use Rattle.zarr_parts.specs.Numbering.{count_of};
+ghost use Rattle.zarr_parts.specs.Grid.{grid_of};
+ghost use Rattle.zarr_parts.specs.Geo.{geo};
+ghost use Rattle.zarr_codecs.specs.Handles.{IsRead, IsCounted, MayFault, seen};
+ghost use Rattle.zarr_codecs.specs.Reads.{ObjectTests};
+ghost use Rattle.zarr_codecs.specs.Refusals.{RefusesUnserved};
+ghost use Rattle.zarrs_sharding.specs.Index.{index_geo, numbers_in_index};
+ghost use Rattle.zarrs_sharding.specs.Serves.{sub_geo, fixed_size, ShardServes, CheckTests};
+ghost use Rattle.zarrs_sharding.specs.Plans.{IsIndexPlan, IsPlan};
+ghost use Rattle.zarrs_sharding.specs.Decoders.{HoldsIndex, IsOpen, IsKnown, OpenTests};
+
+mod reads;
+mod subchunks;
+
+use crate::check::{IndexPlan, Plan};
+use crate::codec::ShardingCodec;
+use std::alloc::Global;
+use std::marker::Model;
+use zarr_codecs::{ArrayToBytesCodecTraits, BytesPartialDecoderTraits, Interval};
+use zarr_parts::{ChunkShape, CodecError, CodecOptions, DataType, FillValue};
+
+/// The length of an object and the numbers of its index, or none where there is no object.
+#[derive(Drop)]
+pub(crate) struct HeldIndex {
+    pub len: u64,
+    pub index: Option<Vec<u64>>,
+}
+
+/// What is known of a shard that is read in part.
+#[derive(Drop)]
+pub(crate) struct OpenShard {
+    pub shape: ChunkShape,
+    pub data_type: DataType,
+    pub fill_value: FillValue,
+    pub cells: u64,
+    pub subchunks: u64,
+    pub grid: ChunkShape,
+    pub held: HeldIndex,
+}
+
+/// A shard that is read in part through a handle. It holds the shard's index, which was read when it was opened, and
+/// reads the index no more. Without an object each cell is the fill value.
+#[derive(Drop)]
+pub struct ShardingPartialDecoder<
+    'a,
+    I: ArrayToBytesCodecTraits,
+    X: ArrayToBytesCodecTraits,
+    H: BytesPartialDecoderTraits,
+> {
+    codec: &'a ShardingCodec<I, X>,
+    handle: H,
+    shard: OpenShard,
+}
+
+impl<'a, I: ArrayToBytesCodecTraits, X: ArrayToBytesCodecTraits, H: BytesPartialDecoderTraits> Model
+    for ShardingPartialDecoder<'a, I, X, H> {
+    ghost use Rattle.zarrs_sharding.specs.declared.codec.ShardingCodec.{ShardingCodec};
+    ghost use Rattle.zarrs_sharding.specs.Decoders.{Opened, opened, IsKnown};
+
+    // its codec, what it is asked to serve, its handle, and what it holds of the object
+    ghost Value = { Opened (ShardingCodec I X) H };
+
+    ghost view = { λ d. opened d.codec.now d.handle d.shard };
+
+    ghost invariant = { λ d. IsKnown I.serves X.serves X.representation X.cells H.tells H.contents d.codec.now d.handle d.shard };
+}
+
+impl<I, X: ArrayToBytesCodecTraits> ShardingCodec<I, X> {
+    // The length of a handle's object and the numbers of its index. Without an object no memory is asked.
+    fn read_held<H: BytesPartialDecoderTraits>(
+        &self,
+        alloc: Global,
+        handle: &mut H,
+        grid: &ChunkShape,
+        plan: &IndexPlan,
+        options: &CodecOptions,
+    ) -> Result<HeldIndex, CodecError>
+        requires plan { IsIndexPlan (fixed_size (X.representation self.now.index_codec (index_geo grid.now))) grid.now plan.now }
+        requires serves { X.serves self.now.index_codec (index_geo grid.now) }
+        ensures read { IsRead H.tells H.contents H.faults H.reads handle.old handle.new }
+        ensures room { IfOk result (λ held. held.len + 1 < 2 ^ 64) }
+        ensures counted { IfOk result (λ held. IfSome (seen (λ numbers. numbers.items) held.index) (λ numbers. length numbers ≡ 2 * count_of grid.now)) }
+        ensures held { IfOk result (λ held. IsTrue (H.tells handle.old)
+            → HoldsIndex (numbers_in_index (X.cells self.now.index_codec (index_geo grid.now)) self.now.location plan.now.size)
+            (H.contents handle.old) held.len (seen (λ numbers. numbers.items) held.index)) }
+        ensures fault { IfErr result (IsCounted (H.faults handle.old) (H.faults handle.new)) }
+        ensures refused { let x = self.now.index_codec in let g = index_geo grid.now in
+            IfErr result (RefusedBy (ObjectTests (H.tells handle.old) (H.faults handle.old) (H.faults handle.new)
+            (OpenTests (X.decode_tests x g) (X.cells x g) self.now.location plan.now.size (H.contents handle.old)))) }
+    {
+        let Some(len) = handle.len()? else {
+            return Ok(HeldIndex {
+                len: 0,
+                index: None,
+            });
+        };
+        if len == u64::MAX {
+            return Err(CodecError::TooLarge);
+        }
+        let whole = Interval {
+            offset: 0,
+            size: len,
+        };
+        let numbers = self.read_index(alloc, handle, whole, grid, plan, options)?;
+        Ok(HeldIndex {
+            len,
+            index: Some(numbers),
+        })
+    }
+}
+
+impl<I: ArrayToBytesCodecTraits, X: ArrayToBytesCodecTraits> ShardingCodec<I, X> {
+    // Tests what is asked of the codec, and reads what a decoder holds of a handle's object.
+    fn open_shard<H: BytesPartialDecoderTraits>(
+        &self,
+        alloc: Global,
+        handle: &mut H,
+        shape: &ChunkShape,
+        data_type: &DataType,
+        fill_value: &FillValue,
+        options: &CodecOptions,
+    ) -> Result<OpenShard, CodecError>
+        ensures read { IsRead H.tells H.contents H.faults H.reads handle.old handle.new }
+        ensures asked { IfOk result (λ shard. geo shard.shape shard.data_type shard.fill_value ≡ geo shape.now data_type.now fill_value.now) }
+        ensures known { IfOk result (IsKnown I.serves X.serves X.representation X.cells H.tells H.contents self.now handle.new) }
+        ensures fault { IfErr result (IsCounted (H.faults handle.old) (H.faults handle.new)) }
+        ensures refused { let g = geo shape.now data_type.now fill_value.now in let s = self.now in
+            let inner_g = sub_geo s.subchunk_shape g in let index_g = index_geo (grid_of g.shape s.subchunk_shape) in
+            let served = ShardServes (I.serves s.inner inner_g) (X.serves s.index_codec index_g) (X.representation s.index_codec index_g) s.subchunk_shape g in
+            IfErr result (RefusedBy (
+            served or_as RefusesUnserved served (CheckTests (I.serves s.inner inner_g) (X.serves s.index_codec index_g) (I.check_tests s.inner inner_g)
+            (X.check_tests s.index_codec index_g) (X.representation s.index_codec index_g) s.subchunk_shape g) then
+            ObjectTests (H.tells handle.old) (H.faults handle.old) (H.faults handle.new) (
+            OpenTests (X.decode_tests s.index_codec index_g) (X.cells s.index_codec index_g) s.location (fixed_size (X.representation s.index_codec index_g)) (H.contents handle.old)))) }
+    {
+        let plan = self.prepared(alloc, shape, data_type, fill_value)?;
+        let Plan {
+            cells,
+            subchunks,
+            grid,
+            index,
+        } = plan;
+        let held = self.read_held(alloc, handle, &grid, &index, options)?;
+        Ok(OpenShard {
+            shape: shape.try_clone(alloc)?,
+            data_type: *data_type,
+            fill_value: fill_value.try_clone(alloc)?,
+            cells,
+            subchunks,
+            grid,
+            held,
+        })
+    }
+
+    /// Opens a decoder of the shard that is a handle's object, or of no object, and reads its index. A refusal gives the
+    /// handle back. Refused as `check` refuses, then, in this order, as `TooLarge` where the object has `u64::MAX` bytes, as
+    /// `ShardTooShort`, and as `Damaged` where the index does not decode; or as `Fault`, where the handle failed, or
+    /// `OutOfMemory`.
+    pub fn partial_decoder<'a, H: BytesPartialDecoderTraits>(
+        &'a self,
+        alloc: Global,
+        mut handle: H,
+        shape: &ChunkShape,
+        data_type: &DataType,
+        fill_value: &FillValue,
+        options: &CodecOptions,
+    ) -> Result<ShardingPartialDecoder<'a, I, X, H>, (H, CodecError)>
+        ensures codec { IfOk result (λ decoder. decoder.codec ≡ self.now) }
+        ensures asked { IfOk result (λ decoder. decoder.geo ≡ geo shape.now data_type.now fill_value.now) }
+        ensures read { IfOk result (λ decoder. IsRead H.tells H.contents H.faults H.reads handle decoder.handle) }
+        ensures is_open { IfOk result (IsOpen I.serves X.serves X.representation X.cells H.tells H.contents) }
+        ensures returned { IfErr result (λ e. IsRead H.tells H.contents H.faults H.reads handle e.0) }
+        ensures fault { IfErr result (λ e. IsCounted (H.faults handle) (H.faults e.0) e.1) }
+        ensures refused { let g = geo shape.now data_type.now fill_value.now in let s = self.now in
+            let inner_g = sub_geo s.subchunk_shape g in let index_g = index_geo (grid_of g.shape s.subchunk_shape) in
+            let served = ShardServes (I.serves s.inner inner_g) (X.serves s.index_codec index_g) (X.representation s.index_codec index_g) s.subchunk_shape g in
+            IfErr result (λ e. RefusedBy (
+            served or_as RefusesUnserved served (CheckTests (I.serves s.inner inner_g) (X.serves s.index_codec index_g) (I.check_tests s.inner inner_g)
+            (X.check_tests s.index_codec index_g) (X.representation s.index_codec index_g) s.subchunk_shape g) then
+            ObjectTests (H.tells handle) (H.faults handle) (H.faults e.0) (
+            OpenTests (X.decode_tests s.index_codec index_g) (X.cells s.index_codec index_g) s.location (fixed_size (X.representation s.index_codec index_g)) (H.contents handle))) e.1) }
+    {
+        match self.open_shard(alloc, &mut handle, shape, data_type, fill_value, options) {
+            Ok(shard) => Ok(ShardingPartialDecoder {
+                codec: self,
+                handle,
+                shard,
+            }),
+            Err(error) => Err((handle, error)),
+        }
+    }
+}
+
+impl<
+    'a,
+    I: ArrayToBytesCodecTraits,
+    X: ArrayToBytesCodecTraits,
+    H: BytesPartialDecoderTraits,
+> ShardingPartialDecoder<'a, I, X, H> {
+    ghost use Rattle.zarrs_sharding.specs.Decoders.{Unmoved, bytes_held};
+
+    /// The data type of the cells.
+    pub fn data_type(&self) -> &DataType
+        ensures data_type { result.now ≡ self.now.geo.data_type }
+        ensures is_open { IsOpen I.serves X.serves X.representation X.cells H.tells H.contents self.now }
+    {
+        &self.shard.data_type
+    }
+
+    /// Whether there is an object. Refused only as `Fault`, where the handle failed.
+    pub fn exists(&mut self) -> Result<bool, CodecError>
+        ensures unmoved { Unmoved H.tells H.contents H.faults H.reads self.old self.new }
+        ensures is_open { IsOpen I.serves X.serves X.representation X.cells H.tells H.contents self.new }
+        ensures told { IfOk result (λ there. IsTrue (H.tells self.old.handle) → there ≡ is_some (H.contents self.old.handle)) }
+        ensures refused { IfErr result (MayFault (H.faults self.old.handle) (H.faults self.new.handle)) }
+    {
+        self.handle.exists()
+    }
+
+    /// How many bytes the decoder holds in memory: the handle's, and 8 for each number of the index, or `usize::MAX` where
+    /// these are more. Without an object it holds no index.
+    pub fn size_held(&self) -> usize
+        ensures held { result ≡ bytes_held (H.held self.now.handle) self.now.index }
+        ensures is_open { IsOpen I.serves X.serves X.representation X.cells H.tells H.contents self.now }
+    {
+        let held = self.handle.size_held();
+        match &self.shard.held.index {
+            Some(numbers) => held.saturating_add(numbers.len().saturating_mul(8)),
+            None => held,
+        }
+    }
+
+    /// Whether the handle can be read in part.
+    pub fn supports_partial_decode(&self) -> bool
+        ensures reads { result ≡ H.reads self.now.handle }
+        ensures is_open { IsOpen I.serves X.serves X.representation X.cells H.tells H.contents self.now }
+    {
+        self.handle.supports_partial_decode()
+    }
+
+    /// Gives the handle back. Takes no memory.
+    pub fn close(self) -> H
+        ensures handle { result ≡ self.entry.handle }
+        ensures is_open { IsOpen I.serves X.serves X.representation X.cells H.tells H.contents self.entry }
+    {
+        let ShardingPartialDecoder {
+            codec: _,
+            handle,
+            shard: _,
+        } = self;
+        handle
+    }
+}
+
+#[cfg(test)]
+mod tests;

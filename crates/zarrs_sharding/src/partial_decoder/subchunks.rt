@@ -1,0 +1,108 @@
+// Subchunks of a shard that is read in part, by their coordinates in the grid.
+ghost use Rattle.std.specs.Prelude.{◌≡◌, ◌+◌, ◌^◌, ◌<◌, ◌*◌, IfOk, IfErr, IfSome, OnOk, length};
+ghost use Rattle.zarr_parts.specs.Order.{done, RefusedBy};
+ghost use Rattle.zarr_parts.specs.Numbering.{count_of, number_of, IsInside};
+ghost use Rattle.zarr_parts.specs.Grid.{grid_of};
+ghost use Rattle.std.specs.Cow.{cow_slice_items};
+ghost use Rattle.zarr_codecs.specs.Handles.{IsCounted, seen};
+ghost use Rattle.zarr_codecs.specs.Reads.{ObjectTests};
+ghost use Rattle.zarrs_sharding.specs.Decoding.{FitsSlot};
+ghost use Rattle.zarrs_sharding.specs.Decoders.{IsOpen, Unmoved, held_slot, IsRangeOf, IsSliceRead, SlotTests};
+
+use super::{HeldIndex, ShardingPartialDecoder};
+use crate::slot::{Slot, slot_of};
+use std::alloc::Global;
+use std::borrow::CowSlice;
+use zarr_codecs::{ArrayToBytesCodecTraits, ByteRange, BytesPartialDecoderTraits, copied};
+use zarr_parts::{CodecError, ravel_indices};
+
+impl HeldIndex {
+    // What the index says of a subchunk. Without an object each is absent.
+    #[tactic(auto, unfolding(crate::specs::Index::slot_at))]
+    fn slot(&self, number: u64) -> Slot
+        requires { IfSome (seen (λ numbers. numbers.items) self.now.index) (λ numbers. 2 * number + 1 < length numbers) }
+        ensures slot { result ≡ held_slot self.now.len (seen (λ numbers. numbers.items) self.now.index) number }
+        ensures fits { FitsSlot self.now.len result }
+    {
+        let Some(numbers) = &self.index else {
+            return Slot::Absent;
+        };
+        let place = 2 * number as usize;
+        slot_of(self.len, numbers[place], numbers[place + 1])
+    }
+
+    // The range of the bytes of a subchunk of a grid.
+    fn range(&self, grid: &[u64], subchunk: &[u64]) -> Result<Option<ByteRange>, CodecError>
+        requires counted { IfSome (seen (λ numbers. numbers.items) self.now.index) (λ numbers. length numbers ≡ 2 * count_of grid.now) }
+        requires fits { count_of grid.now < 2 ^ 64 }
+        ensures axes { OnOk result (length subchunk.now ≡ length grid.now) }
+        ensures inside { OnOk result (IsInside subchunk.now grid.now) }
+        ensures range { IfOk result (IsRangeOf (held_slot self.now.len (seen (λ numbers. numbers.items) self.now.index) (number_of subchunk.now grid.now))) }
+        ensures fits { OnOk result (FitsSlot self.now.len (held_slot self.now.len (seen (λ numbers. numbers.items) self.now.index) (number_of subchunk.now grid.now))) }
+        ensures refused { IfErr result (SlotTests grid.now subchunk.now
+            (held_slot self.now.len (seen (λ numbers. numbers.items) self.now.index) (number_of subchunk.now grid.now)) done) }
+    {
+        if subchunk.len() != grid.len() {
+            return Err(CodecError::IncompatibleDimensionality);
+        }
+        let Some(number) = ravel_indices(subchunk, grid) else {
+            return Err(CodecError::OutOfBounds);
+        };
+        match self.slot(number) {
+            Slot::Absent => Ok(None),
+            Slot::InRange { offset, size } => Ok(Some(ByteRange::FromStart(offset, Some(size)))),
+            Slot::Bad => Err(CodecError::BadIndexEntry { number }),
+        }
+    }
+}
+
+impl<
+    'a,
+    I: ArrayToBytesCodecTraits,
+    X: ArrayToBytesCodecTraits,
+    H: BytesPartialDecoderTraits,
+> ShardingPartialDecoder<'a, I, X, H> {
+    /// The range of the bytes of a subchunk, by its coordinate in the grid of subchunks and by the held index; `None` where
+    /// it is absent, and so where there is no object. Refused, in this order, as `IncompatibleDimensionality`, as
+    /// `OutOfBounds`, and as `BadIndexEntry` with the subchunk's number. Takes no memory.
+    pub fn subchunk_byte_range(&self, subchunk: &[u64]) -> Result<Option<ByteRange>, CodecError>
+        ensures inside { OnOk result (IsInside subchunk.now (grid_of self.now.geo.shape self.now.codec.subchunk_shape)) }
+        ensures range { let grid = grid_of self.now.geo.shape self.now.codec.subchunk_shape in
+            IfOk result (IsRangeOf (held_slot self.now.len self.now.index (number_of subchunk.now grid))) }
+        ensures refused { let grid = grid_of self.now.geo.shape self.now.codec.subchunk_shape in
+            IfErr result (SlotTests grid subchunk.now (held_slot self.now.len self.now.index (number_of subchunk.now grid)) done) }
+        ensures is_open { IsOpen I.serves X.serves X.representation X.cells H.tells H.contents self.now }
+    {
+        self.shard.held.range(self.shard.grid.as_slice(), subchunk)
+    }
+
+    /// The bytes of a subchunk as they are stored, by its coordinate in the grid of subchunks and by the held index; `None`
+    /// where it is absent, and so where there is no object. Refused, in this order, as `IncompatibleDimensionality`, as
+    /// `OutOfBounds`, and as `BadIndexEntry` with the subchunk's number; or as `Fault`, where the handle failed, or
+    /// `OutOfMemory`.
+    pub fn retrieve_subchunk_encoded(
+        &mut self,
+        alloc: Global,
+        subchunk: &[u64],
+    ) -> Result<Option<CowSlice<'static, u8>>, CodecError>
+        ensures unmoved { Unmoved H.tells H.contents H.faults H.reads self.old self.new }
+        ensures is_open { IsOpen I.serves X.serves X.representation X.cells H.tells H.contents self.new }
+        ensures inside { OnOk result (IsInside subchunk.now (grid_of self.old.geo.shape self.old.codec.subchunk_shape)) }
+        ensures slice { let grid = grid_of self.old.geo.shape self.old.codec.subchunk_shape in
+            IfOk result (λ o. IsSliceRead (held_slot self.old.len self.old.index (number_of subchunk.now grid)) (H.tells self.old.handle) (H.contents self.old.handle)
+            (seen (λ bytes. cow_slice_items bytes) o)) }
+        ensures fault { IfErr result (IsCounted (H.faults self.old.handle) (H.faults self.new.handle)) }
+        ensures refused { let grid = grid_of self.old.geo.shape self.old.codec.subchunk_shape in
+            IfErr result (RefusedBy (SlotTests grid subchunk.now (held_slot self.old.len self.old.index (number_of subchunk.now grid)) (
+            ObjectTests (H.tells self.old.handle) (H.faults self.old.handle) (H.faults self.new.handle) done))) }
+    {
+        let range = self.shard.held.range(self.shard.grid.as_slice(), subchunk)?;
+        let Some(range) = range else {
+            return Ok(None);
+        };
+        match copied(&mut self.handle, alloc, range)? {
+            Some(bytes) => Ok(Some(CowSlice::Owned(bytes))),
+            None => Ok(None),
+        }
+    }
+}
