@@ -4,9 +4,10 @@ use crate::elements::{array_of, fill_value_of};
 use crate::hex::parse_bytes;
 use crate::parse::{parse_number, parse_numbers};
 use crate::pieces::Pieces;
+use crate::selections::{parse_coordinates, parse_subset};
 use crate::stop::Stop;
 use std::alloc::Global;
-use zarr_parts::{ArrayBytes, ChunkShape, FillValue};
+use zarr_parts::{ArrayBytes, ArraySubset, ChunkShape, Coordinates, FillValue};
 use zarrs_sharding::ShardingIndexLocation;
 
 /// What a shard is to be: the words of the command `shard`.
@@ -36,6 +37,10 @@ pub enum Command {
     Store(Vec<u8>),
     /// Compacts the object.
     Compact,
+    /// Reads the cells of a subset.
+    Read(ArraySubset),
+    /// Reads the cells at coordinates.
+    Cells(Coordinates),
 }
 
 // The next word of a line.
@@ -111,6 +116,8 @@ impl Command {
             (b"decode", Some(_)) => Command::Decode,
             (b"object", Some(_)) => parse_object(alloc, &mut words)?,
             (b"compact", Some(_)) => Command::Compact,
+            (b"read", Some(_)) => Command::Read(parse_subset(alloc, next_word(&mut words)?)?),
+            (b"cells", Some(_)) => Command::Cells(parse_coordinates(alloc, &mut words)?),
             _ => return Err(Stop::Malformed),
         };
         match words.next() {

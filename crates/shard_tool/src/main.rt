@@ -10,6 +10,7 @@ mod pieces;
 mod print;
 mod refusals;
 mod script;
+mod selections;
 mod stop;
 mod tool;
 

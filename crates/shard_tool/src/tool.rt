@@ -1,6 +1,7 @@
 // What a script works on: the codec of its last `shard` and the object that it stored.
 ghost use Rattle.std.specs.Prelude.{◌≡◌, ◌≤◌, Some, None, IfOk, IfSome, IfNone, IsSomeAnd, OnOk, OnErr, length, vec_len};
 ghost use Rattle.std.specs.List.{All};
+ghost use Rattle.zarr_codecs.specs.Handles.{seen};
 
 use crate::command::{Command, Settings};
 use crate::element_type::ElementType;
@@ -12,8 +13,8 @@ use crate::stop::Stop;
 use std::alloc::Global;
 use std::io;
 use std::io::Write;
-use zarr_codecs::{ArrayToBytesCodecTraits, BytesCodec};
-use zarr_parts::{ArrayBytes, ChunkShape, CodecError, CodecOptions, FillValue};
+use zarr_codecs::{ArrayToBytesCodecTraits, BytesCodec, MemoryHandle};
+use zarr_parts::{ArrayBytes, ChunkShape, CodecError, CodecOptions, FillValue, Indexer};
 use zarrs_sharding::{ShardingCodec, SubchunkWriteOrder, calculate_chunks_per_shard};
 
 // A shard of one shape and type, and its object once something was stored.
@@ -142,6 +143,51 @@ impl Shard {
         }
     }
 
+    // The cells that an indexer asks, in its order: of the object, or fill values where there is none. The object stays.
+    fn read<N: Indexer>(
+        &mut self,
+        alloc: Global,
+        indexer: &N,
+    ) -> Result<ArrayBytes<'static>, CodecError>
+        ensures kept { seen (λ bytes. bytes.items) self.new.object ≡ seen (λ bytes. bytes.items) self.old.object }
+        ensures cells { IfOk result (λ cells. All (λ element. length element ≤ 8) cells.elements) }
+    {
+        let handle = MemoryHandle::new(self.object.take());
+        let options = CodecOptions::default();
+        let opened = self.codec.partial_decoder(
+            alloc,
+            handle,
+            &self.shape,
+            &self.element_type.data_type(),
+            &self.fill_value,
+            &options,
+        );
+        match opened {
+            Ok(mut decoder) => {
+                let cells = decoder.partial_decode(alloc, indexer, &options);
+                self.object = decoder.close().into_inner();
+                cells
+            }
+            Err((handle, error)) => {
+                self.object = handle.into_inner();
+                Err(error)
+            }
+        }
+    }
+
+    // Answers the cells that an indexer asks.
+    fn run_read<N: Indexer, W: Write>(
+        &mut self,
+        alloc: Global,
+        indexer: &N,
+        out: &mut W,
+    ) -> io::Result<()> {
+        match self.read(alloc, indexer) {
+            Ok(cells) => write_cells(out, &cells),
+            Err(error) => write_refusal(out, error),
+        }
+    }
+
     // Stores elements, and answers the object's length.
     fn run_encode<W: Write>(
         &mut self,
@@ -244,6 +290,8 @@ impl Tool {
             (Command::Object, Some(shard)) => shard.run_object(out)?,
             (Command::Store(bytes), Some(shard)) => write_stored(out, shard.store(bytes))?,
             (Command::Compact, Some(shard)) => shard.run_compact(alloc, out)?,
+            (Command::Read(subset), Some(shard)) => shard.run_read(alloc, &subset, out)?,
+            (Command::Cells(coordinates), Some(shard)) => shard.run_read(alloc, &coordinates, out)?,
             (_, None) => return Err(Stop::Malformed),
         }
         Ok(())

@@ -155,6 +155,40 @@ fn objects_are_compacted(rt: HostRuntime) -> Result<(), Fail> {
 }
 
 #[test]
+fn cells_are_read(rt: HostRuntime) -> Result<(), Fail> {
+    let cases = [
+        (
+            "shard 4,4 2,2 uint8 0 start\nencode 0,1,2,3,4,5,6,7,8,9,10,11,12,13,14,15\nread 1..3,0..1\ncells 3,3 0,0 3,3\nread 0..2,3..5\n",
+            "ok\nok 80\ncells 4,8\ncells 15,0,15\nrefused 4 OutOfBounds\n0",
+        ),
+        (
+            "shard 4 2 uint16 7 end\nread 0..4\ncells 3\nread 3..5\ncells 4\nread 2..2\nread 5..5\nread 0..1,0..1\n",
+            "ok\ncells 7,7,7,7\ncells 7\nrefused 4 OutOfBounds\nrefused 4 OutOfBounds\ncells -\nrefused 4 OutOfBounds\nrefused 3 IncompatibleDimensionality\n0",
+        ),
+        (
+            "shard - - uint8 5 end\nencode 6\nread -\ncells - -\n",
+            "ok\nok 17\ncells 6\ncells 6,6\n0",
+        ),
+        (
+            "shard 4 2 uint8 0 end\nobject x050600000000000000000200000000000000ffffffffffffffff0500000000000000\nread 0..2\nread 2..3\nindex\n",
+            "ok\nok 34\ncells 5,6\nrefused 9 BadIndexEntry\nindex 0,2,M,5\n0",
+        ),
+        (
+            "shard 4 2 uint8 0 end\nobject x00\nread 0..1\nread 3..5\nobject\n",
+            "ok\nok 1\nrefused 7 ShardTooShort\nrefused 7 ShardTooShort\nobject 1 x00\n0",
+        ),
+    ];
+    for (script, expected) in cases {
+        assert_eq!(rt;
+            answers(rt.alloc(), script)?.as_str(),
+            expected,
+            "of {script:?}"
+        );
+    }
+    Ok(())
+}
+
+#[test]
 fn bad_objects_are_refused_and_stay(rt: HostRuntime) -> Result<(), Fail> {
     let alloc = rt.alloc();
     for bytes in [
@@ -217,6 +251,23 @@ fn malformed_lines_end_a_script(rt: HostRuntime) -> Result<(), Fail> {
         "object -",
         "compact 1",
         "compact x",
+        "read",
+        "read 0",
+        "read 0..",
+        "read ..4",
+        "read 1..0",
+        "read 0.4",
+        "read 0...4",
+        "read 0..4,",
+        "read 0..9,3..1",
+        "read 0..4 0..4",
+        "read 0..18446744073709551616",
+        "cells",
+        "cells ",
+        "cells 1 1,2",
+        "cells 1,",
+        "cells  1",
+        "cells 1..2",
         "-",
         " ",
         "shard",
@@ -244,7 +295,15 @@ fn malformed_lines_end_a_script(rt: HostRuntime) -> Result<(), Fail> {
         );
     }
     for line in [
-        "encode 1", "index", "decode", "object", "object x", "compact", "none",
+        "encode 1",
+        "index",
+        "decode",
+        "object",
+        "object x",
+        "compact",
+        "read 0..1",
+        "cells 0",
+        "none",
     ] {
         assert_eq!(rt;
             answers(alloc, line)?.as_str(),
