@@ -5,6 +5,7 @@ ghost use Rattle.zarr_parts.specs.Boxes.{IsBox};
 ghost use Rattle.zarr_parts.specs.Pieces.{piece};
 ghost use Rattle.zarr_parts.specs.Selections.{Selection, box_selection, MatchesBox, points_from};
 
+use crate::numbering::number_along;
 use crate::subset::ArraySubset;
 use std::alloc::{AllocError, Global};
 use std::marker::Model;
@@ -112,7 +113,7 @@ impl Coordinates {
 }
 
 // The number along an axis of one of the coordinates that stand one after the other.
-fn number_along(flat: &[u64], dimensionality: usize, i: u64, axis: usize) -> u64
+fn number_along_list(flat: &[u64], dimensionality: usize, i: u64, axis: usize) -> u64
     requires whole { i * dimensionality + dimensionality ≤ length flat.now }
     requires on_axis { axis < dimensionality }
     ensures { result ≡ slice_index (piece dimensionality flat.now i) axis }
@@ -136,7 +137,7 @@ impl Indexer for Coordinates {
     }
 
     fn index_at(&self, i: u64, axis: usize) -> u64 {
-        number_along(&self.flat, self.dimensionality, i, axis)
+        number_along_list(&self.flat, self.dimensionality, i, axis)
     }
 
     fn as_array_subset(&self) -> Option<&ArraySubset> {
@@ -151,11 +152,7 @@ fn number_along_box(start: &[u64], len: &[u64], i: u64, axis: usize) -> u64
     requires on_axis { axis < length len.now }
     ensures { result ≡ slice_index (zip_with ◌+◌ start.now (point_of i len.now)) axis }
 {
-    let mut rest = i;
-    for later in (axis + 1..len.len()).rev() {
-        rest /= len[later];
-    }
-    start[axis] + rest % len[axis]
+    start[axis] + number_along(i, len, axis)
 }
 
 impl Indexer for ArraySubset {

@@ -24,7 +24,7 @@ pub use fill_value::FillValue;
 pub use grid::{Located, locate};
 pub use indexer::{Coordinates, Indexer};
 pub use laws::{box_law, grid_law, numbering_law, overlap_law};
-pub use numbering::{ravel_indices, unravel_index};
+pub use numbering::{number_along, ravel_indices, unravel_index};
 pub use options::{CodecOptions, CodecSpecificOptions};
 pub use selection::{check_selection, point_numbers};
 pub use shape::ChunkShape;

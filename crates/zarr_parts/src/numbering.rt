@@ -1,5 +1,5 @@
 // Row-major numbers of coordinates.
-ghost use Rattle.std.specs.Prelude.{◌≡◌, ℕ, ◌+◌, ◌*◌, ◌^◌, ◌<◌, List, SomeIff, IfOk, MatchOption};
+ghost use Rattle.std.specs.Prelude.{◌≡◌, ℕ, ◌+◌, ◌*◌, ◌^◌, ◌<◌, List, SomeIff, IfOk, MatchOption, length, slice_index};
 ghost use Rattle.zarr_parts.specs.Numbering.{count_of, IsInside, number_of, point_of, HasPoint};
 
 use std::alloc::{AllocError, Global};
@@ -69,6 +69,19 @@ pub fn unravel_index(
     Ok(Some(point))
 }
 
+/// The number along an axis of the coordinate of a shape with a row-major (C order) number. Takes no memory.
+pub fn number_along(number: u64, shape: &[u64], axis: usize) -> u64
+    requires inside { number < count_of shape.now }
+    requires on_axis { axis < length shape.now }
+    ensures { result ≡ slice_index (point_of number shape.now) axis }
+{
+    let mut rest = number;
+    for later in (axis + 1..shape.len()).rev() {
+        rest /= shape[later];
+    }
+    rest % shape[axis]
+}
+
 #[cfg(test)]
 mod tests {
     use super::*;
@@ -78,6 +91,9 @@ mod tests {
     fn a_number_has_one_coordinate(rt: HostRuntime) -> Result<(), Fail> {
         let point = unravel_index(rt.alloc(), 6, &[4, 4])?.expect(&rt, "6 is below 16");
         assert_eq!(rt; point.as_slice(), [1, 2].as_slice());
+        for axis in 0..2 {
+            assert_eq!(rt; number_along(6, &[4, 4], axis), point[axis]);
+        }
         assert_eq!(rt; unravel_index(rt.alloc(), 16, &[4, 4])?, None);
         assert_eq!(rt; unravel_index(rt.alloc(), 0, &[4, 0])?, None);
         assert_eq!(rt; unravel_index(rt.alloc(), 0, &[1 << 32, 1 << 32])?, None);
