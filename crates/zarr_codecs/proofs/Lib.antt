@@ -3,3 +3,4 @@ pub mod CodecLaws
 pub mod HandleRows
 pub mod HandleLaws
 pub mod ReadLemmas
+pub mod WriteLaws

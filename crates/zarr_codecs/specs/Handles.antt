@@ -1,5 +1,5 @@
--- What a handle is: an object's contents, bytes or none; whether the handle tells them; how often it failed; and whether it can be
--- read in part. And what its reading calls do.
+-- What a handle is: an object's contents, bytes or none; whether the handle tells them; how often it failed; and what it can do in
+-- part. And what its reading calls do.
 use Rattle.std.specs.Prelude.{◌≡◌, ◌≤◌, ◌<◌, ⊤, ℕ, ◌+◌, ◌-◌, Bool, IsTrue, Option, Some, None, IfSome, Result, Ok, Err, IfOk, List, length, take, drop}
 use Rattle.std.specs.Borrow.{follows_so, Fml, RattleType, MutBor}
 use mathlib.Core.Option.{none}
@@ -8,12 +8,17 @@ use Rattle.zarr_parts.specs.declared.error.CodecError.TheVariants.{OutOfMemory, 
 use Rattle.zarr_codecs.specs.declared.bytes.ByteRange.{ByteRange}
 use Rattle.zarr_codecs.specs.declared.bytes.ByteRange.TheVariants.{FromStart, Suffix}
 
--- a reading call leaves the contents, whether they are told and whether they can be read in part; and the count of faults never falls
-pub record IsRead {H : Type 0} (tells : H → Bool) (contents : H → Option (List ℕ)) (faults : H → ℕ) (reads : H → Bool) (old new : H) : Type 0 where
+-- what a handle can do in part: read, and write
+pub record Support : Type 0 where
+  pub decode : Bool
+  pub encode : Bool
+
+-- a reading call leaves the contents, whether they are told and what is supported; and the count of faults never falls
+pub record IsRead {H : Type 0} (tells : H → Bool) (contents : H → Option (List ℕ)) (faults : H → ℕ) (supports : H → Support) (old new : H) : Type 0 where
   pub tells_same : tells new ≡ tells old
   pub contents_same : contents new ≡ contents old
   pub faults_kept : faults old ≤ faults new
-  pub reads_same : reads new ≡ reads old
+  pub supports_same : supports new ≡ supports old
 
 -- a call that may be refused only as a fault, which was counted
 abbrev pub MayFault : ℕ → ℕ → CodecError → Type 0
@@ -64,9 +69,9 @@ abbrev pub RefusesRead : ByteRange → Bool → Option (List ℕ) → ℕ → �
 RefusesRead range tells contents before after e = IsCounted before after e × (IsTrue tells → MayRefuseRange range contents e)
 
 -- what a handle is after a read of a range, which gave this refusal or none
-abbrev pub HasRead : {H : Type 0} → (H → Bool) → (H → Option (List ℕ)) → (H → ℕ) → (H → Bool) → ByteRange → H → H → Option CodecError → Type 0
-HasRead tells contents faults reads range old new e =
-    IsRead tells contents faults reads old new × IfSome e (RefusesRead range (tells old) (contents old) (faults old) (faults new))
+abbrev pub HasRead : {H : Type 0} → (H → Bool) → (H → Option (List ℕ)) → (H → ℕ) → (H → Support) → ByteRange → H → H → Option CodecError → Type 0
+HasRead tells contents faults supports range old new e =
+    IsRead tells contents faults supports old new × IfSome e (RefusesRead range (tells old) (contents old) (faults old) (faults new))
 
 -- P holds of the value behind the `&mut` s once the borrow of it by a result ends
 abbrev pub Rests : (R : RattleType) → MutBor R.Denot → (R.Denot → Type 0) → Fml

@@ -7,3 +7,4 @@ pub mod Reads
 pub mod BytesCodec
 pub mod BytesCodecLaws
 pub mod RoundTrip
+pub mod Writes

@@ -1,5 +1,5 @@
 // What the sharding codec asks of a codec from arrays to bytes, and keeps itself.
-ghost use Rattle.std.specs.Prelude.{◌≡◌, ◌<◌, ◌⊎◌, ℕ, List, Option, Some, None, IfOk, IfErr, OnOk, OnErr, IfSome, IsSome, IsTrue, map, length, slice_index_or};
+ghost use Rattle.std.specs.Prelude.{◌≡◌, ◌<◌, ◌^◌, ◌⊎◌, ℕ, List, Option, Some, None, SomeIff, IfOk, IfErr, OnOk, OnErr, IfSome, IsSome, IsTrue, map, length, slice_index_or};
 ghost use Rattle.zarr_parts.specs.Order.{◌or◌then◌, ◌or_as◌then◌, done, RefusedBy};
 ghost use Rattle.zarr_parts.specs.Numbering.{count_of};
 ghost use Rattle.zarr_parts.specs.Geo.{Geo, geo, IsArrayOf};
@@ -26,20 +26,21 @@ use zarr_parts::{
     FixedTarget, Indexer,
 };
 
-// Tests that a target has room for an array of a shape and a type.
-fn check_target(
+/// Tests that a target has room for as many elements of a type, which is `None` past `u64::MAX`. Refused, in this order, as
+/// `WrongElementKind` (a type of another element size or of none) and as `InvalidNumberOfElements`.
+pub fn check_target(
     target: &FixedTarget,
-    shape: &ChunkShape,
+    count: Option<u64>,
     data_type: &DataType,
 ) -> Result<(), CodecError>
     ensures kind { OnOk result (size_of data_type.now ≡ Fixed target.now.element_size) }
-    ensures counted { OnOk result (count_of target.now.subset.now.shape ≡ count_of shape.now) }
-    ensures refused { IfErr result (TargetTests (size_of data_type.now) (count_of shape.now) target.now done) }
+    ensures counted { (n : ℕ) → SomeIff count (n < 2 ^ 64) n → OnOk result (count_of target.now.subset.now.shape ≡ n) }
+    ensures refused { (n : ℕ) → SomeIff count (n < 2 ^ 64) n → IfErr result (TargetTests (size_of data_type.now) n target.now done) }
 {
     if data_type.size() != DataTypeSize::Fixed(target.element_size()) {
         return Err(CodecError::WrongElementKind);
     }
-    if shape.num_elements() != Some(target.num_elements()) {
+    if count != Some(target.num_elements()) {
         return Err(CodecError::InvalidNumberOfElements);
     }
     Ok(())
@@ -178,7 +179,7 @@ pub trait ArrayToBytesCodecTraits {
             decode_tests self.now g bytes.now))) }
     {
         self.check(alloc, shape, data_type, fill_value)?;
-        check_target(target, shape, data_type)?;
+        check_target(target, shape.num_elements(), data_type)?;
         let array = self.decode(alloc, bytes, shape, data_type, fill_value, options)?;
         target.copy_from(&array)
     }
@@ -247,7 +248,7 @@ pub trait ArrayToBytesCodecTraits {
         options: &CodecOptions,
     ) -> Result<ArrayBytes<'static>, CodecError>
         ensures serves { OnOk result (serves self.now (geo shape.now data_type.now fill_value.now)) }
-        ensures read { IsRead H.tells H.contents H.faults H.reads handle.old handle.new }
+        ensures read { IsRead H.tells H.contents H.faults H.supports handle.old handle.new }
         ensures answer { IfOk result (IsAnswer (geo shape.now data_type.now fill_value.now) (N.selection indexer.now)) }
         ensures cells { let g = geo shape.now data_type.now fill_value.now in
             IfOk result (λ array. IsTrue (H.tells handle.old)

@@ -3,7 +3,7 @@ ghost use Rattle.std.specs.Prelude.{◌≡◌, ℕ, Bool, IsTrue, List, Option, 
 ghost use Rattle.std.specs.Borrow.{sem};
 ghost use Rattle.std.specs.Cow.{cow_slice_items};
 ghost use Rattle.std.specs.Option.{option_map};
-ghost use Rattle.zarr_codecs.specs.Handles.{Rests, IsRead, HasRead, WasRead, MayFault, RefusesRead, Agrees, refusal, seen};
+ghost use Rattle.zarr_codecs.specs.Handles.{Rests, Support, IsRead, HasRead, WasRead, MayFault, RefusesRead, Agrees, refusal, seen};
 
 use crate::bytes::ByteRange;
 use std::alloc::Global;
@@ -24,18 +24,18 @@ pub trait BytesPartialDecoderTraits {
     // how many bytes the handle holds in memory
     ghost held: { Self → ℕ };
 
-    // whether the handle can be read in part; this never changes
-    ghost reads: { Self → Bool };
+    // what can be done in part with the object; this never changes
+    ghost supports: { Self → Support };
 
     /// Whether there is an object. Refused only as `Fault`.
     fn exists(&mut self) -> Result<bool, CodecError>
-        ensures read { IsRead tells contents faults reads self.old self.new }
+        ensures read { IsRead tells contents faults supports self.old self.new }
         ensures told { IfOk result (λ there. IsTrue (tells self.old) → there ≡ is_some (contents self.old)) }
         ensures refused { IfErr result (MayFault (faults self.old) (faults self.new)) };
 
     /// The object's length in bytes, or `None` where there is no object. Refused only as `Fault`.
     fn len(&mut self) -> Result<Option<u64>, CodecError>
-        ensures read { IsRead tells contents faults reads self.old self.new }
+        ensures read { IsRead tells contents faults supports self.old self.new }
         ensures told { IfOk result (λ n. IsTrue (tells self.old) → n ≡ option_map length (contents self.old)) }
         ensures refused { IfErr result (MayFault (faults self.old) (faults self.new)) };
 
@@ -50,12 +50,12 @@ pub trait BytesPartialDecoderTraits {
         alloc: Global,
         range: ByteRange,
     ) -> Result<Option<CowSlice<'_, u8>>, CodecError>
-        ensures* read { sem 𝓛 (Rests Self.row self.entry (λ new. HasRead tells contents faults reads range self.old new (refusal result))) }
+        ensures* read { sem 𝓛 (Rests Self.row self.entry (λ new. HasRead tells contents faults supports range self.old new (refusal result))) }
         ensures told { IfOk result (λ o. WasRead range (tells self.old) (contents self.old) (seen (λ b. cow_slice_items b) o)) };
 
     /// Whether the handle can be read in part. The answer never changes.
     fn supports_partial_decode(&self) -> bool
-        ensures { result ≡ reads self.now };
+        ensures { result ≡ (supports self.now).decode };
 }
 
 // What was lent, with bytes that are owned put into the room.
@@ -83,7 +83,7 @@ pub fn lent<'a, H: BytesPartialDecoderTraits>(
     alloc: Global,
     range: ByteRange,
 ) -> Result<Option<&'a [u8]>, CodecError>
-    ensures* read { sem 𝓛 (Rests H.row handle.entry (λ new. HasRead H.tells H.contents H.faults H.reads range handle.old new (refusal result))) }
+    ensures* read { sem 𝓛 (Rests H.row handle.entry (λ new. HasRead H.tells H.contents H.faults H.supports range handle.old new (refusal result))) }
     ensures told { IfOk result (λ o. WasRead range (H.tells handle.old) (H.contents handle.old) (seen (λ b. b.now) o)) }
 {
     split(handle.partial_decode(alloc, range), room)
@@ -95,7 +95,7 @@ pub fn copied<H: BytesPartialDecoderTraits>(
     alloc: Global,
     range: ByteRange,
 ) -> Result<Option<Vec<u8>>, CodecError>
-    ensures read { IsRead H.tells H.contents H.faults H.reads handle.old handle.new }
+    ensures read { IsRead H.tells H.contents H.faults H.supports handle.old handle.new }
     ensures told { IfOk result (λ o. WasRead range (H.tells handle.old) (H.contents handle.old) (seen (λ v. v.items) o)) }
     ensures refused { IfErr result (RefusesRead range (H.tells handle.old) (H.contents handle.old) (H.faults handle.old) (H.faults handle.new)) }
 {
@@ -124,18 +124,18 @@ pub trait LendsSlice {
     // how many bytes the handle holds in memory
     ghost held: { Self → ℕ };
 
-    // whether the handle can be read in part; this never changes
-    ghost reads: { Self → Bool };
+    // what can be done in part with the object; this never changes
+    ghost supports: { Self → Support };
 
     /// Whether there is an object. Refused only as `Fault`.
     fn find(&mut self) -> Result<bool, CodecError>
-        ensures read { IsRead tells contents faults reads self.old self.new }
+        ensures read { IsRead tells contents faults supports self.old self.new }
         ensures told { IfOk result (λ there. IsTrue (tells self.old) → there ≡ is_some (contents self.old)) }
         ensures refused { IfErr result (MayFault (faults self.old) (faults self.new)) };
 
     /// The object's length in bytes, or `None` where there is no object. Refused only as `Fault`.
     fn measure(&mut self) -> Result<Option<u64>, CodecError>
-        ensures read { IsRead tells contents faults reads self.old self.new }
+        ensures read { IsRead tells contents faults supports self.old self.new }
         ensures told { IfOk result (λ n. IsTrue (tells self.old) → n ≡ option_map length (contents self.old)) }
         ensures refused { IfErr result (MayFault (faults self.old) (faults self.new)) };
 
@@ -146,12 +146,12 @@ pub trait LendsSlice {
     /// The bytes of a range, or `None` where there is no object. The answer has the asked length. Refused as `OutOfBounds`
     /// where there is an object and the range passes it, or as `Fault`.
     fn lend(&mut self, alloc: Global, range: ByteRange) -> Result<Option<&[u8]>, CodecError>
-        ensures* read { sem 𝓛 (Rests Self.row self.entry (λ new. HasRead tells contents faults reads range self.old new (refusal result))) }
+        ensures* read { sem 𝓛 (Rests Self.row self.entry (λ new. HasRead tells contents faults supports range self.old new (refusal result))) }
         ensures told { IfOk result (λ o. WasRead range (tells self.old) (contents self.old) (seen (λ b. b.now) o)) };
 
     /// Whether the handle can be read in part. The answer never changes.
     fn lends_parts(&self) -> bool
-        ensures { result ≡ reads self.now };
+        ensures { result ≡ (supports self.now).decode };
 }
 
 // The same bytes, as a value that may own them.
@@ -176,7 +176,7 @@ impl<T: LendsSlice> BytesPartialDecoderTraits for T {
 
     ghost held = { λ handle. T.held handle };
 
-    ghost reads = { λ handle. T.reads handle };
+    ghost supports = { λ handle. T.supports handle };
 
     fn exists(&mut self) -> Result<bool, CodecError> {
         self.find()
@@ -209,38 +209,25 @@ mod tests {
     use crate::bytes::part_of;
     use std::test::Fail;
 
-    // Counts the bytes that are read of a text, and fails once, after so many.
+    // Counts the bytes that are read of a text.
     #[derive(Drop)]
     struct CountingHandle {
         text: Vec<u8>,
         bytes_read: usize,
-        fails_after: usize,
-        faults: u8,
-    }
-
-    impl CountingHandle {
-        fn new(text: Vec<u8>, fails_after: usize) -> Self {
-            CountingHandle {
-                text,
-                bytes_read: 0,
-                fails_after,
-                faults: 0,
-            }
-        }
     }
 
     impl LendsSlice for CountingHandle {
-        ghost use Rattle.std.specs.Prelude.{true, Some, length};
+        ghost use Rattle.std.specs.Prelude.{true, false, Some, length};
 
         ghost tells = { λ _. true };
 
         ghost contents = { λ handle. Some handle.text.items };
 
-        ghost faults = { λ handle. handle.faults };
+        ghost faults = { λ _. 0 };
 
         ghost held = { λ handle. length handle.text.items };
 
-        ghost reads = { λ _. true };
+        ghost supports = { λ _. record { decode = true; encode = false } };
 
         fn find(&mut self) -> Result<bool, CodecError> {
             Ok(true)
@@ -255,10 +242,6 @@ mod tests {
         }
 
         fn lend(&mut self, alloc: Global, range: ByteRange) -> Result<Option<&[u8]>, CodecError> {
-            if self.faults == 0 && self.bytes_read >= self.fails_after {
-                self.faults = 1;
-                return Err(CodecError::Fault);
-            }
             let length = part_of(&self.text, range)?.len();
             self.bytes_read = self.bytes_read.saturating_add(length);
             let part = part_of(&self.text, range)?;
@@ -271,9 +254,12 @@ mod tests {
     }
 
     #[test]
-    fn a_handle_counts_what_is_read_and_fails_once(rt: HostRuntime) -> Result<(), Fail> {
+    fn a_handle_counts_what_is_read(rt: HostRuntime) -> Result<(), Fail> {
         let alloc = rt.alloc();
-        let mut handle = CountingHandle::new([1, 2, 3, 4, 5].to_vec(alloc)?, 3);
+        let mut handle = CountingHandle {
+            text: [1, 2, 3, 4, 5].to_vec(alloc)?,
+            bytes_read: 0,
+        };
         let mut room = Vec::new(alloc);
         for (range, want) in [
             (
@@ -282,7 +268,6 @@ mod tests {
             ),
             (ByteRange::Suffix(6), Err(CodecError::OutOfBounds)),
             (ByteRange::Suffix(1), Ok(Some(&[5]))),
-            (ByteRange::FromStart(0, None), Err(CodecError::Fault)),
             (ByteRange::FromStart(0, Some(1)), Ok(Some(&[1]))),
         ] {
             let read = lent(&mut handle, &mut room, alloc, range);

@@ -14,7 +14,7 @@ pub fn check_interval<H: BytesPartialDecoderTraits>(
     handle: &mut H,
     interval: Interval,
 ) -> Result<(), CodecError>
-    ensures read { IsRead H.tells H.contents H.faults H.reads handle.old handle.new }
+    ensures read { IsRead H.tells H.contents H.faults H.supports handle.old handle.new }
     ensures room { OnOk result (interval.offset + interval.size < 2 ^ 64) }
     ensures inside { OnOk result (IsTrue (H.tells handle.old) → HasInterval interval (H.contents handle.old)) }
     ensures counted { IfErr result (IsCounted (H.faults handle.old) (H.faults handle.new)) }

@@ -1,7 +1,9 @@
 // Handles over bytes in memory.
-ghost use Rattle.std.specs.Prelude.{◌≡◌, true, Some, length};
+ghost use Rattle.std.specs.Prelude.{◌≡◌, true, false, Some, length};
 ghost use Rattle.std.specs.Option.{option_map_or};
 ghost use Rattle.zarr_codecs.specs.Handles.{seen};
+
+mod writes;
 
 use crate::bytes::{ByteRange, part_of};
 use crate::handle::LendsSlice;
@@ -50,7 +52,7 @@ impl LendsSlice for MemoryHandle {
 
     ghost held = { λ handle. option_map_or length handle 0 };
 
-    ghost reads = { λ _. true };
+    ghost supports = { λ _. record { decode = true; encode = true } };
 
     fn find(&mut self) -> Result<bool, CodecError> {
         Ok(self.object.is_some())
@@ -112,7 +114,7 @@ impl<'a> LendsSlice for SliceHandle<'a> {
 
     ghost held = { length };
 
-    ghost reads = { λ _. true };
+    ghost supports = { λ _. record { decode = true; encode = false } };
 
     fn find(&mut self) -> Result<bool, CodecError> {
         Ok(true)

@@ -1,0 +1,47 @@
+-- What the writing calls of a handle do.
+use Rattle.std.specs.Prelude.{◌≡◌, ◌≤◌, ◌<◌, ◌⊎◌, ⊤, ℕ, ◌+◌, ◌-◌, ◌^◌, Bool, IsTrue, Option, Some, None, List, [], ◌++◌, length, take, drop, fold, replicate}
+use Rattle.std.specs.Borrow.{Bor}
+use Rattle.zarr_parts.specs.declared.error.CodecError.{CodecError}
+use Rattle.zarr_parts.specs.declared.error.CodecError.TheVariants.{OutOfMemory, TooLarge, Fault}
+use Rattle.zarr_codecs.specs.Handles.{Support}
+
+-- a writing call leaves whether the contents are told and what is supported; and the count of faults never falls
+pub record IsWriting {H : Type 0} (tells : H → Bool) (faults : H → ℕ) (supports : H → Support) (old new : H) : Type 0 where
+  pub tells_same : tells new ≡ tells old
+  pub faults_kept : faults old ≤ faults new
+  pub supports_same : supports new ≡ supports old
+
+-- no object has no bytes
+abbrev pub bytes_of : Option (List ℕ) → List ℕ
+bytes_of None = []
+bytes_of (Some bytes) = bytes
+
+-- the bytes with a piece written over them at an offset; zeros fill a gap before it
+abbrev pub written_at : ℕ → List ℕ → List ℕ → List ℕ
+written_at offset piece bytes = take offset bytes ++ (replicate (offset - length bytes) 0 ++ (piece ++ drop (offset + length piece) bytes))
+
+-- the bytes with all pieces written over them, each at its offset, in the order of the list
+abbrev pub written_all : List (ℕ × Bor (List ℕ)) → List ℕ → List ℕ
+written_all pieces bytes = fold (λ written piece. written_at piece.0 piece.1.now written) bytes pieces
+
+-- how a write may be refused after which the object would have this size: for memory; as too large where it would reach 2^64 - 1
+-- bytes; or as a fault, which was counted
+abbrev pub RefusesWrite : Bool → ℕ → ℕ → ℕ → CodecError → Type 0
+RefusesWrite tells size before after OutOfMemory = ⊤
+RefusesWrite tells size before after TooLarge = IsTrue tells → 2 ^ 64 ≤ size + 1
+RefusesWrite tells size before after Fault = before < after
+RefusesWrite tells size before after _ = ⊥
+
+-- a refusal that is no fault leaves the contents
+abbrev pub KeptUnlessFault : Option (List ℕ) → Option (List ℕ) → CodecError → Type 0
+KeptUnlessFault old new e = (e ≡ Fault) ⊎ (new ≡ old)
+
+-- a handle that fails once: its object, and how many calls come before the one that fails, or none once it has failed
+pub record Faulting : Type 0 where
+  pub object : Option (List ℕ)
+  pub calls_left : Option ℕ
+
+-- how often such a handle failed
+abbrev pub fault_count : Option ℕ → ℕ
+fault_count None = 1
+fault_count (Some calls) = 0
