@@ -18,16 +18,19 @@ use Rattle.zarr_codecs.specs.declared.bytes.ByteRange.TheVariants.{FromStart}
 use Rattle.zarr_codecs.specs.Reads.{interval_part, cells_at, HasInterval, ObjectTests, AskedTests}
 use Rattle.zarr_codecs.specs.Refusals.{AreTooLong}
 use Rattle.zarr_codecs.proofs.ReadLemmas.{sized_too_long}
-use Rattle.zarrs_sharding.specs.Index.{slot_at, numbers_in_index}
+use Rattle.zarr_parts.specs.Grid.{grid_of}
+use Rattle.zarr_codecs.specs.declared.representation.BytesRepresentation.{BytesRepresentation}
+use Rattle.zarrs_sharding.specs.Index.{index_geo, slot_at, numbers_in_index}
+use Rattle.zarrs_sharding.specs.Serves.{sub_geo, fixed_size, layout}
+use Rattle.zarrs_sharding.specs.declared.codec.ShardingCodec.{ShardingCodec}
 use Rattle.zarrs_sharding.specs.Decoding.{FitsSlot}
 use Rattle.zarrs_sharding.specs.declared.slot.Slot.{Slot}
 use Rattle.zarrs_sharding.specs.declared.slot.Slot.TheVariants.{Absent, InRange, Bad}
 use Rattle.zarrs_sharding.specs.Cells.{Layout, shard_cells}
-use Rattle.zarrs_sharding.specs.DecodeTests.{IndexTests, RefusesLengths}
-use Rattle.zarrs_sharding.specs.ReadTests.{numbers_of, PlacesTests}
-use Rattle.zarrs_sharding.specs.Reading.{read_by}
-use Rattle.zarrs_sharding.specs.Decoders.{HoldsIndex, object_cells, held_slot, IsRangeOf, SlotTests, OpenTests, ObjectCellsTests}
-use Rattle.zarrs_sharding.specs.declared.location.ShardingIndexLocation.{ShardingIndexLocation}
+use Rattle.zarrs_sharding.specs.DecodeTests.{IndexTests}
+use Rattle.zarrs_sharding.specs.ReadTests.{numbers_of}
+use Rattle.zarrs_sharding.specs.Reading.{read_by, ReadByTests}
+use Rattle.zarrs_sharding.specs.Decoders.{HoldsIndex, index_in, object_cells, held_slot, IsRangeOf, SlotTests, OpenTests, ObjectCellsTests}
 use Rattle.zarrs_sharding.proofs.ReadLemmas.{asked_cells}
 
 -- all bytes of an object are an interval of it
@@ -41,25 +44,28 @@ no_length : (len : ℕ) → Some len ≡ None → ⊥
 no_length len h = cc
 
 -- the tests of the index of an object whose length was read
-open_tests : (len : ℕ) (contents : Option (List ℕ)) (index_decode : List ℕ → CodecError → Type 0) (index_cells : List ℕ → List (Option (List ℕ))) (location : ShardingIndexLocation) (size : ℕ) (e : CodecError)
-    → len + 1 < 2 ^ 64 → Some len ≡ option_map length contents
-    → IndexTests index_decode index_cells location size (interval_part (record { offset = 0; size = len }) contents) done e
-    → OpenTests index_decode index_cells location size contents e
-open_tests len None index_decode index_cells location size e room is h = absurd (no_length len is)
-open_tests len (Some b) index_decode index_cells location size e room is h =
+open_tests : {I X : Type 0} (len : ℕ) (contents : Option (List ℕ)) (index_decode : X → Geo → List ℕ → CodecError → Type 0) (representation : X → Geo → Option BytesRepresentation)
+    (index_cells : X → Geo → List ℕ → List (Option (List ℕ))) (codec : ShardingCodec I X) (grid : List ℕ) (size : ℕ) (e : CodecError)
+    → len + 1 < 2 ^ 64 → Some len ≡ option_map length contents → size ≡ fixed_size (representation codec.index_codec (index_geo grid))
+    → IndexTests (index_decode codec.index_codec (index_geo grid)) (index_cells codec.index_codec (index_geo grid)) codec.location size (interval_part (record { offset = 0; size = len }) contents) done e
+    → OpenTests index_decode representation index_cells codec grid contents e
+open_tests len None index_decode representation index_cells codec grid size e room is sized h = absurd (no_length len is)
+open_tests len (Some b) index_decode representation index_cells codec grid size e room is sized h =
     let long : length b ≡ len = some_length len b is in
-    inr (omega arith, rw (whole_part len b long) at h)
+    inr (omega arith, rw (whole_part len b long, sized) at h)
 
-pub open_refused : (tells tells' : Bool) (before before' after len : ℕ) (contents : Option (List ℕ)) (index_decode : List ℕ → CodecError → Type 0) (index_cells : List ℕ → List (Option (List ℕ)))
-    (location : ShardingIndexLocation) (size : ℕ) (e : CodecError) → tells' ≡ tells → before ≤ before' → len + 1 < 2 ^ 64 → (IsTrue tells → Some len ≡ option_map length contents)
-    → RefusedBy (ObjectTests tells' before' after (IndexTests index_decode index_cells location size (interval_part (record { offset = 0; size = len }) contents) done)) e
-    → RefusedBy (ObjectTests tells before after (OpenTests index_decode index_cells location size contents)) e
-open_refused tells tells' before before' after len contents index_decode index_cells location size e same kept room told h =
+pub open_refused : {I X : Type 0} (tells tells' : Bool) (before before' after len : ℕ) (contents : Option (List ℕ)) (index_decode : X → Geo → List ℕ → CodecError → Type 0)
+    (representation : X → Geo → Option BytesRepresentation) (index_cells : X → Geo → List ℕ → List (Option (List ℕ))) (codec : ShardingCodec I X) (grid : List ℕ) (size : ℕ) (e : CodecError)
+    → tells' ≡ tells → before ≤ before' → len + 1 < 2 ^ 64 → (IsTrue tells → Some len ≡ option_map length contents) → size ≡ fixed_size (representation codec.index_codec (index_geo grid))
+    → RefusedBy (ObjectTests tells' before' after (IndexTests (index_decode codec.index_codec (index_geo grid)) (index_cells codec.index_codec (index_geo grid)) codec.location size
+    (interval_part (record { offset = 0; size = len }) contents) done)) e
+    → RefusedBy (ObjectTests tells before after (OpenTests index_decode representation index_cells codec grid contents)) e
+open_refused tells tells' before before' after len contents index_decode representation index_cells codec grid size e same kept room told sized h =
     elim h [
       | inl memory ↦ inl memory
       | inr tests ↦ inr (λ t. elim (tests (rw same t)) [
         | inl fault ↦ inl (fault.0, omega (arith, fault.1))
-        | inr refused ↦ inr (open_tests len contents index_decode index_cells location size e room (told t) refused)
+        | inr refused ↦ inr (open_tests len contents index_decode representation index_cells codec grid size e room (told t) sized refused)
       ])
     ]
 
@@ -77,42 +83,48 @@ held_interval index_in None len ns held = absurd (no_numbers ns held)
 held_interval index_in (Some b) len ns held = omega (arith, held.0)
 
 -- the cells that were read by the held index are those of the object
-pub stored_cells : (inner_cells index_cells : List ℕ → List (Option (List ℕ))) (l : Layout) (contents : Option (List ℕ)) (len : ℕ) (ns numbers : List ℕ) (points elements : List (List ℕ))
+pub stored_cells : (inner_cells index_cells : List ℕ → List (Option (List ℕ))) (l : Layout) (g : Geo) (contents : Option (List ℕ)) (len : ℕ) (ns numbers : List ℕ) (points elements : List (List ℕ))
     → HoldsIndex (numbers_in_index index_cells l.location l.index_size) contents len (Some ns) → All (λ point. IsInside point l.shape) points → numbers ≡ numbers_of l.shape points
     → map (read_by inner_cells l.shape l.sub l.fill (interval_part (record { offset = 0; size = len }) contents) ns) numbers ≡ map Some elements
-    → cells_at (object_cells inner_cells index_cells l contents) l.shape points ≡ map Some elements
-stored_cells inner_cells index_cells l None len ns numbers points elements held inside same read = absurd (no_numbers ns held)
-stored_cells inner_cells index_cells l (Some b) len ns numbers points elements held inside same read =
+    → cells_at (object_cells (shard_cells inner_cells index_cells l) g contents) l.shape points ≡ map Some elements
+stored_cells inner_cells index_cells l g None len ns numbers points elements held inside same read = absurd (no_numbers ns held)
+stored_cells inner_cells index_cells l g (Some b) len ns numbers points elements held inside same read =
     asked_cells inner_cells index_cells l b ns points held.1 inside ∙ rw (whole_part len b held.0, same) at read
 
 -- and what refuses them is a test of the object
-stored_tests : (inner_read : List ℕ → List (List ℕ) → CodecError → Type 0) (inner_cells index_cells : List ℕ → List (Option (List ℕ))) (l : Layout) (contents : Option (List ℕ)) (len : ℕ) (ns numbers : List ℕ) (points : List (List ℕ)) (e : CodecError)
-    → HoldsIndex (numbers_in_index index_cells l.location l.index_size) contents len (Some ns) → All (λ point. IsInside point l.shape) points → numbers ≡ numbers_of l.shape points
-    → PlacesTests inner_read inner_cells l.shape l.sub (interval_part (record { offset = 0; size = len }) contents) (Some ns) numbers
-    (RefusesLengths (map (read_by inner_cells l.shape l.sub l.fill (interval_part (record { offset = 0; size = len }) contents) ns) numbers)) e
-    → ObjectCellsTests inner_read inner_cells index_cells l contents points e
-stored_tests inner_read inner_cells index_cells l None len ns numbers points e held inside same h = absurd (no_numbers ns held)
-stored_tests inner_read inner_cells index_cells l (Some b) len ns numbers points e held inside same h =
-    let told : numbers_in_index index_cells l.location l.index_size b ≡ Some ns = held.1 in
-    let lengths : AreTooLong (map (read_by inner_cells l.shape l.sub l.fill b ns) (numbers_of l.shape points)) → AreTooLong (cells_at (shard_cells inner_cells index_cells l b) l.shape points) =
-    subst AreTooLong (sym (asked_cells inner_cells index_cells l b ns points told inside)) in
+stored_tests : {I X : Type 0} (answerable : I → Geo → ℕ → Type 0) (read_tests : I → Geo → List ℕ → List (List ℕ) → CodecError → Type 0) (inner_cells : I → Geo → List ℕ → List (Option (List ℕ)))
+    (representation : X → Geo → Option BytesRepresentation) (index_cells : X → Geo → List ℕ → List (Option (List ℕ))) (codec : ShardingCodec I X) (g : Geo) (contents : Option (List ℕ)) (len : ℕ)
+    (ns numbers : List ℕ) (points : List (List ℕ)) (e : CodecError)
+    → HoldsIndex (index_in representation index_cells codec g) contents len (Some ns) → All (λ point. IsInside point g.shape) points → numbers ≡ numbers_of g.shape points
+    → ReadByTests answerable read_tests inner_cells codec g (interval_part (record { offset = 0; size = len }) contents) ns numbers e
+    → ObjectCellsTests answerable read_tests inner_cells representation index_cells codec g contents points e
+stored_tests answerable read_tests inner_cells representation index_cells codec g None len ns numbers points e held inside same h = absurd (no_numbers ns held)
+stored_tests answerable read_tests inner_cells representation index_cells codec g (Some b) len ns numbers points e held inside same h =
+    let sub = codec.subchunk_shape in
+    let inner : List ℕ → List (Option (List ℕ)) = inner_cells codec.inner (sub_geo sub g) in
+    let index_g = index_geo (grid_of g.shape sub) in
+    let index : List ℕ → List (Option (List ℕ)) = index_cells codec.index_codec index_g in
+    let l = layout sub codec.location codec.order (representation codec.index_codec index_g) g in
+    let told : numbers_in_index index l.location l.index_size b ≡ Some ns = held.1 in
+    let lengths : AreTooLong (map (read_by inner g.shape sub g.fill b ns) (numbers_of g.shape points)) → AreTooLong (cells_at (shard_cells inner index l b) g.shape points) =
+    subst AreTooLong (sym (asked_cells inner index l b ns points told inside)) in
     elim (rw (whole_part len b held.0, same) at h) [
       | inl one ↦ inl (rw told one)
       | inr later ↦ inr (rw told later.0, (later.1.0, lengths later.1.1))
     ]
 
-pub stored_refused : (tells : Bool) (before after : ℕ) (inner_read : List ℕ → List (List ℕ) → CodecError → Type 0) (inner_cells index_cells : List ℕ → List (Option (List ℕ))) (l : Layout) (contents : Option (List ℕ)) (len : ℕ)
-    (ns numbers : List ℕ) (points : List (List ℕ)) (e : CodecError)
-    → (IsTrue tells → HoldsIndex (numbers_in_index index_cells l.location l.index_size) contents len (Some ns)) → All (λ point. IsInside point l.shape) points → numbers ≡ numbers_of l.shape points
-    → RefusedBy (ObjectTests tells before after (PlacesTests inner_read inner_cells l.shape l.sub (interval_part (record { offset = 0; size = len }) contents) (Some ns) numbers
-    (RefusesLengths (map (read_by inner_cells l.shape l.sub l.fill (interval_part (record { offset = 0; size = len }) contents) ns) numbers)))) e
-    → RefusedBy (ObjectTests tells before after (ObjectCellsTests inner_read inner_cells index_cells l contents points)) e
-stored_refused tells before after inner_read inner_cells index_cells l contents len ns numbers points e held inside same h =
+pub stored_refused : {I X : Type 0} (tells : Bool) (before after : ℕ) (answerable : I → Geo → ℕ → Type 0) (read_tests : I → Geo → List ℕ → List (List ℕ) → CodecError → Type 0)
+    (inner_cells : I → Geo → List ℕ → List (Option (List ℕ))) (representation : X → Geo → Option BytesRepresentation) (index_cells : X → Geo → List ℕ → List (Option (List ℕ))) (codec : ShardingCodec I X) (g : Geo)
+    (contents : Option (List ℕ)) (len : ℕ) (ns numbers : List ℕ) (points : List (List ℕ)) (e : CodecError)
+    → (IsTrue tells → HoldsIndex (index_in representation index_cells codec g) contents len (Some ns)) → All (λ point. IsInside point g.shape) points → numbers ≡ numbers_of g.shape points
+    → RefusedBy (ObjectTests tells before after (ReadByTests answerable read_tests inner_cells codec g (interval_part (record { offset = 0; size = len }) contents) ns numbers)) e
+    → RefusedBy (ObjectTests tells before after (ObjectCellsTests answerable read_tests inner_cells representation index_cells codec g contents points)) e
+stored_refused tells before after answerable read_tests inner_cells representation index_cells codec g contents len ns numbers points e held inside same h =
     elim h [
       | inl memory ↦ inl memory
       | inr tests ↦ inr (λ t. elim (tests t) [
         | inl fault ↦ inl fault
-        | inr refused ↦ inr (stored_tests inner_read inner_cells index_cells l contents len ns numbers points e (held t) inside same refused)
+        | inr refused ↦ inr (stored_tests answerable read_tests inner_cells representation index_cells codec g contents len ns numbers points e (held t) inside same refused)
       ])
     ]
 
@@ -125,31 +137,34 @@ fill_at shape fill (p ∷ ps) inside =
     rw (here, fill_at shape fill ps (All-tail (λ point. IsInside point shape) p ps inside)) refl
 
 -- where there is no object, each cell is the fill value
-pub no_object_cells : (index_in : List ℕ → Option (List ℕ)) (inner_cells index_cells : List ℕ → List (Option (List ℕ))) (l : Layout) (contents : Option (List ℕ)) (len : ℕ) (points : List (List ℕ))
-    → HoldsIndex index_in contents len None → All (λ point. IsInside point l.shape) points → cells_at (object_cells inner_cells index_cells l contents) l.shape points ≡ map Some (replicate (length points) l.fill)
-no_object_cells index_in inner_cells index_cells l None len points held inside = fill_at l.shape l.fill points inside
-no_object_cells index_in inner_cells index_cells l (Some b) len points held inside = absurd held
+pub no_object_cells : (index_of : List ℕ → Option (List ℕ)) (cells : List ℕ → List (Option (List ℕ))) (g : Geo) (contents : Option (List ℕ)) (len : ℕ) (points : List (List ℕ))
+    → HoldsIndex index_of contents len None → All (λ point. IsInside point g.shape) points → cells_at (object_cells cells g contents) g.shape points ≡ map Some (replicate (length points) g.fill)
+no_object_cells index_of cells g None len points held inside = fill_at g.shape g.fill points inside
+no_object_cells index_of cells g (Some b) len points held inside = absurd held
 
 -- and is refused for the length of all of them alone
-pub no_object_tests : (index_in : List ℕ → Option (List ℕ)) (inner_read : List ℕ → List (List ℕ) → CodecError → Type 0) (inner_cells index_cells : List ℕ → List (Option (List ℕ))) (l : Layout) (contents : Option (List ℕ)) (len : ℕ)
-    (points : List (List ℕ)) (e : CodecError) → HoldsIndex index_in contents len None → All (λ point. IsInside point l.shape) points → (e ≡ TooLarge) × (2 ^ 64 ≤ length points * length l.fill)
-    → ObjectCellsTests inner_read inner_cells index_cells l contents points e
-no_object_tests index_in inner_read inner_cells index_cells l None len points e held inside h =
-    let elements = replicate (length points) l.fill in
-    let many : length elements ≡ length points = length-replicate (length points) l.fill in (
+no_object_tests : {I X : Type 0} (index_of : List ℕ → Option (List ℕ)) (answerable : I → Geo → ℕ → Type 0) (read_tests : I → Geo → List ℕ → List (List ℕ) → CodecError → Type 0) (inner_cells : I → Geo → List ℕ → List (Option (List ℕ)))
+    (representation : X → Geo → Option BytesRepresentation) (index_cells : X → Geo → List ℕ → List (Option (List ℕ))) (codec : ShardingCodec I X) (g : Geo) (contents : Option (List ℕ)) (len : ℕ)
+    (points : List (List ℕ)) (e : CodecError) → HoldsIndex index_of contents len None → All (λ point. IsInside point g.shape) points → (e ≡ TooLarge) × (2 ^ 64 ≤ length points * length g.fill)
+    → ObjectCellsTests answerable read_tests inner_cells representation index_cells codec g contents points e
+no_object_tests index_of answerable read_tests inner_cells representation index_cells codec g None len points e held inside h =
+    let elements = replicate (length points) g.fill in
+    let many : length elements ≡ length points = length-replicate (length points) g.fill in (
       h.0,
-      sized_too_long (cells_at (replicate (count_of l.shape) (Some l.fill)) l.shape points) elements (length l.fill) (fill_at l.shape l.fill points inside)
-          (λ i d below. ap length (get_or-replicate (length points) i l.fill d (omega (arith, many)))) (rw many h.1),
+      sized_too_long (cells_at (replicate (count_of g.shape) (Some g.fill)) g.shape points) elements (length g.fill) (fill_at g.shape g.fill points inside)
+          (λ i d below. ap length (get_or-replicate (length points) i g.fill d (omega (arith, many)))) (rw many h.1),
     )
-no_object_tests index_in inner_read inner_cells index_cells l (Some b) len points e held inside h = absurd held
+no_object_tests index_of answerable read_tests inner_cells representation index_cells codec g (Some b) len points e held inside h = absurd held
 
-pub no_object_refused : (tells : Bool) (before after count : ℕ) (index_in : List ℕ → Option (List ℕ)) (inner_read : List ℕ → List (List ℕ) → CodecError → Type 0) (inner_cells index_cells : List ℕ → List (Option (List ℕ))) (l : Layout)
-    (contents : Option (List ℕ)) (len : ℕ) (points : List (List ℕ)) (e : CodecError) → (IsTrue tells → HoldsIndex index_in contents len None) → All (λ point. IsInside point l.shape) points → count ≡ length points
-    → RefusedBy (λ x. (x ≡ TooLarge) × (2 ^ 64 ≤ count * length l.fill)) e → RefusedBy (ObjectTests tells before after (ObjectCellsTests inner_read inner_cells index_cells l contents points)) e
-no_object_refused tells before after count index_in inner_read inner_cells index_cells l contents len points e held inside counted h =
+pub no_object_refused : {I X : Type 0} (tells : Bool) (before after count : ℕ) (index_of : List ℕ → Option (List ℕ)) (answerable : I → Geo → ℕ → Type 0) (read_tests : I → Geo → List ℕ → List (List ℕ) → CodecError → Type 0)
+    (inner_cells : I → Geo → List ℕ → List (Option (List ℕ))) (representation : X → Geo → Option BytesRepresentation) (index_cells : X → Geo → List ℕ → List (Option (List ℕ))) (codec : ShardingCodec I X) (g : Geo)
+    (contents : Option (List ℕ)) (len : ℕ) (points : List (List ℕ)) (e : CodecError) → (IsTrue tells → HoldsIndex index_of contents len None) → All (λ point. IsInside point g.shape) points → count ≡ length points
+    → RefusedBy (λ x. (x ≡ TooLarge) × (2 ^ 64 ≤ count * length g.fill)) e
+    → RefusedBy (ObjectTests tells before after (ObjectCellsTests answerable read_tests inner_cells representation index_cells codec g contents points)) e
+no_object_refused tells before after count index_of answerable read_tests inner_cells representation index_cells codec g contents len points e held inside counted h =
     elim h [
       | inl memory ↦ inl memory
-      | inr long ↦ inr (λ t. inr (no_object_tests index_in inner_read inner_cells index_cells l contents len points e (held t) inside (rw counted at long)))
+      | inr long ↦ inr (λ t. inr (no_object_tests index_of answerable read_tests inner_cells representation index_cells codec g contents len points e (held t) inside (rw counted at long)))
     ]
 
 -- what is asked passes its tests

@@ -8,7 +8,7 @@ use Rattle.zarr_parts.specs.Grid.{grid_of}
 use Rattle.zarr_parts.specs.Arrays.{Array}
 use Rattle.zarr_parts.specs.declared.error.CodecError.{CodecError}
 use Rattle.zarr_codecs.specs.declared.bytes.Interval.{Interval}
-use Rattle.zarr_codecs.specs.Handles.{IsRead}
+use Rattle.zarr_codecs.specs.Handles.{IsRead, Support}
 use Rattle.zarr_codecs.specs.Reads.{interval_part, HasInterval, ObjectTests}
 use Rattle.zarrs_sharding.specs.Index.{slot_at}
 use Rattle.zarrs_sharding.specs.Laws.{all_there-map_some}
@@ -36,13 +36,13 @@ group_read {shape} {sub} {numbers} {groups} asked j below places items is read =
     read ∙ ap items_of is ∙ sym (get_or-map items_of groups.places.items j places [] (omega (arith, length-map groups.places.items items_of, group_below asked j below)))
 
 -- one read after another
-pub read_then : {H : Type 0} (tells : H → Bool) (contents : H → Option (List ℕ)) (faults : H → ℕ) (reads : H → Bool) (a b c : H)
-    → IsRead tells contents faults reads a b → IsRead tells contents faults reads b c → IsRead tells contents faults reads a c
-read_then tells contents faults reads a b c h k = record {
+pub read_then : {H : Type 0} (tells : H → Bool) (contents : H → Option (List ℕ)) (faults : H → ℕ) (supports : H → Support) (a b c : H)
+    → IsRead tells contents faults supports a b → IsRead tells contents faults supports b c → IsRead tells contents faults supports a c
+read_then tells contents faults supports a b c h k = record {
   tells_same = k.tells_same ∙ h.tells_same;
   contents_same = k.contents_same ∙ h.contents_same;
   faults_kept = omega (arith, h.faults_kept, k.faults_kept);
-  reads_same = k.reads_same ∙ h.reads_same;
+  supports_same = k.supports_same ∙ h.supports_same;
 }
 
 is_empty : (xs : List ℕ) → (xs ≡ []) ⊎ (xs ≢ [])

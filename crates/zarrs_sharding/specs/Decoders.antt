@@ -6,18 +6,16 @@ use Rattle.zarr_parts.specs.Grid.{grid_of}
 use Rattle.zarr_parts.specs.Geo.{Geo, geo}
 use Rattle.zarr_parts.specs.declared.error.CodecError.{CodecError}
 use Rattle.zarr_parts.specs.declared.error.CodecError.TheVariants.{TooLarge, IncompatibleDimensionality, OutOfBounds, BadIndexEntry}
-use Rattle.zarr_codecs.specs.Handles.{IsRead, WasRead, seen}
+use Rattle.zarr_codecs.specs.Handles.{IsRead, Support, WasRead, seen}
 use Rattle.zarr_codecs.specs.Reads.{cells_at}
 use Rattle.zarr_codecs.specs.declared.bytes.ByteRange.{ByteRange}
 use Rattle.zarr_codecs.specs.declared.bytes.ByteRange.TheVariants.{FromStart}
 use Rattle.zarr_codecs.specs.declared.representation.BytesRepresentation.{BytesRepresentation}
 use Rattle.zarrs_sharding.specs.Index.{index_geo, slot_at, numbers_in_index}
-use Rattle.zarrs_sharding.specs.Serves.{sub_geo, fixed_size, ShardServes}
-use Rattle.zarrs_sharding.specs.Cells.{Layout, shard_cells}
+use Rattle.zarrs_sharding.specs.Serves.{sub_geo, fixed_size, layout}
 use Rattle.zarrs_sharding.specs.DecodeTests.{IndexTests, RefusesLengths}
-use Rattle.zarrs_sharding.specs.ReadTests.{CellsTests}
+use Rattle.zarrs_sharding.specs.ReadTests.{AnswerTests, CellsTests}
 use Rattle.zarrs_sharding.specs.declared.codec.ShardingCodec.{ShardingCodec}
-use Rattle.zarrs_sharding.specs.declared.location.ShardingIndexLocation.{ShardingIndexLocation}
 use Rattle.zarrs_sharding.specs.declared.slot.Slot.{Slot}
 use Rattle.zarrs_sharding.specs.declared.slot.Slot.TheVariants.{Absent, InRange, Bad}
 use Rattle.zarrs_sharding.specs.declared.partial_decoder.OpenShard.{OpenShard}
@@ -43,14 +41,14 @@ index_in representation index_cells codec g bytes =
     let index_g = index_geo (grid_of g.shape codec.subchunk_shape) in
     numbers_in_index (index_cells codec.index_codec index_g) codec.location (fixed_size (representation codec.index_codec index_g)) bytes
 
--- the codec serves what the decoder reads, and where the handle tells its bytes, the held index is that of the object
-pub record IsOpen {I X H : Type 0} (inner_serves : I → Geo → Type 0) (index_serves : X → Geo → Type 0) (representation : X → Geo → Option BytesRepresentation)
-    (index_cells : X → Geo → List ℕ → List (Option (List ℕ))) (tells : H → Bool) (contents : H → Option (List ℕ)) (d : Opened (ShardingCodec I X) H) : Type 0 where
-  pub serves : let sub = d.codec.subchunk_shape in let index_g = index_geo (grid_of d.geo.shape sub) in
-      ShardServes (inner_serves d.codec.inner (sub_geo sub d.geo)) (index_serves d.codec.index_codec index_g) (representation d.codec.index_codec index_g) sub d.geo
+-- the codec serves what the decoder reads, and where the handle tells its bytes, the held index is that of the object; `Served` says what the
+-- codec serves, and `index_of` which numbers the index of some bytes has
+pub record IsOpen {I X H : Type 0} (Served : ShardingCodec I X → Geo → Type 0) (index_of : ShardingCodec I X → Geo → List ℕ → Option (List ℕ))
+    (tells : H → Bool) (contents : H → Option (List ℕ)) (d : Opened (ShardingCodec I X) H) : Type 0 where
+  pub serves : Served d.codec d.geo
   pub room : d.len + 1 < 2 ^ 64
   pub counted : IfSome d.index (λ numbers. length numbers ≡ 2 * count_of (grid_of d.geo.shape d.codec.subchunk_shape))
-  pub held : IsTrue (tells d.handle) → HoldsIndex (index_in representation index_cells d.codec d.geo) (contents d.handle) d.len d.index
+  pub held : IsTrue (tells d.handle) → HoldsIndex (index_of d.codec d.geo) (contents d.handle) d.len d.index
 
 -- the decoder of a codec and a handle that knows this of a shard
 abbrev pub opened : {C H : Type 0} → C → H → OpenShard → Opened C H
@@ -58,32 +56,34 @@ opened codec handle shard =
     record { codec = codec; geo = geo shard.shape shard.data_type shard.fill_value; handle = handle; len = shard.held.len; index = seen (λ numbers. numbers.items) shard.held.index }
 
 -- what is known of a shard: the decoder is open, and the counts and the grid are its own
-pub record IsKnown {I X H : Type 0} (inner_serves : I → Geo → Type 0) (index_serves : X → Geo → Type 0) (representation : X → Geo → Option BytesRepresentation)
-    (index_cells : X → Geo → List ℕ → List (Option (List ℕ))) (tells : H → Bool) (contents : H → Option (List ℕ)) (codec : ShardingCodec I X) (handle : H) (shard : OpenShard) : Type 0 where
-  pub is_open : IsOpen inner_serves index_serves representation index_cells tells contents (opened codec handle shard)
+pub record IsKnown {I X H : Type 0} (Served : ShardingCodec I X → Geo → Type 0) (index_of : ShardingCodec I X → Geo → List ℕ → Option (List ℕ))
+    (tells : H → Bool) (contents : H → Option (List ℕ)) (codec : ShardingCodec I X) (handle : H) (shard : OpenShard) : Type 0 where
+  pub is_open : IsOpen Served index_of tells contents (opened codec handle shard)
   pub cells : shard.cells ≡ count_of shard.shape
   pub grid : shard.grid ≡ grid_of shard.shape codec.subchunk_shape
   pub subchunks : shard.subchunks ≡ count_of (grid_of shard.shape codec.subchunk_shape)
 
 -- a reading call leaves all but the handle, and the object
-pub record Unmoved {C H : Type 0} (tells : H → Bool) (contents : H → Option (List ℕ)) (faults : H → ℕ) (reads : H → Bool) (old new : Opened C H) : Type 0 where
+pub record Unmoved {C H : Type 0} (tells : H → Bool) (contents : H → Option (List ℕ)) (faults : H → ℕ) (supports : H → Support) (old new : Opened C H) : Type 0 where
   pub codec : new.codec ≡ old.codec
   pub geo : new.geo ≡ old.geo
   pub len : new.len ≡ old.len
   pub index : new.index ≡ old.index
-  pub handle : IsRead tells contents faults reads old.handle new.handle
+  pub handle : IsRead tells contents faults supports old.handle new.handle
 
 -- the bytes that a decoder holds in memory: the handle's, and 8 for each number of the held index
 abbrev pub bytes_held : ℕ → Option (List ℕ) → ℕ
 bytes_held handle None = handle
 bytes_held handle (Some numbers) = min (handle + 8 * length numbers) (2 ^ 64 - 1)
 
--- the tests of an object that is opened: that its length can be counted, and those of its index
-abbrev pub OpenTests : (List ℕ → CodecError → Type 0) → (List ℕ → List (Option (List ℕ))) → ShardingIndexLocation → ℕ → Option (List ℕ) → CodecError → Type 0
-OpenTests index_decode index_cells location size None = done
-OpenTests index_decode index_cells location size (Some bytes) =
+-- the tests of an object that is opened as a shard of this codec and grid: that its length can be counted, and those of its index
+abbrev pub OpenTests : {I X : Type 0} → (X → Geo → List ℕ → CodecError → Type 0) → (X → Geo → Option BytesRepresentation) → (X → Geo → List ℕ → List (Option (List ℕ)))
+    → ShardingCodec I X → (grid : List ℕ) → Option (List ℕ) → CodecError → Type 0
+OpenTests index_decode representation index_cells codec grid None = done
+OpenTests index_decode representation index_cells codec grid (Some bytes) =
+    let x = codec.index_codec in let index_g = index_geo grid in
     length bytes + 1 < 2 ^ 64 or TooLarge then
-    IndexTests index_decode index_cells location size bytes
+    IndexTests (index_decode x index_g) (index_cells x index_g) codec.location (fixed_size (representation x index_g)) bytes
     done
 
 -- what the held index says of subchunk k: without an object each is absent
@@ -111,12 +111,16 @@ SlotTests grid subchunk slot later =
     slot ≢ Bad or BadIndexEntry (number_of subchunk grid) then
     later
 
--- the cells of a shard: without an object each is the fill value
-abbrev pub object_cells : (inner_cells index_cells : List ℕ → List (Option (List ℕ))) → Layout → Option (List ℕ) → List (Option (List ℕ))
-object_cells inner_cells index_cells l None = replicate (count_of l.shape) (Some l.fill)
-object_cells inner_cells index_cells l (Some bytes) = shard_cells inner_cells index_cells l bytes
+-- the cells of an object, by those of its bytes: without an object each is the fill value
+abbrev pub object_cells : (List ℕ → List (Option (List ℕ))) → Geo → Option (List ℕ) → List (Option (List ℕ))
+object_cells cells g None = replicate (count_of g.shape) (Some g.fill)
+object_cells cells g (Some bytes) = cells bytes
 
 -- the tests of a read of the cells at some coordinates of a shard whose index was read before; without an object those of their lengths alone
-abbrev pub ObjectCellsTests : (List ℕ → List (List ℕ) → CodecError → Type 0) → (inner_cells index_cells : List ℕ → List (Option (List ℕ))) → Layout → Option (List ℕ) → List (List ℕ) → CodecError → Type 0
-ObjectCellsTests inner_read inner_cells index_cells l None points = RefusesLengths (cells_at (object_cells inner_cells index_cells l None) l.shape points)
-ObjectCellsTests inner_read inner_cells index_cells l (Some bytes) points = CellsTests inner_read inner_cells index_cells l bytes (numbers_in_index index_cells l.location l.index_size bytes) points
+abbrev pub ObjectCellsTests : {I X : Type 0} → (I → Geo → ℕ → Type 0) → (I → Geo → List ℕ → List (List ℕ) → CodecError → Type 0) → (I → Geo → List ℕ → List (Option (List ℕ)))
+    → (X → Geo → Option BytesRepresentation) → (X → Geo → List ℕ → List (Option (List ℕ))) → ShardingCodec I X → Geo → Option (List ℕ) → List (List ℕ) → CodecError → Type 0
+ObjectCellsTests answerable read_tests inner_cells representation index_cells codec g None points = RefusesLengths (cells_at (replicate (count_of g.shape) (Some g.fill)) g.shape points)
+ObjectCellsTests answerable read_tests inner_cells representation index_cells codec g (Some bytes) points =
+    let inner_g = sub_geo codec.subchunk_shape g in let index_g = index_geo (grid_of g.shape codec.subchunk_shape) in
+    CellsTests (AnswerTests (answerable codec.inner inner_g) (read_tests codec.inner inner_g)) (inner_cells codec.inner inner_g) (index_cells codec.index_codec index_g)
+    (layout codec.subchunk_shape codec.location codec.order (representation codec.index_codec index_g) g) bytes (index_in representation index_cells codec g bytes) points

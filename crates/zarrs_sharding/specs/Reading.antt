@@ -2,16 +2,21 @@
 use Rattle.std.specs.Prelude.{◌≡◌, ◌<◌, ℕ, ◌-◌, List, Option, Some, None, map, length, slice_index_or}
 use Rattle.std.specs.List.{All, sum_by, range_with_len}
 use Rattle.std.specs.Option.{option_map}
+use Rattle.zarr_parts.specs.Geo.{Geo}
 use Rattle.zarr_parts.specs.Types.{FitsKind}
 use Rattle.zarr_parts.specs.Arrays.{Array}
 use Rattle.zarr_parts.specs.declared.data_type.DataTypeSize.{DataTypeSize}
+use Rattle.zarr_parts.specs.declared.error.CodecError.{CodecError}
 use Rattle.zarr_codecs.specs.Cells.{all_there}
 use Rattle.zarr_parts.specs.Grid.{subchunk_number, place_number}
 use Rattle.zarrs_sharding.specs.Index.{slot_at, slice_at, number_of_element}
 use Rattle.zarrs_sharding.specs.Cells.{cell_in}
 use Rattle.zarrs_sharding.specs.Decoding.{element_at, IsChunkOf}
-use Rattle.zarrs_sharding.specs.ReadTests.{cells_of_places}
+use Rattle.zarrs_sharding.specs.Serves.{sub_geo}
+use Rattle.zarrs_sharding.specs.DecodeTests.{RefusesLengths}
+use Rattle.zarrs_sharding.specs.ReadTests.{cells_of_places, AnswerTests, PlacesTests}
 use Rattle.zarrs_sharding.specs.Grouping.{standing_at}
+use Rattle.zarrs_sharding.specs.declared.codec.ShardingCodec.{ShardingCodec}
 use Rattle.zarrs_sharding.specs.declared.grouping.Grouping.{Grouping}
 use Rattle.zarrs_sharding.specs.declared.location.ShardingIndexLocation.{ShardingIndexLocation}
 use Rattle.zarrs_sharding.specs.declared.location.ShardingIndexLocation.TheVariants.{Start, End}
@@ -57,3 +62,11 @@ bytes_read groups parts fill n = sum_by (λ i. length (element_read groups parts
 abbrev pub read_by : (List ℕ → List (Option (List ℕ))) → (shape sub fill bytes index : List ℕ) → ℕ → Option (List ℕ)
 read_by inner_cells shape sub fill bytes index i =
     cell_in inner_cells fill bytes (slot_at (length bytes) index (subchunk_number shape sub i)) (place_number shape sub i)
+
+-- the tests of a read of the cells with these row-major numbers of the shard that bytes are, by the numbers of its index
+abbrev pub ReadByTests : {I X : Type 0} → (I → Geo → ℕ → Type 0) → (I → Geo → List ℕ → List (List ℕ) → CodecError → Type 0) → (I → Geo → List ℕ → List (Option (List ℕ)))
+    → ShardingCodec I X → Geo → (bytes index numbers : List ℕ) → CodecError → Type 0
+ReadByTests answerable read_tests inner_cells codec g bytes index numbers =
+    let sub = codec.subchunk_shape in let inner_g = sub_geo sub g in
+    PlacesTests (AnswerTests (answerable codec.inner inner_g) (read_tests codec.inner inner_g)) (inner_cells codec.inner inner_g) g.shape sub bytes (Some index) numbers
+    (RefusesLengths (map (read_by (inner_cells codec.inner inner_g) g.shape sub g.fill bytes index) numbers))

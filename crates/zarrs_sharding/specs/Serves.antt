@@ -11,9 +11,10 @@ use Rattle.zarr_parts.specs.declared.error.CodecError.TheVariants.{UnsupportedDa
 use Rattle.zarr_codecs.specs.Refusals.{RefusesUnserved}
 use Rattle.zarr_codecs.specs.declared.representation.BytesRepresentation.{BytesRepresentation}
 use Rattle.zarr_codecs.specs.declared.representation.BytesRepresentation.TheVariants.{FixedSize, BoundedSize, UnboundedSize}
-use Rattle.zarrs_sharding.specs.Index.{element_of_number}
+use Rattle.zarrs_sharding.specs.Index.{index_geo, element_of_number}
 use Rattle.zarrs_sharding.specs.Cells.{Layout}
 use Rattle.zarrs_sharding.specs.Encoding.{IsAllFill}
+use Rattle.zarrs_sharding.specs.declared.codec.ShardingCodec.{ShardingCodec}
 use Rattle.zarrs_sharding.specs.declared.location.ShardingIndexLocation.{ShardingIndexLocation}
 use Rattle.zarrs_sharding.specs.declared.order.SubchunkWriteOrder.{SubchunkWriteOrder}
 
@@ -35,6 +36,11 @@ layout_of sub location order index_size g =
 
 abbrev pub layout : List ℕ → ShardingIndexLocation → SubchunkWriteOrder → Option BytesRepresentation → Geo → Layout
 layout sub location order representation g = layout_of sub location order (fixed_size representation) g
+
+-- the layout of a shard with this codec and geo
+abbrev pub layout_in : {I X : Type 0} → (X → Geo → Option BytesRepresentation) → ShardingCodec I X → Geo → Layout
+layout_in representation codec g =
+    layout codec.subchunk_shape codec.location codec.order (representation codec.index_codec (index_geo (grid_of g.shape codec.subchunk_shape))) g
 
 -- the index codec serves the index, and its encodings have one size
 pub record IndexServes (Served : Type 0) (representation : Option BytesRepresentation) : Type 0 where

@@ -51,24 +51,16 @@ impl<I, X> ShardingCodec<I, X> {
 #[cfg(test)]
 mod tests {
     use super::*;
+    use crate::examples::{Plain, plain};
     use crate::location::ShardingIndexLocation;
     use std::test::Fail;
-    use zarr_codecs::BytesCodec;
-
-    type Plain = ShardingCodec<BytesCodec, BytesCodec>;
 
     #[test]
     fn parts_are_spared(rt: HostRuntime) -> Result<(), Fail> {
         let decoder = Plain::partial_decoder_capability();
         assert!(rt; decoder.partial_read && decoder.partial_decode);
         assert!(rt; Plain::partial_encoder_capability().partial_encode);
-        let sub = ChunkShape::new(rt.alloc(), &[2, 3])?.ok_or("no axis is 0")?;
-        let codec: Plain = ShardingCodec::new(
-            sub,
-            BytesCodec::big(),
-            BytesCodec::big(),
-            ShardingIndexLocation::End,
-        );
+        let codec = plain(rt.alloc(), &[2, 3], ShardingIndexLocation::End)?;
         assert_eq!(rt;
             codec.partial_decode_granularity().as_slice(),
             [2, 3].as_slice()

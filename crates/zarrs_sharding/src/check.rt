@@ -1,15 +1,13 @@
 // The tests that every call makes first, and what they find.
-ghost use Rattle.std.specs.Prelude.{◌≡◌, ◌<◌, ◌^◌, ◌*◌, IfOk, IfErr, OnOk, length};
+ghost use Rattle.std.specs.Prelude.{◌≡◌, IfOk, IfErr, OnOk};
 ghost use Rattle.zarr_parts.specs.Order.{◌or◌then◌, done, RefusedBy};
-ghost use Rattle.zarr_parts.specs.Numbering.{count_of};
-ghost use Rattle.zarr_parts.specs.Grid.{grid_of};
-ghost use Rattle.zarr_parts.specs.Geo.{Geo, geo};
+ghost use Rattle.zarr_parts.specs.Geo.{geo};
 ghost use Rattle.zarr_parts.specs.Types.{size_of, HasElements, FitsKind, byte_size};
 ghost use Rattle.zarr_parts.specs.declared.error.CodecError.TheVariants.{UnsupportedDataType, BadFillValue};
 ghost use Rattle.zarr_codecs.specs.Refusals.{RefusesUnserved};
 ghost use Rattle.zarrs_sharding.specs.Index.{index_geo};
-ghost use Rattle.zarrs_sharding.specs.Serves.{sub_geo, fixed_size, IndexServes, ShardServes, IndexCodecTests, CheckTests};
-ghost use Rattle.zarrs_sharding.specs.Plans.{IsIndexPlan, IsPlan};
+ghost use Rattle.zarrs_sharding.specs.Serves.{IndexServes, IndexCodecTests};
+ghost use Rattle.zarrs_sharding.specs.Plans.{IsIndexPlanOf, IsPlanOf};
 
 use crate::codec::ShardingCodec;
 use crate::grid::{calculate_chunks_per_shard, sharding_index_shape};
@@ -67,7 +65,7 @@ impl<I, X: ArrayToBytesCodecTraits> ShardingCodec<I, X> {
     ) -> Result<IndexPlan, CodecError>
         ensures serves { let x = self.now.index_codec in let g = index_geo grid.now in
             OnOk result (IndexServes (X.serves x g) (X.representation x g)) }
-        ensures plan { IfOk result (IsIndexPlan (fixed_size (X.representation self.now.index_codec (index_geo grid.now))) grid.now) }
+        ensures plan { IfOk result (IsIndexPlanOf X.representation self.now grid.now) }
         ensures refused { let x = self.now.index_codec in let g = index_geo grid.now in
             IfErr result (RefusedBy (IndexCodecTests (X.serves x g) (X.check_tests x g) (X.representation x g) done)) }
     {
@@ -93,17 +91,10 @@ impl<I: ArrayToBytesCodecTraits, X: ArrayToBytesCodecTraits> ShardingCodec<I, X>
         data_type: &DataType,
         fill_value: &FillValue,
     ) -> Result<Plan, CodecError>
-        ensures serves { let g = geo shape.now data_type.now fill_value.now in let s = self.now in
-            let inner_g = sub_geo s.subchunk_shape g in let index_g = index_geo (grid_of g.shape s.subchunk_shape) in
-            OnOk result (ShardServes (I.serves s.inner inner_g) (X.serves s.index_codec index_g) (X.representation s.index_codec index_g) s.subchunk_shape g) }
-        ensures plan { let s = self.now in
-            IfOk result (IsPlan (fixed_size (X.representation s.index_codec (index_geo (grid_of shape.now s.subchunk_shape)))) shape.now s.subchunk_shape) }
-        ensures refused { let g = geo shape.now data_type.now fill_value.now in let s = self.now in
-            let inner_g = sub_geo s.subchunk_shape g in let index_g = index_geo (grid_of g.shape s.subchunk_shape) in
-            IfErr result (RefusedBy (RefusesUnserved
-            (ShardServes (I.serves s.inner inner_g) (X.serves s.index_codec index_g) (X.representation s.index_codec index_g) s.subchunk_shape g)
-            (CheckTests (I.serves s.inner inner_g) (X.serves s.index_codec index_g) (I.check_tests s.inner inner_g) (X.check_tests s.index_codec index_g)
-            (X.representation s.index_codec index_g) s.subchunk_shape g))) }
+        ensures serves { OnOk result (⟦<Self as ArrayToBytesCodecTraits>⟧.serves self.now (geo shape.now data_type.now fill_value.now)) }
+        ensures plan { IfOk result (IsPlanOf X.representation self.now shape.now) }
+        ensures refused { let codec = ⟦<Self as ArrayToBytesCodecTraits>⟧ in let g = geo shape.now data_type.now fill_value.now in
+            IfErr result (RefusedBy (RefusesUnserved (codec.serves self.now g) (codec.check_tests self.now g))) }
     {
         let size = element_size(data_type, fill_value)?;
         let grid = calculate_chunks_per_shard(alloc, shape, &self.subchunk_shape)?;

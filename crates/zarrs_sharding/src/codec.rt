@@ -7,7 +7,7 @@ ghost use Rattle.zarr_parts.specs.Types.{size_of, byte_size};
 ghost use Rattle.zarrs_sharding.specs.Index.{index_geo};
 ghost use Rattle.zarrs_sharding.specs.Cells.{shard_cells};
 ghost use Rattle.zarrs_sharding.specs.Encoding.{IsEncoding};
-ghost use Rattle.zarrs_sharding.specs.Serves.{sub_geo, fixed_size, layout, ShardServes, ShardEncodable, ShardFits, shard_representation, CheckTests};
+ghost use Rattle.zarrs_sharding.specs.Serves.{sub_geo, fixed_size, layout, layout_in, ShardServes, ShardEncodable, ShardFits, shard_representation, CheckTests};
 ghost use Rattle.zarrs_sharding.specs.DecodeTests.{DecodeTests};
 ghost use Rattle.zarrs_sharding.specs.EncodeTests.{EncodeTests};
 ghost use Rattle.zarrs_sharding.specs.ReadTests.{AnswerTests, ReadTests};
@@ -251,21 +251,15 @@ impl<I: ArrayToBytesCodecTraits, X: ArrayToBytesCodecTraits> ArrayToBytesCodecTr
         fill_value: &FillValue,
         options: &CodecOptions,
     ) -> Result<Option<Vec<u8>>, CodecError>
-        ensures compacted { let s = self.now in let g = geo shape.now data_type.now fill_value.now in let index_g = index_geo (grid_of g.shape s.subchunk_shape) in
-            let l = layout s.subchunk_shape s.location s.order (X.representation s.index_codec index_g) g in
-            IfOk result (λ answer. IfSome answer (λ new. IsCompacted (X.cells s.index_codec index_g) (X.written s.index_codec index_g) l bytes.now new.items)) }
-        ensures kept { let s = self.now in let g = geo shape.now data_type.now fill_value.now in let index_g = index_geo (grid_of g.shape s.subchunk_shape) in
-            let l = layout s.subchunk_shape s.location s.order (X.representation s.index_codec index_g) g in
-            IfOk result (λ answer. IfNone answer (IsCompact (X.cells s.index_codec index_g) l bytes.now)) }
-        ensures lawful { let s = self.now in let g = geo shape.now data_type.now fill_value.now in
-            let inner_g = sub_geo s.subchunk_shape g in let index_g = index_geo (grid_of g.shape s.subchunk_shape) in
-            IfErr result (λ e. ShardServes (I.serves s.inner inner_g) (X.serves s.index_codec index_g) (X.representation s.index_codec index_g) s.subchunk_shape g
-            → MayRefuseCompact (shard_cells (I.cells s.inner inner_g) (X.cells s.index_codec index_g)
-            (layout s.subchunk_shape s.location s.order (X.representation s.index_codec index_g) g) bytes.now) e) }
-        ensures refused { let s = self.now in let g = geo shape.now data_type.now fill_value.now in let index_g = index_geo (grid_of g.shape s.subchunk_shape) in
-            IfErr result (RefusedBy (CompactTests (X.serves s.index_codec index_g) (X.check_tests s.index_codec index_g) (X.representation s.index_codec index_g)
-            (X.decode_tests s.index_codec index_g) (X.cells s.index_codec index_g) (X.encodable s.index_codec index_g) (X.fits s.index_codec index_g)
-            (layout s.subchunk_shape s.location s.order (X.representation s.index_codec index_g) g) bytes.now)) }
+        ensures compacted { let g = geo shape.now data_type.now fill_value.now in
+            IfOk result (λ answer. IfSome answer (λ new. ⟦<Self as ArrayToBytesCodecTraits>⟧.compacted self.now g bytes.now new.items)) }
+        ensures kept { let g = geo shape.now data_type.now fill_value.now in let s = self.now in
+            let index_cells = X.cells s.index_codec (index_geo (grid_of g.shape s.subchunk_shape)) in
+            IfOk result (λ answer. IfNone answer (IsCompact index_cells (layout_in X.representation s g) bytes.now)) }
+        ensures lawful { let codec = ⟦<Self as ArrayToBytesCodecTraits>⟧ in let g = geo shape.now data_type.now fill_value.now in
+            IfErr result (λ e. codec.serves self.now g → MayRefuseCompact (codec.cells self.now g bytes.now) e) }
+        ensures refused { let g = geo shape.now data_type.now fill_value.now in
+            IfErr result (RefusedBy (⟦<Self as ArrayToBytesCodecTraits>⟧.compact_tests self.now g bytes.now)) }
     {
         let plan = self.compact_plan(alloc, shape)?;
         let numbers = self.numbers(alloc, bytes, &plan.grid, &plan.index, options)?;

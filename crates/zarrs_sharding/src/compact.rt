@@ -1,13 +1,13 @@
 // The present slices of a shard, copied together.
-ghost use Rattle.std.specs.Prelude.{◌≡◌, ◌≤◌, ◌<◌, ◌^◌, ◌+◌, ◌*◌, ◌/◌, ℕ, IfOk, IfErr, OnOk, SomeIff, length, slice_index_or};
+ghost use Rattle.std.specs.Prelude.{◌≡◌, ◌<◌, ◌^◌, ◌+◌, ◌*◌, ◌/◌, ℕ, IfOk, IfErr, OnOk, SomeIff, length, slice_index_or};
 ghost use Rattle.zarr_parts.specs.Order.{Each, done, RefusedBy};
 ghost use Rattle.zarr_parts.specs.Numbering.{count_of};
 ghost use Rattle.zarr_parts.specs.Grid.{grid_of};
 ghost use Rattle.zarr_parts.specs.declared.error.CodecError.TheVariants.{OutOfMemory, BadIndexEntry};
 ghost use Rattle.zarrs_sharding.specs.Index.{slot_of_pair, slot_at, index_geo};
 ghost use Rattle.zarrs_sharding.specs.Encoding.{slot_size};
-ghost use Rattle.zarrs_sharding.specs.Serves.{fixed_size, IndexServes};
-ghost use Rattle.zarrs_sharding.specs.Plans.{IsPlan, IsIndexPlan};
+ghost use Rattle.zarrs_sharding.specs.Serves.{IndexServes};
+ghost use Rattle.zarrs_sharding.specs.Plans.{IsPlanOf, IsIndexPlanOf};
 ghost use Rattle.zarrs_sharding.specs.Laying.{taken};
 ghost use Rattle.zarrs_sharding.specs.Compacting.{IsGood};
 ghost use Rattle.zarrs_sharding.specs.Packing.{PlanTests, HasPlan, IsInside, AreSlots, slice_of, moved_slot, IsPacked, IsRewritten};
@@ -122,8 +122,7 @@ impl<I, X: ArrayToBytesCodecTraits> ShardingCodec<I, X> {
     pub(crate) fn compact_plan(&self, alloc: Global, shape: &ChunkShape) -> Result<Plan, CodecError>
         ensures served { let s = self.now in let index_g = index_geo (grid_of shape.now s.subchunk_shape) in
             OnOk result (HasPlan (X.serves s.index_codec index_g) (X.representation s.index_codec index_g) shape.now s.subchunk_shape) }
-        ensures plan { let s = self.now in
-            IfOk result (IsPlan (fixed_size (X.representation s.index_codec (index_geo (grid_of shape.now s.subchunk_shape)))) shape.now s.subchunk_shape) }
+        ensures plan { IfOk result (IsPlanOf X.representation self.now shape.now) }
         ensures refused { let s = self.now in let index_g = index_geo (grid_of shape.now s.subchunk_shape) in
             IfErr result (RefusedBy (PlanTests (X.serves s.index_codec index_g) (X.check_tests s.index_codec index_g) (X.representation s.index_codec index_g)
             shape.now s.subchunk_shape done)) }
@@ -157,7 +156,7 @@ impl<I, X: ArrayToBytesCodecTraits> ShardingCodec<I, X> {
         plan: &Plan,
         options: &CodecOptions,
     ) -> Result<Vec<u8>, CodecError>
-        requires plan { let g = index_geo plan.now.grid in IsIndexPlan (fixed_size (X.representation self.now.index_codec g)) plan.now.grid plan.now.index }
+        requires plan { IsIndexPlanOf X.representation self.now plan.now.grid plan.now.index }
         requires serves { let g = index_geo plan.now.grid in IndexServes (X.serves self.now.index_codec g) (X.representation self.now.index_codec g) }
         requires counted { length slots.now ≡ count_of plan.now.grid }
         requires inside { (k : ℕ) → k < length slots.now → IsInside (length bytes.now) (slice_index_or slots.now k Bad) }

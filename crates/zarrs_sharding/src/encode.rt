@@ -1,5 +1,5 @@
 // From the elements of an array to the bytes of a shard.
-ghost use Rattle.std.specs.Prelude.{◌≡◌, ◌≤◌, ◌<◌, ◌^◌, ◌+◌, ◌*◌, ℕ, IfOk, IfErr, OnOk, length};
+ghost use Rattle.std.specs.Prelude.{◌≡◌, ◌<◌, ◌^◌, IfOk, IfErr, OnOk, length};
 ghost use Rattle.zarr_parts.specs.Order.{done, RefusedBy};
 ghost use Rattle.zarr_parts.specs.Numbering.{count_of};
 ghost use Rattle.zarr_parts.specs.Grid.{Divides, grid_of, subchunk};
@@ -7,11 +7,8 @@ ghost use Rattle.zarr_parts.specs.Geo.{geo, IsArrayOf};
 ghost use Rattle.zarr_parts.specs.Types.{size_of, HasElements};
 ghost use Rattle.zarr_parts.specs.declared.error.CodecError.TheVariants.{OutOfMemory};
 ghost use Rattle.zarrs_sharding.specs.Laying.{IsStored, placed_slot, IsLaidOut, whole_shard};
-ghost use Rattle.zarrs_sharding.specs.Index.{index_geo};
-ghost use Rattle.zarrs_sharding.specs.Encoding.{IsEncoding};
-ghost use Rattle.zarrs_sharding.specs.Serves.{sub_geo, fixed_size, layout, ShardServes};
-ghost use Rattle.zarrs_sharding.specs.Plans.{IsPlan};
-ghost use Rattle.zarrs_sharding.specs.EncodeTests.{RefusesToStore, StoreTests, EncodeTests};
+ghost use Rattle.zarrs_sharding.specs.Plans.{IsPlanOf};
+ghost use Rattle.zarrs_sharding.specs.EncodeTests.{RefusesToStore, StoreTests};
 
 use crate::check::Plan;
 use crate::codec::ShardingCodec;
@@ -200,21 +197,14 @@ impl<I: ArrayToBytesCodecTraits, X: ArrayToBytesCodecTraits> ShardingCodec<I, X>
         fill_value: &FillValue,
         options: &CodecOptions,
     ) -> Result<Vec<u8>, CodecError>
-        requires serves { let g = geo shape.now data_type.now fill_value.now in let s = self.now in
-            let inner_g = sub_geo s.subchunk_shape g in let index_g = index_geo (grid_of g.shape s.subchunk_shape) in
-            ShardServes (I.serves s.inner inner_g) (X.serves s.index_codec index_g) (X.representation s.index_codec index_g) s.subchunk_shape g }
-        requires plan { let s = self.now in
-            IsPlan (fixed_size (X.representation s.index_codec (index_geo (grid_of shape.now s.subchunk_shape)))) shape.now s.subchunk_shape plan.now }
+        requires serves { ⟦<Self as ArrayToBytesCodecTraits>⟧.serves self.now (geo shape.now data_type.now fill_value.now) }
+        requires plan { IsPlanOf X.representation self.now shape.now plan.now }
         ensures array { let g = geo shape.now data_type.now fill_value.now in
             OnOk result ((array.now.kind ≡ size_of data_type.now) × IsArrayOf g array.now.elements) }
-        ensures written { let g = geo shape.now data_type.now fill_value.now in let s = self.now in
-            let inner_g = sub_geo s.subchunk_shape g in let index_g = index_geo (grid_of g.shape s.subchunk_shape) in
-            IfOk result (λ shard. IsEncoding (I.written s.inner inner_g) (X.written s.index_codec index_g)
-            (layout s.subchunk_shape s.location s.order (X.representation s.index_codec index_g) g) array.now.elements shard.items) }
-        ensures refused { let g = geo shape.now data_type.now fill_value.now in let s = self.now in
-            let inner_g = sub_geo s.subchunk_shape g in let index_g = index_geo (grid_of g.shape s.subchunk_shape) in
-            IfErr result (RefusedBy (EncodeTests (I.encodable s.inner inner_g) (I.fits s.inner inner_g) (X.encodable s.index_codec index_g) (X.fits s.index_codec index_g)
-            (I.written s.inner inner_g) (layout s.subchunk_shape s.location s.order (X.representation s.index_codec index_g) g) (size_of data_type.now) array.now)) }
+        ensures written { let g = geo shape.now data_type.now fill_value.now in
+            IfOk result (λ shard. ⟦<Self as ArrayToBytesCodecTraits>⟧.written self.now g array.now.elements shard.items) }
+        ensures refused { let g = geo shape.now data_type.now fill_value.now in
+            IfErr result (RefusedBy (⟦<Self as ArrayToBytesCodecTraits>⟧.encode_tests self.now g array.now)) }
     {
         if array.kind() != data_type.size() {
             return Err(CodecError::WrongElementKind);

@@ -32,38 +32,3 @@ impl<I: FunctionalCodec, X: FunctionalCodec> FunctionalCodec for ShardingCodec<I
         (λ x y array written. I.one_encoding s.inner _ x y parts.inner h.inner_served array written)
         (λ x y array written. X.one_encoding s.index_codec _ x y parts.index h.index_served.served array written) e };
 }
-
-#[cfg(test)]
-mod tests {
-    use super::*;
-    use crate::location::ShardingIndexLocation;
-    use std::alloc::Global;
-    use std::test::Fail;
-    use zarr_codecs::BytesCodec;
-    use zarr_parts::ChunkShape;
-
-    type Plain = ShardingCodec<BytesCodec, BytesCodec>;
-
-    fn plain(alloc: Global, order: SubchunkWriteOrder) -> Result<Plain, Fail> {
-        let sub = ChunkShape::new(alloc, &[2, 2])?.ok_or("no axis is 0")?;
-        let codec = ShardingCodec::new(
-            sub,
-            BytesCodec::big(),
-            BytesCodec::little(),
-            ShardingIndexLocation::End,
-        );
-        Ok(codec.with_subchunk_write_order(order))
-    }
-
-    #[test]
-    fn one_encoding_in_order_only(rt: HostRuntime) -> Result<(), Fail> {
-        for (order, functional) in [
-            (SubchunkWriteOrder::C, true),
-            (SubchunkWriteOrder::Unordered, false),
-        ] {
-            let codec = plain(rt.alloc(), order)?;
-            assert_eq!(rt; codec.is_functional(), functional, "{order:?}");
-        }
-        Ok(())
-    }
-}

@@ -2,13 +2,13 @@
 ghost use Rattle.std.specs.Prelude.{◌≡◌, ◌<◌, ◌↔◌, ℕ, [], IfOk, length, map, replicate, slice_index};
 ghost use Rattle.std.specs.List.{All, Contains};
 ghost use Rattle.std.specs.List.Sorted.{IsStrictlyIncreasing};
-ghost use Rattle.zarr_parts.specs.Numbering.{AllPositive, count_of, point_of};
+ghost use Rattle.zarr_parts.specs.Numbering.{AllPositive, count_of};
 ghost use Rattle.zarr_parts.specs.Grid.{Divides, grid_of, subchunk_number, place_number};
 ghost use Rattle.zarrs_sharding.specs.Grouping.{points_at, lists_of, AreGrouped};
 
 use std::alloc::{AllocError, Global};
 use std::marker::Model;
-use zarr_parts::{ArraySubset, ChunkShape, Indexer, Located, locate};
+use zarr_parts::{ArraySubset, ChunkShape, Indexer, Located, locate, number_along};
 
 /// Where an asked cell stands: in which group, and at which place of its group.
 #[derive(Debug, Clone, Copy, PartialEq, Eq)]
@@ -58,19 +58,6 @@ impl<'a> Places<'a> {
     {
         Places { sub, numbers }
     }
-}
-
-// The number along an axis of the coordinate that has a row-major number.
-fn number_along(number: u64, shape: &[u64], axis: usize) -> u64
-    requires inside { number < count_of shape.now }
-    requires on_axis { axis < length shape.now }
-    ensures { result ≡ slice_index (point_of number shape.now) axis }
-{
-    let mut rest = number;
-    for later in (axis + 1..shape.len()).rev() {
-        rest /= shape[later];
-    }
-    rest % shape[axis]
 }
 
 impl<'a> Indexer for Places<'a> {

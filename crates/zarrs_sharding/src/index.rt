@@ -9,7 +9,7 @@ ghost use Rattle.zarr_codecs.specs.Handles.{IsRead, IsCounted};
 ghost use Rattle.zarr_codecs.specs.Reads.{interval_part, HasInterval, ObjectTests};
 ghost use Rattle.zarrs_sharding.specs.Index.{index_geo, index_part, data_start, numbers_in_index, number_of_element, element_of_number};
 ghost use Rattle.zarrs_sharding.specs.Serves.{fixed_size, IndexServes, IndexCodecTests};
-ghost use Rattle.zarrs_sharding.specs.Plans.{IsIndexPlan};
+ghost use Rattle.zarrs_sharding.specs.Plans.{IsIndexPlanOf};
 ghost use Rattle.zarrs_sharding.specs.DecodeTests.{RefusesStored, IndexTests};
 ghost use Rattle.zarrs_sharding.specs.Reading.{index_start, numbers_of_cells};
 ghost use Rattle.zarrs_sharding.specs.EncodeTests.{RefusesIndex};
@@ -150,7 +150,7 @@ impl<I, X: ArrayToBytesCodecTraits> ShardingCodec<I, X> {
         plan: &IndexPlan,
         options: &CodecOptions,
     ) -> Result<Vec<u64>, CodecError>
-        requires plan { IsIndexPlan (fixed_size (X.representation self.now.index_codec (index_geo grid.now))) grid.now plan.now }
+        requires plan { IsIndexPlanOf X.representation self.now grid.now plan.now }
         requires serves { X.serves self.now.index_codec (index_geo grid.now) }
         ensures numbers { IfOk result (λ numbers. numbers_of_cells (X.cells self.now.index_codec (index_geo grid.now) part.now) ≡ Some numbers.items) }
         ensures counted { IfOk result (λ numbers. length numbers.items ≡ 2 * count_of grid.now) }
@@ -178,7 +178,7 @@ impl<I, X: ArrayToBytesCodecTraits> ShardingCodec<I, X> {
         plan: &IndexPlan,
         options: &CodecOptions,
     ) -> Result<Vec<u64>, CodecError>
-        requires plan { IsIndexPlan (fixed_size (X.representation self.now.index_codec (index_geo grid.now))) grid.now plan.now }
+        requires plan { IsIndexPlanOf X.representation self.now grid.now plan.now }
         requires serves { X.serves self.now.index_codec (index_geo grid.now) }
         ensures numbers { IfOk result (λ numbers.
             numbers_in_index (X.cells self.now.index_codec (index_geo grid.now)) self.now.location plan.now.size bytes.now ≡ Some numbers.items) }
@@ -204,11 +204,11 @@ impl<I, X: ArrayToBytesCodecTraits> ShardingCodec<I, X> {
         plan: &IndexPlan,
         options: &CodecOptions,
     ) -> Result<Vec<u64>, CodecError>
-        requires plan { IsIndexPlan (fixed_size (X.representation self.now.index_codec (index_geo grid.now))) grid.now plan.now }
+        requires plan { IsIndexPlanOf X.representation self.now grid.now plan.now }
         requires serves { X.serves self.now.index_codec (index_geo grid.now) }
         requires room { outer.offset + outer.size < 2 ^ 64 }
         requires inside { IsTrue (H.tells handle.old) → HasInterval outer (H.contents handle.old) }
-        ensures read { IsRead H.tells H.contents H.faults H.reads handle.old handle.new }
+        ensures read { IsRead H.tells H.contents H.faults H.supports handle.old handle.new }
         ensures counted { IfOk result (λ numbers. length numbers.items ≡ 2 * count_of grid.now) }
         ensures numbers { IfOk result (λ numbers. IsTrue (H.tells handle.old)
             → numbers_in_index (X.cells self.now.index_codec (index_geo grid.now)) self.now.location plan.now.size (interval_part outer (H.contents handle.old)) ≡ Some numbers.items) }
@@ -239,7 +239,7 @@ impl<I, X: ArrayToBytesCodecTraits> ShardingCodec<I, X> {
         plan: &IndexPlan,
         options: &CodecOptions,
     ) -> Result<Vec<u8>, CodecError>
-        requires plan { IsIndexPlan (fixed_size (X.representation self.now.index_codec (index_geo grid.now))) grid.now plan.now }
+        requires plan { IsIndexPlanOf X.representation self.now grid.now plan.now }
         requires serves { X.serves self.now.index_codec (index_geo grid.now) }
         requires counted { length slots.now ≡ count_of grid.now }
         requires room { (k : ℕ) → k < length slots.now → EndsBelow (data_start self.now.location plan.now.size) (slice_index_or slots.now k Bad) }

@@ -9,13 +9,12 @@ ghost use Rattle.zarr_parts.specs.declared.data_type.DataTypeSize.TheVariants.{F
 ghost use Rattle.zarr_parts.specs.declared.error.CodecError.TheVariants.{OutOfMemory, BadIndexEntry};
 ghost use Rattle.zarr_codecs.specs.Cells.{all_there};
 ghost use Rattle.zarr_codecs.specs.Refusals.{MayRefuseEncode, MayRefuseDecode, MayRefuseCompact};
-ghost use Rattle.zarrs_sharding.specs.Index.{index_geo, numbers_in_index};
+ghost use Rattle.zarrs_sharding.specs.Index.{index_geo};
 ghost use Rattle.zarrs_sharding.specs.Holding.{Holds};
-ghost use Rattle.zarrs_sharding.specs.Compacting.{IsCompact, CompactTests};
-ghost use Rattle.zarrs_sharding.specs.Scratch.{is_ordered, scratch};
-ghost use Rattle.zarrs_sharding.specs.Cells.{shard_cells};
-ghost use Rattle.zarrs_sharding.specs.Serves.{ShardServes, ShardEncodable, ShardFits, sub_geo, fixed_size, layout};
+ghost use Rattle.zarrs_sharding.specs.Compacting.{IsCompact};
+ghost use Rattle.zarrs_sharding.specs.Serves.{sub_geo, layout_in};
 ghost use Rattle.zarrs_sharding.specs.DecodeTests.{IsLowestBad};
+ghost use Rattle.zarrs_sharding.specs.Decoders.{index_in};
 
 use crate::codec::ShardingCodec;
 use std::alloc::Global;
@@ -33,14 +32,10 @@ pub fn decode_sound<'a, I: ArrayToBytesCodecTraits, X: ArrayToBytesCodecTraits>(
     fill_value: &FillValue,
     options: &CodecOptions,
 ) -> Result<ArrayBytes<'a>, CodecError>
-    requires serves { let g = geo shape.now data_type.now fill_value.now in let s = codec.now in
-        let inner_g = sub_geo s.subchunk_shape g in let index_g = index_geo (grid_of g.shape s.subchunk_shape) in
-        ShardServes (I.serves s.inner inner_g) (X.serves s.index_codec index_g) (X.representation s.index_codec index_g) s.subchunk_shape g }
+    requires serves { ⟦<ShardingCodec<I, X> as ArrayToBytesCodecTraits>⟧.serves codec.now (geo shape.now data_type.now fill_value.now) }
     requires fixed { size_of data_type.now ≡ Fixed (byte_size (size_of data_type.now)) }
-    requires sound { let g = geo shape.now data_type.now fill_value.now in let s = codec.now in
-        let inner_g = sub_geo s.subchunk_shape g in let index_g = index_geo (grid_of g.shape s.subchunk_shape) in
-        IsSome (all_there (shard_cells (I.cells s.inner inner_g) (X.cells s.index_codec index_g)
-        (layout s.subchunk_shape s.location s.order (X.representation s.index_codec index_g) g) bytes.now)) }
+    requires sound { let g = geo shape.now data_type.now fill_value.now in
+        IsSome (all_there (⟦<ShardingCodec<I, X> as ArrayToBytesCodecTraits>⟧.cells codec.now g bytes.now)) }
     ensures { IfErr result (λ e. e ≡ OutOfMemory) }
 {
     codec.decode(alloc, bytes, shape, data_type, fill_value, options)
@@ -58,23 +53,16 @@ pub fn decode_served<'a, I: ArrayToBytesCodecTraits, X: ArrayToBytesCodecTraits>
     fill_value: &FillValue,
     options: &CodecOptions,
 ) -> Result<ArrayBytes<'a>, CodecError>
-    requires serves { let g = geo shape.now data_type.now fill_value.now in let s = codec.now in
-        let inner_g = sub_geo s.subchunk_shape g in let index_g = index_geo (grid_of g.shape s.subchunk_shape) in
-        ShardServes (I.serves s.inner inner_g) (X.serves s.index_codec index_g) (X.representation s.index_codec index_g) s.subchunk_shape g }
+    requires serves { ⟦<ShardingCodec<I, X> as ArrayToBytesCodecTraits>⟧.serves codec.now (geo shape.now data_type.now fill_value.now) }
     ensures array { IfOk result (λ array. (array.kind ≡ size_of data_type.now) × IsArrayOf (geo shape.now data_type.now fill_value.now) array.elements) }
-    ensures cells { let g = geo shape.now data_type.now fill_value.now in let s = codec.now in
-        let inner_g = sub_geo s.subchunk_shape g in let index_g = index_geo (grid_of g.shape s.subchunk_shape) in
-        IfOk result (λ array. shard_cells (I.cells s.inner inner_g) (X.cells s.index_codec index_g)
-        (layout s.subchunk_shape s.location s.order (X.representation s.index_codec index_g) g) shard.now ≡ map Some array.elements) }
-    ensures lawful { let g = geo shape.now data_type.now fill_value.now in let s = codec.now in
-        let inner_g = sub_geo s.subchunk_shape g in let index_g = index_geo (grid_of g.shape s.subchunk_shape) in
-        IfErr result (MayRefuseDecode (shard_cells (I.cells s.inner inner_g) (X.cells s.index_codec index_g)
-        (layout s.subchunk_shape s.location s.order (X.representation s.index_codec index_g) g) shard.now)) }
+    ensures cells { let g = geo shape.now data_type.now fill_value.now in
+        IfOk result (λ array. ⟦<ShardingCodec<I, X> as ArrayToBytesCodecTraits>⟧.cells codec.now g shard.now ≡ map Some array.elements) }
+    ensures lawful { let g = geo shape.now data_type.now fill_value.now in
+        IfErr result (MayRefuseDecode (⟦<ShardingCodec<I, X> as ArrayToBytesCodecTraits>⟧.cells codec.now g shard.now)) }
     ensures lowest { let g = geo shape.now data_type.now fill_value.now in let s = codec.now in
-        let inner_g = sub_geo s.subchunk_shape g in let index_g = index_geo (grid_of g.shape s.subchunk_shape) in
-        let numbers = numbers_in_index (X.cells s.index_codec index_g) s.location (fixed_size (X.representation s.index_codec index_g)) shard.now in
+        let inner_cells = I.cells s.inner (sub_geo s.subchunk_shape g) in let numbers = index_in X.representation X.cells s g shard.now in
         IfErr result (λ e. (number : ℕ) → e ≡ BadIndexEntry number
-        → IsLowestBad (I.cells s.inner inner_g) shard.now numbers (count_of (grid_of g.shape s.subchunk_shape)) number) }
+        → IsLowestBad inner_cells shard.now numbers (count_of (grid_of g.shape s.subchunk_shape)) number) }
 {
     codec.decode(alloc, shard, shape, data_type, fill_value, options)
 }
@@ -91,18 +79,12 @@ pub fn encode_functional<I: FunctionalCodec, X: FunctionalCodec>(
     fill_value: &FillValue,
     options: &CodecOptions,
 ) -> Result<Vec<u8>, CodecError>
-    requires functional { let s = codec.now in IsTrue (is_ordered s.order && (I.functional s.inner && X.functional s.index_codec)) }
-    ensures scratch { let g = geo shape.now data_type.now fill_value.now in let s = codec.now in
-        let inner_g = sub_geo s.subchunk_shape g in let index_g = index_geo (grid_of g.shape s.subchunk_shape) in
-        IfOk result (λ shard. shard.items ≡ scratch (I.encoding s.inner inner_g) (X.encoding s.index_codec index_g)
-        (layout s.subchunk_shape s.location s.order (X.representation s.index_codec index_g) g) array.now.elements) }
-    ensures lawful { let g = geo shape.now data_type.now fill_value.now in let s = codec.now in
-        let inner_g = sub_geo s.subchunk_shape g in let index_g = index_geo (grid_of g.shape s.subchunk_shape) in
-        let l = layout s.subchunk_shape s.location s.order (X.representation s.index_codec index_g) g in
-        IfErr result (λ e. ShardServes (I.serves s.inner inner_g) (X.serves s.index_codec index_g) (X.representation s.index_codec index_g) s.subchunk_shape g
-        → array.now.kind ≡ size_of data_type.now → IsArrayOf g array.now.elements
-        → MayRefuseEncode (ShardEncodable (I.encodable s.inner inner_g) (X.encodable s.index_codec index_g) l array.now.elements)
-        (ShardFits (I.fits s.inner inner_g) (X.fits s.index_codec index_g) (I.written s.inner inner_g) l array.now.elements) e) }
+    requires functional { IsTrue (⟦<ShardingCodec<I, X> as FunctionalCodec>⟧.functional codec.now) }
+    ensures scratch { let g = geo shape.now data_type.now fill_value.now in
+        IfOk result (λ shard. shard.items ≡ ⟦<ShardingCodec<I, X> as FunctionalCodec>⟧.encoding codec.now g array.now.elements) }
+    ensures lawful { let sharding = ⟦<ShardingCodec<I, X> as ArrayToBytesCodecTraits>⟧ in let g = geo shape.now data_type.now fill_value.now in
+        IfErr result (λ e. sharding.serves codec.now g → array.now.kind ≡ size_of data_type.now → IsArrayOf g array.now.elements
+        → MayRefuseEncode (sharding.encodable codec.now g array.now.elements) (sharding.fits codec.now g array.now.elements) e) }
 {
     codec.encode(alloc, array, shape, data_type, fill_value, options)
 }
@@ -120,30 +102,21 @@ pub fn compact_encoded<I: FunctionalCodec, X: FunctionalCodec>(
     fill_value: &FillValue,
     options: &CodecOptions,
 ) -> Result<Option<Vec<u8>>, CodecError>
-    requires serves { let g = geo shape.now data_type.now fill_value.now in let s = codec.now in
-        let inner_g = sub_geo s.subchunk_shape g in let index_g = index_geo (grid_of g.shape s.subchunk_shape) in
-        ShardServes (I.serves s.inner inner_g) (X.serves s.index_codec index_g) (X.representation s.index_codec index_g) s.subchunk_shape g }
+    requires serves { ⟦<ShardingCodec<I, X> as ArrayToBytesCodecTraits>⟧.serves codec.now (geo shape.now data_type.now fill_value.now) }
     requires array { IsArrayOf (geo shape.now data_type.now fill_value.now) array.now.elements }
     requires holds { let g = geo shape.now data_type.now fill_value.now in let s = codec.now in
-        let inner_g = sub_geo s.subchunk_shape g in let index_g = index_geo (grid_of g.shape s.subchunk_shape) in
-        Holds (I.written s.inner inner_g) (X.cells s.index_codec index_g)
-        (layout s.subchunk_shape s.location s.order (X.representation s.index_codec index_g) g) array.now.elements encoded.now }
+        let inner_written = I.written s.inner (sub_geo s.subchunk_shape g) in let index_cells = X.cells s.index_codec (index_geo (grid_of g.shape s.subchunk_shape)) in
+        Holds inner_written index_cells (layout_in X.representation s g) array.now.elements encoded.now }
     requires functional { let s = codec.now in IsTrue (I.functional s.inner && X.functional s.index_codec) }
-    ensures scratch { let g = geo shape.now data_type.now fill_value.now in let s = codec.now in
-        let inner_g = sub_geo s.subchunk_shape g in let index_g = index_geo (grid_of g.shape s.subchunk_shape) in
-        IfOk result (λ answer. IfSome answer (λ new. new.items ≡ scratch (I.encoding s.inner inner_g) (X.encoding s.index_codec index_g)
-        (layout s.subchunk_shape s.location s.order (X.representation s.index_codec index_g) g) array.now.elements)) }
-    ensures kept { let g = geo shape.now data_type.now fill_value.now in let s = codec.now in let index_g = index_geo (grid_of g.shape s.subchunk_shape) in
-        IfOk result (λ answer. IfNone answer (IsCompact (X.cells s.index_codec index_g)
-        (layout s.subchunk_shape s.location s.order (X.representation s.index_codec index_g) g) encoded.now)) }
-    ensures lawful { let g = geo shape.now data_type.now fill_value.now in let s = codec.now in
-        let inner_g = sub_geo s.subchunk_shape g in let index_g = index_geo (grid_of g.shape s.subchunk_shape) in
-        IfErr result (MayRefuseCompact (shard_cells (I.cells s.inner inner_g) (X.cells s.index_codec index_g)
-        (layout s.subchunk_shape s.location s.order (X.representation s.index_codec index_g) g) encoded.now)) }
-    ensures refused { let g = geo shape.now data_type.now fill_value.now in let s = codec.now in let index_g = index_geo (grid_of g.shape s.subchunk_shape) in
-        IfErr result (RefusedBy (CompactTests (X.serves s.index_codec index_g) (X.check_tests s.index_codec index_g) (X.representation s.index_codec index_g)
-        (X.decode_tests s.index_codec index_g) (X.cells s.index_codec index_g) (X.encodable s.index_codec index_g) (X.fits s.index_codec index_g)
-        (layout s.subchunk_shape s.location s.order (X.representation s.index_codec index_g) g) encoded.now)) }
+    ensures scratch { let g = geo shape.now data_type.now fill_value.now in
+        IfOk result (λ answer. IfSome answer (λ new. new.items ≡ ⟦<ShardingCodec<I, X> as FunctionalCodec>⟧.encoding codec.now g array.now.elements)) }
+    ensures kept { let g = geo shape.now data_type.now fill_value.now in let s = codec.now in
+        let index_cells = X.cells s.index_codec (index_geo (grid_of g.shape s.subchunk_shape)) in
+        IfOk result (λ answer. IfNone answer (IsCompact index_cells (layout_in X.representation s g) encoded.now)) }
+    ensures lawful { let g = geo shape.now data_type.now fill_value.now in
+        IfErr result (MayRefuseCompact (⟦<ShardingCodec<I, X> as ArrayToBytesCodecTraits>⟧.cells codec.now g encoded.now)) }
+    ensures refused { let g = geo shape.now data_type.now fill_value.now in
+        IfErr result (RefusedBy (⟦<ShardingCodec<I, X> as ArrayToBytesCodecTraits>⟧.compact_tests codec.now g encoded.now)) }
 {
     codec.compact(alloc, encoded, shape, data_type, fill_value, options)
 }
@@ -159,14 +132,10 @@ pub fn compact_again<I: ArrayToBytesCodecTraits, X: ArrayToBytesCodecTraits>(
     fill_value: &FillValue,
     options: &CodecOptions,
 ) -> Result<bool, CodecError>
-    requires serves { let g = geo shape.now data_type.now fill_value.now in let s = codec.now in
-        let inner_g = sub_geo s.subchunk_shape g in let index_g = index_geo (grid_of g.shape s.subchunk_shape) in
-        ShardServes (I.serves s.inner inner_g) (X.serves s.index_codec index_g) (X.representation s.index_codec index_g) s.subchunk_shape g }
+    requires serves { ⟦<ShardingCodec<I, X> as ArrayToBytesCodecTraits>⟧.serves codec.now (geo shape.now data_type.now fill_value.now) }
     ensures settled { IfOk result (λ settled. settled ≡ true) }
-    ensures refused { let g = geo shape.now data_type.now fill_value.now in let s = codec.now in let index_g = index_geo (grid_of g.shape s.subchunk_shape) in
-        IfErr result (RefusedBy (CompactTests (X.serves s.index_codec index_g) (X.check_tests s.index_codec index_g) (X.representation s.index_codec index_g)
-        (X.decode_tests s.index_codec index_g) (X.cells s.index_codec index_g) (X.encodable s.index_codec index_g) (X.fits s.index_codec index_g)
-        (layout s.subchunk_shape s.location s.order (X.representation s.index_codec index_g) g) bytes.now)) }
+    ensures refused { let g = geo shape.now data_type.now fill_value.now in
+        IfErr result (RefusedBy (⟦<ShardingCodec<I, X> as ArrayToBytesCodecTraits>⟧.compact_tests codec.now g bytes.now)) }
 {
     let Some(compacted) = codec.compact(alloc, bytes, shape, data_type, fill_value, options)? else {
         return Ok(true);
@@ -184,42 +153,55 @@ pub fn compact_again<I: ArrayToBytesCodecTraits, X: ArrayToBytesCodecTraits>(
 #[cfg(test)]
 mod tests {
     use super::*;
+    use crate::examples::{array_of, fill_of, shape_of};
     use crate::location::ShardingIndexLocation;
     use crate::order::SubchunkWriteOrder;
-    use std::borrow::CowSlice;
     use std::test::Fail;
     use zarr_codecs::BytesCodec;
 
-    // Two subchunks of two elements: the first is all fill, and the second stands behind the index.
-    #[test]
-    fn a_shard_has_one_encoding(rt: HostRuntime) -> Result<(), Fail> {
-        let alloc = rt.alloc();
-        let shape = ChunkShape::new(alloc, &[4])?.ok_or("no axis is 0")?;
-        let sub = ChunkShape::new(alloc, &[2])?.ok_or("no axis is 0")?;
+    // A codec, and what it is asked to serve.
+    #[derive(Drop)]
+    struct Asked {
+        codec: ShardingCodec<BytesCodec, BytesCodec>,
+        shape: ChunkShape,
+        fill: FillValue,
+    }
+
+    // Two subchunks of two one-byte elements each, behind their index.
+    fn example(alloc: Global) -> Result<Asked, CodecError> {
         let codec = ShardingCodec::new(
-            sub,
+            shape_of(alloc, &[2])?,
             BytesCodec::big(),
             BytesCodec::big(),
             ShardingIndexLocation::Start,
-        )
-        .with_subchunk_write_order(SubchunkWriteOrder::C);
-        let elements = CowSlice::Borrowed([0, 0, 7, 9].as_slice());
-        let array = ArrayBytes::new_flen(elements, 1).ok_or("whole elements")?;
-        let zero = FillValue::new([0].to_vec(alloc)?);
+        );
+        Ok(Asked {
+            codec: codec.with_subchunk_write_order(SubchunkWriteOrder::C),
+            shape: shape_of(alloc, &[4])?,
+            fill: fill_of(alloc, &[0])?,
+        })
+    }
+
+    // The first subchunk is all fill.
+    const ELEMENTS: [u8; 4] = [0, 0, 7, 9];
+
+    const BYTE: DataType = DataType::UInt8;
+
+    fn shard(alloc: Global, asked: &Asked) -> Result<Vec<u8>, CodecError> {
+        let array = array_of(alloc, &ELEMENTS, 1)?;
+        let Asked { codec, shape, fill } = asked;
         let options = CodecOptions::default();
-        let shard = encode_functional(
-            &codec,
-            alloc,
-            &array,
-            &shape,
-            &DataType::UInt8,
-            &zero,
-            &options,
-        )?;
-        assert_eq!(rt; shard.len(), 34);
-        assert_eq!(rt; &shard[..16], [255; 16].as_slice());
+        encode_functional(codec, alloc, &array, shape, &BYTE, fill, &options)
+    }
+
+    #[test]
+    fn a_shard_has_one_encoding(rt: HostRuntime) -> Result<(), Fail> {
+        let asked = example(rt.alloc())?;
+        let bytes = shard(rt.alloc(), &asked)?;
+        assert_eq!(rt; bytes.len(), 34);
+        assert_eq!(rt; &bytes[..16], [255; 16].as_slice());
         assert_eq!(rt;
-            &shard[16..],
+            &bytes[16..],
             [0, 0, 0, 0, 0, 0, 0, 32, 0, 0, 0, 0, 0, 0, 0, 2, 7, 9].as_slice()
         );
         Ok(())
@@ -229,39 +211,16 @@ mod tests {
     #[test]
     fn an_encoding_is_compact(rt: HostRuntime) -> Result<(), Fail> {
         let alloc = rt.alloc();
-        let shape = ChunkShape::new(alloc, &[4])?.ok_or("no axis is 0")?;
-        let sub = ChunkShape::new(alloc, &[2])?.ok_or("no axis is 0")?;
-        let codec = ShardingCodec::new(
-            sub,
-            BytesCodec::big(),
-            BytesCodec::big(),
-            ShardingIndexLocation::End,
-        );
-        let elements = CowSlice::Borrowed([0, 0, 7, 9].as_slice());
-        let array = ArrayBytes::new_flen(elements, 1).ok_or("whole elements")?;
-        let zero = FillValue::new([0].to_vec(alloc)?);
+        let asked = example(alloc)?;
+        let bytes = shard(alloc, &asked)?;
+        let array = array_of(alloc, &ELEMENTS, 1)?;
+        let Asked { codec, shape, fill } = &asked;
         let options = CodecOptions::default();
-        let shard = codec.encode(alloc, &array, &shape, &DataType::UInt8, &zero, &options)?;
         let compacted = compact_encoded(
-            &codec,
-            alloc,
-            &shard,
-            &array,
-            &shape,
-            &DataType::UInt8,
-            &zero,
-            &options,
+            codec, alloc, &bytes, &array, shape, &BYTE, fill, &options,
         )?;
         assert!(rt; compacted.is_none());
-        let decoded = decode_served(
-            &codec,
-            alloc,
-            &shard,
-            &shape,
-            &DataType::UInt8,
-            &zero,
-            &options,
-        )?;
+        let decoded = decode_served(codec, alloc, &bytes, shape, &BYTE, fill, &options)?;
         assert_eq!(rt; decoded, array);
         Ok(())
     }

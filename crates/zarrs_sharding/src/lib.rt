@@ -7,6 +7,8 @@ mod codec;
 mod compact;
 mod decode;
 mod encode;
+#[cfg(test)]
+mod examples;
 mod functional;
 mod grid;
 mod grouping;

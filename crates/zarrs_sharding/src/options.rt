@@ -93,12 +93,10 @@ impl<I, X> ShardingCodec<I, X> {
 #[cfg(test)]
 mod tests {
     use super::*;
+    use crate::examples::{Plain, shape_of};
     use crate::location::ShardingIndexLocation;
     use std::test::Fail;
     use zarr_codecs::{BytesCodec, FunctionalCodec};
-    use zarr_parts::ChunkShape;
-
-    type Plain = ShardingCodec<BytesCodec, BytesCodec>;
 
     fn is_ordered(order: SubchunkWriteOrder) -> bool {
         matches!(order, SubchunkWriteOrder::C)
@@ -122,9 +120,8 @@ mod tests {
 
     #[test]
     fn options_that_are_set_replace_the_codecs(rt: HostRuntime) -> Result<(), Fail> {
-        let sub = ChunkShape::new(rt.alloc(), &[2])?.ok_or("no axis is 0")?;
         let codec: Plain = ShardingCodec::new(
-            sub,
+            shape_of(rt.alloc(), &[2])?,
             BytesCodec::big(),
             BytesCodec::big(),
             ShardingIndexLocation::End,

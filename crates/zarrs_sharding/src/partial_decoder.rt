@@ -8,9 +8,9 @@ ghost use Rattle.zarr_codecs.specs.Handles.{IsRead, IsCounted, MayFault, seen};
 ghost use Rattle.zarr_codecs.specs.Reads.{ObjectTests};
 ghost use Rattle.zarr_codecs.specs.Refusals.{RefusesUnserved};
 ghost use Rattle.zarrs_sharding.specs.Index.{index_geo, numbers_in_index};
-ghost use Rattle.zarrs_sharding.specs.Serves.{sub_geo, fixed_size, ShardServes, CheckTests};
-ghost use Rattle.zarrs_sharding.specs.Plans.{IsIndexPlan, IsPlan};
-ghost use Rattle.zarrs_sharding.specs.Decoders.{HoldsIndex, IsOpen, IsKnown, OpenTests};
+ghost use Rattle.zarrs_sharding.specs.Serves.{fixed_size};
+ghost use Rattle.zarrs_sharding.specs.Plans.{IsIndexPlan};
+ghost use Rattle.zarrs_sharding.specs.Decoders.{HoldsIndex, index_in, IsOpen, IsKnown, OpenTests};
 
 mod reads;
 mod subchunks;
@@ -58,14 +58,19 @@ pub struct ShardingPartialDecoder<
 impl<'a, I: ArrayToBytesCodecTraits, X: ArrayToBytesCodecTraits, H: BytesPartialDecoderTraits> Model
     for ShardingPartialDecoder<'a, I, X, H> {
     ghost use Rattle.zarrs_sharding.specs.declared.codec.ShardingCodec.{ShardingCodec};
-    ghost use Rattle.zarrs_sharding.specs.Decoders.{Opened, opened, IsKnown};
+    ghost use Rattle.zarr_parts.specs.Grid.{grid_of};
+    ghost use Rattle.zarrs_sharding.specs.Index.{index_geo};
+    ghost use Rattle.zarrs_sharding.specs.Serves.{sub_geo, ShardServes};
+    ghost use Rattle.zarrs_sharding.specs.Decoders.{Opened, opened, index_in, IsKnown};
 
     // its codec, what it is asked to serve, its handle, and what it holds of the object
     ghost Value = { Opened (ShardingCodec I X) H };
 
     ghost view = { λ d. opened d.codec.now d.handle d.shard };
 
-    ghost invariant = { λ d. IsKnown I.serves X.serves X.representation X.cells H.tells H.contents d.codec.now d.handle d.shard };
+    ghost invariant = { λ d. IsKnown (λ s g. let inner_g = sub_geo s.subchunk_shape g in let index_g = index_geo (grid_of g.shape s.subchunk_shape) in
+        ShardServes (I.serves s.inner inner_g) (X.serves s.index_codec index_g) (X.representation s.index_codec index_g) s.subchunk_shape g)
+        (index_in X.representation X.cells) H.tells H.contents d.codec.now d.handle d.shard };
 }
 
 impl<I, X: ArrayToBytesCodecTraits> ShardingCodec<I, X> {
@@ -80,16 +85,15 @@ impl<I, X: ArrayToBytesCodecTraits> ShardingCodec<I, X> {
     ) -> Result<HeldIndex, CodecError>
         requires plan { IsIndexPlan (fixed_size (X.representation self.now.index_codec (index_geo grid.now))) grid.now plan.now }
         requires serves { X.serves self.now.index_codec (index_geo grid.now) }
-        ensures read { IsRead H.tells H.contents H.faults H.reads handle.old handle.new }
+        ensures read { IsRead H.tells H.contents H.faults H.supports handle.old handle.new }
         ensures room { IfOk result (λ held. held.len + 1 < 2 ^ 64) }
         ensures counted { IfOk result (λ held. IfSome (seen (λ numbers. numbers.items) held.index) (λ numbers. length numbers ≡ 2 * count_of grid.now)) }
         ensures held { IfOk result (λ held. IsTrue (H.tells handle.old)
             → HoldsIndex (numbers_in_index (X.cells self.now.index_codec (index_geo grid.now)) self.now.location plan.now.size)
             (H.contents handle.old) held.len (seen (λ numbers. numbers.items) held.index)) }
         ensures fault { IfErr result (IsCounted (H.faults handle.old) (H.faults handle.new)) }
-        ensures refused { let x = self.now.index_codec in let g = index_geo grid.now in
-            IfErr result (RefusedBy (ObjectTests (H.tells handle.old) (H.faults handle.old) (H.faults handle.new)
-            (OpenTests (X.decode_tests x g) (X.cells x g) self.now.location plan.now.size (H.contents handle.old)))) }
+        ensures refused { IfErr result (RefusedBy (ObjectTests (H.tells handle.old) (H.faults handle.old) (H.faults handle.new) (
+            OpenTests X.decode_tests X.representation X.cells self.now grid.now (H.contents handle.old)))) }
     {
         let Some(len) = handle.len()? else {
             return Ok(HeldIndex {
@@ -123,18 +127,15 @@ impl<I: ArrayToBytesCodecTraits, X: ArrayToBytesCodecTraits> ShardingCodec<I, X>
         fill_value: &FillValue,
         options: &CodecOptions,
     ) -> Result<OpenShard, CodecError>
-        ensures read { IsRead H.tells H.contents H.faults H.reads handle.old handle.new }
+        ensures read { IsRead H.tells H.contents H.faults H.supports handle.old handle.new }
         ensures asked { IfOk result (λ shard. geo shard.shape shard.data_type shard.fill_value ≡ geo shape.now data_type.now fill_value.now) }
-        ensures known { IfOk result (IsKnown I.serves X.serves X.representation X.cells H.tells H.contents self.now handle.new) }
+        ensures known { IfOk result (IsKnown ⟦<Self as ArrayToBytesCodecTraits>⟧.serves (index_in X.representation X.cells) H.tells H.contents self.now handle.new) }
         ensures fault { IfErr result (IsCounted (H.faults handle.old) (H.faults handle.new)) }
-        ensures refused { let g = geo shape.now data_type.now fill_value.now in let s = self.now in
-            let inner_g = sub_geo s.subchunk_shape g in let index_g = index_geo (grid_of g.shape s.subchunk_shape) in
-            let served = ShardServes (I.serves s.inner inner_g) (X.serves s.index_codec index_g) (X.representation s.index_codec index_g) s.subchunk_shape g in
+        ensures refused { let codec = ⟦<Self as ArrayToBytesCodecTraits>⟧ in let s = self.now in let g = geo shape.now data_type.now fill_value.now in
             IfErr result (RefusedBy (
-            served or_as RefusesUnserved served (CheckTests (I.serves s.inner inner_g) (X.serves s.index_codec index_g) (I.check_tests s.inner inner_g)
-            (X.check_tests s.index_codec index_g) (X.representation s.index_codec index_g) s.subchunk_shape g) then
+            codec.serves s g or_as RefusesUnserved (codec.serves s g) (codec.check_tests s g) then
             ObjectTests (H.tells handle.old) (H.faults handle.old) (H.faults handle.new) (
-            OpenTests (X.decode_tests s.index_codec index_g) (X.cells s.index_codec index_g) s.location (fixed_size (X.representation s.index_codec index_g)) (H.contents handle.old)))) }
+            OpenTests X.decode_tests X.representation X.cells s (grid_of g.shape s.subchunk_shape) (H.contents handle.old)))) }
     {
         let plan = self.prepared(alloc, shape, data_type, fill_value)?;
         let Plan {
@@ -170,18 +171,15 @@ impl<I: ArrayToBytesCodecTraits, X: ArrayToBytesCodecTraits> ShardingCodec<I, X>
     ) -> Result<ShardingPartialDecoder<'a, I, X, H>, (H, CodecError)>
         ensures codec { IfOk result (λ decoder. decoder.codec ≡ self.now) }
         ensures asked { IfOk result (λ decoder. decoder.geo ≡ geo shape.now data_type.now fill_value.now) }
-        ensures read { IfOk result (λ decoder. IsRead H.tells H.contents H.faults H.reads handle decoder.handle) }
-        ensures is_open { IfOk result (IsOpen I.serves X.serves X.representation X.cells H.tells H.contents) }
-        ensures returned { IfErr result (λ e. IsRead H.tells H.contents H.faults H.reads handle e.0) }
+        ensures read { IfOk result (λ decoder. IsRead H.tells H.contents H.faults H.supports handle decoder.handle) }
+        ensures is_open { IfOk result (IsOpen ⟦<Self as ArrayToBytesCodecTraits>⟧.serves (index_in X.representation X.cells) H.tells H.contents) }
+        ensures returned { IfErr result (λ e. IsRead H.tells H.contents H.faults H.supports handle e.0) }
         ensures fault { IfErr result (λ e. IsCounted (H.faults handle) (H.faults e.0) e.1) }
-        ensures refused { let g = geo shape.now data_type.now fill_value.now in let s = self.now in
-            let inner_g = sub_geo s.subchunk_shape g in let index_g = index_geo (grid_of g.shape s.subchunk_shape) in
-            let served = ShardServes (I.serves s.inner inner_g) (X.serves s.index_codec index_g) (X.representation s.index_codec index_g) s.subchunk_shape g in
+        ensures refused { let codec = ⟦<Self as ArrayToBytesCodecTraits>⟧ in let s = self.now in let g = geo shape.now data_type.now fill_value.now in
             IfErr result (λ e. RefusedBy (
-            served or_as RefusesUnserved served (CheckTests (I.serves s.inner inner_g) (X.serves s.index_codec index_g) (I.check_tests s.inner inner_g)
-            (X.check_tests s.index_codec index_g) (X.representation s.index_codec index_g) s.subchunk_shape g) then
+            codec.serves s g or_as RefusesUnserved (codec.serves s g) (codec.check_tests s g) then
             ObjectTests (H.tells handle) (H.faults handle) (H.faults e.0) (
-            OpenTests (X.decode_tests s.index_codec index_g) (X.cells s.index_codec index_g) s.location (fixed_size (X.representation s.index_codec index_g)) (H.contents handle))) e.1) }
+            OpenTests X.decode_tests X.representation X.cells s (grid_of g.shape s.subchunk_shape) (H.contents handle))) e.1) }
     {
         match self.open_shard(alloc, &mut handle, shape, data_type, fill_value, options) {
             Ok(shard) => Ok(ShardingPartialDecoder {
@@ -205,15 +203,15 @@ impl<
     /// The data type of the cells.
     pub fn data_type(&self) -> &DataType
         ensures data_type { result.now ≡ self.now.geo.data_type }
-        ensures is_open { IsOpen I.serves X.serves X.representation X.cells H.tells H.contents self.now }
+        ensures is_open { IsOpen ⟦<ShardingCodec<I, X> as ArrayToBytesCodecTraits>⟧.serves (index_in X.representation X.cells) H.tells H.contents self.now }
     {
         &self.shard.data_type
     }
 
     /// Whether there is an object. Refused only as `Fault`, where the handle failed.
     pub fn exists(&mut self) -> Result<bool, CodecError>
-        ensures unmoved { Unmoved H.tells H.contents H.faults H.reads self.old self.new }
-        ensures is_open { IsOpen I.serves X.serves X.representation X.cells H.tells H.contents self.new }
+        ensures unmoved { Unmoved H.tells H.contents H.faults H.supports self.old self.new }
+        ensures is_open { IsOpen ⟦<ShardingCodec<I, X> as ArrayToBytesCodecTraits>⟧.serves (index_in X.representation X.cells) H.tells H.contents self.new }
         ensures told { IfOk result (λ there. IsTrue (H.tells self.old.handle) → there ≡ is_some (H.contents self.old.handle)) }
         ensures refused { IfErr result (MayFault (H.faults self.old.handle) (H.faults self.new.handle)) }
     {
@@ -224,7 +222,7 @@ impl<
     /// these are more. Without an object it holds no index.
     pub fn size_held(&self) -> usize
         ensures held { result ≡ bytes_held (H.held self.now.handle) self.now.index }
-        ensures is_open { IsOpen I.serves X.serves X.representation X.cells H.tells H.contents self.now }
+        ensures is_open { IsOpen ⟦<ShardingCodec<I, X> as ArrayToBytesCodecTraits>⟧.serves (index_in X.representation X.cells) H.tells H.contents self.now }
     {
         let held = self.handle.size_held();
         match &self.shard.held.index {
@@ -235,8 +233,8 @@ impl<
 
     /// Whether the handle can be read in part.
     pub fn supports_partial_decode(&self) -> bool
-        ensures reads { result ≡ H.reads self.now.handle }
-        ensures is_open { IsOpen I.serves X.serves X.representation X.cells H.tells H.contents self.now }
+        ensures supported { result ≡ (H.supports self.now.handle).decode }
+        ensures is_open { IsOpen ⟦<ShardingCodec<I, X> as ArrayToBytesCodecTraits>⟧.serves (index_in X.representation X.cells) H.tells H.contents self.now }
     {
         self.handle.supports_partial_decode()
     }
@@ -244,7 +242,7 @@ impl<
     /// Gives the handle back. Takes no memory.
     pub fn close(self) -> H
         ensures handle { result ≡ self.entry.handle }
-        ensures is_open { IsOpen I.serves X.serves X.representation X.cells H.tells H.contents self.entry }
+        ensures is_open { IsOpen ⟦<ShardingCodec<I, X> as ArrayToBytesCodecTraits>⟧.serves (index_in X.representation X.cells) H.tells H.contents self.entry }
     {
         let ShardingPartialDecoder {
             codec: _,

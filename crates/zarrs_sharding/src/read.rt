@@ -42,7 +42,7 @@ impl<I: ArrayToBytesCodecTraits, X> ShardingCodec<I, X> {
         requires serves { I.serves self.now.inner (geo self.now.subchunk_shape data_type.now fill_value.now) }
         requires some { places.now ≢ [] }
         requires below { All (λ place. place < count_of self.now.subchunk_shape) places.now }
-        ensures read { IsRead H.tells H.contents H.faults H.reads handle.old handle.new }
+        ensures read { IsRead H.tells H.contents H.faults H.supports handle.old handle.new }
         ensures part { IfOk result (IsPartOf (size_of data_type.now) (length places.now)) }
         ensures cells { let g = geo self.now.subchunk_shape data_type.now fill_value.now in
             IfOk result (λ found. IsTrue (H.tells handle.old)
@@ -99,7 +99,7 @@ impl<I: ArrayToBytesCodecTraits, X> ShardingCodec<I, X> {
         requires groups { AreGrouped _shape.now self.now.subchunk_shape _numbers.now groups.now }
         requires below { All (λ k. k < count_of (grid_of _shape.now self.now.subchunk_shape)) groups.now.subchunks.items }
         requires places_below { All (All (λ place. place < count_of self.now.subchunk_shape)) (lists_of groups.now) }
-        ensures read { IsRead H.tells H.contents H.faults H.reads handle.old handle.new }
+        ensures read { IsRead H.tells H.contents H.faults H.supports handle.old handle.new }
         ensures counted { IfOk result (λ parts. length parts.items ≡ length groups.now.subchunks.items) }
         ensures parts { IfOk result (λ parts. (j : ℕ) → j < length parts.items
             → IsPartOf (size_of data_type.now) (length (slice_index_or (lists_of groups.now) j [])) (slice_index_or parts.items j None)) }

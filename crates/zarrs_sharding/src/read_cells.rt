@@ -12,12 +12,9 @@ ghost use Rattle.zarr_parts.specs.declared.error.CodecError.TheVariants.{TooLarg
 ghost use Rattle.zarr_codecs.specs.Handles.{IsRead, IsCounted};
 ghost use Rattle.zarr_codecs.specs.Reads.{interval_part, HasInterval, IsAnswer, IsReadOf, ObjectTests, IntervalTests};
 ghost use Rattle.zarrs_sharding.specs.Index.{index_geo};
-ghost use Rattle.zarrs_sharding.specs.Cells.{shard_cells};
-ghost use Rattle.zarrs_sharding.specs.Serves.{sub_geo, fixed_size, layout, ShardServes};
+ghost use Rattle.zarrs_sharding.specs.Serves.{fixed_size};
 ghost use Rattle.zarrs_sharding.specs.Plans.{IsPlan};
-ghost use Rattle.zarrs_sharding.specs.DecodeTests.{RefusesLengths};
-ghost use Rattle.zarrs_sharding.specs.ReadTests.{AnswerTests, PlacesTests, ReadTests};
-ghost use Rattle.zarrs_sharding.specs.Reading.{AreRead, element_read, bytes_read, read_by};
+ghost use Rattle.zarrs_sharding.specs.Reading.{AreRead, element_read, bytes_read, read_by, ReadByTests};
 
 use crate::check::Plan;
 use crate::codec::ShardingCodec;
@@ -147,7 +144,7 @@ impl<I: ArrayToBytesCodecTraits, X> ShardingCodec<I, X> {
         requires divides { Divides self.now.subchunk_shape shape.now }
         requires supported { HasElements data_type.now }
         requires fill { FitsKind (size_of data_type.now) fill_value.now }
-        ensures read { IsRead H.tells H.contents H.faults H.reads handle.old handle.new }
+        ensures read { IsRead H.tells H.contents H.faults H.supports handle.old handle.new }
         ensures kind { IfOk result (λ array. array.kind ≡ size_of data_type.now) }
         ensures counted { IfOk result (λ array. length array.elements ≡ length numbers.now) }
         ensures fitting { IfOk result (λ array. All (FitsKind (size_of data_type.now)) array.elements) }
@@ -155,11 +152,9 @@ impl<I: ArrayToBytesCodecTraits, X> ShardingCodec<I, X> {
             IfOk result (λ array. IsTrue (H.tells handle.old)
             → map (read_by (I.cells self.now.inner g) shape.now sub fill_value.now (interval_part outer (H.contents handle.old)) index.now) numbers.now ≡ map Some array.elements) }
         ensures fault { IfErr result (IsCounted (H.faults handle.old) (H.faults handle.new)) }
-        ensures refused { let g = geo self.now.subchunk_shape data_type.now fill_value.now in let x = self.now.inner in
-            let sub = self.now.subchunk_shape in let bytes = interval_part outer (H.contents handle.old) in
+        ensures refused { let g = geo shape.now data_type.now fill_value.now in
             IfErr result (RefusedBy (ObjectTests (H.tells handle.old) (H.faults handle.old) (H.faults handle.new)
-            (PlacesTests (AnswerTests (I.answerable x g) (I.read_tests x g)) (I.cells x g) shape.now sub bytes (Some index.now) numbers.now
-            (RefusesLengths (map (read_by (I.cells x g) shape.now sub fill_value.now bytes index.now) numbers.now))))) }
+            (ReadByTests I.answerable I.read_tests I.cells self.now g (interval_part outer (H.contents handle.old)) index.now numbers.now))) }
     {
         let groups = grouped(
             alloc,
@@ -199,28 +194,21 @@ impl<I: ArrayToBytesCodecTraits, X: ArrayToBytesCodecTraits> ShardingCodec<I, X>
         indexer: &N,
         options: &CodecOptions,
     ) -> Result<ArrayBytes<'static>, CodecError>
-        requires serves { let g = geo shape.now data_type.now fill_value.now in let s = self.now in
-            let inner_g = sub_geo s.subchunk_shape g in let index_g = index_geo (grid_of g.shape s.subchunk_shape) in
-            ShardServes (I.serves s.inner inner_g) (X.serves s.index_codec index_g) (X.representation s.index_codec index_g) s.subchunk_shape g }
+        requires serves { ⟦<Self as ArrayToBytesCodecTraits>⟧.serves self.now (geo shape.now data_type.now fill_value.now) }
         requires plan { let s = self.now in
             IsPlan (fixed_size (X.representation s.index_codec (index_geo (grid_of shape.now s.subchunk_shape)))) shape.now s.subchunk_shape plan.now }
         requires selection { IsSelectionOf shape.now (N.selection indexer.now) }
         requires count { count ≡ length (N.selection indexer.now).points }
         requires points { All (λ point. IsInside point shape.now) (N.selection indexer.now).points }
-        ensures read { IsRead H.tells H.contents H.faults H.reads handle.old handle.new }
+        ensures read { IsRead H.tells H.contents H.faults H.supports handle.old handle.new }
         ensures answer { IfOk result (IsAnswer (geo shape.now data_type.now fill_value.now) (N.selection indexer.now)) }
-        ensures cells { let g = geo shape.now data_type.now fill_value.now in let s = self.now in
-            let inner_g = sub_geo s.subchunk_shape g in let index_g = index_geo (grid_of g.shape s.subchunk_shape) in
+        ensures cells { let codec = ⟦<Self as ArrayToBytesCodecTraits>⟧ in let g = geo shape.now data_type.now fill_value.now in
             IfOk result (λ array. IsTrue (H.tells handle.old)
-            → IsReadOf (shard_cells (I.cells s.inner inner_g) (X.cells s.index_codec index_g) (layout s.subchunk_shape s.location s.order (X.representation s.index_codec index_g) g))
-            interval (H.contents handle.old) shape.now (N.selection indexer.now).points array.elements) }
+            → IsReadOf (codec.cells self.now g) interval (H.contents handle.old) shape.now (N.selection indexer.now).points array.elements) }
         ensures fault { IfErr result (IsCounted (H.faults handle.old) (H.faults handle.new)) }
-        ensures refused { let g = geo shape.now data_type.now fill_value.now in let s = self.now in
-            let inner_g = sub_geo s.subchunk_shape g in let index_g = index_geo (grid_of g.shape s.subchunk_shape) in
+        ensures refused { let codec = ⟦<Self as ArrayToBytesCodecTraits>⟧ in let g = geo shape.now data_type.now fill_value.now in
             IfErr result (RefusedBy (ObjectTests (H.tells handle.old) (H.faults handle.old) (H.faults handle.new) (
-            IntervalTests interval (H.contents handle.old) (λ b.
-            ReadTests (AnswerTests (I.answerable s.inner inner_g) (I.read_tests s.inner inner_g)) (X.decode_tests s.index_codec index_g) (I.cells s.inner inner_g) (X.cells s.index_codec index_g)
-            (layout s.subchunk_shape s.location s.order (X.representation s.index_codec index_g) g) b (N.selection indexer.now).points)))) }
+            IntervalTests interval (H.contents handle.old) (λ b. codec.read_tests self.now g b (N.selection indexer.now).points)))) }
     {
         check_interval(handle, interval)?;
         let numbers = point_numbers(alloc, indexer, count, shape)?;

@@ -1,117 +1,13 @@
 // Worked examples of whole shards, with numbers from outside this project.
 use super::*;
+use crate::examples::{
+    ABSENT, Plain, SIXTEEN, decoded, encoded, fill_of, index_bytes_of, plain, shape_of, shard_of,
+};
 use crate::grid::{calculate_chunks_per_shard, sharding_index_shape};
 use std::alloc::AllocError;
-use std::borrow::CowSlice;
+use std::process::Abort;
 use std::test::Fail;
 use zarr_codecs::BytesCodec;
-
-pub(crate) type Plain = ShardingCodec<BytesCodec, BytesCodec>;
-
-pub(crate) const ABSENT: u64 = u64::MAX;
-
-pub(crate) fn shape_of(alloc: Global, axes: &[u64]) -> Result<ChunkShape, CodecError> {
-    match ChunkShape::new(alloc, axes)? {
-        Some(shape) => Ok(shape),
-        None => Err(CodecError::OutOfBounds),
-    }
-}
-
-pub(crate) fn plain(
-    alloc: Global,
-    sub: &[u64],
-    location: ShardingIndexLocation,
-) -> Result<Plain, CodecError> {
-    let codec = ShardingCodec::new(
-        shape_of(alloc, sub)?,
-        BytesCodec::little(),
-        BytesCodec::little(),
-        location,
-    );
-    Ok(codec.with_subchunk_write_order(SubchunkWriteOrder::C))
-}
-
-// A sharding codec around another codec, with its index at the end.
-pub(crate) fn around<I: Drop>(
-    alloc: Global,
-    sub: &[u64],
-    inner: I,
-) -> Result<ShardingCodec<I, BytesCodec>, CodecError> {
-    let codec = ShardingCodec::new(
-        shape_of(alloc, sub)?,
-        inner,
-        BytesCodec::little(),
-        ShardingIndexLocation::End,
-    );
-    Ok(codec.with_subchunk_write_order(SubchunkWriteOrder::C))
-}
-
-fn array_of(alloc: Global, bytes: &[u8], size: usize) -> Result<ArrayBytes<'static>, CodecError> {
-    let copy = Vec::from_slice(alloc, bytes)?;
-    ArrayBytes::new_flen(CowSlice::Owned(copy), size).ok_or(CodecError::WrongElementKind)
-}
-
-pub(crate) fn fill_of(alloc: Global, bytes: &[u8]) -> Result<FillValue, CodecError> {
-    Ok(FillValue::new(Vec::from_slice(alloc, bytes)?))
-}
-
-// The numbers from 0 on, each of two bytes.
-pub(crate) fn counted(alloc: Global, many: u8) -> Result<Vec<u8>, AllocError> {
-    let mut bytes = Vec::new(alloc);
-    for i in 0..many {
-        bytes.push(i)?;
-        bytes.push(0)?;
-    }
-    Ok(bytes)
-}
-
-pub(crate) fn index_bytes_of(alloc: Global, numbers: &[u64]) -> Result<Vec<u8>, AllocError> {
-    let mut bytes: Vec<u8> = Vec::new(alloc);
-    for number in numbers {
-        bytes.extend_from_slice(&number.to_le_bytes())?;
-    }
-    Ok(bytes)
-}
-
-pub(crate) fn encoded<C: ArrayToBytesCodecTraits>(
-    alloc: Global,
-    codec: &C,
-    shape: &[u64],
-    data_type: DataType,
-    fill: &[u8],
-    elements: &[u8],
-) -> Result<Vec<u8>, CodecError> {
-    let array = array_of(alloc, elements, fill.len())?;
-    let bytes = codec.encode(
-        alloc,
-        &array,
-        &shape_of(alloc, shape)?,
-        &data_type,
-        &fill_of(alloc, fill)?,
-        &CodecOptions::default(),
-    )?;
-    Ok(bytes)
-}
-
-pub(crate) fn decoded<C: ArrayToBytesCodecTraits>(
-    alloc: Global,
-    codec: &C,
-    shape: &[u64],
-    data_type: DataType,
-    fill: &[u8],
-    bytes: &[u8],
-) -> Result<Vec<u8>, CodecError> {
-    let array = codec.decode(
-        alloc,
-        bytes,
-        &shape_of(alloc, shape)?,
-        &data_type,
-        &fill_of(alloc, fill)?,
-        &CodecOptions::default(),
-    )?;
-    let elements = array.fixed_bytes().ok_or(CodecError::WrongElementKind)?;
-    Ok(elements.to_vec(alloc)?)
-}
 
 fn index_of(
     alloc: Global,
@@ -128,55 +24,73 @@ fn index_of(
     Ok(numbers)
 }
 
-// The index at the start, four subchunks of four cells.
-#[test]
-fn four_subchunks_behind_their_index(rt: HostRuntime) -> Result<(), Fail> {
-    let alloc = rt.alloc();
-    let codec = plain(alloc, &[2, 2], ShardingIndexLocation::Start)?;
-    let elements = [0u8, 1, 2, 3, 4, 5, 6, 7, 8, 9, 10, 11, 12, 13, 14, 15];
-    let bytes = encoded(alloc, &codec, &[4, 4], DataType::UInt8, &[255], &elements)?;
-    let index = [64, 4, 68, 4, 72, 4, 76, 4];
-    let mut wanted = index_bytes_of(alloc, &index)?;
-    wanted.extend_from_slice(&[0u8, 1, 4, 5, 2, 3, 6, 7, 8, 9, 12, 13, 10, 11, 14, 15])?;
-    assert_eq!(rt; bytes.len(), 80);
-    assert!(rt; bytes == wanted);
-    assert_eq!(rt;
-        index_of(alloc, &codec, &[2, 2], &bytes)?.as_slice(),
-        index.as_slice()
-    );
-    let cells = decoded(alloc, &codec, &[4, 4], DataType::UInt8, &[255], &bytes)?;
-    assert_eq!(rt; cells.as_slice(), elements.as_slice());
+// The bytes of two parts.
+fn joined(alloc: Global, first: &[u8], second: &[u8]) -> Result<Vec<u8>, AllocError> {
+    let mut bytes = first.to_vec(alloc)?;
+    bytes.extend_from_slice(second)?;
+    Ok(bytes)
+}
+
+// Encodes cells of one byte, and decodes them again.
+fn compare_shard(
+    rt: &impl Abort,
+    alloc: Global,
+    codec: &Plain,
+    shape: &[u64],
+    fill: u8,
+    elements: &[u8],
+    wanted: &[u8],
+) -> Result<(), Fail> {
+    let bytes = encoded(alloc, codec, shape, DataType::UInt8, &[fill], elements)?;
+    assert_eq!(rt; bytes.as_slice(), wanted, "the shard of {elements:?}");
+    let cells = decoded(alloc, codec, shape, DataType::UInt8, &[fill], &bytes)?;
+    assert_eq!(rt; cells.as_slice(), elements);
     Ok(())
 }
 
-// A shard that is wholly the fill value is its index alone.
+// Four subchunks of four cells behind their index; a shard that is wholly the fill value, which is its index alone; and one
+// cell of no axes.
 #[test]
-fn all_fill(rt: HostRuntime) -> Result<(), Fail> {
+fn shards_are_encoded_and_decoded(rt: HostRuntime) -> Result<(), Fail> {
     let alloc = rt.alloc();
-    let codec = plain(alloc, &[2, 2], ShardingIndexLocation::End)?;
-    let bytes = encoded(alloc, &codec, &[4, 4], DataType::UInt8, &[0], &[0u8; 16])?;
-    assert_eq!(rt; bytes.as_slice(), [255u8; 64].as_slice());
-    let cells = decoded(alloc, &codec, &[4, 4], DataType::UInt8, &[0], &bytes)?;
-    assert_eq!(rt; cells.as_slice(), [0u8; 16].as_slice());
-    Ok(())
-}
-
-#[test]
-fn three_axes_of_two_bytes(rt: HostRuntime) -> Result<(), Fail> {
-    let alloc = rt.alloc();
-    let codec = plain(alloc, &[1, 2, 2], ShardingIndexLocation::End)?;
-    let elements = counted(alloc, 32)?;
-    let bytes = encoded(
-        alloc,
-        &codec,
-        &[2, 4, 4],
-        DataType::UInt16,
-        &[0, 0],
-        &elements,
-    )?;
-    assert_eq!(rt; bytes.len(), 192);
-    let cells = decoded(alloc, &codec, &[2, 4, 4], DataType::UInt16, &[0, 0], &bytes)?;
-    assert!(rt; cells == elements);
+    let mixed = [0u8, 1, 4, 5, 2, 3, 6, 7, 8, 9, 12, 13, 10, 11, 14, 15];
+    for (at_start, sub, shape, grid, fill, elements, index, slices) in [
+        (
+            true,
+            [2u64, 2].as_slice(),
+            [4u64, 4].as_slice(),
+            [2u64, 2].as_slice(),
+            255u8,
+            SIXTEEN.as_slice(),
+            [64, 4, 68, 4, 72, 4, 76, 4].as_slice(),
+            mixed.as_slice(),
+        ),
+        (
+            false,
+            &[2, 2],
+            &[4, 4],
+            &[2, 2],
+            0,
+            &[0; 16],
+            &[ABSENT; 8],
+            &[],
+        ),
+        (false, &[], &[], &[], 0, &[5], &[0, 1], &[5]),
+    ] {
+        let numbers = index_bytes_of(alloc, index)?;
+        let (location, wanted) = if at_start {
+            (
+                ShardingIndexLocation::Start,
+                joined(alloc, &numbers, slices)?,
+            )
+        } else {
+            (ShardingIndexLocation::End, joined(alloc, slices, &numbers)?)
+        };
+        let codec = plain(alloc, sub, location)?;
+        compare_shard(&rt, alloc, &codec, shape, fill, elements, &wanted)?;
+        let told = index_of(alloc, &codec, grid, &wanted)?;
+        assert_eq!(rt; told.as_slice(), index, "the index of {elements:?}");
+    }
     Ok(())
 }
 
@@ -225,63 +139,24 @@ fn few_of_many_subchunks(rt: HostRuntime) -> Result<(), Fail> {
     Ok(())
 }
 
+// Objects that are shorter than the index, whose size is 32; and data 5, 6 before an index whose second pair is half empty,
+// ends outside, or names three bytes.
 #[test]
-fn no_axes(rt: HostRuntime) -> Result<(), Fail> {
-    let alloc = rt.alloc();
-    let codec = plain(alloc, &[], ShardingIndexLocation::End)?;
-    let bytes = encoded(alloc, &codec, &[], DataType::UInt8, &[0], &[5])?;
-    assert_eq!(rt; bytes.len(), 17);
-    assert_eq!(rt;
-        index_of(alloc, &codec, &[], &bytes)?.as_slice(),
-        [0u64, 1].as_slice()
-    );
-    let cells = decoded(alloc, &codec, &[], DataType::UInt8, &[0], &bytes)?;
-    assert_eq!(rt; cells.as_slice(), [5u8].as_slice());
-    Ok(())
-}
-
-// A shard whose subchunks are shards.
-#[test]
-fn nested(rt: HostRuntime) -> Result<(), Fail> {
-    let alloc = rt.alloc();
-    let inner = plain(alloc, &[1], ShardingIndexLocation::End)?;
-    let codec = around(alloc, &[2], inner)?;
-    let options = CodecOptions::default();
-    let bytes = encoded(alloc, &codec, &[4], DataType::UInt8, &[0], &[1, 0, 0, 0])?;
-    assert_eq!(rt; bytes.len(), 65);
-    let numbers = codec.decode_index(alloc, &bytes, &shape_of(alloc, &[2])?, &options)?;
-    assert_eq!(rt; numbers.as_slice(), [0, 33, ABSENT, ABSENT].as_slice());
-    let cells = decoded(alloc, &codec, &[4], DataType::UInt8, &[0], &bytes)?;
-    assert_eq!(rt; cells.as_slice(), [1u8, 0, 0, 0].as_slice());
-    Ok(())
-}
-
-// Objects that are shorter than the index, whose size is 32.
-#[test]
-fn too_short(rt: HostRuntime) -> Result<(), Fail> {
+fn refused_objects(rt: HostRuntime) -> Result<(), Fail> {
     let alloc = rt.alloc();
     let codec = plain(alloc, &[2], ShardingIndexLocation::End)?;
-    for len in [0usize, 31] {
-        let bytes = vec![in alloc; 255u8; len]?;
+    for (length, refusal) in [
+        (0usize, Some(CodecError::ShardTooShort)),
+        (31, Some(CodecError::ShardTooShort)),
+        (32, None),
+    ] {
+        let bytes = vec![in alloc; 255u8; length]?;
         let index = index_of(alloc, &codec, &[2], &bytes);
-        assert!(rt; index.err() == Some(CodecError::ShardTooShort));
+        assert_eq!(rt; index.err(), refusal, "the index of {length} bytes");
         let cells = decoded(alloc, &codec, &[4], DataType::UInt8, &[0], &bytes);
-        assert!(rt; cells.err() == Some(CodecError::ShardTooShort));
+        assert_eq!(rt; cells.err(), refusal, "the cells of {length} bytes");
     }
-    let bytes = vec![in alloc; 255u8; 32]?;
-    assert_eq!(rt;
-        index_of(alloc, &codec, &[2], &bytes)?.as_slice(),
-        [ABSENT; 4].as_slice()
-    );
-    Ok(())
-}
-
-// Data 5, 6 before an index whose second pair is half empty, ends outside, or names three bytes.
-#[test]
-fn bad_and_damaged(rt: HostRuntime) -> Result<(), Fail> {
-    let alloc = rt.alloc();
-    let codec = plain(alloc, &[2], ShardingIndexLocation::End)?;
-    let cases = [
+    for (index, refusal) in [
         ([0, 2, ABSENT, 5], CodecError::BadIndexEntry { number: 1 }),
         (
             [0, 2, ABSENT - 1, 2],
@@ -291,12 +166,10 @@ fn bad_and_damaged(rt: HostRuntime) -> Result<(), Fail> {
         ([ABSENT, 0, 0, 3], CodecError::BadIndexEntry { number: 0 }),
         ([0, 3, ABSENT, 5], CodecError::Damaged),
         ([0, 2, 34, 0], CodecError::Damaged),
-    ];
-    for (index, wanted) in cases {
-        let mut bytes = Vec::from_slice(alloc, &[5u8, 6])?;
-        bytes.extend_from_slice(&index_bytes_of(alloc, &index)?)?;
+    ] {
+        let bytes = shard_of(alloc, &[5, 6], &index)?;
         let cells = decoded(alloc, &codec, &[4], DataType::UInt8, &[0], &bytes);
-        assert!(rt; cells.err() == Some(wanted));
+        assert_eq!(rt; cells.err(), Some(refusal), "with the index {index:?}");
     }
     Ok(())
 }
@@ -385,16 +258,6 @@ fn refused_shapes_and_types(rt: HostRuntime) -> Result<(), Fail> {
 }
 
 #[test]
-fn a_worker_for_each_subchunk(rt: HostRuntime) -> Result<(), Fail> {
-    let alloc = rt.alloc();
-    let codec = plain(alloc, &[2, 2], ShardingIndexLocation::End)?;
-    let workers = codec.recommended_concurrency(&shape_of(alloc, &[4, 6])?, &DataType::UInt16)?;
-    assert_eq!(rt; workers.min(), 1);
-    assert_eq!(rt; workers.max(), 6);
-    Ok(())
-}
-
-#[test]
 fn sizes_and_boxes(rt: HostRuntime) -> Result<(), Fail> {
     let alloc = rt.alloc();
     let codec = plain(alloc, &[2, 2], ShardingIndexLocation::End)?;
@@ -422,5 +285,7 @@ fn sizes_and_boxes(rt: HostRuntime) -> Result<(), Fail> {
         &fill,
     )?;
     assert!(rt; told == BytesRepresentation::BoundedSize(96));
+    let workers = codec.recommended_concurrency(&shape_of(alloc, &[4, 6])?, &DataType::UInt16)?;
+    assert_eq!(rt; (workers.min(), workers.max()), (1, 6));
     Ok(())
 }

@@ -1,18 +1,11 @@
 // Worked examples of shards with gaps and overlaps, with numbers from outside this project.
 use super::*;
-use crate::codec::tests::{ABSENT, Plain, encoded, fill_of, index_bytes_of, plain, shape_of};
+use crate::examples::{ABSENT, Plain, encoded, fill_of, index_bytes_of, plain, shape_of, shard_of};
 use crate::laws::compact_again;
 use crate::location::ShardingIndexLocation;
 use std::alloc::AllocError;
 use std::test::Fail;
 use zarr_parts::DataType;
-
-// A shard of these slices before their index.
-fn shard_of(alloc: Global, slices: &[u8], index: &[u64]) -> Result<Vec<u8>, AllocError> {
-    let mut bytes = Vec::from_slice(alloc, slices)?;
-    bytes.extend_from_slice(&index_bytes_of(alloc, index)?)?;
-    Ok(bytes)
-}
 
 // A shard of these numbers, of two bytes each, behind their index.
 fn wide_shard_of(alloc: Global, index: &[u64], numbers: &[u16]) -> Result<Vec<u8>, AllocError> {

@@ -1,50 +1,25 @@
 // Reads of some cells of a shard that is open.
-ghost use Rattle.std.specs.Prelude.{◌≡◌, ◌*◌, ◌^◌, ◌<◌, ◌≤◌, ℕ, List, [], IsTrue, Some, IfOk, IfErr, OnOk, OnErr, map, length, replicate, slice_index_or};
+ghost use Rattle.std.specs.Prelude.{◌≡◌, ◌*◌, ◌^◌, ◌≤◌, ℕ, List, [], IsTrue, Some, IfOk, IfErr, OnOk, OnErr, map, length, replicate, slice_index_or};
 ghost use Rattle.std.specs.List.{All};
-ghost use Rattle.zarr_parts.specs.Order.{done, RefusedBy};
-ghost use Rattle.zarr_parts.specs.Numbering.{count_of, IsInside};
-ghost use Rattle.zarr_parts.specs.Grid.{grid_of};
+ghost use Rattle.zarr_parts.specs.Order.{RefusedBy};
+ghost use Rattle.zarr_parts.specs.Numbering.{IsInside};
 ghost use Rattle.zarr_parts.specs.Geo.{geo};
-ghost use Rattle.zarr_parts.specs.Types.{size_of, byte_size, HasElements, FitsKind};
+ghost use Rattle.zarr_parts.specs.Types.{size_of, HasElements, FitsKind};
 ghost use Rattle.zarr_parts.specs.Selections.{IsSelectionOf};
 ghost use Rattle.zarr_parts.specs.Targets.{IsWritten, TargetTests};
-ghost use Rattle.zarr_parts.specs.declared.data_type.DataTypeSize.TheVariants.{Fixed};
 ghost use Rattle.zarr_parts.specs.declared.error.CodecError.TheVariants.{TooLarge};
 ghost use Rattle.zarr_codecs.specs.Handles.{IsRead, IsCounted, seen};
 ghost use Rattle.zarr_codecs.specs.Reads.{cells_at, IsAnswer, IsDecodedInto, AskedTests, ObjectTests};
-ghost use Rattle.zarrs_sharding.specs.Index.{index_geo};
-ghost use Rattle.zarrs_sharding.specs.Serves.{sub_geo, layout};
-ghost use Rattle.zarrs_sharding.specs.ReadTests.{AnswerTests};
-ghost use Rattle.zarrs_sharding.specs.Decoders.{IsOpen, IsKnown, Unmoved, object_cells, ObjectCellsTests};
+ghost use Rattle.zarrs_sharding.specs.Decoders.{index_in, IsOpen, IsKnown, Unmoved, object_cells, ObjectCellsTests};
 
 use super::{OpenShard, ShardingPartialDecoder};
 use crate::codec::ShardingCodec;
 use crate::read_cells::check_asked;
 use std::alloc::Global;
-use zarr_codecs::{ArrayToBytesCodecTraits, BytesPartialDecoderTraits, Interval};
+use zarr_codecs::{ArrayToBytesCodecTraits, BytesPartialDecoderTraits, Interval, check_target};
 use zarr_parts::{
-    ArrayBytes, CodecError, CodecOptions, DataType, DataTypeSize, FillValue, FixedTarget, Indexer,
-    point_numbers,
+    ArrayBytes, CodecError, CodecOptions, DataType, FillValue, FixedTarget, Indexer, point_numbers,
 };
-
-// Tests that a target has room for the cells that an indexer asks, of a type.
-fn check_target<N: Indexer>(
-    target: &FixedTarget,
-    indexer: &N,
-    data_type: &DataType,
-) -> Result<(), CodecError>
-    ensures kind { OnOk result (size_of data_type.now ≡ Fixed target.now.element_size) }
-    ensures counted { OnOk result (count_of target.now.subset.now.shape ≡ length (N.selection indexer.now).points) }
-    ensures refused { IfErr result (TargetTests (size_of data_type.now) (length (N.selection indexer.now).points) target.now done) }
-{
-    if data_type.size() != DataTypeSize::Fixed(target.element_size()) {
-        return Err(CodecError::WrongElementKind);
-    }
-    if indexer.len() != Some(target.num_elements()) {
-        return Err(CodecError::InvalidNumberOfElements);
-    }
-    Ok(())
-}
 
 // So many fill values of a type. Only where no number says how many bytes they have is this too large; `u64::MAX` elements
 // are more than any memory has.
@@ -81,24 +56,20 @@ impl<I: ArrayToBytesCodecTraits, X: ArrayToBytesCodecTraits> ShardingCodec<I, X>
         indexer: &N,
         options: &CodecOptions,
     ) -> Result<ArrayBytes<'static>, CodecError>
-        requires known { IsKnown I.serves X.serves X.representation X.cells H.tells H.contents self.now handle.old shard.now }
+        requires known { IsKnown ⟦<Self as ArrayToBytesCodecTraits>⟧.serves (index_in X.representation X.cells) H.tells H.contents self.now handle.old shard.now }
         requires index { seen (λ numbers. numbers.items) shard.now.held.index ≡ Some index.now }
         requires selection { IsSelectionOf shard.now.shape (N.selection indexer.now) }
         requires points { All (λ point. IsInside point shard.now.shape) (N.selection indexer.now).points }
         requires count { count ≡ length (N.selection indexer.now).points }
-        ensures read { IsRead H.tells H.contents H.faults H.reads handle.old handle.new }
+        ensures read { IsRead H.tells H.contents H.faults H.supports handle.old handle.new }
         ensures answer { IfOk result (IsAnswer (geo shard.now.shape shard.now.data_type shard.now.fill_value) (N.selection indexer.now)) }
-        ensures cells { let g = geo shard.now.shape shard.now.data_type shard.now.fill_value in let s = self.now in
-            let inner_g = sub_geo s.subchunk_shape g in let index_g = index_geo (grid_of g.shape s.subchunk_shape) in
+        ensures cells { let codec = ⟦<Self as ArrayToBytesCodecTraits>⟧ in let g = geo shard.now.shape shard.now.data_type shard.now.fill_value in
             IfOk result (λ array. IsTrue (H.tells handle.old)
-            → cells_at (object_cells (I.cells s.inner inner_g) (X.cells s.index_codec index_g) (layout s.subchunk_shape s.location s.order (X.representation s.index_codec index_g) g)
-            (H.contents handle.old)) g.shape (N.selection indexer.now).points ≡ map Some array.elements) }
+            → cells_at (object_cells (codec.cells self.now g) g (H.contents handle.old)) g.shape (N.selection indexer.now).points ≡ map Some array.elements) }
         ensures fault { IfErr result (IsCounted (H.faults handle.old) (H.faults handle.new)) }
-        ensures refused { let g = geo shard.now.shape shard.now.data_type shard.now.fill_value in let s = self.now in
-            let inner_g = sub_geo s.subchunk_shape g in let index_g = index_geo (grid_of g.shape s.subchunk_shape) in
+        ensures refused { let g = geo shard.now.shape shard.now.data_type shard.now.fill_value in
             IfErr result (RefusedBy (ObjectTests (H.tells handle.old) (H.faults handle.old) (H.faults handle.new) (
-            ObjectCellsTests (AnswerTests (I.answerable s.inner inner_g) (I.read_tests s.inner inner_g)) (I.cells s.inner inner_g) (X.cells s.index_codec index_g)
-            (layout s.subchunk_shape s.location s.order (X.representation s.index_codec index_g) g) (H.contents handle.old) (N.selection indexer.now).points))) }
+            ObjectCellsTests I.answerable I.read_tests I.cells X.representation X.cells self.now g (H.contents handle.old) (N.selection indexer.now).points))) }
     {
         let numbers = point_numbers(alloc, indexer, count, &shard.shape)?;
         let whole = Interval {
@@ -131,23 +102,19 @@ impl<I: ArrayToBytesCodecTraits, X: ArrayToBytesCodecTraits> ShardingCodec<I, X>
         indexer: &N,
         options: &CodecOptions,
     ) -> Result<ArrayBytes<'static>, CodecError>
-        requires known { IsKnown I.serves X.serves X.representation X.cells H.tells H.contents self.now handle.old shard.now }
+        requires known { IsKnown ⟦<Self as ArrayToBytesCodecTraits>⟧.serves (index_in X.representation X.cells) H.tells H.contents self.now handle.old shard.now }
         requires selection { IsSelectionOf shard.now.shape (N.selection indexer.now) }
         requires points { All (λ point. IsInside point shard.now.shape) (N.selection indexer.now).points }
         requires count { count ≡ length (N.selection indexer.now).points }
-        ensures read { IsRead H.tells H.contents H.faults H.reads handle.old handle.new }
+        ensures read { IsRead H.tells H.contents H.faults H.supports handle.old handle.new }
         ensures answer { IfOk result (IsAnswer (geo shard.now.shape shard.now.data_type shard.now.fill_value) (N.selection indexer.now)) }
-        ensures cells { let g = geo shard.now.shape shard.now.data_type shard.now.fill_value in let s = self.now in
-            let inner_g = sub_geo s.subchunk_shape g in let index_g = index_geo (grid_of g.shape s.subchunk_shape) in
+        ensures cells { let codec = ⟦<Self as ArrayToBytesCodecTraits>⟧ in let g = geo shard.now.shape shard.now.data_type shard.now.fill_value in
             IfOk result (λ array. IsTrue (H.tells handle.old)
-            → cells_at (object_cells (I.cells s.inner inner_g) (X.cells s.index_codec index_g) (layout s.subchunk_shape s.location s.order (X.representation s.index_codec index_g) g)
-            (H.contents handle.old)) g.shape (N.selection indexer.now).points ≡ map Some array.elements) }
+            → cells_at (object_cells (codec.cells self.now g) g (H.contents handle.old)) g.shape (N.selection indexer.now).points ≡ map Some array.elements) }
         ensures fault { IfErr result (IsCounted (H.faults handle.old) (H.faults handle.new)) }
-        ensures refused { let g = geo shard.now.shape shard.now.data_type shard.now.fill_value in let s = self.now in
-            let inner_g = sub_geo s.subchunk_shape g in let index_g = index_geo (grid_of g.shape s.subchunk_shape) in
+        ensures refused { let g = geo shard.now.shape shard.now.data_type shard.now.fill_value in
             IfErr result (RefusedBy (ObjectTests (H.tells handle.old) (H.faults handle.old) (H.faults handle.new) (
-            ObjectCellsTests (AnswerTests (I.answerable s.inner inner_g) (I.read_tests s.inner inner_g)) (I.cells s.inner inner_g) (X.cells s.index_codec index_g)
-            (layout s.subchunk_shape s.location s.order (X.representation s.index_codec index_g) g) (H.contents handle.old) (N.selection indexer.now).points))) }
+            ObjectCellsTests I.answerable I.read_tests I.cells X.representation X.cells self.now g (H.contents handle.old) (N.selection indexer.now).points))) }
     {
         let Some(index) = &shard.held.index else {
             let array = filled(alloc, &shard.data_type, count, &shard.fill_value)?;
@@ -175,21 +142,17 @@ impl<
         indexer: &N,
         options: &CodecOptions,
     ) -> Result<ArrayBytes<'static>, CodecError>
-        ensures unmoved { Unmoved H.tells H.contents H.faults H.reads self.old self.new }
-        ensures is_open { IsOpen I.serves X.serves X.representation X.cells H.tells H.contents self.new }
+        ensures unmoved { Unmoved H.tells H.contents H.faults H.supports self.old self.new }
+        ensures is_open { IsOpen ⟦<ShardingCodec<I, X> as ArrayToBytesCodecTraits>⟧.serves (index_in X.representation X.cells) H.tells H.contents self.new }
         ensures answer { IfOk result (IsAnswer self.old.geo (N.selection indexer.now)) }
-        ensures cells { let g = self.old.geo in let s = self.old.codec in
-            let inner_g = sub_geo s.subchunk_shape g in let index_g = index_geo (grid_of g.shape s.subchunk_shape) in
+        ensures cells { let codec = ⟦<ShardingCodec<I, X> as ArrayToBytesCodecTraits>⟧ in let s = self.old.codec in let g = self.old.geo in
             IfOk result (λ array. IsTrue (H.tells self.old.handle)
-            → cells_at (object_cells (I.cells s.inner inner_g) (X.cells s.index_codec index_g) (layout s.subchunk_shape s.location s.order (X.representation s.index_codec index_g) g)
-            (H.contents self.old.handle)) g.shape (N.selection indexer.now).points ≡ map Some array.elements) }
+            → cells_at (object_cells (codec.cells s g) g (H.contents self.old.handle)) g.shape (N.selection indexer.now).points ≡ map Some array.elements) }
         ensures fault { IfErr result (IsCounted (H.faults self.old.handle) (H.faults self.new.handle)) }
-        ensures refused { let g = self.old.geo in let s = self.old.codec in
-            let inner_g = sub_geo s.subchunk_shape g in let index_g = index_geo (grid_of g.shape s.subchunk_shape) in
-            IfErr result (RefusedBy (AskedTests g (N.selection indexer.now) (λ n. n * byte_size (size_of g.data_type) < 2 ^ 64) (
+        ensures refused { let codec = ⟦<ShardingCodec<I, X> as ArrayToBytesCodecTraits>⟧ in let s = self.old.codec in let g = self.old.geo in
+            IfErr result (RefusedBy (AskedTests g (N.selection indexer.now) (codec.answerable s g) (
             ObjectTests (H.tells self.old.handle) (H.faults self.old.handle) (H.faults self.new.handle) (
-            ObjectCellsTests (AnswerTests (I.answerable s.inner inner_g) (I.read_tests s.inner inner_g)) (I.cells s.inner inner_g) (X.cells s.index_codec index_g)
-            (layout s.subchunk_shape s.location s.order (X.representation s.index_codec index_g) g) (H.contents self.old.handle) (N.selection indexer.now).points)))) }
+            ObjectCellsTests I.answerable I.read_tests I.cells X.representation X.cells s g (H.contents self.old.handle) (N.selection indexer.now).points)))) }
     {
         let count = check_asked(indexer, &self.shard.shape, &self.shard.data_type)?;
         let array = self.codec.read_open(
@@ -214,25 +177,22 @@ impl<
         target: &mut FixedTarget,
         options: &CodecOptions,
     ) -> Result<(), CodecError>
-        ensures unmoved { Unmoved H.tells H.contents H.faults H.reads self.old self.new }
-        ensures is_open { IsOpen I.serves X.serves X.representation X.cells H.tells H.contents self.new }
+        ensures unmoved { Unmoved H.tells H.contents H.faults H.supports self.old self.new }
+        ensures is_open { IsOpen ⟦<ShardingCodec<I, X> as ArrayToBytesCodecTraits>⟧.serves (index_in X.representation X.cells) H.tells H.contents self.new }
         ensures selected { OnOk result (IsSelectionOf self.old.geo.shape (N.selection indexer.now)) }
         ensures written { OnOk result ((elements : List (List ℕ)) × IsWritten target.old target.new (λ k. slice_index_or elements k [])) }
-        ensures cells { let g = self.old.geo in let s = self.old.codec in
-            let inner_g = sub_geo s.subchunk_shape g in let index_g = index_geo (grid_of g.shape s.subchunk_shape) in
-            OnOk result (IsTrue (H.tells self.old.handle) → IsDecodedInto target.old target.new (cells_at (object_cells (I.cells s.inner inner_g) (X.cells s.index_codec index_g)
-            (layout s.subchunk_shape s.location s.order (X.representation s.index_codec index_g) g) (H.contents self.old.handle)) g.shape (N.selection indexer.now).points)) }
+        ensures cells { let codec = ⟦<ShardingCodec<I, X> as ArrayToBytesCodecTraits>⟧ in let s = self.old.codec in let g = self.old.geo in
+            OnOk result (IsTrue (H.tells self.old.handle)
+            → IsDecodedInto target.old target.new (cells_at (object_cells (codec.cells s g) g (H.contents self.old.handle)) g.shape (N.selection indexer.now).points)) }
         ensures kept { OnErr result (target.new ≡ target.old) }
         ensures fault { IfErr result (IsCounted (H.faults self.old.handle) (H.faults self.new.handle)) }
-        ensures refused { let g = self.old.geo in let s = self.old.codec in
-            let inner_g = sub_geo s.subchunk_shape g in let index_g = index_geo (grid_of g.shape s.subchunk_shape) in
+        ensures refused { let codec = ⟦<ShardingCodec<I, X> as ArrayToBytesCodecTraits>⟧ in let s = self.old.codec in let g = self.old.geo in
             IfErr result (RefusedBy (TargetTests (size_of g.data_type) (length (N.selection indexer.now).points) target.old (
-            AskedTests g (N.selection indexer.now) (λ n. n * byte_size (size_of g.data_type) < 2 ^ 64) (
+            AskedTests g (N.selection indexer.now) (codec.answerable s g) (
             ObjectTests (H.tells self.old.handle) (H.faults self.old.handle) (H.faults self.new.handle) (
-            ObjectCellsTests (AnswerTests (I.answerable s.inner inner_g) (I.read_tests s.inner inner_g)) (I.cells s.inner inner_g) (X.cells s.index_codec index_g)
-            (layout s.subchunk_shape s.location s.order (X.representation s.index_codec index_g) g) (H.contents self.old.handle) (N.selection indexer.now).points))))) }
+            ObjectCellsTests I.answerable I.read_tests I.cells X.representation X.cells s g (H.contents self.old.handle) (N.selection indexer.now).points))))) }
     {
-        check_target(target, indexer, &self.shard.data_type)?;
+        check_target(target, indexer.len(), &self.shard.data_type)?;
         let array = self.partial_decode(alloc, indexer, options)?;
         target.copy_from(&array)
     }

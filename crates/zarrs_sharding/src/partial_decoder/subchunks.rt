@@ -7,9 +7,10 @@ ghost use Rattle.std.specs.Cow.{cow_slice_items};
 ghost use Rattle.zarr_codecs.specs.Handles.{IsCounted, seen};
 ghost use Rattle.zarr_codecs.specs.Reads.{ObjectTests};
 ghost use Rattle.zarrs_sharding.specs.Decoding.{FitsSlot};
-ghost use Rattle.zarrs_sharding.specs.Decoders.{IsOpen, Unmoved, held_slot, IsRangeOf, IsSliceRead, SlotTests};
+ghost use Rattle.zarrs_sharding.specs.Decoders.{index_in, IsOpen, Unmoved, held_slot, IsRangeOf, IsSliceRead, SlotTests};
 
 use super::{HeldIndex, ShardingPartialDecoder};
+use crate::codec::ShardingCodec;
 use crate::slot::{Slot, slot_of};
 use std::alloc::Global;
 use std::borrow::CowSlice;
@@ -71,7 +72,7 @@ impl<
             IfOk result (IsRangeOf (held_slot self.now.len self.now.index (number_of subchunk.now grid))) }
         ensures refused { let grid = grid_of self.now.geo.shape self.now.codec.subchunk_shape in
             IfErr result (SlotTests grid subchunk.now (held_slot self.now.len self.now.index (number_of subchunk.now grid)) done) }
-        ensures is_open { IsOpen I.serves X.serves X.representation X.cells H.tells H.contents self.now }
+        ensures is_open { IsOpen ⟦<ShardingCodec<I, X> as ArrayToBytesCodecTraits>⟧.serves (index_in X.representation X.cells) H.tells H.contents self.now }
     {
         self.shard.held.range(self.shard.grid.as_slice(), subchunk)
     }
@@ -85,8 +86,8 @@ impl<
         alloc: Global,
         subchunk: &[u64],
     ) -> Result<Option<CowSlice<'static, u8>>, CodecError>
-        ensures unmoved { Unmoved H.tells H.contents H.faults H.reads self.old self.new }
-        ensures is_open { IsOpen I.serves X.serves X.representation X.cells H.tells H.contents self.new }
+        ensures unmoved { Unmoved H.tells H.contents H.faults H.supports self.old self.new }
+        ensures is_open { IsOpen ⟦<ShardingCodec<I, X> as ArrayToBytesCodecTraits>⟧.serves (index_in X.representation X.cells) H.tells H.contents self.new }
         ensures inside { OnOk result (IsInside subchunk.now (grid_of self.old.geo.shape self.old.codec.subchunk_shape)) }
         ensures slice { let grid = grid_of self.old.geo.shape self.old.codec.subchunk_shape in
             IfOk result (λ o. IsSliceRead (held_slot self.old.len self.old.index (number_of subchunk.now grid)) (H.tells self.old.handle) (H.contents self.old.handle)

@@ -78,7 +78,7 @@ loop-j-preserved g c =
     let slot : c.slot_of-slot.result ≡ slot_at a.outer.size a.index.now (get_or numbers c.loop-j.j 0) = c.slot_of-slot.ensures.pair ∙ ap (slot_at a.outer.size a.index.now) number in
     let cells = rw (inv.read.tells_same, inv.read.contents_same, slot, places) at found.cells in
     record {
-      read = read_then h.tells h.contents h.faults h.reads a.handle.now c.loop-j.handle c.read_slot.new.handle inv.read found.read;
+      read = read_then h.tells h.contents h.faults h.supports a.handle.now c.loop-j.handle c.read_slot.new.handle inv.read found.read;
       counted = counted_more c.loop-j.parts.items c.push.new.self.items c.in_ok-part.part c.loop-j.j inv.counted c.in_ok-push.ensures.items;
       parts = each_more (λ i o. IsPartOf (size_of a.data_type.now) (length (get_or lists i [])) o) c.loop-j.parts.items c.push.new.self.items c.in_ok-part.part c.loop-j.j
           inv.counted inv.parts c.in_ok-push.ensures.items (rw places at found.part);

@@ -1,5 +1,4 @@
 use Rattle.std.proofs.Common.{◌+◌, ◌^◌, ◌<◌, arith}
-use Rattle.zarrs_sharding.specs.Index.{index_geo}
 use Rattle.zarrs_sharding.proofs.RefusalLemmas.{passed_on}
 use Rattle.zarrs_sharding.proofs.DecoderLemmas.{open_refused}
 use Rattle.zarrs_sharding.proofs.codec.ShardingCodec.read_held.Goals as goal
@@ -10,11 +9,10 @@ returns-in_err-numbers-clause-refused g c =
     let x = g.X.ArrayToBytesCodecTraits in
     let h = g.H.BytesPartialDecoderTraits in
     let s = a.self.now in
-    let index_g = index_geo a.grid.now in
     let len = c.in-Some.len in
     let before = c.len.ensures.read in
     let room : len + 1 < 2 ^ 64 = omega (arith, c.if-len.false) in
     let e = c.in_err-numbers.field-0.0 in
     passed_on _ e _ c.from_residual-in_err-numbers.ensures.1
-    (open_refused (h.tells a.handle.now) _ (h.faults a.handle.now) _ _ len (h.contents a.handle.now) (x.decode_tests s.index_codec index_g) (x.cells s.index_codec index_g) s.location a.plan.now.size e
-    before.tells_same before.faults_kept room (rw c.in-Some.is at c.in_ok-len.ensures.told) (rw before.contents_same at c.in_err-numbers.ensures.refused))
+    (open_refused (h.tells a.handle.now) _ (h.faults a.handle.now) _ _ len (h.contents a.handle.now) x.decode_tests x.representation x.cells s a.grid.now a.plan.now.size e
+    before.tells_same before.faults_kept room (rw c.in-Some.is at c.in_ok-len.ensures.told) c.requires.plan.size (rw before.contents_same at c.in_err-numbers.ensures.refused))

@@ -2,8 +2,8 @@ use Rattle.std.proofs.Common.{refl, ◌∙◌}
 use Rattle.zarr_parts.specs.Geo.{geo}
 use Rattle.zarr_parts.specs.Grid.{grid_of}
 use Rattle.zarrs_sharding.specs.Index.{index_geo}
+use Rattle.zarrs_sharding.specs.Cells.{shard_cells}
 use Rattle.zarrs_sharding.specs.Serves.{sub_geo, layout}
-use Rattle.zarrs_sharding.specs.ReadTests.{AnswerTests}
 use Rattle.zarrs_sharding.specs.Decoders.{index_in}
 use Rattle.zarrs_sharding.proofs.RefusalLemmas.{passed_on}
 use Rattle.zarrs_sharding.proofs.DecoderLemmas.{no_object_cells, no_object_refused}
@@ -17,13 +17,10 @@ returns-in_err-array-clause-refused g c =
     let inner = g.I.ArrayToBytesCodecTraits in
     let outer = g.X.ArrayToBytesCodecTraits in
     let h = g.H.BytesPartialDecoderTraits in
-    let sub_g = sub_geo s.subchunk_shape asked in
-    let index_g = index_geo (grid_of a.shard.now.shape s.subchunk_shape) in
-    let l = layout s.subchunk_shape s.location s.order (outer.representation s.index_codec index_g) asked in
     let e = c.in_err-array.field-0.0 in
     passed_on _ e _ c.from_residual.ensures.1
-    (no_object_refused (h.tells a.handle.now) (h.faults a.handle.now) (h.faults a.handle.now) a.count (index_in outer.representation outer.cells s asked) (AnswerTests (inner.answerable s.inner sub_g) (inner.read_tests s.inner sub_g))
-    (inner.cells s.inner sub_g) (outer.cells s.index_codec index_g) l (h.contents a.handle.now) a.shard.now.held.len (g.N.Indexer.selection a.indexer.now).points e
+    (no_object_refused (h.tells a.handle.now) (h.faults a.handle.now) (h.faults a.handle.now) a.count (index_in outer.representation outer.cells s asked)
+    inner.answerable inner.read_tests inner.cells outer.representation outer.cells s asked (h.contents a.handle.now) a.shard.now.held.len (g.N.Indexer.selection a.indexer.now).points e
     (λ t. rw c.in_default.is at (c.requires.known.is_open.held t)) c.requires.points c.requires.count c.in_err-array.ensures.refused)
 
 pub returns-in_default-clause-cells : goal.returns-in_default-clause-cells
@@ -35,6 +32,6 @@ returns-in_default-clause-cells g c = λ t.
     let index_g = index_geo (grid_of a.shard.now.shape s.subchunk_shape) in
     let l = layout s.subchunk_shape s.location s.order (outer.representation s.index_codec index_g) asked in
     let held = rw c.in_default.is at (c.requires.known.is_open.held t) in
-    no_object_cells (index_in outer.representation outer.cells s asked) (g.I.ArrayToBytesCodecTraits.cells s.inner (sub_geo s.subchunk_shape asked)) (outer.cells s.index_codec index_g) l
+    no_object_cells (index_in outer.representation outer.cells s asked) (shard_cells (g.I.ArrayToBytesCodecTraits.cells s.inner (sub_geo s.subchunk_shape asked)) (outer.cells s.index_codec index_g) l) asked
     (g.H.BytesPartialDecoderTraits.contents a.handle.now) a.shard.now.held.len (g.N.Indexer.selection a.indexer.now).points held c.requires.points
     ∙ rw (c.in_ok-array.ensures.filled, c.requires.count) refl

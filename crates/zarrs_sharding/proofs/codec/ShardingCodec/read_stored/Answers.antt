@@ -2,7 +2,6 @@ use Rattle.zarr_parts.specs.Geo.{geo}
 use Rattle.zarr_parts.specs.Grid.{grid_of}
 use Rattle.zarrs_sharding.specs.Index.{index_geo}
 use Rattle.zarrs_sharding.specs.Serves.{sub_geo, layout}
-use Rattle.zarrs_sharding.specs.ReadTests.{AnswerTests}
 use Rattle.zarrs_sharding.proofs.RefusalLemmas.{passed_on}
 use Rattle.zarrs_sharding.proofs.DecoderLemmas.{stored_cells, stored_refused}
 use Rattle.zarrs_sharding.proofs.codec.ShardingCodec.read_stored.Goals as goal
@@ -10,17 +9,13 @@ use Rattle.zarrs_sharding.proofs.codec.ShardingCodec.read_stored.Goals as goal
 pub returns-in_err-array-clause-refused : goal.returns-in_err-array-clause-refused
 returns-in_err-array-clause-refused g c =
     let a = c.args in
-    let s = a.self.now in
     let asked = geo a.shard.now.shape a.shard.now.data_type a.shard.now.fill_value in
     let inner = g.I.ArrayToBytesCodecTraits in
     let outer = g.X.ArrayToBytesCodecTraits in
     let h = g.H.BytesPartialDecoderTraits in
-    let sub_g = sub_geo s.subchunk_shape asked in
-    let index_g = index_geo (grid_of a.shard.now.shape s.subchunk_shape) in
-    let l = layout s.subchunk_shape s.location s.order (outer.representation s.index_codec index_g) asked in
     let e = c.in_err-array.field-0.0 in
     passed_on _ e _ c.from_residual-in_err-array.ensures.1
-    (stored_refused (h.tells a.handle.now) (h.faults a.handle.now) _ (AnswerTests (inner.answerable s.inner sub_g) (inner.read_tests s.inner sub_g)) (inner.cells s.inner sub_g) (outer.cells s.index_codec index_g) l
+    (stored_refused (h.tells a.handle.now) (h.faults a.handle.now) _ inner.answerable inner.read_tests inner.cells outer.representation outer.cells a.self.now asked
     (h.contents a.handle.now) a.shard.now.held.len a.index.now c.in_ok-numbers.numbers.items (g.N.Indexer.selection a.indexer.now).points e
     (λ t. rw c.requires.index at (c.requires.known.is_open.held t)) c.requires.points c.in_ok-numbers.ensures.numbers (rw c.deref.ensures.value at c.in_err-array.ensures.refused))
 
@@ -35,6 +30,6 @@ returns-clause-cells g c = λ t.
     let sub_g = sub_geo s.subchunk_shape asked in
     let index_g = index_geo (grid_of a.shard.now.shape s.subchunk_shape) in
     let l = layout s.subchunk_shape s.location s.order (outer.representation s.index_codec index_g) asked in
-    stored_cells (inner.cells s.inner sub_g) (outer.cells s.index_codec index_g) l (h.contents a.handle.now) a.shard.now.held.len a.index.now c.in_ok-numbers.numbers.items
+    stored_cells (inner.cells s.inner sub_g) (outer.cells s.index_codec index_g) l asked (h.contents a.handle.now) a.shard.now.held.len a.index.now c.in_ok-numbers.numbers.items
     (g.N.Indexer.selection a.indexer.now).points c.in_ok-array.array.elements
     (rw c.requires.index at (c.requires.known.is_open.held t)) c.requires.points c.in_ok-numbers.ensures.numbers (rw c.deref.ensures.value at (c.in_ok-array.ensures.cells t))

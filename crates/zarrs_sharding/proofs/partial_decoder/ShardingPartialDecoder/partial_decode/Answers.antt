@@ -1,11 +1,7 @@
 use Rattle.std.proofs.Common.{◌*◌, ◌^◌, ◌<◌}
 use Rattle.zarr_parts.specs.Geo.{geo}
-use Rattle.zarr_parts.specs.Grid.{grid_of}
 use Rattle.zarr_parts.specs.Types.{size_of, byte_size}
 use Rattle.zarr_codecs.specs.Reads.{ObjectTests}
-use Rattle.zarrs_sharding.specs.Index.{index_geo}
-use Rattle.zarrs_sharding.specs.Serves.{sub_geo, layout}
-use Rattle.zarrs_sharding.specs.ReadTests.{AnswerTests}
 use Rattle.zarrs_sharding.specs.Decoders.{ObjectCellsTests}
 use Rattle.zarrs_sharding.proofs.RefusalLemmas.{passed_on}
 use Rattle.zarrs_sharding.proofs.DecoderLemmas.{asked_refused}
@@ -19,13 +15,10 @@ returns-in_err-array-clause-refused g c =
     let inner = g.I.ArrayToBytesCodecTraits in
     let outer = g.X.ArrayToBytesCodecTraits in
     let h = g.H.BytesPartialDecoderTraits in
-    let sub_g = sub_geo s.subchunk_shape asked in
-    let index_g = index_geo (grid_of asked.shape s.subchunk_shape) in
-    let l = layout s.subchunk_shape s.location s.order (outer.representation s.index_codec index_g) asked in
     let selection = g.N.Indexer.selection c.args.indexer.now in
     let e = c.in_err-array.field-0.0 in
     rw (← c.self.view_is) (passed_on _ e _ c.from_residual-in_err-array.ensures.1
     (asked_refused asked selection (λ n. n * byte_size (size_of d.shard.data_type) < 2 ^ 64)
     (ObjectTests (h.tells d.handle) (h.faults d.handle) (h.faults c.read_open.new.handle)
-    (ObjectCellsTests (AnswerTests (inner.answerable s.inner sub_g) (inner.read_tests s.inner sub_g)) (inner.cells s.inner sub_g) (outer.cells s.index_codec index_g) l (h.contents d.handle) selection.points))
+    (ObjectCellsTests inner.answerable inner.read_tests inner.cells outer.representation outer.cells s asked (h.contents d.handle) selection.points))
     e c.in_ok-count.ensures.selection c.in_ok-count.ensures.fits c.in_err-array.ensures.refused))
