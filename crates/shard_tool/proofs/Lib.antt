@@ -1,3 +1,4 @@
 pub mod TextLaws
 pub mod ElementLaws
 pub mod HexLaws
+mod OptionLaws

@@ -1,7 +1,6 @@
 -- Texts cut at a separator, and the numbers that digits write.
-use Rattle.std.proofs.Common.{◌≡◌, ◌<◌, ◌≤◌, ◌+◌, ◌-◌, ◌*◌, ℕ, Bool, true, false, cond, List, [], ◌∷◌, length, take, drop, slice_range, fold, get_or, ◌++◌, Option, Some, None, refl, sym, ap, ◌∙◌, arith, rules, tests, ltb}
-use Rattle.std.specs.List.{slice_split, All, position, position_or_len}
-use Rattle.std.specs.Char.{IsAsciiDigit}
+use Rattle.std.proofs.Common.{◌≡◌, ◌<◌, ◌≤◌, ◌+◌, ◌-◌, ◌*◌, ℕ, Bool, List, [], ◌∷◌, length, take, drop, slice_range, fold, get_or, ◌++◌, Some, None, ap, arith}
+use Rattle.std.specs.List.{slice_split, position, position_or_len}
 use Rattle.std.proofs.lemmas.List.Splits.{slice_split_none, slice_split_first}
 use Rattle.std.proofs.lemmas.List.Sums.{fails_before_first, fold-append, fold_more}
 use Rattle.std.proofs.lemmas.List.{take-append-drop}

@@ -1,5 +1,6 @@
 pub mod Text
 pub mod Elements
 pub mod Script
+pub mod Shards
 pub mod Refusals
 pub mod Hex

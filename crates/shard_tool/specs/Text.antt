@@ -1,5 +1,5 @@
 -- Texts, as lists of bytes: their pieces, and the numbers that they write.
-use Rattle.std.specs.Prelude.{◌≡◌, ◌≢◌, ◌==◌, ◌⊎◌, ℕ, ◌+◌, ◌-◌, ◌*◌, ◌≤◌, List, [], ◌∷◌, map, fold, Some, None}
+use Rattle.std.specs.Prelude.{◌≢◌, ◌==◌, ℕ, ◌+◌, ◌-◌, ◌*◌, ◌≤◌, List, [], fold, Some, None}
 use Rattle.std.specs.List.{slice_split, All}
 use Rattle.std.specs.Char.{IsAsciiDigit}
 use Rattle.shard_tool.specs.declared.pieces.Pieces.{Pieces}

@@ -1,8 +1,7 @@
 // The commands of a script, and how a line is read as one.
 use crate::element_type::ElementType;
 use crate::elements::{array_of, fill_value_of};
-use crate::hex::parse_bytes;
-use crate::parse::{parse_number, parse_numbers};
+use crate::parse::{parse_bytes, parse_number, parse_numbers};
 use crate::pieces::Pieces;
 use crate::selections::{parse_coordinates, parse_subset};
 use crate::stop::Stop;

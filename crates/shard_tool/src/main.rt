@@ -4,7 +4,6 @@
 mod command;
 mod element_type;
 mod elements;
-mod hex;
 mod parse;
 mod pieces;
 mod print;

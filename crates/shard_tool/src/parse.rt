@@ -1,5 +1,9 @@
-// The words of a line: numbers and lists of numbers.
-ghost use Rattle.std.specs.Prelude.{◌≡◌, ◌<◌, ◌^◌, ℕ, [], map, codes, SomeIff, IfOk};
+// The words of a line: numbers, lists of numbers, and bytes.
+ghost use Rattle.std.specs.Prelude.{◌≡◌, ◌<◌, ◌^◌, ◌++◌, ◌↔◌, ℕ, [], map, codes, SomeIff, IfOk, IsTrue};
+ghost use Rattle.std.specs.Char.{IsNotAsciiUppercase};
+ghost use Rattle.std.specs.List.{All};
+ghost use Rattle.hex.specs.Hex.{encode_lower};
+ghost use Rattle.shard_tool.specs.Hex.{IsHexWord};
 ghost use Rattle.shard_tool.specs.Text.{decimal_value, IsDecimal, IsNumber, members_of, IsNumberList};
 ghost use Rattle.shard_tool.specs.declared.stop.Stop.TheVariants.{Malformed};
 
@@ -62,4 +66,24 @@ pub fn parse_numbers(alloc: Global, word: &[u8], greatest: u64) -> Result<Vec<u6
         b"-" => Ok(Vec::new(alloc)),
         _ => parse_members(alloc, word, greatest),
     }
+}
+
+// Whether no letter of a text is in upper case.
+fn is_lower_case(text: &[u8]) -> bool
+    ensures { IsTrue result ↔ All IsNotAsciiUppercase text.now }
+{
+    text.iter().all(|byte| !byte.is_ascii_uppercase())
+}
+
+/// The bytes that a word writes: `x`, and two hexadecimal digits in lower case for each byte, the high one first.
+/// `Malformed` for any other word.
+pub fn parse_bytes(alloc: Global, word: &[u8]) -> Result<Vec<u8>, Stop>
+    ensures bytes { IfOk result (λ bytes. word.now ≡ codes "x" ++ encode_lower bytes.items) }
+    ensures malformed { result ≡ Err Malformed → ¬ IsHexWord word.now }
+{
+    let digits = word.strip_prefix(b"x").ok_or(Stop::Malformed)?;
+    if !is_lower_case(digits) {
+        return Err(Stop::Malformed);
+    }
+    Ok(hex::decode(alloc, digits)?)
 }

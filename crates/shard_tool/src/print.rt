@@ -3,7 +3,6 @@ ghost use Rattle.std.specs.Prelude.{◌≤◌, length};
 ghost use Rattle.std.specs.List.{All};
 
 use crate::elements::number_of;
-use crate::hex::hex_digits;
 use crate::refusals::{refusal_name, refusal_number};
 use std::io;
 use std::io::Write;
@@ -70,7 +69,7 @@ pub fn write_cells<W: Write>(out: &mut W, cells: &ArrayBytes) -> io::Result<()>
 pub fn write_object<W: Write>(out: &mut W, object: &[u8]) -> io::Result<()> {
     write!(out, "object {} x", object.len())?;
     for byte in object {
-        out.write_all(&hex_digits(*byte))?;
+        write!(out, "{byte:02x}")?;
     }
     out.write_all(b"\n")
 }

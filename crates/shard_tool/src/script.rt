@@ -1,5 +1,6 @@
 // Scripts: lines that are read, run and answered.
-ghost use Rattle.std.specs.Prelude.{◌≡◌, ◌≤◌, IfOk, IfSome, vec_len};
+ghost use Rattle.std.specs.Prelude.{◌≡◌, ◌≤◌, IfOk, IfErr, IfSome, vec_len};
+ghost use Rattle.shard_tool.specs.declared.stop.Stop.TheVariants.{Failed};
 ghost use Rattle.shard_tool.specs.declared.script.TheConstants.{MAX_INPUT};
 
 use crate::pieces::Pieces;
@@ -19,6 +20,7 @@ const MAX_READS: u32 = 33_554_432;
 // end is not met in `MAX_READS` calls, and where memory is refused.
 fn read_input<R: Read>(alloc: Global, reader: &mut R) -> Result<Vec<u8>, Stop>
     ensures bounded { IfOk result (λ input. vec_len input ≤ MAX_INPUT) }
+    ensures failed { IfErr result (λ stop. stop ≡ Failed) }
     ensures whole { IfOk result (λ input. IfSome (R.remaining reader.old) (λ bytes. input.items ≡ bytes)) }
 {
     let mut input: Vec<u8> = Vec::new(alloc);

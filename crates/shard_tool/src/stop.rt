@@ -1,4 +1,5 @@
 // Why a script ends before its input does.
+use hex::FromHexError;
 use std::alloc::{AllocError, AllocFailed};
 use std::io;
 
@@ -56,5 +57,20 @@ impl From<io::Error> for Stop {
 
     fn from(_error: io::Error) -> Stop {
         Stop::Failed
+    }
+}
+
+impl From<FromHexError> for Stop {
+    ghost use Rattle.std.specs.Prelude.{◌≡◌, ◌↔◌};
+    ghost use Rattle.hex.specs.declared.error.FromHexError.TheVariants.{OutOfMemory};
+    ghost use Rattle.shard_tool.specs.declared.stop.Stop.TheVariants.{Failed};
+
+    ghost from_gives = { λ error stop. (stop ≡ Failed) ↔ (error ≡ OutOfMemory) };
+
+    fn from(error: FromHexError) -> Stop {
+        match error {
+            FromHexError::OutOfMemory => Stop::Failed,
+            _ => Stop::Malformed,
+        }
     }
 }

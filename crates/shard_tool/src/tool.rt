@@ -1,7 +1,16 @@
 // What a script works on: the codec of its last `shard` and the object that it stored.
-ghost use Rattle.std.specs.Prelude.{◌≡◌, ◌≤◌, Some, None, IfOk, IfSome, IfNone, IsSomeAnd, OnOk, OnErr, length, vec_len};
+ghost use Rattle.std.specs.Prelude.{◌≡◌, ◌≤◌, Some, None, IfOk, IfErr, IfSome, IfNone, IsSomeAnd, OnOk, OnErr, length, map, vec_len};
 ghost use Rattle.std.specs.List.{All};
+ghost use Rattle.zarr_parts.specs.Grid.{grid_of};
+ghost use Rattle.zarr_parts.specs.Order.{◌or_as◌then◌, RefusedBy};
 ghost use Rattle.zarr_codecs.specs.Handles.{seen};
+ghost use Rattle.zarr_codecs.specs.Reads.{cells_at};
+ghost use Rattle.zarr_codecs.specs.Refusals.{RefusesUnserved};
+ghost use Rattle.zarrs_sharding.specs.Decoders.{object_cells};
+ghost use Rattle.zarrs_sharding.specs.Index.{index_geo, numbers_in_index};
+ghost use Rattle.zarrs_sharding.specs.Serves.{fixed_size, layout};
+ghost use Rattle.zarrs_sharding.specs.Compacting.{IsCompact};
+ghost use Rattle.shard_tool.specs.Shards.{codec_of, asked_by, geo_of};
 
 use crate::command::{Command, Settings};
 use crate::element_type::ElementType;
@@ -17,10 +26,12 @@ use zarr_codecs::{ArrayToBytesCodecTraits, BytesCodec, MemoryHandle};
 use zarr_parts::{ArrayBytes, ChunkShape, CodecError, CodecOptions, FillValue, Indexer};
 use zarrs_sharding::{ShardingCodec, SubchunkWriteOrder, calculate_chunks_per_shard};
 
+type Codec = ShardingCodec<BytesCodec, BytesCodec>;
+
 // A shard of one shape and type, and its object once something was stored.
 #[derive(Drop)]
 struct Shard {
-    codec: ShardingCodec<BytesCodec, BytesCodec>,
+    codec: Codec,
     shape: ChunkShape,
     chunks_per_shard: ChunkShape,
     element_type: ElementType,
@@ -31,7 +42,9 @@ struct Shard {
 impl Shard {
     // The shard of these settings, without an object. Refused as the codec's `check` refuses.
     fn new(alloc: Global, settings: Settings) -> Result<Self, CodecError>
-        ensures { IfOk result (λ shard. shard.object ≡ None) }
+        ensures made { IfOk result (λ shard. (shard.object ≡ None) × (shard.codec ≡ codec_of settings) × (geo_of shard ≡ asked_by settings)) }
+        ensures refused { let codec = ⟦<Codec as ArrayToBytesCodecTraits>⟧ in let c = codec_of settings in let g = asked_by settings in
+            IfErr result (RefusedBy (RefusesUnserved (codec.serves c g) (codec.check_tests c g))) }
     {
         let Settings {
             shape,
@@ -65,8 +78,13 @@ impl Shard {
 
     // Stores the encoding of these elements, and answers its length. Where that is refused the object stays.
     fn encode(&mut self, alloc: Global, elements: &ArrayBytes) -> Result<usize, CodecError>
-        ensures ok { IfOk result (λ len. IsSomeAnd self.new.object (λ object. vec_len object ≡ len)) }
-        ensures err { OnErr result (self.new.object ≡ self.old.object) }
+        ensures ok { IfOk result (λ len. IsSomeAnd self.new.object (λ object. (vec_len object ≡ len)
+            × ⟦<Codec as ArrayToBytesCodecTraits>⟧.written self.old.codec (geo_of self.old) elements.now.elements object.items)) }
+        ensures kept { OnErr result (self.new ≡ self.old) }
+        ensures refused { let codec = ⟦<Codec as ArrayToBytesCodecTraits>⟧ in let c = self.old.codec in let g = geo_of self.old in
+            IfErr result (RefusedBy (
+            codec.serves c g or_as RefusesUnserved (codec.serves c g) (codec.check_tests c g) then
+            codec.encode_tests c g elements.now)) }
     {
         let object = self.codec.encode(
             alloc,
@@ -81,12 +99,20 @@ impl Shard {
 
     // The elements of the object, where there is one.
     fn decode(&self, alloc: Global) -> Result<Option<ArrayBytes<'_>>, CodecError>
-        ensures { IfOk result (λ found. IfSome found (λ cells. All (λ element. length element ≤ 8) cells.elements)) }
+        ensures none { IfOk result (λ found. IfNone found (self.now.object ≡ None)) }
+        ensures cells { let codec = ⟦<Codec as ArrayToBytesCodecTraits>⟧ in
+            IfOk result (λ found. IfSome found (λ cells. IsSomeAnd self.now.object (λ object.
+            codec.cells self.now.codec (geo_of self.now) object.items ≡ map Some cells.elements))) }
+        ensures short { IfOk result (λ found. IfSome found (λ cells. All (λ element. length element ≤ 8) cells.elements)) }
+        ensures refused { let codec = ⟦<Codec as ArrayToBytesCodecTraits>⟧ in let c = self.now.codec in let g = geo_of self.now in
+            IfErr result (λ e. IsSomeAnd self.now.object (λ object. RefusedBy (
+            codec.serves c g or_as RefusesUnserved (codec.serves c g) (codec.check_tests c g) then
+            codec.decode_tests c g object.items) e)) }
     {
         let Some(object) = &self.object else {
             return Ok(None);
         };
-        let cells = self.codec.decode(
+        let array = self.codec.decode(
             alloc,
             object,
             &self.shape,
@@ -94,19 +120,24 @@ impl Shard {
             &self.fill_value,
             &CodecOptions::default(),
         )?;
-        Ok(Some(cells))
+        Ok(Some(array))
     }
 
     // The numbers of the object's index, where there is one.
-    fn index(&self, alloc: Global) -> Result<Option<Vec<u64>>, CodecError> {
+    fn index(&self, alloc: Global) -> Result<Option<Vec<u64>>, CodecError>
+        ensures none { IfOk result (λ found. IfNone found (self.now.object ≡ None)) }
+        ensures numbers { let bytes = ⟦<BytesCodec as ArrayToBytesCodecTraits>⟧ in let c = self.now.codec in let g = index_geo self.now.chunks_per_shard in
+            IfOk result (λ found. IfSome found (λ numbers. IsSomeAnd self.now.object (λ object.
+            numbers_in_index (bytes.cells c.index_codec g) c.location (fixed_size (bytes.representation c.index_codec g)) object.items ≡ Some numbers.items))) }
+    {
         let Some(object) = &self.object else {
             return Ok(None);
         };
         let options = CodecOptions::default();
-        let numbers = self
+        let index = self
             .codec
             .decode_index(alloc, object, &self.chunks_per_shard, &options)?;
-        Ok(Some(numbers))
+        Ok(Some(index))
     }
 
     // Stores these bytes as the object, and answers its length.
@@ -119,25 +150,47 @@ impl Shard {
         len
     }
 
-    // Compacts the object, and answers its new length; `None`, and the object stays, where there is nothing to gain
-    // or no object. Where that is refused the object stays.
-    fn compact(&mut self, alloc: Global) -> Result<Option<usize>, CodecError>
-        ensures compacted { IfOk result (λ answer. IfSome answer (λ len. IsSomeAnd self.new.object (λ object. vec_len object ≡ len))) }
-        ensures kept { IfOk result (λ answer. IfNone answer (self.new.object ≡ self.old.object)) }
-        ensures err { OnErr result (self.new.object ≡ self.old.object) }
+    // What a shard of these bytes is compacted to; nothing where there is nothing to gain.
+    fn compacted(&self, alloc: Global, bytes: &[u8]) -> Result<Option<Vec<u8>>, CodecError>
+        ensures compacted { let codec = ⟦<Codec as ArrayToBytesCodecTraits>⟧ in
+            IfOk result (λ answer. IfSome answer (λ new. codec.compacted self.now.codec (geo_of self.now) bytes.now new.items)) }
+        ensures nothing { let bytes_codec = ⟦<BytesCodec as ArrayToBytesCodecTraits>⟧ in let c = self.now.codec in let g = geo_of self.now in
+            let index_g = index_geo (grid_of g.shape c.subchunk_shape) in
+            IfOk result (λ answer. IfNone answer (IsCompact (bytes_codec.cells c.index_codec index_g)
+            (layout c.subchunk_shape c.location c.order (bytes_codec.representation c.index_codec index_g) g) bytes.now)) }
+        ensures refused { let codec = ⟦<Codec as ArrayToBytesCodecTraits>⟧ in
+            IfErr result (RefusedBy (codec.compact_tests self.now.codec (geo_of self.now) bytes.now)) }
     {
-        let Some(object) = &self.object else {
-            return Ok(None);
-        };
         let compacted = self.codec.compact(
             alloc,
-            object,
+            bytes,
             &self.shape,
             &self.element_type.data_type(),
             &self.fill_value,
             &CodecOptions::default(),
         )?;
-        match compacted {
+        Ok(compacted)
+    }
+
+    // Compacts the object, and answers its new length; `None`, and the object stays, where there is nothing to gain
+    // or no object. Where that is refused the object stays.
+    fn compact(&mut self, alloc: Global) -> Result<Option<usize>, CodecError>
+        ensures compacted { let codec = ⟦<Codec as ArrayToBytesCodecTraits>⟧ in
+            IfOk result (λ answer. IfSome answer (λ len. IsSomeAnd self.old.object (λ old. IsSomeAnd self.new.object (λ object. (vec_len object ≡ len)
+            × codec.compacted self.old.codec (geo_of self.old) old.items object.items)))) }
+        ensures nothing { let bytes = ⟦<BytesCodec as ArrayToBytesCodecTraits>⟧ in let c = self.old.codec in let g = geo_of self.old in
+            let index_g = index_geo (grid_of g.shape c.subchunk_shape) in
+            IfOk result (λ answer. IfNone answer (IfSome self.old.object (λ object. IsCompact (bytes.cells c.index_codec index_g)
+            (layout c.subchunk_shape c.location c.order (bytes.representation c.index_codec index_g) g) object.items))) }
+        ensures stays { IfOk result (λ answer. IfNone answer (self.new ≡ self.old)) }
+        ensures kept { OnErr result (self.new ≡ self.old) }
+        ensures refused { let codec = ⟦<Codec as ArrayToBytesCodecTraits>⟧ in
+            IfErr result (λ e. IsSomeAnd self.old.object (λ object. RefusedBy (codec.compact_tests self.old.codec (geo_of self.old) object.items) e)) }
+    {
+        let Some(object) = &self.object else {
+            return Ok(None);
+        };
+        match self.compacted(alloc, object)? {
             Some(bytes) => Ok(Some(self.store(bytes))),
             None => Ok(None),
         }
@@ -150,7 +203,10 @@ impl Shard {
         indexer: &N,
     ) -> Result<ArrayBytes<'static>, CodecError>
         ensures kept { seen (λ bytes. bytes.items) self.new.object ≡ seen (λ bytes. bytes.items) self.old.object }
-        ensures cells { IfOk result (λ cells. All (λ element. length element ≤ 8) cells.elements) }
+        ensures short { IfOk result (λ cells. All (λ element. length element ≤ 8) cells.elements) }
+        ensures cells { let codec = ⟦<Codec as ArrayToBytesCodecTraits>⟧ in let g = geo_of self.old in
+            IfOk result (λ array. cells_at (object_cells (codec.cells self.old.codec g) g (seen (λ bytes. bytes.items) self.old.object)) g.shape
+            (N.selection indexer.now).points ≡ map Some array.elements) }
     {
         let handle = MemoryHandle::new(self.object.take());
         let options = CodecOptions::default();
@@ -250,8 +306,10 @@ impl Tool {
 
     // Takes another shard. Where it is refused everything stays as it was.
     fn open(&mut self, alloc: Global, settings: Settings) -> Result<(), CodecError>
-        ensures ok { OnOk result (IsSomeAnd self.new.shard (λ shard. shard.object ≡ None)) }
-        ensures err { OnErr result (self.new ≡ self.old) }
+        ensures ok { OnOk result (IsSomeAnd self.new.shard (λ shard. (shard.object ≡ None) × (shard.codec ≡ codec_of settings) × (geo_of shard ≡ asked_by settings))) }
+        ensures kept { OnErr result (self.new ≡ self.old) }
+        ensures refused { let codec = ⟦<Codec as ArrayToBytesCodecTraits>⟧ in let c = codec_of settings in let g = asked_by settings in
+            IfErr result (RefusedBy (RefusesUnserved (codec.serves c g) (codec.check_tests c g))) }
     {
         self.shard = Some(Shard::new(alloc, settings)?);
         Ok(())

@@ -1,6 +1,7 @@
 // Scripts and their answers, worked by hand; readers and writers that fail.
 use super::*;
 use std::alloc::AllocError;
+use std::process::Abort;
 use std::test::Fail;
 
 // What a script answers, and its status behind it.
@@ -9,6 +10,18 @@ fn answers(alloc: Global, script: &str) -> Result<String, AllocError> {
     let status = run_script(alloc, script.as_bytes(), &mut out);
     let lines = String::from_utf8_lossy(alloc, &out)?;
     format!(in alloc; "{lines}{status}")
+}
+
+// Runs scripts, and asserts of each that it answers what stands beside it.
+fn compare(rt: &impl Abort, alloc: Global, cases: &[(&str, &str)]) -> Result<(), Fail> {
+    for (script, expected) in cases {
+        assert_eq!(rt;
+            answers(alloc, script)?.as_str(),
+            *expected,
+            "of {script:?}"
+        );
+    }
+    Ok(())
 }
 
 #[test]
@@ -49,14 +62,7 @@ fn lines_are_run_and_answered(rt: HostRuntime) -> Result<(), Fail> {
             "ok\n0",
         ),
     ];
-    for (script, expected) in cases {
-        assert_eq!(rt;
-            answers(rt.alloc(), script)?.as_str(),
-            expected,
-            "of {script:?}"
-        );
-    }
-    Ok(())
+    compare(&rt, rt.alloc(), &cases)
 }
 
 #[test]
@@ -91,14 +97,7 @@ fn refusals_change_nothing(rt: HostRuntime) -> Result<(), Fail> {
             "ok\nok 36\nok\nnone\n0",
         ),
     ];
-    for (script, expected) in cases {
-        assert_eq!(rt;
-            answers(rt.alloc(), script)?.as_str(),
-            expected,
-            "of {script:?}"
-        );
-    }
-    Ok(())
+    compare(&rt, rt.alloc(), &cases)
 }
 
 #[test]
@@ -121,14 +120,7 @@ fn objects_are_shown_and_set(rt: HostRuntime) -> Result<(), Fail> {
             "ok\nok 1\nok\nnone\n0",
         ),
     ];
-    for (script, expected) in cases {
-        assert_eq!(rt;
-            answers(rt.alloc(), script)?.as_str(),
-            expected,
-            "of {script:?}"
-        );
-    }
-    Ok(())
+    compare(&rt, rt.alloc(), &cases)
 }
 
 #[test]
@@ -144,14 +136,7 @@ fn objects_are_compacted(rt: HostRuntime) -> Result<(), Fail> {
             "ok\nok 36\ncompact none\ncells 1,2,3,4\n0",
         ),
     ];
-    for (script, expected) in cases {
-        assert_eq!(rt;
-            answers(rt.alloc(), script)?.as_str(),
-            expected,
-            "of {script:?}"
-        );
-    }
-    Ok(())
+    compare(&rt, rt.alloc(), &cases)
 }
 
 #[test]
@@ -178,14 +163,7 @@ fn cells_are_read(rt: HostRuntime) -> Result<(), Fail> {
             "ok\nok 1\nrefused 7 ShardTooShort\nrefused 7 ShardTooShort\nobject 1 x00\n0",
         ),
     ];
-    for (script, expected) in cases {
-        assert_eq!(rt;
-            answers(rt.alloc(), script)?.as_str(),
-            expected,
-            "of {script:?}"
-        );
-    }
-    Ok(())
+    compare(&rt, rt.alloc(), &cases)
 }
 
 #[test]
@@ -203,15 +181,13 @@ fn bad_objects_are_refused_and_stay(rt: HostRuntime) -> Result<(), Fail> {
         let expected = format!(in alloc;
             "ok\nok {len}\n{refused}{refused}{refused}object {len} x{bytes}\n0"
         )?;
-        assert_eq!(rt; answers(alloc, &script)?.as_str(), expected.as_str());
+        compare(&rt, alloc, &[(script.as_str(), expected.as_str())])?;
     }
-    let script =
-        "shard 4 2 uint8 0 end\nobject x1f000000000000000200000000000000ffffffffffffffffffffffffffffffff\ncompact\nindex";
-    assert_eq!(rt;
-        answers(alloc, script)?.as_str(),
-        "ok\nok 32\nrefused 9 BadIndexEntry\nindex 31,2,M,M\n0"
-    );
-    Ok(())
+    let cases = [(
+        "shard 4 2 uint8 0 end\nobject x1f000000000000000200000000000000ffffffffffffffffffffffffffffffff\ncompact\nindex",
+        "ok\nok 32\nrefused 9 BadIndexEntry\nindex 31,2,M,M\n0",
+    )];
+    compare(&rt, alloc, &cases)
 }
 
 #[test]
@@ -288,11 +264,7 @@ fn malformed_lines_end_a_script(rt: HostRuntime) -> Result<(), Fail> {
     ];
     for line in lines {
         let script = format!(in alloc; "shard 4 2 uint8 0 end\n\n{line}\nindex\n")?;
-        assert_eq!(rt;
-            answers(alloc, &script)?.as_str(),
-            "ok\nmalformed 3\n2",
-            "of {line:?}"
-        );
+        compare(&rt, alloc, &[(script.as_str(), "ok\nmalformed 3\n2")])?;
     }
     for line in [
         "encode 1",
@@ -305,11 +277,7 @@ fn malformed_lines_end_a_script(rt: HostRuntime) -> Result<(), Fail> {
         "cells 0",
         "none",
     ] {
-        assert_eq!(rt;
-            answers(alloc, line)?.as_str(),
-            "malformed 1\n2",
-            "of {line:?}"
-        );
+        compare(&rt, alloc, &[(line, "malformed 1\n2")])?;
     }
     Ok(())
 }

@@ -1,8 +1,6 @@
-use Rattle.std.proofs.Common.{◌≡◌, map, ◌++◌, ◌∷◌, sym, ap, ◌∙◌, append_assoc, arith, rules}
-use Rattle.std.specs.List.{All}
-use Rattle.std.proofs.lemmas.Grind.{common_steps}
+use Rattle.std.proofs.Common.{◌≡◌, ◌∷◌, append_assoc}
 use Rattle.std.proofs.lemmas.List.Elements.{All-cons, All-rest}
-use Rattle.shard_tool.specs.Text.{decimal_value, IsNumber, pieces_left}
+use Rattle.shard_tool.specs.Text.{IsNumber, pieces_left}
 use Rattle.shard_tool.proofs.parse.parse_members.Goals as goal
 
 pub loop-member-preserved : goal.loop-member-preserved

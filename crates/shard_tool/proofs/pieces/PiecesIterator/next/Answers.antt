@@ -1,5 +1,4 @@
-use Rattle.std.proofs.Common.{◌∙◌, sym, ap, length, rules, arith}
-use Rattle.std.proofs.lemmas.Grind.{common_steps}
+use Rattle.std.proofs.Common.{◌∙◌, sym, ap, length, arith}
 use Rattle.shard_tool.proofs.TextLaws.{slice_split-none, slice_split-some}
 use Rattle.shard_tool.proofs.pieces.PiecesIterator.next.Goals as goal
 
