@@ -153,55 +153,42 @@ pub fn compact_again<I: ArrayToBytesCodecTraits, X: ArrayToBytesCodecTraits>(
 #[cfg(test)]
 mod tests {
     use super::*;
-    use crate::examples::{array_of, fill_of, shape_of};
     use crate::location::ShardingIndexLocation;
     use crate::order::SubchunkWriteOrder;
+    use std::borrow::CowSlice;
     use std::test::Fail;
     use zarr_codecs::BytesCodec;
 
-    // A codec, and what it is asked to serve.
-    #[derive(Drop)]
-    struct Asked {
-        codec: ShardingCodec<BytesCodec, BytesCodec>,
-        shape: ChunkShape,
-        fill: FillValue,
-    }
-
-    // Two subchunks of two one-byte elements each, behind their index.
-    fn example(alloc: Global) -> Result<Asked, CodecError> {
+    // Two subchunks of two elements: the first is all fill, and the second stands behind the index.
+    #[test]
+    fn a_shard_has_one_encoding(rt: HostRuntime) -> Result<(), Fail> {
+        let alloc = rt.alloc();
+        let shape = ChunkShape::new(alloc, &[4])?.ok_or("no axis is 0")?;
+        let sub = ChunkShape::new(alloc, &[2])?.ok_or("no axis is 0")?;
         let codec = ShardingCodec::new(
-            shape_of(alloc, &[2])?,
+            sub,
             BytesCodec::big(),
             BytesCodec::big(),
             ShardingIndexLocation::Start,
-        );
-        Ok(Asked {
-            codec: codec.with_subchunk_write_order(SubchunkWriteOrder::C),
-            shape: shape_of(alloc, &[4])?,
-            fill: fill_of(alloc, &[0])?,
-        })
-    }
-
-    // The first subchunk is all fill.
-    const ELEMENTS: [u8; 4] = [0, 0, 7, 9];
-
-    const BYTE: DataType = DataType::UInt8;
-
-    fn shard(alloc: Global, asked: &Asked) -> Result<Vec<u8>, CodecError> {
-        let array = array_of(alloc, &ELEMENTS, 1)?;
-        let Asked { codec, shape, fill } = asked;
+        )
+        .with_subchunk_write_order(SubchunkWriteOrder::C);
+        let elements = CowSlice::Borrowed([0, 0, 7, 9].as_slice());
+        let array = ArrayBytes::new_flen(elements, 1).ok_or("whole elements")?;
+        let zero = FillValue::new([0].to_vec(alloc)?);
         let options = CodecOptions::default();
-        encode_functional(codec, alloc, &array, shape, &BYTE, fill, &options)
-    }
-
-    #[test]
-    fn a_shard_has_one_encoding(rt: HostRuntime) -> Result<(), Fail> {
-        let asked = example(rt.alloc())?;
-        let bytes = shard(rt.alloc(), &asked)?;
-        assert_eq!(rt; bytes.len(), 34);
-        assert_eq!(rt; &bytes[..16], [255; 16].as_slice());
+        let shard = encode_functional(
+            &codec,
+            alloc,
+            &array,
+            &shape,
+            &DataType::UInt8,
+            &zero,
+            &options,
+        )?;
+        assert_eq!(rt; shard.len(), 34);
+        assert_eq!(rt; &shard[..16], [255; 16].as_slice());
         assert_eq!(rt;
-            &bytes[16..],
+            &shard[16..],
             [0, 0, 0, 0, 0, 0, 0, 32, 0, 0, 0, 0, 0, 0, 0, 2, 7, 9].as_slice()
         );
         Ok(())
@@ -211,16 +198,39 @@ mod tests {
     #[test]
     fn an_encoding_is_compact(rt: HostRuntime) -> Result<(), Fail> {
         let alloc = rt.alloc();
-        let asked = example(alloc)?;
-        let bytes = shard(alloc, &asked)?;
-        let array = array_of(alloc, &ELEMENTS, 1)?;
-        let Asked { codec, shape, fill } = &asked;
+        let shape = ChunkShape::new(alloc, &[4])?.ok_or("no axis is 0")?;
+        let sub = ChunkShape::new(alloc, &[2])?.ok_or("no axis is 0")?;
+        let codec = ShardingCodec::new(
+            sub,
+            BytesCodec::big(),
+            BytesCodec::big(),
+            ShardingIndexLocation::End,
+        );
+        let elements = CowSlice::Borrowed([0, 0, 7, 9].as_slice());
+        let array = ArrayBytes::new_flen(elements, 1).ok_or("whole elements")?;
+        let zero = FillValue::new([0].to_vec(alloc)?);
         let options = CodecOptions::default();
+        let shard = codec.encode(alloc, &array, &shape, &DataType::UInt8, &zero, &options)?;
         let compacted = compact_encoded(
-            codec, alloc, &bytes, &array, shape, &BYTE, fill, &options,
+            &codec,
+            alloc,
+            &shard,
+            &array,
+            &shape,
+            &DataType::UInt8,
+            &zero,
+            &options,
         )?;
         assert!(rt; compacted.is_none());
-        let decoded = decode_served(codec, alloc, &bytes, shape, &BYTE, fill, &options)?;
+        let decoded = decode_served(
+            &codec,
+            alloc,
+            &shard,
+            &shape,
+            &DataType::UInt8,
+            &zero,
+            &options,
+        )?;
         assert_eq!(rt; decoded, array);
         Ok(())
     }

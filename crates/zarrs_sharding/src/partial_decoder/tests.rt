@@ -404,7 +404,7 @@ struct CountingHandle {
 }
 
 impl LendsSlice for CountingHandle {
-    ghost use Rattle.std.specs.Prelude.{true, Some, length};
+    ghost use Rattle.std.specs.Prelude.{true, false, Some, length};
 
     ghost tells = { λ _. true };
 
