@@ -44,7 +44,7 @@ impl Shard {
     fn new(alloc: Global, settings: Settings) -> Result<Self, CodecError>
         ensures made { IfOk result (λ shard. (shard.object ≡ None) × (shard.codec ≡ codec_of settings) × (geo_of shard ≡ asked_by settings)) }
         ensures refused { let codec = ⟦<Codec as ArrayToBytesCodecTraits>⟧ in let c = codec_of settings in let g = asked_by settings in
-            IfErr result (RefusedBy (RefusesUnserved (codec.serves c g) (codec.check_tests c g))) }
+            IfErr result (RefusedBy (RefusesUnserved (codec.meaning c g))) }
     {
         let Settings {
             shape,
@@ -79,12 +79,12 @@ impl Shard {
     // Stores the encoding of these elements, and answers its length. Where that is refused the object stays.
     fn encode(&mut self, alloc: Global, elements: &ArrayBytes) -> Result<usize, CodecError>
         ensures ok { IfOk result (λ len. IsSomeAnd self.new.object (λ object. (vec_len object ≡ len)
-            × ⟦<Codec as ArrayToBytesCodecTraits>⟧.written self.old.codec (geo_of self.old) elements.now.elements object.items)) }
+            × (⟦<Codec as ArrayToBytesCodecTraits>⟧.meaning self.old.codec (geo_of self.old)).written elements.now.elements object.items)) }
         ensures kept { OnErr result (self.new ≡ self.old) }
         ensures refused { let codec = ⟦<Codec as ArrayToBytesCodecTraits>⟧ in let c = self.old.codec in let g = geo_of self.old in
             IfErr result (RefusedBy (
-            codec.serves c g or_as RefusesUnserved (codec.serves c g) (codec.check_tests c g) then
-            codec.encode_tests c g elements.now)) }
+            (codec.meaning c g).serves or_as RefusesUnserved (codec.meaning c g) then
+            (codec.meaning c g).encode_tests elements.now)) }
     {
         let object = self.codec.encode(
             alloc,
@@ -102,12 +102,12 @@ impl Shard {
         ensures none { IfOk result (λ found. IfNone found (self.now.object ≡ None)) }
         ensures cells { let codec = ⟦<Codec as ArrayToBytesCodecTraits>⟧ in
             IfOk result (λ found. IfSome found (λ cells. IsSomeAnd self.now.object (λ object.
-            codec.cells self.now.codec (geo_of self.now) object.items ≡ map Some cells.elements))) }
+            (codec.meaning self.now.codec (geo_of self.now)).cells object.items ≡ map Some cells.elements))) }
         ensures short { IfOk result (λ found. IfSome found (λ cells. All (λ element. length element ≤ 8) cells.elements)) }
         ensures refused { let codec = ⟦<Codec as ArrayToBytesCodecTraits>⟧ in let c = self.now.codec in let g = geo_of self.now in
             IfErr result (λ e. IsSomeAnd self.now.object (λ object. RefusedBy (
-            codec.serves c g or_as RefusesUnserved (codec.serves c g) (codec.check_tests c g) then
-            codec.decode_tests c g object.items) e)) }
+            (codec.meaning c g).serves or_as RefusesUnserved (codec.meaning c g) then
+            (codec.meaning c g).decode_tests object.items) e)) }
     {
         let Some(object) = &self.object else {
             return Ok(None);
@@ -128,7 +128,7 @@ impl Shard {
         ensures none { IfOk result (λ found. IfNone found (self.now.object ≡ None)) }
         ensures numbers { let bytes = ⟦<BytesCodec as ArrayToBytesCodecTraits>⟧ in let c = self.now.codec in let g = index_geo self.now.chunks_per_shard in
             IfOk result (λ found. IfSome found (λ numbers. IsSomeAnd self.now.object (λ object.
-            numbers_in_index (bytes.cells c.index_codec g) c.location (fixed_size (bytes.representation c.index_codec g)) object.items ≡ Some numbers.items))) }
+            numbers_in_index (bytes.meaning c.index_codec g).cells c.location (fixed_size (bytes.meaning c.index_codec g).representation) object.items ≡ Some numbers.items))) }
     {
         let Some(object) = &self.object else {
             return Ok(None);
@@ -153,13 +153,13 @@ impl Shard {
     // What a shard of these bytes is compacted to; nothing where there is nothing to gain.
     fn compacted(&self, alloc: Global, bytes: &[u8]) -> Result<Option<Vec<u8>>, CodecError>
         ensures compacted { let codec = ⟦<Codec as ArrayToBytesCodecTraits>⟧ in
-            IfOk result (λ answer. IfSome answer (λ new. codec.compacted self.now.codec (geo_of self.now) bytes.now new.items)) }
+            IfOk result (λ answer. IfSome answer (λ new. (codec.meaning self.now.codec (geo_of self.now)).compacted bytes.now new.items)) }
         ensures nothing { let bytes_codec = ⟦<BytesCodec as ArrayToBytesCodecTraits>⟧ in let c = self.now.codec in let g = geo_of self.now in
             let index_g = index_geo (grid_of g.shape c.subchunk_shape) in
-            IfOk result (λ answer. IfNone answer (IsCompact (bytes_codec.cells c.index_codec index_g)
-            (layout c.subchunk_shape c.location c.order (bytes_codec.representation c.index_codec index_g) g) bytes.now)) }
+            IfOk result (λ answer. IfNone answer (IsCompact (bytes_codec.meaning c.index_codec index_g).cells
+            (layout c.subchunk_shape c.location c.order (bytes_codec.meaning c.index_codec index_g).representation g) bytes.now)) }
         ensures refused { let codec = ⟦<Codec as ArrayToBytesCodecTraits>⟧ in
-            IfErr result (RefusedBy (codec.compact_tests self.now.codec (geo_of self.now) bytes.now)) }
+            IfErr result (RefusedBy ((codec.meaning self.now.codec (geo_of self.now)).compact_tests bytes.now)) }
     {
         let compacted = self.codec.compact(
             alloc,
@@ -177,15 +177,15 @@ impl Shard {
     fn compact(&mut self, alloc: Global) -> Result<Option<usize>, CodecError>
         ensures compacted { let codec = ⟦<Codec as ArrayToBytesCodecTraits>⟧ in
             IfOk result (λ answer. IfSome answer (λ len. IsSomeAnd self.old.object (λ old. IsSomeAnd self.new.object (λ object. (vec_len object ≡ len)
-            × codec.compacted self.old.codec (geo_of self.old) old.items object.items)))) }
+            × (codec.meaning self.old.codec (geo_of self.old)).compacted old.items object.items)))) }
         ensures nothing { let bytes = ⟦<BytesCodec as ArrayToBytesCodecTraits>⟧ in let c = self.old.codec in let g = geo_of self.old in
             let index_g = index_geo (grid_of g.shape c.subchunk_shape) in
-            IfOk result (λ answer. IfNone answer (IfSome self.old.object (λ object. IsCompact (bytes.cells c.index_codec index_g)
-            (layout c.subchunk_shape c.location c.order (bytes.representation c.index_codec index_g) g) object.items))) }
+            IfOk result (λ answer. IfNone answer (IfSome self.old.object (λ object. IsCompact (bytes.meaning c.index_codec index_g).cells
+            (layout c.subchunk_shape c.location c.order (bytes.meaning c.index_codec index_g).representation g) object.items))) }
         ensures stays { IfOk result (λ answer. IfNone answer (self.new ≡ self.old)) }
         ensures kept { OnErr result (self.new ≡ self.old) }
         ensures refused { let codec = ⟦<Codec as ArrayToBytesCodecTraits>⟧ in
-            IfErr result (λ e. IsSomeAnd self.old.object (λ object. RefusedBy (codec.compact_tests self.old.codec (geo_of self.old) object.items) e)) }
+            IfErr result (λ e. IsSomeAnd self.old.object (λ object. RefusedBy ((codec.meaning self.old.codec (geo_of self.old)).compact_tests object.items) e)) }
     {
         let Some(object) = &self.object else {
             return Ok(None);
@@ -205,7 +205,7 @@ impl Shard {
         ensures kept { seen (λ bytes. bytes.items) self.new.object ≡ seen (λ bytes. bytes.items) self.old.object }
         ensures short { IfOk result (λ cells. All (λ element. length element ≤ 8) cells.elements) }
         ensures cells { let codec = ⟦<Codec as ArrayToBytesCodecTraits>⟧ in let g = geo_of self.old in
-            IfOk result (λ array. cells_at (object_cells (codec.cells self.old.codec g) g (seen (λ bytes. bytes.items) self.old.object)) g.shape
+            IfOk result (λ array. cells_at (object_cells (codec.meaning self.old.codec g).cells g (seen (λ bytes. bytes.items) self.old.object)) g.shape
             (N.selection indexer.now).points ≡ map Some array.elements) }
     {
         let handle = MemoryHandle::new(self.object.take());
@@ -309,7 +309,7 @@ impl Tool {
         ensures ok { OnOk result (IsSomeAnd self.new.shard (λ shard. (shard.object ≡ None) × (shard.codec ≡ codec_of settings) × (geo_of shard ≡ asked_by settings))) }
         ensures kept { OnErr result (self.new ≡ self.old) }
         ensures refused { let codec = ⟦<Codec as ArrayToBytesCodecTraits>⟧ in let c = codec_of settings in let g = asked_by settings in
-            IfErr result (RefusedBy (RefusesUnserved (codec.serves c g) (codec.check_tests c g))) }
+            IfErr result (RefusedBy (RefusesUnserved (codec.meaning c g))) }
     {
         self.shard = Some(Shard::new(alloc, settings)?);
         Ok(())

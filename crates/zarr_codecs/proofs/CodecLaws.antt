@@ -4,6 +4,7 @@ use Rattle.zarr_parts.specs.Arrays.{Array}
 use Rattle.zarr_parts.specs.declared.data_type.DataTypeSize.{DataTypeSize}
 use Rattle.zarr_parts.specs.declared.error.CodecError.{CodecError}
 use Rattle.zarr_parts.specs.declared.error.CodecError.TheVariants.{OutOfMemory, TooLarge, Fault}
+use Rattle.zarr_codecs.specs.Meanings.{Meaning}
 use Rattle.zarr_codecs.specs.Cells.{all_there}
 use Rattle.zarr_codecs.specs.Refusals.{AreDamaged, MayRefuseDecode}
 use Rattle.zarr_codecs.specs.RoundTrip.{MayRefuseRoundTrip}
@@ -36,10 +37,10 @@ undamaged cells xs is damaged =
     cc
 
 -- what `decode` may refuse of an array that was encoded
-pub refused_by_decode : (Encodable Fits : Type 0) (xs : List (List ℕ)) (cells : List (Option (List ℕ))) (e : CodecError) → cells ≡ map Some xs → MayRefuseDecode cells e
-    → MayRefuseRoundTrip Encodable Fits xs e
-refused_by_decode Encodable Fits xs cells OutOfMemory is h = tt
-refused_by_decode Encodable Fits xs cells TooLarge is (inl long) = inr (rw is at long)
-refused_by_decode Encodable Fits xs cells TooLarge is (inr damaged) = absurd (undamaged cells xs is damaged)
-refused_by_decode Encodable Fits xs cells Fault is h = absurd h
-refused_by_decode Encodable Fits xs cells _ is h = absurd (undamaged cells xs is h)
+pub refused_by_decode : (codec : Meaning) (xs : List (List ℕ)) (cells : List (Option (List ℕ))) (e : CodecError) → cells ≡ map Some xs → MayRefuseDecode cells e
+    → MayRefuseRoundTrip codec xs e
+refused_by_decode codec xs cells OutOfMemory is h = tt
+refused_by_decode codec xs cells TooLarge is (inl long) = inr (rw is at long)
+refused_by_decode codec xs cells TooLarge is (inr damaged) = absurd (undamaged cells xs is damaged)
+refused_by_decode codec xs cells Fault is h = absurd h
+refused_by_decode codec xs cells _ is h = absurd (undamaged cells xs is h)

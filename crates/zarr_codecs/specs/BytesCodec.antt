@@ -12,6 +12,7 @@ use Rattle.zarr_parts.specs.declared.data_type.DataType.TheVariants as type
 use Rattle.zarr_parts.specs.declared.data_type.DataTypeSize.TheVariants.{Fixed}
 use Rattle.zarr_parts.specs.declared.error.CodecError.{CodecError}
 use Rattle.zarr_parts.specs.declared.error.CodecError.TheVariants.{UnsupportedDataType, BadFillValue, TooLarge, WrongElementKind, InvalidNumberOfElements, Damaged}
+use Rattle.zarr_codecs.specs.Meanings.{Meaning}
 use Rattle.zarr_codecs.specs.declared.bytes_codec.Endianness.{Endianness}
 use Rattle.zarr_codecs.specs.declared.bytes_codec.Endianness.TheVariants.{Little, Big}
 use Rattle.zarr_codecs.specs.declared.representation.BytesRepresentation.{BytesRepresentation}
@@ -119,3 +120,21 @@ BytesReadTests g b points =
     length b ≡ count_of g.shape * element_size g or Damaged then
     length points * element_size g < 2 ^ 64 or TooLarge then
     done
+
+-- what the codec means
+abbrev pub bytes_meaning : Option Endianness → Geo → Meaning
+bytes_meaning endianness g = record {
+  serves = BytesServes endianness g;
+  cells = bytes_cells endianness g;
+  written = λ a b. b ≡ bytes_of endianness g a;
+  encodable = λ a. ⊤;
+  fits = λ a. ⊤;
+  representation = bytes_representation g;
+  check_tests = BytesCheckTests endianness g;
+  encode_tests = BytesEncodeTests g;
+  decode_tests = BytesDecodeTests g;
+  compacted = λ old new. ⊥;
+  compact_tests = λ b e. ⊥;
+  answerable = λ n. ⊤;
+  read_tests = BytesReadTests g;
+}

@@ -1,6 +1,7 @@
 -- What a handle is: an object's contents, bytes or none; whether the handle tells them; how often it failed; and what it can do in
 -- part. And what its reading calls do.
-use Rattle.std.specs.Prelude.{◌≡◌, ◌≤◌, ◌<◌, ⊤, ℕ, ◌+◌, ◌-◌, Bool, IsTrue, Option, Some, None, IfSome, Result, Ok, Err, IfOk, List, length, take, drop}
+use Rattle.std.specs.Prelude.{◌≡◌, ◌≤◌, ◌<◌, ⊤, ℕ, ◌+◌, ◌-◌, Bool, true, IsTrue, Option, Some, None, IfSome, Result, Ok, Err, IfOk, List, length, take, drop}
+use Rattle.std.specs.Option.{option_map_or}
 use Rattle.std.specs.Borrow.{follows_so, Fml, RattleType, MutBor}
 use mathlib.Core.Option.{none}
 use Rattle.zarr_parts.specs.declared.error.CodecError.{CodecError}
@@ -13,21 +14,34 @@ pub record Support : Type 0 where
   pub decode : Bool
   pub encode : Bool
 
+-- what a handle is: whether it tells its bytes, which never changes; the object's bytes, or none where there is no object; how often
+-- it failed, which never falls; how many bytes it holds in memory; and what can be done in part with the object, which never changes
+pub record HandleState : Type 0 where
+  pub tells : Bool
+  pub contents : Option (List ℕ)
+  pub faults : ℕ
+  pub held : ℕ
+  pub supports : Support
+
+-- an object in memory, that is read and written
+abbrev pub in_memory : Option (List ℕ) → HandleState
+in_memory object = record { tells = true; contents = object; faults = 0; held = option_map_or length object 0; supports = record { decode = true; encode = true } }
+
 -- a reading call leaves the contents, whether they are told and what is supported; and the count of faults never falls
-pub record IsRead {H : Type 0} (tells : H → Bool) (contents : H → Option (List ℕ)) (faults : H → ℕ) (supports : H → Support) (old new : H) : Type 0 where
-  pub tells_same : tells new ≡ tells old
-  pub contents_same : contents new ≡ contents old
-  pub faults_kept : faults old ≤ faults new
-  pub supports_same : supports new ≡ supports old
+pub record IsRead (old new : HandleState) : Type 0 where
+  pub tells_same : new.tells ≡ old.tells
+  pub contents_same : new.contents ≡ old.contents
+  pub faults_kept : old.faults ≤ new.faults
+  pub supports_same : new.supports ≡ old.supports
 
 -- a call that may be refused only as a fault, which was counted
-abbrev pub MayFault : ℕ → ℕ → CodecError → Type 0
-MayFault before after e = (e ≡ Fault) × before < after
+abbrev pub MayFault : HandleState → HandleState → CodecError → Type 0
+MayFault old new e = (e ≡ Fault) × old.faults < new.faults
 
 -- a refusal that is a fault was counted
-abbrev pub IsCounted : ℕ → ℕ → CodecError → Type 0
-IsCounted before after Fault = before < after
-IsCounted before after _ = ⊤
+abbrev pub IsCounted : HandleState → HandleState → CodecError → Type 0
+IsCounted old new Fault = old.faults < new.faults
+IsCounted old new _ = ⊤
 
 -- the bytes of a range
 abbrev pub range_part : ByteRange → List ℕ → List ℕ
@@ -53,9 +67,9 @@ IsPart range None answer = answer ≡ None
 IsPart range (Some bytes) answer = RangeLiesIn range bytes × (answer ≡ Some (range_part range bytes))
 
 -- what an accepted read of a range gives: bytes of the asked length, or nothing; of contents that are told, just the range's bytes
-pub record WasRead (range : ByteRange) (tells : Bool) (contents answer : Option (List ℕ)) : Type 0 where
+pub record WasRead (range : ByteRange) (state : HandleState) (answer : Option (List ℕ)) : Type 0 where
   pub asked : IfSome answer (HasAskedLength range)
-  pub told : IsTrue tells → IsPart range contents answer
+  pub told : IsTrue state.tells → IsPart range state.contents answer
 
 -- how a read of a range of such contents may be refused: for memory, as a fault, or out of bounds where the range doesn't lie in them
 abbrev pub MayRefuseRange : ByteRange → Option (List ℕ) → CodecError → Type 0
@@ -65,13 +79,12 @@ MayRefuseRange range (Some bytes) OutOfBounds = ¬ (RangeLiesIn range bytes)
 MayRefuseRange range contents _ = ⊥
 
 -- how a read of a range may be refused: a fault was counted, and contents that are told allow the refusal
-abbrev pub RefusesRead : ByteRange → Bool → Option (List ℕ) → ℕ → ℕ → CodecError → Type 0
-RefusesRead range tells contents before after e = IsCounted before after e × (IsTrue tells → MayRefuseRange range contents e)
+abbrev pub RefusesRead : ByteRange → HandleState → HandleState → CodecError → Type 0
+RefusesRead range old new e = IsCounted old new e × (IsTrue old.tells → MayRefuseRange range old.contents e)
 
 -- what a handle is after a read of a range, which gave this refusal or none
-abbrev pub HasRead : {H : Type 0} → (H → Bool) → (H → Option (List ℕ)) → (H → ℕ) → (H → Support) → ByteRange → H → H → Option CodecError → Type 0
-HasRead tells contents faults supports range old new e =
-    IsRead tells contents faults supports old new × IfSome e (RefusesRead range (tells old) (contents old) (faults old) (faults new))
+abbrev pub HasRead : ByteRange → HandleState → HandleState → Option CodecError → Type 0
+HasRead range old new e = IsRead old new × IfSome e (RefusesRead range old new)
 
 -- P holds of the value behind the `&mut` s once the borrow of it by a result ends
 abbrev pub Rests : (R : RattleType) → MutBor R.Denot → (R.Denot → Type 0) → Fml

@@ -1,4 +1,5 @@
 pub mod Cells
+pub mod Meanings
 pub mod Refusals
 pub mod RefusalLaws
 pub mod Representations

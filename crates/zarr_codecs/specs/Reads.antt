@@ -12,7 +12,7 @@ use Rattle.zarr_parts.specs.Selections.{Selection, IsSelectionOf, SelectionTests
 use Rattle.zarr_parts.specs.declared.error.CodecError.{CodecError}
 use Rattle.zarr_parts.specs.declared.error.CodecError.TheVariants.{OutOfMemory, OutOfBounds, TooLarge, Fault}
 use Rattle.zarr_codecs.specs.declared.bytes.Interval.{Interval}
-use Rattle.zarr_codecs.specs.Handles.{MayFault}
+use Rattle.zarr_codecs.specs.Handles.{HandleState, MayFault}
 use Rattle.zarr_codecs.specs.Refusals.{AreTooLong, AreDamaged}
 
 -- the bytes of an interval of an object; none where there is no object
@@ -63,8 +63,8 @@ IntervalTests interval contents tests =
     tests (interval_part interval contents)
 
 -- tests that look at an object: a fault that was counted may come at each of them; of an object that the handle does not tell nothing is said
-abbrev pub ObjectTests : Bool → ℕ → ℕ → (CodecError → Type 0) → CodecError → Type 0
-ObjectTests tells before after tests = λ e. IsTrue tells → MayFault before after e ⊎ tests e
+abbrev pub ObjectTests : HandleState → HandleState → (CodecError → Type 0) → CodecError → Type 0
+ObjectTests old new tests = λ e. IsTrue old.tells → MayFault old new e ⊎ tests e
 
 -- the tests of what is asked: so many cells as are asked can be answered
 abbrev pub AskedTests : Geo → Selection → (ℕ → Type 0) → (CodecError → Type 0) → CodecError → Type 0

@@ -3,6 +3,7 @@ use Rattle.std.specs.Prelude.{◌≡◌, ◌≤◌, ◌<◌, ◌^◌, ◌⊎◌,
 use Rattle.std.specs.List.{sum_by}
 use Rattle.zarr_parts.specs.declared.error.CodecError.{CodecError}
 use Rattle.zarr_parts.specs.declared.error.CodecError.TheVariants.{OutOfMemory, TooLarge, CannotEncode, Fault}
+use Rattle.zarr_codecs.specs.Meanings.{Meaning}
 use Rattle.zarr_codecs.specs.Cells.{all_there, cell_length}
 
 -- the cells at some places, no two of them one, have lengths that add up past what memory can address
@@ -17,8 +18,8 @@ abbrev pub AreDamaged : List (Option (List ℕ)) → Type 0
 AreDamaged cells = all_there cells ≡ None
 
 -- a codec refuses by its own tests, and only what it doesn't serve
-abbrev pub RefusesUnserved : Type 0 → (CodecError → Type 0) → CodecError → Type 0
-RefusesUnserved Serves tests e = (¬ Serves) × tests e
+abbrev pub RefusesUnserved : Meaning → CodecError → Type 0
+RefusesUnserved codec e = (¬ codec.serves) × codec.check_tests e
 
 -- the refusal isn't a fault
 abbrev pub IsNoFault : CodecError → Type 0
@@ -26,11 +27,11 @@ IsNoFault Fault = ⊥
 IsNoFault _ = ⊤
 
 -- how `encode` may refuse an array that is served
-abbrev pub MayRefuseEncode : Type 0 → Type 0 → CodecError → Type 0
-MayRefuseEncode Encodable Fits OutOfMemory = ⊤
-MayRefuseEncode Encodable Fits CannotEncode = ¬ Encodable
-MayRefuseEncode Encodable Fits TooLarge = ¬ Fits
-MayRefuseEncode Encodable Fits _ = ⊥
+abbrev pub MayRefuseEncode : Meaning → List (List ℕ) → CodecError → Type 0
+MayRefuseEncode codec elements OutOfMemory = ⊤
+MayRefuseEncode codec elements CannotEncode = ¬ (codec.encodable elements)
+MayRefuseEncode codec elements TooLarge = ¬ (codec.fits elements)
+MayRefuseEncode codec elements _ = ⊥
 
 -- how `decode` may refuse bytes that stand for these cells
 abbrev pub MayRefuseDecode : List (Option (List ℕ)) → CodecError → Type 0

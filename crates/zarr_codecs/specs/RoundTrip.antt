@@ -2,11 +2,12 @@
 use Rattle.std.specs.Prelude.{◌⊎◌, ⊤, ℕ, List, Some, map}
 use Rattle.zarr_parts.specs.declared.error.CodecError.{CodecError}
 use Rattle.zarr_parts.specs.declared.error.CodecError.TheVariants.{OutOfMemory, TooLarge, CannotEncode}
+use Rattle.zarr_codecs.specs.Meanings.{Meaning}
 use Rattle.zarr_codecs.specs.Refusals.{AreTooLong}
 
 -- how an array that is served may be refused on the way
-abbrev pub MayRefuseRoundTrip : Type 0 → Type 0 → List (List ℕ) → CodecError → Type 0
-MayRefuseRoundTrip Encodable Fits elements OutOfMemory = ⊤
-MayRefuseRoundTrip Encodable Fits elements CannotEncode = ¬ Encodable
-MayRefuseRoundTrip Encodable Fits elements TooLarge = (¬ Fits) ⊎ AreTooLong (map Some elements)
-MayRefuseRoundTrip Encodable Fits elements _ = ⊥
+abbrev pub MayRefuseRoundTrip : Meaning → List (List ℕ) → CodecError → Type 0
+MayRefuseRoundTrip codec elements OutOfMemory = ⊤
+MayRefuseRoundTrip codec elements CannotEncode = ¬ (codec.encodable elements)
+MayRefuseRoundTrip codec elements TooLarge = (¬ (codec.fits elements)) ⊎ AreTooLong (map Some elements)
+MayRefuseRoundTrip codec elements _ = ⊥

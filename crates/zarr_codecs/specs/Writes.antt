@@ -3,13 +3,13 @@ use Rattle.std.specs.Prelude.{◌≡◌, ◌≤◌, ◌<◌, ◌⊎◌, ⊤, ℕ
 use Rattle.std.specs.Borrow.{Bor}
 use Rattle.zarr_parts.specs.declared.error.CodecError.{CodecError}
 use Rattle.zarr_parts.specs.declared.error.CodecError.TheVariants.{OutOfMemory, TooLarge, Fault}
-use Rattle.zarr_codecs.specs.Handles.{Support}
+use Rattle.zarr_codecs.specs.Handles.{HandleState}
 
 -- a writing call leaves whether the contents are told and what is supported; and the count of faults never falls
-pub record IsWriting {H : Type 0} (tells : H → Bool) (faults : H → ℕ) (supports : H → Support) (old new : H) : Type 0 where
-  pub tells_same : tells new ≡ tells old
-  pub faults_kept : faults old ≤ faults new
-  pub supports_same : supports new ≡ supports old
+pub record IsWriting (old new : HandleState) : Type 0 where
+  pub tells_same : new.tells ≡ old.tells
+  pub faults_kept : old.faults ≤ new.faults
+  pub supports_same : new.supports ≡ old.supports
 
 -- no object has no bytes
 abbrev pub bytes_of : Option (List ℕ) → List ℕ
@@ -26,15 +26,15 @@ written_all pieces bytes = fold (λ written piece. written_at piece.0 piece.1.no
 
 -- how a write may be refused after which the object would have this size: for memory; as too large where it would reach 2^64 - 1
 -- bytes; or as a fault, which was counted
-abbrev pub RefusesWrite : Bool → ℕ → ℕ → ℕ → CodecError → Type 0
-RefusesWrite tells size before after OutOfMemory = ⊤
-RefusesWrite tells size before after TooLarge = IsTrue tells → 2 ^ 64 ≤ size + 1
-RefusesWrite tells size before after Fault = before < after
-RefusesWrite tells size before after _ = ⊥
+abbrev pub RefusesWrite : ℕ → HandleState → HandleState → CodecError → Type 0
+RefusesWrite size old new OutOfMemory = ⊤
+RefusesWrite size old new TooLarge = IsTrue old.tells → 2 ^ 64 ≤ size + 1
+RefusesWrite size old new Fault = old.faults < new.faults
+RefusesWrite size old new _ = ⊥
 
 -- a refusal that is no fault leaves the contents
-abbrev pub KeptUnlessFault : Option (List ℕ) → Option (List ℕ) → CodecError → Type 0
-KeptUnlessFault old new e = (e ≡ Fault) ⊎ (new ≡ old)
+abbrev pub KeptUnlessFault : HandleState → HandleState → CodecError → Type 0
+KeptUnlessFault old new e = (e ≡ Fault) ⊎ (new.contents ≡ old.contents)
 
 -- a handle that fails once: its object, and how many calls come before the one that fails, or none once it has failed
 pub record Faulting : Type 0 where

@@ -220,36 +220,15 @@ fn array_of_bytes<'a>(
 }
 
 impl ArrayToBytesCodecTraits for BytesCodec {
-    ghost use Rattle.std.specs.Prelude.{◌≡◌, ⊤};
     ghost use Rattle.zarr_parts.specs.Order.{done};
-    ghost use Rattle.zarr_codecs.specs.BytesCodec.{BytesServes, bytes_of, bytes_cells, bytes_representation, BytesCheckTests, BytesEncodeTests, BytesDecodeTests, BytesReadTests};
+    ghost use Rattle.zarr_codecs.specs.BytesCodec.{bytes_meaning};
     ghost use Rattle.zarr_codecs.specs.BytesCodecLaws.{bytes_cells_counted, bytes_cells_fitting, bytes_written_cells, length-bytes_of, bytes_check_faultless};
 
-    ghost serves = { λ endianness g. BytesServes endianness g };
-
-    ghost cells = { λ endianness g b. bytes_cells endianness g b };
-
-    ghost written = { λ endianness g a b. b ≡ bytes_of endianness g a };
-
-    ghost encodable = { λ _ _ _. ⊤ };
-
-    ghost fits = { λ _ _ _. ⊤ };
-
-    ghost representation = { λ _ g. bytes_representation g };
-
-    ghost check_tests = { λ endianness g. BytesCheckTests endianness g };
-
-    ghost encode_tests = { λ _ g array. BytesEncodeTests g array };
-
-    ghost decode_tests = { λ _ g b. BytesDecodeTests g b };
+    ghost meaning = { bytes_meaning };
 
     ghost concurrency = { λ _ _. 1 };
 
     ghost concurrency_tests = { λ _ _. done };
-
-    ghost answerable = { λ _ _ _. ⊤ };
-
-    ghost read_tests = { λ _ g b points. BytesReadTests g b points };
 
     ghost check_faultless = { λ endianness g e h. bytes_check_faultless endianness g e h };
 

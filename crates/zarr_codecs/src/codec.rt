@@ -12,6 +12,7 @@ ghost use Rattle.zarr_parts.specs.declared.data_type.DataTypeSize.TheVariants.{F
 ghost use Rattle.zarr_parts.specs.declared.error.CodecError.TheVariants.{TooLarge};
 ghost use Rattle.zarr_codecs.specs.Handles.{IsRead, IsCounted, MayFault};
 ghost use Rattle.zarr_codecs.specs.Reads.{IsDecodedInto, interval_part, cells_at, HasInterval, IsAnswer, IsReadOf, MayRefuseRead, AskedTests, ObjectTests, IntervalTests};
+ghost use Rattle.zarr_codecs.specs.Meanings.{Meaning};
 ghost use Rattle.zarr_codecs.specs.Refusals.{IsNoFault, RefusesUnserved, MayRefuseEncode, MayRefuseDecode, MayRefuseCompact};
 ghost use Rattle.zarr_codecs.specs.Representations.{IsWithin};
 ghost use Rattle.zarr_codecs.specs.declared.representation.BytesRepresentation.{BytesRepresentation};
@@ -49,50 +50,14 @@ pub fn check_target(
 /// A codec from arrays to bytes (Zarr V3 core, "Codecs"). Every call takes the shape, the data type and the
 /// fill value of the array that it is about. Every call makes the tests of `check` first.
 pub trait ArrayToBytesCodecTraits {
-    // which arrays the codec serves
-    ghost serves: { Self → Geo → Type 0 };
-
-    // what bytes stand for: as many cells as the shape has, each an element or none
-    ghost cells: { Self → Geo → List ℕ → List (Option (List ℕ)) };
-
-    // the bytes are an encoding of the elements
-    ghost written: { Self → Geo → List (List ℕ) → List ℕ → Type 0 };
-
-    // the elements have an encoding
-    ghost encodable: { Self → Geo → List (List ℕ) → Type 0 };
-
-    // what is made of the elements on the way can be addressed
-    ghost fits: { Self → Geo → List (List ℕ) → Type 0 };
-
-    // how long encodings are, or none where no number can say it
-    ghost representation: { Self → Geo → Option BytesRepresentation };
-
-    // how `check` refuses: its tests in their order
-    ghost check_tests: { Self → Geo → CodecError → Type 0 };
-
-    // how `encode` refuses after the tests of `check`
-    ghost encode_tests: { Self → Geo → Array → CodecError → Type 0 };
-
-    // how `decode` refuses after the tests of `check`
-    ghost decode_tests: { Self → Geo → List ℕ → CodecError → Type 0 };
-
-    // the second bytes are the first ones, rewritten without what isn't needed
-    ghost compacted: { Self → Geo → List ℕ → List ℕ → Type 0 } = { λ _ _ _ _. ⊥ };
-
-    // how `compact` refuses: its tests in their order
-    ghost compact_tests: { Self → Geo → List ℕ → CodecError → Type 0 } = { λ _ _ _ _. ⊥ };
+    // what the codec means for the arrays of a shape, a type and a fill value
+    ghost meaning: { Self → Geo → Meaning };
 
     // how many workers can share the work on an array of a shape
     ghost concurrency: { Self → List ℕ → ℕ };
 
     // how `recommended_concurrency` refuses: its tests in their order
     ghost concurrency_tests: { Self → List ℕ → CodecError → Type 0 };
-
-    // so many cells can be answered by one read
-    ghost answerable: { Self → Geo → ℕ → Type 0 };
-
-    // how a read of the cells at some coordinates refuses the bytes that it finds in its interval
-    ghost read_tests: { Self → Geo → List ℕ → List (List ℕ) → CodecError → Type 0 };
 
     /// Tests whether the codec serves these arrays. Each codec states its refusals and their order.
     fn check(
@@ -102,9 +67,9 @@ pub trait ArrayToBytesCodecTraits {
         data_type: &DataType,
         fill_value: &FillValue,
     ) -> Result<(), CodecError>
-        ensures serves { OnOk result (serves self.now (geo shape.now data_type.now fill_value.now)) }
-        ensures refused { let g = geo shape.now data_type.now fill_value.now in
-            IfErr result (RefusedBy (RefusesUnserved (serves self.now g) (check_tests self.now g))) };
+        ensures serves { OnOk result (meaning self.now (geo shape.now data_type.now fill_value.now)).serves }
+        ensures refused { let m = meaning self.now (geo shape.now data_type.now fill_value.now) in
+            IfErr result (RefusedBy (RefusesUnserved m)) };
 
     /// Encodes the elements of an array, which come in row-major order. Refused as `check` refuses, then as
     /// `WrongElementKind`, `InvalidNumberOfElements`, `CannotEncode` or `TooLarge`.
@@ -117,18 +82,18 @@ pub trait ArrayToBytesCodecTraits {
         fill_value: &FillValue,
         options: &CodecOptions,
     ) -> Result<Vec<u8>, CodecError>
-        ensures serves { OnOk result (serves self.now (geo shape.now data_type.now fill_value.now)) }
+        ensures serves { OnOk result (meaning self.now (geo shape.now data_type.now fill_value.now)).serves }
         ensures array { let g = geo shape.now data_type.now fill_value.now in
             OnOk result ((bytes.now.kind ≡ size_of data_type.now) × IsArrayOf g bytes.now.elements) }
-        ensures written { let g = geo shape.now data_type.now fill_value.now in
-            IfOk result (λ encoded. written self.now g bytes.now.elements encoded.items) }
-        ensures lawful { let g = geo shape.now data_type.now fill_value.now in
-            IfErr result (λ e. serves self.now g → bytes.now.kind ≡ size_of data_type.now → IsArrayOf g bytes.now.elements
-            → MayRefuseEncode (encodable self.now g bytes.now.elements) (fits self.now g bytes.now.elements) e) }
-        ensures refused { let g = geo shape.now data_type.now fill_value.now in
+        ensures written { let m = meaning self.now (geo shape.now data_type.now fill_value.now) in
+            IfOk result (λ encoded. m.written bytes.now.elements encoded.items) }
+        ensures lawful { let g = geo shape.now data_type.now fill_value.now in let m = meaning self.now g in
+            IfErr result (λ e. m.serves → bytes.now.kind ≡ size_of data_type.now → IsArrayOf g bytes.now.elements
+            → MayRefuseEncode m bytes.now.elements e) }
+        ensures refused { let m = meaning self.now (geo shape.now data_type.now fill_value.now) in
             IfErr result (RefusedBy (
-            serves self.now g or_as RefusesUnserved (serves self.now g) (check_tests self.now g) then
-            encode_tests self.now g bytes.now)) };
+            m.serves or_as RefusesUnserved m then
+            m.encode_tests bytes.now)) };
 
     /// Decodes an array. The answer may lend the bytes on. Refused as `check` refuses, then as the codec's
     /// bytes may be bad, or as `TooLarge`.
@@ -141,17 +106,17 @@ pub trait ArrayToBytesCodecTraits {
         fill_value: &FillValue,
         options: &CodecOptions,
     ) -> Result<ArrayBytes<'a>, CodecError>
-        ensures serves { OnOk result (serves self.now (geo shape.now data_type.now fill_value.now)) }
+        ensures serves { OnOk result (meaning self.now (geo shape.now data_type.now fill_value.now)).serves }
         ensures array { let g = geo shape.now data_type.now fill_value.now in
             IfOk result (λ array. (array.kind ≡ size_of data_type.now) × IsArrayOf g array.elements) }
-        ensures cells { let g = geo shape.now data_type.now fill_value.now in
-            IfOk result (λ array. cells self.now g bytes.now ≡ map Some array.elements) }
-        ensures lawful { let g = geo shape.now data_type.now fill_value.now in
-            IfErr result (λ e. serves self.now g → MayRefuseDecode (cells self.now g bytes.now) e) }
-        ensures refused { let g = geo shape.now data_type.now fill_value.now in
+        ensures cells { let m = meaning self.now (geo shape.now data_type.now fill_value.now) in
+            IfOk result (λ array. m.cells bytes.now ≡ map Some array.elements) }
+        ensures lawful { let m = meaning self.now (geo shape.now data_type.now fill_value.now) in
+            IfErr result (λ e. m.serves → MayRefuseDecode (m.cells bytes.now) e) }
+        ensures refused { let m = meaning self.now (geo shape.now data_type.now fill_value.now) in
             IfErr result (RefusedBy (
-            serves self.now g or_as RefusesUnserved (serves self.now g) (check_tests self.now g) then
-            decode_tests self.now g bytes.now)) };
+            m.serves or_as RefusesUnserved m then
+            m.decode_tests bytes.now)) };
 
     /// Decodes an array into a target: its elements go to the target's subset, in row-major order. A refusal leaves the
     /// target. Refused as `check` refuses, then as `WrongElementKind` (a type of another element size or of none),
@@ -166,17 +131,17 @@ pub trait ArrayToBytesCodecTraits {
         target: &mut FixedTarget,
         options: &CodecOptions,
     ) -> Result<(), CodecError>
-        ensures serves { OnOk result (serves self.now (geo shape.now data_type.now fill_value.now)) }
-        ensures cells { OnOk result (IsDecodedInto target.old target.new (cells self.now (geo shape.now data_type.now fill_value.now) bytes.now)) }
+        ensures serves { OnOk result (meaning self.now (geo shape.now data_type.now fill_value.now)).serves }
+        ensures cells { OnOk result (IsDecodedInto target.old target.new ((meaning self.now (geo shape.now data_type.now fill_value.now)).cells bytes.now)) }
         ensures kept { OnErr result (target.new ≡ target.old) }
-        ensures lawful { let g = geo shape.now data_type.now fill_value.now in
-            IfErr result (λ e. serves self.now g → size_of data_type.now ≡ Fixed target.old.element_size
-            → count_of target.old.subset.now.shape ≡ count_of shape.now → MayRefuseDecode (cells self.now g bytes.now) e) }
-        ensures refused { let g = geo shape.now data_type.now fill_value.now in
+        ensures lawful { let m = meaning self.now (geo shape.now data_type.now fill_value.now) in
+            IfErr result (λ e. m.serves → size_of data_type.now ≡ Fixed target.old.element_size
+            → count_of target.old.subset.now.shape ≡ count_of shape.now → MayRefuseDecode (m.cells bytes.now) e) }
+        ensures refused { let m = meaning self.now (geo shape.now data_type.now fill_value.now) in
             IfErr result (RefusedBy (
-            serves self.now g or_as RefusesUnserved (serves self.now g) (check_tests self.now g) then
+            m.serves or_as RefusesUnserved m then
             TargetTests (size_of data_type.now) (count_of shape.now) target.old (
-            decode_tests self.now g bytes.now))) }
+            m.decode_tests bytes.now))) }
     {
         self.check(alloc, shape, data_type, fill_value)?;
         check_target(target, shape.num_elements(), data_type)?;
@@ -195,11 +160,11 @@ pub trait ArrayToBytesCodecTraits {
         fill_value: &FillValue,
         options: &CodecOptions,
     ) -> Result<Option<Vec<u8>>, CodecError>
-        ensures compacted { let g = geo shape.now data_type.now fill_value.now in
-            IfOk result (λ answer. IfSome answer (λ new. compacted self.now g bytes.now new.items)) }
-        ensures lawful { let g = geo shape.now data_type.now fill_value.now in
-            IfErr result (λ e. serves self.now g → MayRefuseCompact (cells self.now g bytes.now) e) }
-        ensures refused { IfErr result (RefusedBy (compact_tests self.now (geo shape.now data_type.now fill_value.now) bytes.now)) }
+        ensures compacted { let m = meaning self.now (geo shape.now data_type.now fill_value.now) in
+            IfOk result (λ answer. IfSome answer (λ new. m.compacted bytes.now new.items)) }
+        ensures lawful { let m = meaning self.now (geo shape.now data_type.now fill_value.now) in
+            IfErr result (λ e. m.serves → MayRefuseCompact (m.cells bytes.now) e) }
+        ensures refused { IfErr result (RefusedBy ((meaning self.now (geo shape.now data_type.now fill_value.now)).compact_tests bytes.now)) }
     {
         Ok(None)
     }
@@ -223,13 +188,13 @@ pub trait ArrayToBytesCodecTraits {
         data_type: &DataType,
         fill_value: &FillValue,
     ) -> Result<BytesRepresentation, CodecError>
-        ensures serves { OnOk result (serves self.now (geo shape.now data_type.now fill_value.now)) }
-        ensures told { let g = geo shape.now data_type.now fill_value.now in
-            IfOk result (λ told. representation self.now g ≡ Some told) }
-        ensures refused { let g = geo shape.now data_type.now fill_value.now in
+        ensures serves { OnOk result (meaning self.now (geo shape.now data_type.now fill_value.now)).serves }
+        ensures told { let m = meaning self.now (geo shape.now data_type.now fill_value.now) in
+            IfOk result (λ told. m.representation ≡ Some told) }
+        ensures refused { let m = meaning self.now (geo shape.now data_type.now fill_value.now) in
             IfErr result (RefusedBy (
-            serves self.now g or_as RefusesUnserved (serves self.now g) (check_tests self.now g) then
-            IsSome (representation self.now g) or TooLarge then
+            m.serves or_as RefusesUnserved m then
+            IsSome m.representation or TooLarge then
             done)) };
 
     /// Reads the cells that an indexer asks, in its order, of an array that stands in an interval of an object; duplicates are
@@ -247,41 +212,41 @@ pub trait ArrayToBytesCodecTraits {
         indexer: &N,
         options: &CodecOptions,
     ) -> Result<ArrayBytes<'static>, CodecError>
-        ensures serves { OnOk result (serves self.now (geo shape.now data_type.now fill_value.now)) }
-        ensures read { IsRead H.tells H.contents H.faults H.supports handle.old handle.new }
+        ensures serves { OnOk result (meaning self.now (geo shape.now data_type.now fill_value.now)).serves }
+        ensures read { IsRead (H.state handle.old) (H.state handle.new) }
         ensures answer { IfOk result (IsAnswer (geo shape.now data_type.now fill_value.now) (N.selection indexer.now)) }
-        ensures cells { let g = geo shape.now data_type.now fill_value.now in
-            IfOk result (λ array. IsTrue (H.tells handle.old)
-            → IsReadOf (cells self.now g) interval (H.contents handle.old) shape.now (N.selection indexer.now).points array.elements) }
-        ensures counted { IfErr result (IsCounted (H.faults handle.old) (H.faults handle.new)) }
-        ensures lawful { let g = geo shape.now data_type.now fill_value.now in
-            IfErr result (λ e. serves self.now g → IsTrue (H.tells handle.old) → (N.selection indexer.now).axes ≡ length shape.now
-            → LiesWithin (N.selection indexer.now).box (N.selection indexer.now).points shape.now → HasInterval interval (H.contents handle.old)
-            → MayFault (H.faults handle.old) (H.faults handle.new) e
-            ⊎ MayRefuseRead (cells self.now g (interval_part interval (H.contents handle.old)))
-            (cells_at (cells self.now g (interval_part interval (H.contents handle.old))) shape.now (N.selection indexer.now).points) e) }
-        ensures refused { let g = geo shape.now data_type.now fill_value.now in
+        ensures cells { let m = meaning self.now (geo shape.now data_type.now fill_value.now) in
+            IfOk result (λ array. IsTrue (H.state handle.old).tells
+            → IsReadOf m.cells interval (H.state handle.old).contents shape.now (N.selection indexer.now).points array.elements) }
+        ensures counted { IfErr result (IsCounted (H.state handle.old) (H.state handle.new)) }
+        ensures lawful { let m = meaning self.now (geo shape.now data_type.now fill_value.now) in
+            IfErr result (λ e. m.serves → IsTrue (H.state handle.old).tells → (N.selection indexer.now).axes ≡ length shape.now
+            → LiesWithin (N.selection indexer.now).box (N.selection indexer.now).points shape.now → HasInterval interval (H.state handle.old).contents
+            → MayFault (H.state handle.old) (H.state handle.new) e
+            ⊎ MayRefuseRead (m.cells (interval_part interval (H.state handle.old).contents))
+            (cells_at (m.cells (interval_part interval (H.state handle.old).contents)) shape.now (N.selection indexer.now).points) e) }
+        ensures refused { let g = geo shape.now data_type.now fill_value.now in let m = meaning self.now g in
             IfErr result (RefusedBy (
-            serves self.now g or_as RefusesUnserved (serves self.now g) (check_tests self.now g) then
-            AskedTests g (N.selection indexer.now) (answerable self.now g) (
-            ObjectTests (H.tells handle.old) (H.faults handle.old) (H.faults handle.new) (
-            IntervalTests interval (H.contents handle.old) (λ b. read_tests self.now g b (N.selection indexer.now).points))))) };
+            m.serves or_as RefusesUnserved m then
+            AskedTests g (N.selection indexer.now) m.answerable (
+            ObjectTests (H.state handle.old) (H.state handle.new) (
+            IntervalTests interval (H.state handle.old).contents (λ b. m.read_tests b (N.selection indexer.now).points))))) };
 
     // `check` refuses no array as a fault
-    ghost check_faultless: { (x : Self) (g : Geo) (e : CodecError) → check_tests x g e → IsNoFault e };
+    ghost check_faultless: { (x : Self) (g : Geo) (e : CodecError) → (meaning x g).check_tests e → IsNoFault e };
 
     // bytes stand for as many cells as the shape has
-    ghost cells_counted: { (x : Self) (g : Geo) (b : List ℕ) → serves x g → length (cells x g b) ≡ count_of g.shape };
+    ghost cells_counted: { (x : Self) (g : Geo) (b : List ℕ) → (meaning x g).serves → length ((meaning x g).cells b) ≡ count_of g.shape };
 
     // a cell that is there fits the type
-    ghost cells_fitting: { (x : Self) (g : Geo) (b : List ℕ) (i : ℕ) → serves x g → i < count_of g.shape → IfSome (slice_index_or (cells x g b) i None) (FitsKind (size_of g.data_type)) };
+    ghost cells_fitting: { (x : Self) (g : Geo) (b : List ℕ) (i : ℕ) → (meaning x g).serves → i < count_of g.shape → IfSome (slice_index_or ((meaning x g).cells b) i None) (FitsKind (size_of g.data_type)) };
 
     // an encoding stands for the array that was encoded
-    ghost written_cells: { (x : Self) (g : Geo) (a : List (List ℕ)) (b : List ℕ) → serves x g → IsArrayOf g a → written x g a b → cells x g b ≡ map Some a };
+    ghost written_cells: { (x : Self) (g : Geo) (a : List (List ℕ)) (b : List ℕ) → (meaning x g).serves → IsArrayOf g a → (meaning x g).written a b → (meaning x g).cells b ≡ map Some a };
 
     // what is compacted stands for the same cells
-    ghost compacted_cells: { (x : Self) (g : Geo) (old new : List ℕ) → serves x g → compacted x g old new → cells x g new ≡ cells x g old };
+    ghost compacted_cells: { (x : Self) (g : Geo) (old new : List ℕ) → (meaning x g).serves → (meaning x g).compacted old new → (meaning x g).cells new ≡ (meaning x g).cells old };
 
     // an encoding is as long as the representation says
-    ghost bounded: { (x : Self) (g : Geo) (a : List (List ℕ)) (b : List ℕ) → serves x g → IsArrayOf g a → written x g a b → IsWithin (representation x g) (length b) };
+    ghost bounded: { (x : Self) (g : Geo) (a : List (List ℕ)) (b : List ℕ) → (meaning x g).serves → IsArrayOf g a → (meaning x g).written a b → IsWithin (meaning x g).representation (length b) };
 }

@@ -1,7 +1,7 @@
 // A handle that fails, for tests.
 ghost use Rattle.std.specs.Prelude.{◌≡◌, ◌≢◌, ◌-◌, true, Some, None, IfErr, OnOk, length};
 ghost use Rattle.std.specs.Option.{option_map, option_map_or};
-ghost use Rattle.zarr_codecs.specs.Handles.{seen};
+ghost use Rattle.zarr_codecs.specs.Handles.{seen, in_memory};
 ghost use Rattle.zarr_codecs.specs.Writes.{fault_count};
 ghost use Rattle.zarr_parts.specs.declared.error.CodecError.TheVariants.{Fault};
 
@@ -81,15 +81,7 @@ impl FaultingHandle {
 }
 
 impl LendsSlice for FaultingHandle {
-    ghost tells = { λ _. true };
-
-    ghost contents = { λ handle. handle.object };
-
-    ghost faults = { λ handle. fault_count handle.calls_left };
-
-    ghost held = { λ handle. option_map_or length handle.object 0 };
-
-    ghost supports = { λ _. record { decode = true; encode = true } };
+    ghost state = { λ handle. record (in_memory handle.object) { faults = fault_count handle.calls_left } };
 
     fn find(&mut self) -> Result<bool, CodecError> {
         self.count()?;

@@ -19,7 +19,7 @@ pub trait FunctionalCodec: ArrayToBytesCodecTraits {
         ensures { result ≡ functional self.now };
 
     // an encoding of an array is the one encoding
-    ghost one_encoding: { (x : Self) (g : Geo) (a : List (List ℕ)) (b : List ℕ) → IsTrue (functional x) → Self.serves x g → IsArrayOf g a → Self.written x g a b → b ≡ encoding x g a };
+    ghost one_encoding: { (x : Self) (g : Geo) (a : List (List ℕ)) (b : List ℕ) → IsTrue (functional x) → (Self.meaning x g).serves → IsArrayOf g a → (Self.meaning x g).written a b → b ≡ encoding x g a };
 }
 
 impl FunctionalCodec for BytesCodec {

@@ -1,9 +1,9 @@
 // Objects that are read in part, through a handle.
-ghost use Rattle.std.specs.Prelude.{◌≡◌, ℕ, Bool, IsTrue, List, Option, IfOk, IfErr, is_some, length};
+ghost use Rattle.std.specs.Prelude.{◌≡◌, IsTrue, IfOk, IfErr, is_some, length};
 ghost use Rattle.std.specs.Borrow.{sem};
 ghost use Rattle.std.specs.Cow.{cow_slice_items};
 ghost use Rattle.std.specs.Option.{option_map};
-ghost use Rattle.zarr_codecs.specs.Handles.{Rests, Support, IsRead, HasRead, WasRead, MayFault, RefusesRead, Agrees, refusal, seen};
+ghost use Rattle.zarr_codecs.specs.Handles.{Rests, HandleState, IsRead, HasRead, WasRead, MayFault, RefusesRead, Agrees, refusal, seen};
 
 use crate::bytes::ByteRange;
 use std::alloc::Global;
@@ -12,36 +12,24 @@ use zarr_parts::CodecError;
 
 /// An object that is read in part, or none. A handle of a user's own implements `LendsSlice`, which gives it this trait.
 pub trait BytesPartialDecoderTraits {
-    // whether the handle tells its bytes; this never changes
-    ghost tells: { Self → Bool };
-
-    // the object's bytes, or none where there is no object
-    ghost contents: { Self → Option (List ℕ) };
-
-    // how often the handle failed; this never falls
-    ghost faults: { Self → ℕ };
-
-    // how many bytes the handle holds in memory
-    ghost held: { Self → ℕ };
-
-    // what can be done in part with the object; this never changes
-    ghost supports: { Self → Support };
+    // what the handle is
+    ghost state: { Self → HandleState };
 
     /// Whether there is an object. Refused only as `Fault`.
     fn exists(&mut self) -> Result<bool, CodecError>
-        ensures read { IsRead tells contents faults supports self.old self.new }
-        ensures told { IfOk result (λ there. IsTrue (tells self.old) → there ≡ is_some (contents self.old)) }
-        ensures refused { IfErr result (MayFault (faults self.old) (faults self.new)) };
+        ensures read { IsRead (state self.old) (state self.new) }
+        ensures told { IfOk result (λ there. IsTrue (state self.old).tells → there ≡ is_some (state self.old).contents) }
+        ensures refused { IfErr result (MayFault (state self.old) (state self.new)) };
 
     /// The object's length in bytes, or `None` where there is no object. Refused only as `Fault`.
     fn len(&mut self) -> Result<Option<u64>, CodecError>
-        ensures read { IsRead tells contents faults supports self.old self.new }
-        ensures told { IfOk result (λ n. IsTrue (tells self.old) → n ≡ option_map length (contents self.old)) }
-        ensures refused { IfErr result (MayFault (faults self.old) (faults self.new)) };
+        ensures read { IsRead (state self.old) (state self.new) }
+        ensures told { IfOk result (λ n. IsTrue (state self.old).tells → n ≡ option_map length (state self.old).contents) }
+        ensures refused { IfErr result (MayFault (state self.old) (state self.new)) };
 
     /// How many bytes the handle holds in memory.
     fn size_held(&self) -> usize
-        ensures { result ≡ held self.now };
+        ensures { result ≡ (state self.now).held };
 
     /// The bytes of a range, or `None` where there is no object. The answer has the asked length, and may lend bytes
     /// that the handle holds. Refused as `OutOfBounds` where there is an object and the range passes it, or as `Fault`.
@@ -50,12 +38,12 @@ pub trait BytesPartialDecoderTraits {
         alloc: Global,
         range: ByteRange,
     ) -> Result<Option<CowSlice<'_, u8>>, CodecError>
-        ensures* read { sem 𝓛 (Rests Self.row self.entry (λ new. HasRead tells contents faults supports range self.old new (refusal result))) }
-        ensures told { IfOk result (λ o. WasRead range (tells self.old) (contents self.old) (seen (λ b. cow_slice_items b) o)) };
+        ensures* read { sem 𝓛 (Rests Self.row self.entry (λ new. HasRead range (state self.old) (state new) (refusal result))) }
+        ensures told { IfOk result (λ o. WasRead range (state self.old) (seen (λ b. cow_slice_items b) o)) };
 
     /// Whether the handle can be read in part. The answer never changes.
     fn supports_partial_decode(&self) -> bool
-        ensures { result ≡ (supports self.now).decode };
+        ensures { result ≡ (state self.now).supports.decode };
 }
 
 // What was lent, with bytes that are owned put into the room.
@@ -83,8 +71,8 @@ pub fn lent<'a, H: BytesPartialDecoderTraits>(
     alloc: Global,
     range: ByteRange,
 ) -> Result<Option<&'a [u8]>, CodecError>
-    ensures* read { sem 𝓛 (Rests H.row handle.entry (λ new. HasRead H.tells H.contents H.faults H.supports range handle.old new (refusal result))) }
-    ensures told { IfOk result (λ o. WasRead range (H.tells handle.old) (H.contents handle.old) (seen (λ b. b.now) o)) }
+    ensures* read { sem 𝓛 (Rests H.row handle.entry (λ new. HasRead range (H.state handle.old) (H.state new) (refusal result))) }
+    ensures told { IfOk result (λ o. WasRead range (H.state handle.old) (seen (λ b. b.now) o)) }
 {
     split(handle.partial_decode(alloc, range), room)
 }
@@ -95,9 +83,9 @@ pub fn copied<H: BytesPartialDecoderTraits>(
     alloc: Global,
     range: ByteRange,
 ) -> Result<Option<Vec<u8>>, CodecError>
-    ensures read { IsRead H.tells H.contents H.faults H.supports handle.old handle.new }
-    ensures told { IfOk result (λ o. WasRead range (H.tells handle.old) (H.contents handle.old) (seen (λ v. v.items) o)) }
-    ensures refused { IfErr result (RefusesRead range (H.tells handle.old) (H.contents handle.old) (H.faults handle.old) (H.faults handle.new)) }
+    ensures read { IsRead (H.state handle.old) (H.state handle.new) }
+    ensures told { IfOk result (λ o. WasRead range (H.state handle.old) (seen (λ v. v.items) o)) }
+    ensures refused { IfErr result (RefusesRead range (H.state handle.old) (H.state handle.new)) }
 {
     let mut room = Vec::new(alloc);
     match lent(handle, &mut room, alloc, range)? {
@@ -112,46 +100,34 @@ pub fn copied<H: BytesPartialDecoderTraits>(
 /// A handle that lends a slice of what it holds or has read. It has `BytesPartialDecoderTraits` by this. An
 /// implementation changes its own fields first and makes the slice last, where it answers it.
 pub trait LendsSlice {
-    // whether the handle tells its bytes; this never changes
-    ghost tells: { Self → Bool };
-
-    // the object's bytes, or none where there is no object
-    ghost contents: { Self → Option (List ℕ) };
-
-    // how often the handle failed; this never falls
-    ghost faults: { Self → ℕ };
-
-    // how many bytes the handle holds in memory
-    ghost held: { Self → ℕ };
-
-    // what can be done in part with the object; this never changes
-    ghost supports: { Self → Support };
+    // what the handle is
+    ghost state: { Self → HandleState };
 
     /// Whether there is an object. Refused only as `Fault`.
     fn find(&mut self) -> Result<bool, CodecError>
-        ensures read { IsRead tells contents faults supports self.old self.new }
-        ensures told { IfOk result (λ there. IsTrue (tells self.old) → there ≡ is_some (contents self.old)) }
-        ensures refused { IfErr result (MayFault (faults self.old) (faults self.new)) };
+        ensures read { IsRead (state self.old) (state self.new) }
+        ensures told { IfOk result (λ there. IsTrue (state self.old).tells → there ≡ is_some (state self.old).contents) }
+        ensures refused { IfErr result (MayFault (state self.old) (state self.new)) };
 
     /// The object's length in bytes, or `None` where there is no object. Refused only as `Fault`.
     fn measure(&mut self) -> Result<Option<u64>, CodecError>
-        ensures read { IsRead tells contents faults supports self.old self.new }
-        ensures told { IfOk result (λ n. IsTrue (tells self.old) → n ≡ option_map length (contents self.old)) }
-        ensures refused { IfErr result (MayFault (faults self.old) (faults self.new)) };
+        ensures read { IsRead (state self.old) (state self.new) }
+        ensures told { IfOk result (λ n. IsTrue (state self.old).tells → n ≡ option_map length (state self.old).contents) }
+        ensures refused { IfErr result (MayFault (state self.old) (state self.new)) };
 
     /// How many bytes the handle holds in memory.
     fn held_bytes(&self) -> usize
-        ensures { result ≡ held self.now };
+        ensures { result ≡ (state self.now).held };
 
     /// The bytes of a range, or `None` where there is no object. The answer has the asked length. Refused as `OutOfBounds`
     /// where there is an object and the range passes it, or as `Fault`.
     fn lend(&mut self, alloc: Global, range: ByteRange) -> Result<Option<&[u8]>, CodecError>
-        ensures* read { sem 𝓛 (Rests Self.row self.entry (λ new. HasRead tells contents faults supports range self.old new (refusal result))) }
-        ensures told { IfOk result (λ o. WasRead range (tells self.old) (contents self.old) (seen (λ b. b.now) o)) };
+        ensures* read { sem 𝓛 (Rests Self.row self.entry (λ new. HasRead range (state self.old) (state new) (refusal result))) }
+        ensures told { IfOk result (λ o. WasRead range (state self.old) (seen (λ b. b.now) o)) };
 
     /// Whether the handle can be read in part. The answer never changes.
     fn lends_parts(&self) -> bool
-        ensures { result ≡ (supports self.now).decode };
+        ensures { result ≡ (state self.now).supports.decode };
 }
 
 // The same bytes, as a value that may own them.
@@ -168,15 +144,7 @@ fn wrap<'a>(
 }
 
 impl<T: LendsSlice> BytesPartialDecoderTraits for T {
-    ghost tells = { λ handle. T.tells handle };
-
-    ghost contents = { λ handle. T.contents handle };
-
-    ghost faults = { λ handle. T.faults handle };
-
-    ghost held = { λ handle. T.held handle };
-
-    ghost supports = { λ handle. T.supports handle };
+    ghost state = { λ handle. T.state handle };
 
     fn exists(&mut self) -> Result<bool, CodecError> {
         self.find()
@@ -219,15 +187,13 @@ mod tests {
     impl LendsSlice for CountingHandle {
         ghost use Rattle.std.specs.Prelude.{true, false, Some, length};
 
-        ghost tells = { λ _. true };
-
-        ghost contents = { λ handle. Some handle.text.items };
-
-        ghost faults = { λ _. 0 };
-
-        ghost held = { λ handle. length handle.text.items };
-
-        ghost supports = { λ _. record { decode = true; encode = false } };
+        ghost state = { λ handle. record {
+            tells = true;
+            contents = Some handle.text.items;
+            faults = 0;
+            held = length handle.text.items;
+            supports = record { decode = true; encode = false }
+        } };
 
         fn find(&mut self) -> Result<bool, CodecError> {
             Ok(true)

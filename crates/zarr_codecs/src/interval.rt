@@ -14,12 +14,12 @@ pub fn check_interval<H: BytesPartialDecoderTraits>(
     handle: &mut H,
     interval: Interval,
 ) -> Result<(), CodecError>
-    ensures read { IsRead H.tells H.contents H.faults H.supports handle.old handle.new }
+    ensures read { IsRead (H.state handle.old) (H.state handle.new) }
     ensures room { OnOk result (interval.offset + interval.size < 2 ^ 64) }
-    ensures inside { OnOk result (IsTrue (H.tells handle.old) → HasInterval interval (H.contents handle.old)) }
-    ensures counted { IfErr result (IsCounted (H.faults handle.old) (H.faults handle.new)) }
-    ensures refused { IfErr result (ObjectTests (H.tells handle.old) (H.faults handle.old) (H.faults handle.new)
-        (HasInterval interval (H.contents handle.old) or OutOfBounds then done)) }
+    ensures inside { OnOk result (IsTrue (H.state handle.old).tells → HasInterval interval (H.state handle.old).contents) }
+    ensures counted { IfErr result (IsCounted (H.state handle.old) (H.state handle.new)) }
+    ensures refused { IfErr result (ObjectTests (H.state handle.old) (H.state handle.new)
+        (HasInterval interval (H.state handle.old).contents or OutOfBounds then done)) }
 {
     let Some(len) = handle.len()? else {
         return Err(CodecError::OutOfBounds);

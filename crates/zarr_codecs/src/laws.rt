@@ -25,8 +25,8 @@ pub fn decode_after_encode<C: ArrayToBytesCodecTraits>(
 ) -> Result<ArrayBytes<'static>, CodecError>
     ensures same { IfOk result (λ decoded. decoded ≡ array.now) }
     ensures lawful { let g = geo shape.now data_type.now fill_value.now in
-        IfErr result (λ e. C.serves codec.now g → array.now.kind ≡ size_of data_type.now → IsArrayOf g array.now.elements
-        → MayRefuseRoundTrip (C.encodable codec.now g array.now.elements) (C.fits codec.now g array.now.elements) array.now.elements e) }
+        IfErr result (λ e. (C.meaning codec.now g).serves → array.now.kind ≡ size_of data_type.now → IsArrayOf g array.now.elements
+        → MayRefuseRoundTrip (C.meaning codec.now g) array.now.elements e) }
 {
     let encoded = codec.encode(alloc, array, shape, data_type, fill_value, options)?;
     let decoded = codec.decode(alloc, &encoded, shape, data_type, fill_value, options)?;

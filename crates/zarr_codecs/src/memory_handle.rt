@@ -1,7 +1,6 @@
 // Handles over bytes in memory.
 ghost use Rattle.std.specs.Prelude.{◌≡◌, true, false, Some, length};
-ghost use Rattle.std.specs.Option.{option_map_or};
-ghost use Rattle.zarr_codecs.specs.Handles.{seen};
+ghost use Rattle.zarr_codecs.specs.Handles.{seen, in_memory};
 
 mod writes;
 
@@ -44,15 +43,7 @@ impl MemoryHandle {
 }
 
 impl LendsSlice for MemoryHandle {
-    ghost tells = { λ _. true };
-
-    ghost contents = { λ handle. handle };
-
-    ghost faults = { λ _. 0 };
-
-    ghost held = { λ handle. option_map_or length handle 0 };
-
-    ghost supports = { λ _. record { decode = true; encode = true } };
+    ghost state = { in_memory };
 
     fn find(&mut self) -> Result<bool, CodecError> {
         Ok(self.object.is_some())
@@ -106,15 +97,13 @@ impl<'a> SliceHandle<'a> {
 }
 
 impl<'a> LendsSlice for SliceHandle<'a> {
-    ghost tells = { λ _. true };
-
-    ghost contents = { λ handle. Some handle };
-
-    ghost faults = { λ _. 0 };
-
-    ghost held = { length };
-
-    ghost supports = { λ _. record { decode = true; encode = false } };
+    ghost state = { λ handle. record {
+        tells = true;
+        contents = Some handle;
+        faults = 0;
+        held = length handle;
+        supports = record { decode = true; encode = false }
+    } };
 
     fn find(&mut self) -> Result<bool, CodecError> {
         Ok(true)

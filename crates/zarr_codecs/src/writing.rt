@@ -17,28 +17,28 @@ pub trait BytesPartialEncoderTraits: BytesPartialDecoderTraits {
         alloc: Global,
         pieces: &[(u64, &[u8])],
     ) -> Result<(), CodecError>
-        ensures writing { IsWriting Self.tells Self.faults Self.supports self.old self.new }
-        ensures written { OnOk result (IsTrue (Self.tells self.old) → Self.contents self.new ≡ Some (written_all pieces.now (bytes_of (Self.contents self.old)))) }
-        ensures kept { IfErr result (KeptUnlessFault (Self.contents self.old) (Self.contents self.new)) }
-        ensures refused { let size = length (written_all pieces.now (bytes_of (Self.contents self.old))) in
-            IfErr result (RefusesWrite (Self.tells self.old) size (Self.faults self.old) (Self.faults self.new)) };
+        ensures writing { IsWriting (Self.state self.old) (Self.state self.new) }
+        ensures written { OnOk result (IsTrue (Self.state self.old).tells → (Self.state self.new).contents ≡ Some (written_all pieces.now (bytes_of (Self.state self.old).contents))) }
+        ensures kept { IfErr result (KeptUnlessFault (Self.state self.old) (Self.state self.new)) }
+        ensures refused { let size = length (written_all pieces.now (bytes_of (Self.state self.old).contents)) in
+            IfErr result (RefusesWrite size (Self.state self.old) (Self.state self.new)) };
 
     /// Makes the object these bytes. Refused as `TooLarge` where they reach `usize::MAX`, or as `Fault`. A refusal that
     /// is no fault leaves the object.
     fn replace(&mut self, alloc: Global, bytes: &[u8]) -> Result<(), CodecError>
-        ensures writing { IsWriting Self.tells Self.faults Self.supports self.old self.new }
-        ensures written { OnOk result (IsTrue (Self.tells self.old) → Self.contents self.new ≡ Some bytes.now) }
-        ensures kept { IfErr result (KeptUnlessFault (Self.contents self.old) (Self.contents self.new)) }
-        ensures refused { IfErr result (RefusesWrite (Self.tells self.old) (length bytes.now) (Self.faults self.old) (Self.faults self.new)) };
+        ensures writing { IsWriting (Self.state self.old) (Self.state self.new) }
+        ensures written { OnOk result (IsTrue (Self.state self.old).tells → (Self.state self.new).contents ≡ Some bytes.now) }
+        ensures kept { IfErr result (KeptUnlessFault (Self.state self.old) (Self.state self.new)) }
+        ensures refused { IfErr result (RefusesWrite (length bytes.now) (Self.state self.old) (Self.state self.new)) };
 
     /// Lets the object go. Refused only as `Fault`.
     fn erase(&mut self) -> Result<(), CodecError>
-        ensures writing { IsWriting Self.tells Self.faults Self.supports self.old self.new }
-        ensures erased { OnOk result (IsTrue (Self.tells self.old) → Self.contents self.new ≡ None) }
-        ensures kept { IfErr result (KeptUnlessFault (Self.contents self.old) (Self.contents self.new)) }
-        ensures refused { IfErr result (MayFault (Self.faults self.old) (Self.faults self.new)) };
+        ensures writing { IsWriting (Self.state self.old) (Self.state self.new) }
+        ensures erased { OnOk result (IsTrue (Self.state self.old).tells → (Self.state self.new).contents ≡ None) }
+        ensures kept { IfErr result (KeptUnlessFault (Self.state self.old) (Self.state self.new)) }
+        ensures refused { IfErr result (MayFault (Self.state self.old) (Self.state self.new)) };
 
     /// Whether the handle can be written in part. The answer never changes.
     fn supports_partial_encode(&self) -> bool
-        ensures { result ≡ (Self.supports self.now).encode };
+        ensures { result ≡ (Self.state self.now).supports.encode };
 }

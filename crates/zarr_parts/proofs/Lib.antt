@@ -3,6 +3,7 @@ pub mod BoxLaws
 pub mod PieceLaws
 pub mod ArrayLaws
 pub mod RunLaws
+pub mod RowLaws
 pub mod PartLaws
 pub mod MissLaws
 pub mod GridLaws

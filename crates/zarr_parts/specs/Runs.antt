@@ -1,5 +1,5 @@
 -- Runs of neighbouring numbers: a first number and how many follow from it.
-use Rattle.std.specs.Prelude.{◌≡◌, ◌≢◌, ℕ, ◌+◌, ◌-◌, ◌*◌, ◌^◌, ◌<◌, ◌≤◌, List, map, drop, slice_index}
+use Rattle.std.specs.Prelude.{◌≡◌, ◌≢◌, ℕ, ◌+◌, ◌-◌, ◌*◌, ◌^◌, ◌<◌, ◌≤◌, List, map, drop, length, slice_index}
 use Rattle.std.specs.List.{All, flat_map, range_with_len}
 use Rattle.zarr_parts.specs.Numbering.{count_of}
 use Rattle.zarr_parts.specs.Boxes.{Region, number_in, IsServed}
@@ -17,6 +17,30 @@ pub record IsRunAxis (len shape : List ℕ) (axis : ℕ) : Type 0 where
 -- the length of a run: the product of the box's axes from that axis on
 abbrev pub IsRunLength : List ℕ → List ℕ → ℕ → Type 0
 IsRunLength len shape run = (axis : ℕ) × IsRunAxis len shape axis × (run ≡ count_of (drop axis len))
+
+-- the runs along the axis before a run's: how many they are, and how far apart they begin
+pub record IsRowSet (len shape : List ℕ) (run rows stride : ℕ) : Type 0 where
+  pub axis : ℕ
+  pub inside : axis ≤ length len
+  pub run_axis : IsRunAxis len shape axis
+  pub run_is : run ≡ count_of (drop axis len)
+  pub stride_is : stride ≡ count_of (drop axis shape)
+  pub one : axis ≡ 0 → rows ≡ 1
+  pub more : 0 < axis → rows ≡ slice_index len (axis - 1)
+
+-- places are whole rows, each a stride after the one before it
+pub record AreRows (place : ℕ → ℕ) (rows stride many : ℕ) : Type 0 where
+  pub some : 0 < rows
+  pub whole : (sets : ℕ) × (many ≡ sets * rows)
+  pub steps : (q r : ℕ) → r < rows → q * rows + r < many → place (q * rows + r) ≡ place (q * rows) + r * stride
+
+-- where a walk over rows stands: the place before the next, and where the next row set begins
+pub record IsStepping (place : ℕ → ℕ) (rows stride next turn many last : ℕ) : Type 0 where
+  pub are_rows : AreRows place rows stride many
+  pub turned : (set : ℕ) × (turn ≡ set * rows)
+  pub before : next ≤ turn
+  pub within : turn ≤ many
+  pub here : (k : ℕ) → next + k < turn → place (next + k) ≡ last + (k + 1) * stride
 
 -- the runs of a box that are still to come
 abbrev pub runs_from : Region → List ℕ → ℕ → ℕ → ℕ → List (ℕ × ℕ)

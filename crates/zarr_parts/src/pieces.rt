@@ -1,5 +1,5 @@
 // Elements of one size, taken from and written to the boxes of an array.
-ghost use Rattle.std.specs.Prelude.{◌≡◌, ℕ, ◌+◌, ◌*◌, ◌^◌, ◌<◌, ◌≤◌, ◌≢◌, All, IfOk, length};
+ghost use Rattle.std.specs.Prelude.{◌≡◌, ℕ, ◌+◌, ◌*◌, ◌^◌, ◌<◌, ◌≤◌, ◌≢◌, All, IfOk, OnOk, ◌++◌, length};
 ghost use Rattle.std.specs.List.{flat_map, range_with_len};
 ghost use Rattle.zarr_parts.specs.Numbering.{count_of};
 ghost use Rattle.zarr_parts.specs.Boxes.{number_in, numbers_in, IsServed};
@@ -67,6 +67,54 @@ pub(crate) fn scatter(
     }
 }
 
+// Writes bytes over as many others, of a number that is known when it is compiled.
+#[inline(always)]
+fn copy_exactly<const N: usize>(to: &mut [u8], from: &[u8])
+    requires taken { length from.now ≡ N }
+    requires whole { length to.old ≡ N }
+    ensures { to.new ≡ from.now }
+{
+    to[..N].copy_from_slice(&from[..N]);
+}
+
+// Writes bytes over as many others. A length that stands here takes no call.
+#[inline(always)]
+fn copy_bytes(to: &mut [u8], from: &[u8])
+    requires { length from.now ≡ length to.old }
+    ensures { to.new ≡ from.now }
+{
+    match from.len() {
+        8 => copy_exactly::<8>(to, from),
+        16 => copy_exactly::<16>(to, from),
+        32 => copy_exactly::<32>(to, from),
+        64 => copy_exactly::<64>(to, from),
+        _ => to.copy_from_slice(from),
+    }
+}
+
+// Appends bytes, of a number that is known when it is compiled.
+#[inline(always)]
+fn append_exactly<const N: usize>(part: &mut Vec<u8>, bytes: &[u8]) -> Result<(), AllocError>
+    requires { length bytes.now ≡ N }
+    ensures { OnOk result (part.new.items ≡ part.old.items ++ bytes.now) }
+{
+    part.extend_from_slice(&bytes[..N])
+}
+
+// Appends bytes. A length that stands here takes no call.
+#[inline(always)]
+fn append_bytes(part: &mut Vec<u8>, bytes: &[u8]) -> Result<(), AllocError>
+    ensures { OnOk result (part.new.items ≡ part.old.items ++ bytes.now) }
+{
+    match bytes.len() {
+        8 => append_exactly::<8>(part, bytes),
+        16 => append_exactly::<16>(part, bytes),
+        32 => append_exactly::<32>(part, bytes),
+        64 => append_exactly::<64>(part, bytes),
+        _ => part.extend_from_slice(bytes),
+    }
+}
+
 // Copies a run of elements over another.
 fn copy_run(output: &mut [u8], size: usize, first: usize, update: &[u8], from: usize, len: usize)
     requires inside { (first + len) * size ≤ length output.old }
@@ -78,7 +126,7 @@ fn copy_run(output: &mut [u8], size: usize, first: usize, update: &[u8], from: u
     let bytes = len * size;
     let to = first * size;
     let taken = from * size;
-    output[to..to + bytes].copy_from_slice(&update[taken..taken + bytes]);
+    copy_bytes(&mut output[to..to + bytes], &update[taken..taken + bytes]);
 }
 
 // Writes one element at each point of a box.
@@ -147,7 +195,7 @@ pub(crate) fn gather_runs<'a>(
 {
     let mut part = Vec::with_capacity(alloc, room)?;
     for (first, len) in runs {
-        part.extend_from_slice(run_at(bytes, size, first as usize, len as usize))?;
+        append_bytes(&mut part, run_at(bytes, size, first as usize, len as usize))?;
     }
     Ok(part)
 }

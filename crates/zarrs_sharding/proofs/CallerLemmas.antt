@@ -6,6 +6,7 @@ use Rattle.zarr_parts.specs.Grid.{grid_of}
 use Rattle.zarr_parts.specs.Order.{◌or◌then◌, ◌or_as◌then◌, EachAs, RefusedBy}
 use Rattle.zarr_parts.specs.declared.error.CodecError.{CodecError}
 use Rattle.zarr_parts.specs.declared.error.CodecError.TheVariants.{OutOfMemory, TooLarge, Fault, Damaged, ShardTooShort, BadIndexEntry}
+use Rattle.zarr_codecs.specs.Meanings.{Meaning}
 use Rattle.zarr_codecs.specs.Cells.{all_there}
 use Rattle.zarr_codecs.specs.Refusals.{AreTooLong, AreDamaged, MayRefuseDecode, RefusesUnserved}
 use Rattle.zarr_codecs.specs.declared.representation.BytesRepresentation.{BytesRepresentation}
@@ -45,17 +46,17 @@ bad_slot inner_decode inner_cells b Absent k n h = absurd h
 bad_slot inner_decode inner_cells b (InRange offset size) k n h = absurd (not_bad (inner_decode (take size (drop offset b))) (inner_cells (take size (drop offset b))) n h)
 bad_slot inner_decode inner_cells b Bad k n h = (refl, cc)
 
-lowest_bad : (inner_decode index_decode : List ℕ → CodecError → Type 0) (inner_cells index_cells : List ℕ → List (Option (List ℕ))) (l : Layout) (b : List ℕ) (n : ℕ)
-    → DecodeTests inner_decode index_decode inner_cells index_cells l b (BadIndexEntry n)
-    → IsLowestBad inner_cells b (numbers_in_index index_cells l.location l.index_size b) (count_of (grid_of l.shape l.sub)) n
-lowest_bad inner_decode index_decode inner_cells index_cells l b n h =
+lowest_bad : (inner index : Meaning) (l : Layout) (b : List ℕ) (n : ℕ)
+    → DecodeTests inner index l b (BadIndexEntry n)
+    → IsLowestBad inner.cells b (numbers_in_index index.cells l.location l.index_size b) (count_of (grid_of l.shape l.sub)) n
+lowest_bad inner index l b n h =
     elim h [
       | inl short ↦ let e = short.1 in cc
       | inr after_length ↦ elim after_length.1 [
-        | inl index ↦ absurd (not_bad (index_decode (index_part l.location l.index_size b)) (index_cells (index_part l.location l.index_size b)) n index)
+        | inl found ↦ absurd (not_bad (index.decode_tests (index_part l.location l.index_size b)) (index.cells (index_part l.location l.index_size b)) n found)
         | inr after_index ↦ elim after_index.1 [
           | inl one ↦
-              let bad = bad_slot inner_decode inner_cells b (slot_by (length b) (numbers_in_index index_cells l.location l.index_size b) one.0) one.0 n one.1.2 in
+              let bad = bad_slot inner.decode_tests inner.cells b (slot_by (length b) (numbers_in_index index.cells l.location l.index_size b) one.0) one.0 n one.1.2 in
               rw bad.1 (record { below = one.1.0; before = one.1.1; bad = bad.0 })
           | inr after_subchunks ↦ let e = after_subchunks.1.0 in cc
         ]
@@ -63,20 +64,18 @@ lowest_bad inner_decode index_decode inner_cells index_cells l b n h =
     ]
 
 -- a shard that is served and refused for a bad pair
-pub reported : (InnerServed IndexServed : Type 0) (inner_check index_check : CodecError → Type 0) (representation : Option BytesRepresentation) (sub : List ℕ) (g : Geo)
-    (inner_decode index_decode : List ℕ → CodecError → Type 0) (inner_cells index_cells : List ℕ → List (Option (List ℕ))) (l : Layout) (b : List ℕ) (e : CodecError) (n : ℕ)
-    → ShardServes InnerServed IndexServed representation sub g
+pub reported : (codec inner index : Meaning) (l : Layout) (b : List ℕ) (e : CodecError) (n : ℕ)
+    → codec.serves
     → RefusedBy (
-    ShardServes InnerServed IndexServed representation sub g
-    or_as RefusesUnserved (ShardServes InnerServed IndexServed representation sub g) (CheckTests InnerServed IndexServed inner_check index_check representation sub g) then
-    DecodeTests inner_decode index_decode inner_cells index_cells l b) e
+    codec.serves or_as RefusesUnserved codec then
+    DecodeTests inner index l b) e
     → e ≡ BadIndexEntry n
-    → IsLowestBad inner_cells b (numbers_in_index index_cells l.location l.index_size b) (count_of (grid_of l.shape l.sub)) n
-reported InnerServed IndexServed inner_check index_check representation sub g inner_decode index_decode inner_cells index_cells l b e n s h is =
+    → IsLowestBad inner.cells b (numbers_in_index index.cells l.location l.index_size b) (count_of (grid_of l.shape l.sub)) n
+reported codec inner index l b e n s h is =
     elim (rw is at h) [
       | inl memory ↦ let k = memory in cc
       | inr tests ↦ elim tests [
         | inl unserved ↦ absurd (unserved.0 s)
-        | inr decode ↦ lowest_bad inner_decode index_decode inner_cells index_cells l b n decode.1
+        | inr decode ↦ lowest_bad inner index l b n decode.1
       ]
     ]

@@ -6,6 +6,7 @@ use Rattle.zarr_parts.specs.Grid.{grid_of}
 use Rattle.zarr_parts.specs.Order.{RefusedBy}
 use Rattle.zarr_parts.specs.declared.error.CodecError.{CodecError}
 use Rattle.zarr_parts.specs.declared.error.CodecError.TheVariants.{OutOfMemory}
+use Rattle.zarr_codecs.specs.Meanings.{Meaning}
 use Rattle.zarr_codecs.specs.Refusals.{AreTooLong}
 use Rattle.zarr_codecs.specs.declared.representation.BytesRepresentation.{BytesRepresentation}
 use Rattle.zarrs_sharding.specs.Index.{index_geo, index_part, slot_at, numbers_in_index}
@@ -27,52 +28,51 @@ moved_good old new Absent t place h = rw h tt
 moved_good old new (InRange offset size) t place h = rw h.0 tt
 moved_good old new Bad t place h = absurd h
 
-module _ (IndexServed InnerServed : Type 0) (index_check : CodecError → Type 0) (representation : Option BytesRepresentation) (index_decode : List ℕ → CodecError → Type 0)
-    (index_cells : List ℕ → List (Option (List ℕ))) (index_written : List (List ℕ) → List ℕ → Type 0) (index_encodable index_fits : List (List ℕ) → Type 0)
+module _ (inner index : Meaning)
     (sub : List ℕ) (location : ShardingIndexLocation) (order : SubchunkWriteOrder) (g : Geo) where
   abbrev l : Layout
-  l = layout sub location order representation g
+  l = layout sub location order index.representation g
 
   -- what was compacted is compact
   pub again_compact : (old new : List ℕ)
-      → ((e : List (List ℕ)) (bytes : List ℕ) → IsArrayOf (index_geo (grid_of g.shape sub)) e → index_written e bytes → index_cells bytes ≡ map Some e)
-      → IsCompacted index_cells index_written l old new → IsCompact index_cells l new
+      → ((e : List (List ℕ)) (bytes : List ℕ) → IsArrayOf (index_geo (grid_of g.shape sub)) e → index.written e bytes → index.cells bytes ≡ map Some e)
+      → IsCompacted index l old new → IsCompact index.cells l new
   again_compact old new law h =
       let r = h.rewritten in
       let n : ℕ = count_of (grid_of g.shape sub) in
       record {
         numbers = r.numbers;
         read = record {
-          told = numbers_of_index index_cells index_written sub g location (fixed_size representation) new r.numbers law (omega (arith, r.long)) r.counted r.below r.index;
+          told = numbers_of_index index.cells index.written sub g location (fixed_size index.representation) new r.numbers law (omega (arith, r.long)) r.counted r.below r.index;
           good = λ k below. moved_good old new (slot_at (length old) h.old_numbers k) (slot_at (length new) r.numbers k) _ (r.moved k below);
         };
         same_size =
-            ap (λ m. fixed_size representation + m)
+            ap (λ m. fixed_size index.representation + m)
             (sum_same (λ k. slot_size (slot_at (length new) r.numbers k)) (λ k. slot_size (slot_at (length old) h.old_numbers k)) n
             (λ k below. size_moved old new (slot_at (length old) h.old_numbers k) (slot_at (length new) r.numbers k) _ (r.moved k below)))
             ∙ sym r.long;
       }
 
-  module _ (b : List ℕ) (h : IsCompact index_cells l b) where
+  module _ (b : List ℕ) (h : IsCompact index.cells l b) where
     -- what is compact isn't compacted
-    pub never_compacted : (new : List ℕ) → ¬ (IsCompacted index_cells index_written l b new)
+    pub never_compacted : (new : List ℕ) → ¬ (IsCompacted index l b new)
     never_compacted new k =
         let both : Some h.numbers ≡ Some k.old_numbers = sym h.read.told ∙ k.read.told in
         let same : h.numbers ≡ k.old_numbers = cc in
         k.other_size (subst (λ ns. compact_size l (slot_at (length b) ns) ≡ length b) same h.same_size)
 
-    never_damaged : ¬ (numbers_in_index index_cells location (fixed_size representation) b ≡ None)
+    never_damaged : ¬ (numbers_in_index index.cells location (fixed_size index.representation) b ≡ None)
     never_damaged none =
         let both : Some h.numbers ≡ None = sym h.read.told ∙ none in
         cc
 
     -- and is refused only for memory
-    pub refused_for_memory : (e : CodecError) → ShardServes InnerServed IndexServed representation sub g → ((x : List ℕ) → ¬ (AreTooLong (index_cells x))) → length b + 1 < 2 ^ 64
-        → RefusedBy (CompactTests IndexServed index_check representation index_decode index_cells index_encodable index_fits l b) e → e ≡ OutOfMemory
+    pub refused_for_memory : (e : CodecError) → ShardServes inner index sub g → ((x : List ℕ) → ¬ (AreTooLong (index.cells x))) → length b + 1 < 2 ^ 64
+        → RefusedBy (CompactTests index l b) e → e ≡ OutOfMemory
     refused_for_memory e serves short small k =
-        let size : ℕ = fixed_size representation in
+        let size : ℕ = fixed_size index.representation in
         let part : List ℕ = index_part location size b in
-        let told : numbers_in_index index_cells location size b ≡ Some h.numbers = h.read.told in
+        let told : numbers_in_index index.cells location size b ≡ Some h.numbers = h.read.told in
         elim k [
           | inl memory ↦ memory
           | inr tests ↦ elim tests [
@@ -88,11 +88,11 @@ module _ (IndexServed InnerServed : Type 0) (index_check : CodecError → Type 0
                     | inr after_some ↦ elim after_some.1 [
                       | inl variable ↦ absurd (variable.0 serves.index_served.fixed)
                       | inr after_fixed ↦ elim after_fixed.1 [
-                        | inl too_short ↦ absurd (too_short.0 (long_enough index_cells location size b h.numbers told))
+                        | inl too_short ↦ absurd (too_short.0 (long_enough index.cells location size b h.numbers told))
                         | inr after_length ↦ elim after_length.1 [
-                          | inl index ↦ elim (passed_refusal (index_cells part) index.inner e index.lawful index.no_memory index.passed_on) [
-                            | inl large ↦ elim large.1 [ inl long ↦ absurd (short part long) | inr d ↦ absurd (never_damaged (damaged_index index_cells location size b d)) ]
-                            | inr d ↦ absurd (never_damaged (damaged_index index_cells location size b d.1))
+                          | inl found ↦ elim (passed_refusal (index.cells part) found.inner e found.lawful found.no_memory found.passed_on) [
+                            | inl large ↦ elim large.1 [ inl long ↦ absurd (short part long) | inr d ↦ absurd (never_damaged (damaged_index index.cells location size b d)) ]
+                            | inr d ↦ absurd (never_damaged (damaged_index index.cells location size b d.1))
                           ]
                           | inr after_index ↦ elim after_index.1 [
                             | inl bad ↦ absurd (bad.1.2 (rw told (h.read.good bad.0 bad.1.0)))

@@ -4,6 +4,7 @@ use Rattle.std.specs.List.{range_with_len, sum_by}
 use Rattle.zarr_parts.specs.Geo.{Geo, IsArrayOf}
 use Rattle.zarr_parts.specs.Numbering.{count_of}
 use Rattle.zarr_parts.specs.Grid.{grid_of, Divides, subchunk}
+use Rattle.zarr_codecs.specs.Meanings.{Meaning}
 use Rattle.zarrs_sharding.specs.Index.{slot_at, data_start, data_end, index_geo}
 use Rattle.zarrs_sharding.specs.Cells.{Layout}
 use Rattle.zarrs_sharding.specs.Encoding.{StandsAt, AreApart, BeginsAt, slot_size, IsEncodingBy, IsEncoding}
@@ -106,29 +107,29 @@ holds_encoded index_cells inner_written index_written sub location order size g 
     }
 
 -- a shard that is compacted from one that holds an array is an encoding of it in order `C`
-pub encoding_of_compacted : (index_cells : List ℕ → List (Option (List ℕ))) (inner_written index_written : List (List ℕ) → List ℕ → Type 0)
+pub encoding_of_compacted : (index : Meaning) (inner_written : List (List ℕ) → List ℕ → Type 0)
     (sub : List ℕ) (location : ShardingIndexLocation) (order : SubchunkWriteOrder) (size : ℕ) (g : Geo) (a : List (List ℕ)) (old new : List ℕ)
-    → Holds inner_written index_cells (layout_of sub location order size g) a old
-    → IsCompacted index_cells index_written (layout_of sub location order size g) old new
-    → IsEncoding inner_written index_written (layout_of sub location C size g) a new
-encoding_of_compacted index_cells inner_written index_written sub location order size g a old new h c =
+    → Holds inner_written index.cells (layout_of sub location order size g) a old
+    → IsCompacted index (layout_of sub location order size g) old new
+    → IsEncoding inner_written index.written (layout_of sub location C size g) a new
+encoding_of_compacted index inner_written sub location order size g a old new h c =
     let l : Layout = layout_of sub location order size g in
     let same : c.old_numbers ≡ h.numbers = some_same c.old_numbers h.numbers (sym c.read.told ∙ h.told) in
-    let moved : IsCompaction index_written l old h.numbers new = subst (λ ns. IsCompaction index_written l old ns new) same c.rewritten in
+    let moved : IsCompaction index.written l old h.numbers new = subst (λ ns. IsCompaction index.written l old ns new) same c.rewritten in
     record {
       numbers = moved.numbers;
-      holds = encoding_of_compaction inner_written index_written sub location order size g a old h.numbers new h.stand moved;
+      holds = encoding_of_compaction inner_written index.written sub location order size g a old h.numbers new h.stand moved;
     }
 
 -- and the one that is made from scratch, where each codec has one encoding of an array
-pub scratch_of_compacted : (index_cells : List ℕ → List (Option (List ℕ))) (inner_written index_written : List (List ℕ) → List ℕ → Type 0) (inner_encoding index_encoding : List (List ℕ) → List ℕ)
+pub scratch_of_compacted : (index : Meaning) (inner_written : List (List ℕ) → List ℕ → Type 0) (inner_encoding index_encoding : List (List ℕ) → List ℕ)
     (sub : List ℕ) (location : ShardingIndexLocation) (order : SubchunkWriteOrder) (size : ℕ) (g : Geo) (a : List (List ℕ)) (old new : List ℕ)
     → Divides sub g.shape → IsArrayOf g a
     → ((e : List (List ℕ)) (bytes : List ℕ) → IsArrayOf (sub_geo sub g) e → inner_written e bytes → bytes ≡ inner_encoding e)
-    → ((e : List (List ℕ)) (bytes : List ℕ) → IsArrayOf (index_geo (grid_of g.shape sub)) e → index_written e bytes → bytes ≡ index_encoding e)
-    → Holds inner_written index_cells (layout_of sub location order size g) a old
-    → IsCompacted index_cells index_written (layout_of sub location order size g) old new
+    → ((e : List (List ℕ)) (bytes : List ℕ) → IsArrayOf (index_geo (grid_of g.shape sub)) e → index.written e bytes → bytes ≡ index_encoding e)
+    → Holds inner_written index.cells (layout_of sub location order size g) a old
+    → IsCompacted index (layout_of sub location order size g) old new
     → new ≡ scratch inner_encoding index_encoding (layout_of sub location order size g) a
-scratch_of_compacted index_cells inner_written index_written inner_encoding index_encoding sub location order size g a old new divides array inner_law index_law h c =
-    scratch_of_encoding inner_written index_written inner_encoding index_encoding sub location C size g a new divides array refl inner_law index_law
-    (encoding_of_compacted index_cells inner_written index_written sub location order size g a old new h c)
+scratch_of_compacted index inner_written inner_encoding index_encoding sub location order size g a old new divides array inner_law index_law h c =
+    scratch_of_encoding inner_written index.written inner_encoding index_encoding sub location C size g a new divides array refl inner_law index_law
+    (encoding_of_compacted index inner_written sub location order size g a old new h c)

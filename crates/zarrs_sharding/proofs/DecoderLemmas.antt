@@ -12,7 +12,8 @@ use Rattle.zarr_parts.specs.Order.{RefusedBy, done}
 use Rattle.zarr_parts.specs.declared.error.CodecError.{CodecError}
 use Rattle.zarr_parts.specs.declared.error.CodecError.TheVariants.{OutOfMemory, TooLarge, OutOfBounds, Fault}
 use Rattle.zarr_parts.proofs.NumberingLaws.{number_below}
-use Rattle.zarr_codecs.specs.Handles.{RangeLiesIn, RefusesRead}
+use Rattle.zarr_codecs.specs.Meanings.{Meaning}
+use Rattle.zarr_codecs.specs.Handles.{HandleState, IsRead, RangeLiesIn, RefusesRead}
 use Rattle.zarr_codecs.specs.declared.bytes.ByteRange.{ByteRange}
 use Rattle.zarr_codecs.specs.declared.bytes.ByteRange.TheVariants.{FromStart}
 use Rattle.zarr_codecs.specs.Reads.{interval_part, cells_at, HasInterval, ObjectTests, AskedTests}
@@ -44,28 +45,26 @@ no_length : (len : ℕ) → Some len ≡ None → ⊥
 no_length len h = cc
 
 -- the tests of the index of an object whose length was read
-open_tests : {I X : Type 0} (len : ℕ) (contents : Option (List ℕ)) (index_decode : X → Geo → List ℕ → CodecError → Type 0) (representation : X → Geo → Option BytesRepresentation)
-    (index_cells : X → Geo → List ℕ → List (Option (List ℕ))) (codec : ShardingCodec I X) (grid : List ℕ) (size : ℕ) (e : CodecError)
-    → len + 1 < 2 ^ 64 → Some len ≡ option_map length contents → size ≡ fixed_size (representation codec.index_codec (index_geo grid))
-    → IndexTests (index_decode codec.index_codec (index_geo grid)) (index_cells codec.index_codec (index_geo grid)) codec.location size (interval_part (record { offset = 0; size = len }) contents) done e
-    → OpenTests index_decode representation index_cells codec grid contents e
-open_tests len None index_decode representation index_cells codec grid size e room is sized h = absurd (no_length len is)
-open_tests len (Some b) index_decode representation index_cells codec grid size e room is sized h =
+open_tests : {I X : Type 0} (len : ℕ) (contents : Option (List ℕ)) (index : X → Geo → Meaning) (codec : ShardingCodec I X) (grid : List ℕ) (size : ℕ) (e : CodecError)
+    → len + 1 < 2 ^ 64 → Some len ≡ option_map length contents → size ≡ fixed_size (index codec.index_codec (index_geo grid)).representation
+    → IndexTests (index codec.index_codec (index_geo grid)).decode_tests (index codec.index_codec (index_geo grid)).cells codec.location size (interval_part (record { offset = 0; size = len }) contents) done e
+    → OpenTests index codec grid contents e
+open_tests len None index codec grid size e room is sized h = absurd (no_length len is)
+open_tests len (Some b) index codec grid size e room is sized h =
     let long : length b ≡ len = some_length len b is in
     inr (omega arith, rw (whole_part len b long, sized) at h)
 
-pub open_refused : {I X : Type 0} (tells tells' : Bool) (before before' after len : ℕ) (contents : Option (List ℕ)) (index_decode : X → Geo → List ℕ → CodecError → Type 0)
-    (representation : X → Geo → Option BytesRepresentation) (index_cells : X → Geo → List ℕ → List (Option (List ℕ))) (codec : ShardingCodec I X) (grid : List ℕ) (size : ℕ) (e : CodecError)
-    → tells' ≡ tells → before ≤ before' → len + 1 < 2 ^ 64 → (IsTrue tells → Some len ≡ option_map length contents) → size ≡ fixed_size (representation codec.index_codec (index_geo grid))
-    → RefusedBy (ObjectTests tells' before' after (IndexTests (index_decode codec.index_codec (index_geo grid)) (index_cells codec.index_codec (index_geo grid)) codec.location size
-    (interval_part (record { offset = 0; size = len }) contents) done)) e
-    → RefusedBy (ObjectTests tells before after (OpenTests index_decode representation index_cells codec grid contents)) e
-open_refused tells tells' before before' after len contents index_decode representation index_cells codec grid size e same kept room told sized h =
+pub open_refused : {I X : Type 0} (first old new : HandleState) (len : ℕ) (index : X → Geo → Meaning) (codec : ShardingCodec I X) (grid : List ℕ) (size : ℕ) (e : CodecError)
+    → IsRead first old → len + 1 < 2 ^ 64 → (IsTrue first.tells → Some len ≡ option_map length first.contents) → size ≡ fixed_size (index codec.index_codec (index_geo grid)).representation
+    → RefusedBy (ObjectTests old new (IndexTests (index codec.index_codec (index_geo grid)).decode_tests (index codec.index_codec (index_geo grid)).cells codec.location size
+    (interval_part (record { offset = 0; size = len }) first.contents) done)) e
+    → RefusedBy (ObjectTests first new (OpenTests index codec grid first.contents)) e
+open_refused first old new len index codec grid size e read room told sized h =
     elim h [
       | inl memory ↦ inl memory
-      | inr tests ↦ inr (λ t. elim (tests (rw same t)) [
-        | inl fault ↦ inl (fault.0, omega (arith, fault.1))
-        | inr refused ↦ inr (open_tests len contents index_decode representation index_cells codec grid size e room (told t) sized refused)
+      | inr tests ↦ inr (λ t. elim (tests (rw read.tells_same t)) [
+        | inl fault ↦ inl (fault.0, omega (arith, fault.1, read.faults_kept))
+        | inr refused ↦ inr (open_tests len first.contents index codec grid size e room (told t) sized refused)
       ])
     ]
 
@@ -83,48 +82,48 @@ held_interval index_in None len ns held = absurd (no_numbers ns held)
 held_interval index_in (Some b) len ns held = omega (arith, held.0)
 
 -- the cells that were read by the held index are those of the object
-pub stored_cells : (inner_cells index_cells : List ℕ → List (Option (List ℕ))) (l : Layout) (g : Geo) (contents : Option (List ℕ)) (len : ℕ) (ns numbers : List ℕ) (points elements : List (List ℕ))
-    → HoldsIndex (numbers_in_index index_cells l.location l.index_size) contents len (Some ns) → All (λ point. IsInside point l.shape) points → numbers ≡ numbers_of l.shape points
-    → map (read_by inner_cells l.shape l.sub l.fill (interval_part (record { offset = 0; size = len }) contents) ns) numbers ≡ map Some elements
-    → cells_at (object_cells (shard_cells inner_cells index_cells l) g contents) l.shape points ≡ map Some elements
-stored_cells inner_cells index_cells l g None len ns numbers points elements held inside same read = absurd (no_numbers ns held)
-stored_cells inner_cells index_cells l g (Some b) len ns numbers points elements held inside same read =
-    asked_cells inner_cells index_cells l b ns points held.1 inside ∙ rw (whole_part len b held.0, same) at read
+pub stored_cells : (inner index : Meaning) (l : Layout) (g : Geo) (contents : Option (List ℕ)) (len : ℕ) (ns numbers : List ℕ) (points elements : List (List ℕ))
+    → HoldsIndex (numbers_in_index index.cells l.location l.index_size) contents len (Some ns) → All (λ point. IsInside point l.shape) points → numbers ≡ numbers_of l.shape points
+    → map (read_by inner.cells l.shape l.sub l.fill (interval_part (record { offset = 0; size = len }) contents) ns) numbers ≡ map Some elements
+    → cells_at (object_cells (shard_cells inner.cells index.cells l) g contents) l.shape points ≡ map Some elements
+stored_cells inner index l g None len ns numbers points elements held inside same read = absurd (no_numbers ns held)
+stored_cells inner index l g (Some b) len ns numbers points elements held inside same read =
+    asked_cells inner index l b ns points held.1 inside ∙ rw (whole_part len b held.0, same) at read
 
 -- and what refuses them is a test of the object
-stored_tests : {I X : Type 0} (answerable : I → Geo → ℕ → Type 0) (read_tests : I → Geo → List ℕ → List (List ℕ) → CodecError → Type 0) (inner_cells : I → Geo → List ℕ → List (Option (List ℕ)))
-    (representation : X → Geo → Option BytesRepresentation) (index_cells : X → Geo → List ℕ → List (Option (List ℕ))) (codec : ShardingCodec I X) (g : Geo) (contents : Option (List ℕ)) (len : ℕ)
+stored_tests : {I X : Type 0} (inner : I → Geo → Meaning) (index : X → Geo → Meaning)
+    (codec : ShardingCodec I X) (g : Geo) (contents : Option (List ℕ)) (len : ℕ)
     (ns numbers : List ℕ) (points : List (List ℕ)) (e : CodecError)
-    → HoldsIndex (index_in representation index_cells codec g) contents len (Some ns) → All (λ point. IsInside point g.shape) points → numbers ≡ numbers_of g.shape points
-    → ReadByTests answerable read_tests inner_cells codec g (interval_part (record { offset = 0; size = len }) contents) ns numbers e
-    → ObjectCellsTests answerable read_tests inner_cells representation index_cells codec g contents points e
-stored_tests answerable read_tests inner_cells representation index_cells codec g None len ns numbers points e held inside same h = absurd (no_numbers ns held)
-stored_tests answerable read_tests inner_cells representation index_cells codec g (Some b) len ns numbers points e held inside same h =
+    → HoldsIndex (index_in index codec g) contents len (Some ns) → All (λ point. IsInside point g.shape) points → numbers ≡ numbers_of g.shape points
+    → ReadByTests inner codec g (interval_part (record { offset = 0; size = len }) contents) ns numbers e
+    → ObjectCellsTests inner index codec g contents points e
+stored_tests inner index codec g None len ns numbers points e held inside same h = absurd (no_numbers ns held)
+stored_tests inner index codec g (Some b) len ns numbers points e held inside same h =
     let sub = codec.subchunk_shape in
-    let inner : List ℕ → List (Option (List ℕ)) = inner_cells codec.inner (sub_geo sub g) in
+    let inner_m = inner codec.inner (sub_geo sub g) in
     let index_g = index_geo (grid_of g.shape sub) in
-    let index : List ℕ → List (Option (List ℕ)) = index_cells codec.index_codec index_g in
-    let l = layout sub codec.location codec.order (representation codec.index_codec index_g) g in
-    let told : numbers_in_index index l.location l.index_size b ≡ Some ns = held.1 in
-    let lengths : AreTooLong (map (read_by inner g.shape sub g.fill b ns) (numbers_of g.shape points)) → AreTooLong (cells_at (shard_cells inner index l b) g.shape points) =
-    subst AreTooLong (sym (asked_cells inner index l b ns points told inside)) in
+    let index_m = index codec.index_codec index_g in
+    let l = layout sub codec.location codec.order index_m.representation g in
+    let told : numbers_in_index index_m.cells l.location l.index_size b ≡ Some ns = held.1 in
+    let lengths : AreTooLong (map (read_by inner_m.cells g.shape sub g.fill b ns) (numbers_of g.shape points)) → AreTooLong (cells_at (shard_cells inner_m.cells index_m.cells l b) g.shape points) =
+    subst AreTooLong (sym (asked_cells inner_m index_m l b ns points told inside)) in
     elim (rw (whole_part len b held.0, same) at h) [
       | inl one ↦ inl (rw told one)
       | inr later ↦ inr (rw told later.0, (later.1.0, lengths later.1.1))
     ]
 
-pub stored_refused : {I X : Type 0} (tells : Bool) (before after : ℕ) (answerable : I → Geo → ℕ → Type 0) (read_tests : I → Geo → List ℕ → List (List ℕ) → CodecError → Type 0)
-    (inner_cells : I → Geo → List ℕ → List (Option (List ℕ))) (representation : X → Geo → Option BytesRepresentation) (index_cells : X → Geo → List ℕ → List (Option (List ℕ))) (codec : ShardingCodec I X) (g : Geo)
-    (contents : Option (List ℕ)) (len : ℕ) (ns numbers : List ℕ) (points : List (List ℕ)) (e : CodecError)
-    → (IsTrue tells → HoldsIndex (index_in representation index_cells codec g) contents len (Some ns)) → All (λ point. IsInside point g.shape) points → numbers ≡ numbers_of g.shape points
-    → RefusedBy (ObjectTests tells before after (ReadByTests answerable read_tests inner_cells codec g (interval_part (record { offset = 0; size = len }) contents) ns numbers)) e
-    → RefusedBy (ObjectTests tells before after (ObjectCellsTests answerable read_tests inner_cells representation index_cells codec g contents points)) e
-stored_refused tells before after answerable read_tests inner_cells representation index_cells codec g contents len ns numbers points e held inside same h =
+pub stored_refused : {I X : Type 0} (old new : HandleState) (inner : I → Geo → Meaning) (index : X → Geo → Meaning)
+    (codec : ShardingCodec I X) (g : Geo)
+    (len : ℕ) (ns numbers : List ℕ) (points : List (List ℕ)) (e : CodecError)
+    → (IsTrue old.tells → HoldsIndex (index_in index codec g) old.contents len (Some ns)) → All (λ point. IsInside point g.shape) points → numbers ≡ numbers_of g.shape points
+    → RefusedBy (ObjectTests old new (ReadByTests inner codec g (interval_part (record { offset = 0; size = len }) old.contents) ns numbers)) e
+    → RefusedBy (ObjectTests old new (ObjectCellsTests inner index codec g old.contents points)) e
+stored_refused old new inner index codec g len ns numbers points e held inside same h =
     elim h [
       | inl memory ↦ inl memory
       | inr tests ↦ inr (λ t. elim (tests t) [
         | inl fault ↦ inl fault
-        | inr refused ↦ inr (stored_tests answerable read_tests inner_cells representation index_cells codec g contents len ns numbers points e (held t) inside same refused)
+        | inr refused ↦ inr (stored_tests inner index codec g old.contents len ns numbers points e (held t) inside same refused)
       ])
     ]
 
@@ -143,28 +142,28 @@ no_object_cells index_of cells g None len points held inside = fill_at g.shape g
 no_object_cells index_of cells g (Some b) len points held inside = absurd held
 
 -- and is refused for the length of all of them alone
-no_object_tests : {I X : Type 0} (index_of : List ℕ → Option (List ℕ)) (answerable : I → Geo → ℕ → Type 0) (read_tests : I → Geo → List ℕ → List (List ℕ) → CodecError → Type 0) (inner_cells : I → Geo → List ℕ → List (Option (List ℕ)))
-    (representation : X → Geo → Option BytesRepresentation) (index_cells : X → Geo → List ℕ → List (Option (List ℕ))) (codec : ShardingCodec I X) (g : Geo) (contents : Option (List ℕ)) (len : ℕ)
+no_object_tests : {I X : Type 0} (index_of : List ℕ → Option (List ℕ)) (inner : I → Geo → Meaning) (index : X → Geo → Meaning)
+    (codec : ShardingCodec I X) (g : Geo) (contents : Option (List ℕ)) (len : ℕ)
     (points : List (List ℕ)) (e : CodecError) → HoldsIndex index_of contents len None → All (λ point. IsInside point g.shape) points → (e ≡ TooLarge) × (2 ^ 64 ≤ length points * length g.fill)
-    → ObjectCellsTests answerable read_tests inner_cells representation index_cells codec g contents points e
-no_object_tests index_of answerable read_tests inner_cells representation index_cells codec g None len points e held inside h =
+    → ObjectCellsTests inner index codec g contents points e
+no_object_tests index_of inner index codec g None len points e held inside h =
     let elements = replicate (length points) g.fill in
     let many : length elements ≡ length points = length-replicate (length points) g.fill in (
       h.0,
       sized_too_long (cells_at (replicate (count_of g.shape) (Some g.fill)) g.shape points) elements (length g.fill) (fill_at g.shape g.fill points inside)
           (λ i d below. ap length (get_or-replicate (length points) i g.fill d (omega (arith, many)))) (rw many h.1),
     )
-no_object_tests index_of answerable read_tests inner_cells representation index_cells codec g (Some b) len points e held inside h = absurd held
+no_object_tests index_of inner index codec g (Some b) len points e held inside h = absurd held
 
-pub no_object_refused : {I X : Type 0} (tells : Bool) (before after count : ℕ) (index_of : List ℕ → Option (List ℕ)) (answerable : I → Geo → ℕ → Type 0) (read_tests : I → Geo → List ℕ → List (List ℕ) → CodecError → Type 0)
-    (inner_cells : I → Geo → List ℕ → List (Option (List ℕ))) (representation : X → Geo → Option BytesRepresentation) (index_cells : X → Geo → List ℕ → List (Option (List ℕ))) (codec : ShardingCodec I X) (g : Geo)
-    (contents : Option (List ℕ)) (len : ℕ) (points : List (List ℕ)) (e : CodecError) → (IsTrue tells → HoldsIndex index_of contents len None) → All (λ point. IsInside point g.shape) points → count ≡ length points
+pub no_object_refused : {I X : Type 0} (old new : HandleState) (count : ℕ) (index_of : List ℕ → Option (List ℕ)) (inner : I → Geo → Meaning) (index : X → Geo → Meaning)
+    (codec : ShardingCodec I X) (g : Geo)
+    (len : ℕ) (points : List (List ℕ)) (e : CodecError) → (IsTrue old.tells → HoldsIndex index_of old.contents len None) → All (λ point. IsInside point g.shape) points → count ≡ length points
     → RefusedBy (λ x. (x ≡ TooLarge) × (2 ^ 64 ≤ count * length g.fill)) e
-    → RefusedBy (ObjectTests tells before after (ObjectCellsTests answerable read_tests inner_cells representation index_cells codec g contents points)) e
-no_object_refused tells before after count index_of answerable read_tests inner_cells representation index_cells codec g contents len points e held inside counted h =
+    → RefusedBy (ObjectTests old new (ObjectCellsTests inner index codec g old.contents points)) e
+no_object_refused old new count index_of inner index codec g len points e held inside counted h =
     elim h [
       | inl memory ↦ inl memory
-      | inr long ↦ inr (λ t. inr (no_object_tests index_of answerable read_tests inner_cells representation index_cells codec g contents len points e (held t) inside (rw counted at long)))
+      | inr long ↦ inr (λ t. inr (no_object_tests index_of inner index codec g old.contents len points e (held t) inside (rw counted at long)))
     ]
 
 -- what is asked passes its tests
@@ -213,20 +212,20 @@ held_lies index_in (Some b) None len k range held is fits = absurd held
 held_lies index_in (Some b) (Some ns) len k range held is fits = (b, refl, range_lies (slot_at len ns k) range b len is fits held.0)
 
 -- a read of a range that lies in the object is refused for memory or as a fault
-read_refused : (tells : Bool) (before after : ℕ) (contents : Option (List ℕ)) (range : ByteRange) (e : CodecError) → (IsTrue tells → (b : List ℕ) × (contents ≡ Some b) × RangeLiesIn range b)
-    → RefusesRead range tells contents before after e → RefusedBy (ObjectTests tells before after done) e
-read_refused tells before after contents range OutOfMemory lies h = inl refl
-read_refused tells before after contents range Fault lies h = inr (λ t. inl (refl, h.0))
-read_refused tells before after contents range OutOfBounds lies h = inr (λ t. let found = lies t in absurd ((rw found.1 at (h.1 t)) found.2))
-read_refused tells before after contents range _ lies h = inr (λ t. absurd (h.1 t))
+read_refused : (old new : HandleState) (range : ByteRange) (e : CodecError) → (IsTrue old.tells → (b : List ℕ) × (old.contents ≡ Some b) × RangeLiesIn range b)
+    → RefusesRead range old new e → RefusedBy (ObjectTests old new done) e
+read_refused old new range OutOfMemory lies h = inl refl
+read_refused old new range Fault lies h = inr (λ t. inl (refl, h.0))
+read_refused old new range OutOfBounds lies h = inr (λ t. let found = lies t in absurd ((rw found.1 at (h.1 t)) found.2))
+read_refused old new range _ lies h = inr (λ t. absurd (h.1 t))
 
 -- so only memory and the handle itself refuse a read of it
-pub slice_refused : (tells : Bool) (before after : ℕ) (grid subchunk : List ℕ) (index_in : List ℕ → Option (List ℕ)) (contents index : Option (List ℕ)) (len : ℕ) (range : ByteRange) (e : CodecError)
-    → (IsTrue tells → HoldsIndex index_in contents len index) → length subchunk ≡ length grid → IsInside subchunk grid
-    → IsRangeOf (held_slot len index (number_of subchunk grid)) (Some range) → FitsSlot len (held_slot len index (number_of subchunk grid)) → RefusesRead range tells contents before after e
-    → RefusedBy (SlotTests grid subchunk (held_slot len index (number_of subchunk grid)) (ObjectTests tells before after done)) e
-slice_refused tells before after grid subchunk index_in contents index len range e held axes inside is fits h =
+pub slice_refused : (old new : HandleState) (grid subchunk : List ℕ) (index_in : List ℕ → Option (List ℕ)) (index : Option (List ℕ)) (len : ℕ) (range : ByteRange) (e : CodecError)
+    → (IsTrue old.tells → HoldsIndex index_in old.contents len index) → length subchunk ≡ length grid → IsInside subchunk grid
+    → IsRangeOf (held_slot len index (number_of subchunk grid)) (Some range) → FitsSlot len (held_slot len index (number_of subchunk grid)) → RefusesRead range old new e
+    → RefusedBy (SlotTests grid subchunk (held_slot len index (number_of subchunk grid)) (ObjectTests old new done)) e
+slice_refused old new grid subchunk index_in index len range e held axes inside is fits h =
     let k = number_of subchunk grid in
     let good = has_range (held_slot len index k) range is in
-    let last : RefusedBy (ObjectTests tells before after done) e = read_refused tells before after contents range e (λ t. held_lies index_in contents index len k range (held t) is fits) h in
+    let last : RefusedBy (ObjectTests old new done) e = read_refused old new range e (λ t. held_lies index_in old.contents index len k range (held t) is fits) h in
     elim last [ inl memory ↦ inl memory | inr refused ↦ inr (inr (axes, inr (inside, inr (good, refused)))) ]

@@ -11,6 +11,7 @@ use Rattle.zarr_parts.specs.declared.data_type.DataTypeSize.{DataTypeSize}
 use Rattle.zarr_parts.specs.declared.error.CodecError.{CodecError}
 use Rattle.zarr_parts.specs.declared.error.CodecError.TheVariants.{OutOfMemory, TooLarge, CannotEncode}
 use Rattle.zarr_parts.specs.Grid.{grid_of, subchunk}
+use Rattle.zarr_codecs.specs.Meanings.{Meaning}
 use Rattle.zarr_codecs.specs.Refusals.{MayRefuseEncode}
 use Rattle.zarr_codecs.specs.Representations.{IsWithin}
 use Rattle.zarr_codecs.specs.declared.representation.BytesRepresentation.{BytesRepresentation}
@@ -28,26 +29,26 @@ use Rattle.zarrs_sharding.specs.declared.slot.Slot.{Slot}
 use Rattle.zarrs_sharding.specs.declared.slot.Slot.TheVariants.{Bad}
 
 -- another codec's refusal to encode, save for memory
-pub refuses_to_encode : (Encodable Fits : Type 0) (e : CodecError) → MayRefuseEncode Encodable Fits e → (e ≡ OutOfMemory) ⊎ RefusesToEncode Encodable Fits e
-refuses_to_encode Encodable Fits OutOfMemory h = inl refl
-refuses_to_encode Encodable Fits CannotEncode h = inr (inl (refl, h))
-refuses_to_encode Encodable Fits TooLarge h = inr (inr (refl, h))
-refuses_to_encode Encodable Fits _ h = absurd h
+pub refuses_to_encode : (codec : Meaning) (elements : List (List ℕ)) (e : CodecError) → MayRefuseEncode codec elements e → (e ≡ OutOfMemory) ⊎ RefusesToEncode (codec.encodable elements) (codec.fits elements) e
+refuses_to_encode codec elements OutOfMemory h = inl refl
+refuses_to_encode codec elements CannotEncode h = inr (inl (refl, h))
+refuses_to_encode codec elements TooLarge h = inr (inr (refl, h))
+refuses_to_encode codec elements _ h = absurd h
 
 -- such a refusal, where the whole cannot be encoded or does not fit because the part cannot
-part_refused : (Encodable Fits Whole WholeFits : Type 0) (e : CodecError) → (Whole → Encodable) → (WholeFits → Fits) → RefusesToEncode Encodable Fits e → MayRefuseEncode Whole WholeFits e
-part_refused Encodable Fits Whole WholeFits e can fits h =
+part_refused : (Encodable Fits : Type 0) (codec : Meaning) (whole : List (List ℕ)) (e : CodecError) → (codec.encodable whole → Encodable) → (codec.fits whole → Fits) → RefusesToEncode Encodable Fits e → MayRefuseEncode codec whole e
+part_refused Encodable Fits codec whole e can fits h =
     elim h [
-      | inl cannot ↦ rw cannot.0 (λ whole. cannot.1 (can whole))
-      | inr large ↦ rw large.0 (λ whole. large.1 (fits whole))
+      | inl cannot ↦ rw cannot.0 (λ w. cannot.1 (can w))
+      | inr large ↦ rw large.0 (λ w. large.1 (fits w))
     ]
 
-module _ (inner_encodable inner_fits index_encodable index_fits : List (List ℕ) → Type 0) (inner_written : List (List ℕ) → List ℕ → Type 0) (l : Layout) (kind : DataTypeSize) (array : Array) where
+module _ (inner index : Meaning) (l : Layout) (kind : DataTypeSize) (array : Array) where
   -- a refusal by the tests is one that the codec laws allow
-  pub may_refuse_encode : (e : CodecError) → array.kind ≡ kind → length array.elements ≡ count_of l.shape
-      → RefusedBy (EncodeTests inner_encodable inner_fits index_encodable index_fits inner_written l kind array) e
-      → MayRefuseEncode (ShardEncodable inner_encodable index_encodable l array.elements) (ShardFits inner_fits index_fits inner_written l array.elements) e
-  may_refuse_encode e same counted h =
+  pub may_refuse_encode : (whole : Meaning) (e : CodecError) → (whole.encodable array.elements → ShardEncodable inner index l array.elements) → (whole.fits array.elements → ShardFits inner index l array.elements) → array.kind ≡ kind → length array.elements ≡ count_of l.shape
+      → RefusedBy (EncodeTests inner index l kind array) e
+      → MayRefuseEncode whole array.elements e
+  may_refuse_encode whole e can fits same counted h =
       elim h [
         | inl memory ↦ rw memory tt
         | inr tests ↦ elim tests [
@@ -55,12 +56,12 @@ module _ (inner_encodable inner_fits index_encodable index_fits : List (List ℕ
           | inr after_kind ↦ elim after_kind.1 [
             | inl few ↦ absurd (few.0 counted)
             | inr after_count ↦ elim after_count.1 [
-              | inl one ↦ part_refused _ _ _ _ e (λ whole. whole.subchunks one.0 one.1.0 one.1.2.0) (λ whole. whole.subchunks one.0 one.1.0 one.1.2.0) one.1.2.1
+              | inl one ↦ part_refused _ _ whole array.elements e (λ w. (can w).subchunks one.0 one.1.0 one.1.2.0) (λ w. (fits w).subchunks one.0 one.1.0 one.1.2.0) one.1.2.1
               | inr after_subchunks ↦ elim after_subchunks.1 [
-                | inl large ↦ rw large.0 (λ whole. omega (arith, whole.total large.1.parts large.1.each, large.1.total))
+                | inl large ↦ rw large.0 (λ w. omega (arith, (fits w).total large.1.parts large.1.each, large.1.total))
                 | inr after_total ↦
                     let i = after_total.1 in
-                    part_refused _ _ _ _ e (λ whole. whole.index i.numbers i.counted i.below) (λ whole. whole.index i.numbers i.counted i.below) i.refuses
+                    part_refused _ _ whole array.elements e (λ w. (can w).index i.numbers i.counted i.below) (λ w. (fits w).index i.numbers i.counted i.below) i.refuses
               ]
             ]
           ]
@@ -69,28 +70,28 @@ module _ (inner_encodable inner_fits index_encodable index_fits : List (List ℕ
 
   -- the tests of the subchunks come after those of the array
   pub store_next : (e : CodecError) → array.kind ≡ kind → length array.elements ≡ count_of l.shape
-      → RefusedBy (StoreTests inner_encodable inner_fits inner_written l.fill (subchunk l.shape l.sub array.elements) (count_of (grid_of l.shape l.sub)) done) e
-      → RefusedBy (EncodeTests inner_encodable inner_fits index_encodable index_fits inner_written l kind array) e
+      → RefusedBy (StoreTests inner l.fill (subchunk l.shape l.sub array.elements) (count_of (grid_of l.shape l.sub)) done) e
+      → RefusedBy (EncodeTests inner index l kind array) e
   store_next e same counted h =
       elim h [
         | inl memory ↦ inl memory
         | inr tests ↦ inr (inr (same, inr (counted, elim tests [ inl one ↦ inl one | inr nothing ↦ absurd nothing.1 ])))
       ]
 
-  module _ (bytes : List ℕ) (slots : List Slot) (laid : IsLaidOut inner_written l.fill l.shape l.sub array.elements bytes slots (count_of (grid_of l.shape l.sub))) where
+  module _ (bytes : List ℕ) (slots : List Slot) (laid : IsLaidOut inner.written l.fill l.shape l.sub array.elements bytes slots (count_of (grid_of l.shape l.sub))) where
     abbrev part_at : ℕ → List ℕ
     part_at k = slice_of bytes (get_or slots k Bad)
 
-    encoding_at : (k : ℕ) → k < count_of (grid_of l.shape l.sub) → IsPart inner_written l.fill (subchunk l.shape l.sub array.elements k) (part_at k)
-    encoding_at k below = encoding_laid inner_written l.fill (subchunk l.shape l.sub array.elements k) (get_or slots k Bad) bytes (laid.laid k below)
+    encoding_at : (k : ℕ) → k < count_of (grid_of l.shape l.sub) → IsPart inner.written l.fill (subchunk l.shape l.sub array.elements k) (part_at k)
+    encoding_at k below = encoding_laid inner.written l.fill (subchunk l.shape l.sub array.elements k) (get_or slots k Bad) bytes (laid.laid k below)
 
     total_at : sum_by (λ k. length (part_at k)) (range_with_len 0 (count_of (grid_of l.shape l.sub))) ≡ length bytes
     total_at =
         sum_same (λ k. length (part_at k)) (λ k. slot_size (get_or slots k Bad)) (count_of (grid_of l.shape l.sub))
-        (λ k below. length_laid inner_written l.fill (subchunk l.shape l.sub array.elements k) (get_or slots k Bad) bytes (laid.laid k below))
+        (λ k below. length_laid inner.written l.fill (subchunk l.shape l.sub array.elements k) (get_or slots k Bad) bytes (laid.laid k below))
         ∙ laid.filled
 
-    some_total : (P : ℕ → Type 0) → P (l.index_size + length bytes) → SomeTotal inner_written l array.elements P
+    some_total : (P : ℕ → Type 0) → P (l.index_size + length bytes) → SomeTotal inner.written l array.elements P
     some_total P h = record {
       parts = part_at;
       each = encoding_at;
@@ -99,14 +100,14 @@ module _ (inner_encodable inner_fits index_encodable index_fits : List (List ℕ
 
     -- then that of the length
     pub total_next : array.kind ≡ kind → length array.elements ≡ count_of l.shape → 2 ^ 64 ≤ l.index_size + length bytes + 1
-        → EncodeTests inner_encodable inner_fits index_encodable index_fits inner_written l kind array TooLarge
+        → EncodeTests inner index l kind array TooLarge
     total_next same counted large =
         inr (same, inr (counted, inr ((λ k below. (part_at k, encoding_at k below)), inl (refl, some_total (λ n. 2 ^ 64 ≤ n + 1) large))))
 
     -- and that of the index
     pub index_next : (e : CodecError) → array.kind ≡ kind → length array.elements ≡ count_of l.shape → l.index_size + length bytes + 1 < 2 ^ 64
-        → RefusedBy (RefusesIndex index_encodable index_fits (count_of (grid_of l.shape l.sub))) e
-        → RefusedBy (EncodeTests inner_encodable inner_fits index_encodable index_fits inner_written l kind array) e
+        → RefusedBy (RefusesIndex index (count_of (grid_of l.shape l.sub))) e
+        → RefusedBy (EncodeTests inner index l kind array) e
     index_next e same counted small h =
         elim h [
           | inl memory ↦ inl memory
@@ -121,11 +122,11 @@ array_of_index grid numbers counted = record {
 }
 
 -- the refusal of an index
-pub index_refused : (index_encodable index_fits : List (List ℕ) → Type 0) (subchunks : ℕ) (numbers : List ℕ) (e : CodecError)
+pub index_refused : (index : Meaning) (subchunks : ℕ) (numbers : List ℕ) (e : CodecError)
     → length numbers ≡ 2 * subchunks → All (λ n. n < 2 ^ 64) numbers
-    → MayRefuseEncode (index_encodable (map element_of_number numbers)) (index_fits (map element_of_number numbers)) e → RefusedBy (RefusesIndex index_encodable index_fits subchunks) e
-index_refused index_encodable index_fits subchunks numbers e counted below h =
-    elim (refuses_to_encode (index_encodable (map element_of_number numbers)) (index_fits (map element_of_number numbers)) e h) [
+    → MayRefuseEncode index (map element_of_number numbers) e → RefusedBy (RefusesIndex index subchunks) e
+index_refused index subchunks numbers e counted below h =
+    elim (refuses_to_encode index (map element_of_number numbers) e h) [
       | inl memory ↦ inl memory
       | inr refuses ↦ inr (record { numbers = numbers; counted = counted; below = below; refuses = refuses })
     ]

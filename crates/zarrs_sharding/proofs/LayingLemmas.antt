@@ -9,6 +9,7 @@ use borrow.Author.Count.{below_more}
 use Rattle.zarr_parts.specs.Order.{done, RefusedBy}
 use Rattle.zarr_parts.specs.declared.error.CodecError.{CodecError}
 use Rattle.zarr_parts.specs.Grid.{subchunk}
+use Rattle.zarr_codecs.specs.Meanings.{Meaning}
 use Rattle.zarrs_sharding.specs.Serves.{IsPart}
 use Rattle.zarrs_sharding.specs.EncodeTests.{RefusesToStore, StoreTests}
 use Rattle.zarrs_sharding.specs.Encoding.{slot_size, BeginsAt}
@@ -116,18 +117,18 @@ length_laid inner_written fill e (InRange offset size) bytes h = omega (arith, h
 length_laid inner_written fill e Bad bytes h = absurd h
 
 -- the first subchunk that is refused
-pub one_not_stored : (inner_encodable inner_fits : List (List ℕ) → Type 0) (inner_written : List (List ℕ) → List ℕ → Type 0) (fill shape sub : List ℕ) (a : List (List ℕ)) (bytes : List ℕ) (slots : List Slot) (n k : ℕ) (s : List (List ℕ)) (e : CodecError)
-    → k < n → IsLaidOut inner_written fill shape sub a bytes slots k → s ≡ subchunk shape sub a k
-    → RefusedBy (RefusesToStore inner_encodable inner_fits fill s) e
-    → RefusedBy (StoreTests inner_encodable inner_fits inner_written fill (subchunk shape sub a) n done) e
-one_not_stored inner_encodable inner_fits inner_written fill shape sub a bytes slots n k s e below h same refused =
+pub one_not_stored : (inner : Meaning) (fill shape sub : List ℕ) (a : List (List ℕ)) (bytes : List ℕ) (slots : List Slot) (n k : ℕ) (s : List (List ℕ)) (e : CodecError)
+    → k < n → IsLaidOut inner.written fill shape sub a bytes slots k → s ≡ subchunk shape sub a k
+    → RefusedBy (RefusesToStore inner.encodable inner.fits fill s) e
+    → RefusedBy (StoreTests inner fill (subchunk shape sub a) n done) e
+one_not_stored inner fill shape sub a bytes slots n k s e below h same refused =
     elim refused [
       | inl memory ↦ inl memory
       | inr r ↦ inr (inl (
         k,
         (
           below,
-          (λ j before. (slice_of bytes (get_or slots j Bad), encoding_laid inner_written fill (subchunk shape sub a j) (get_or slots j Bad) bytes (h.laid j before))),
+          (λ j before. (slice_of bytes (get_or slots j Bad), encoding_laid inner.written fill (subchunk shape sub a j) (get_or slots j Bad) bytes (h.laid j before))),
           rw same at r,
         ),
       ))

@@ -17,6 +17,7 @@ use Rattle.zarr_parts.specs.Types.{size_of}
 use Rattle.zarr_parts.specs.Arrays.{Array}
 use Rattle.zarr_parts.specs.declared.data_type.DataTypeSize.{DataTypeSize}
 use Rattle.zarr_parts.proofs.GridLaws.{cell_number-below, subchunk_number-cell_number, place_number-cell_number}
+use Rattle.zarr_codecs.specs.Meanings.{Meaning}
 use Rattle.zarr_codecs.specs.Cells.{cell_length}
 use Rattle.zarr_codecs.specs.Refusals.{AreTooLong}
 use Rattle.zarrs_sharding.specs.Index.{slot_at, numbers_in_index}
@@ -78,9 +79,9 @@ bytes_in_places : (kind : DataTypeSize) (sub fill : List ℕ) (o : Option Array)
 bytes_in_places kind sub fill None h = sum_alike (λ i. length fill) (length fill) 0 (count_of sub) (λ i le below. refl)
 bytes_in_places kind sub fill (Some a) h = sum_by_places length [] a.elements (count_of sub) h.0
 
-module _ (inner_cells index_cells : List ℕ → List (Option (List ℕ))) (sub : List ℕ) (location : ShardingIndexLocation) (order : SubchunkWriteOrder) (size : ℕ) (g : Geo) (b ns : List ℕ) (subchunks : List (Option Array))
-    (divides : Divides sub g.shape) (told : numbers_in_index index_cells location size b ≡ Some ns) (counted : length subchunks ≡ count_of (grid_of g.shape sub))
-    (each : (k : ℕ) → k < count_of (grid_of g.shape sub) → IsDecoded inner_cells (sub_geo sub g) b (slot_at (length b) ns k) (get_or subchunks k None)) where
+module _ (inner index : Meaning) (sub : List ℕ) (location : ShardingIndexLocation) (order : SubchunkWriteOrder) (size : ℕ) (g : Geo) (b ns : List ℕ) (subchunks : List (Option Array))
+    (divides : Divides sub g.shape) (told : numbers_in_index index.cells location size b ≡ Some ns) (counted : length subchunks ≡ count_of (grid_of g.shape sub))
+    (each : (k : ℕ) → k < count_of (grid_of g.shape sub) → IsDecoded inner.cells (sub_geo sub g) b (slot_at (length b) ns k) (get_or subchunks k None)) where
   -- the bytes of all of them are those of the elements at their places, row by row
   bytes_by_rows : sum_by (λ i. length (element_at g.fill (get_or subchunks (i / count_of sub) None) (i % count_of sub))) (range_with_len 0 (count_of (grid_of g.shape sub) * count_of sub))
       ≡ bytes_gathered g.fill (count_of sub) subchunks
@@ -89,23 +90,23 @@ module _ (inner_cells index_cells : List ℕ → List (Option (List ℕ))) (sub 
       let many : ℕ = count_of (grid_of g.shape sub) in
       sum_by_rows element_length (count_of sub) many
       ∙ sum_same (λ k. sum_by (element_length k) (range_with_len 0 (count_of sub))) (λ k. bytes_in g.fill (count_of sub) (get_or subchunks k None)) many
-      (λ k below. bytes_in_places (size_of g.data_type) sub g.fill (get_or subchunks k None) (IsChunk-decoded inner_cells (sub_geo sub g) b (slot_at (length b) ns k) (get_or subchunks k None) (each k below)))
+      (λ k below. bytes_in_places (size_of g.data_type) sub g.fill (get_or subchunks k None) (IsChunk-decoded inner.cells (sub_geo sub g) b (slot_at (length b) ns k) (get_or subchunks k None) (each k below)))
       ∙ sum_by_places (bytes_in g.fill (count_of sub)) None subchunks many counted
 
   -- the shard's cell at a place of a subchunk has the length of the element there
   length_here : (k p : ℕ) → k < count_of (grid_of g.shape sub) → p < count_of sub
-      → cell_length (get_or (shard_cells inner_cells index_cells (layout_of sub location order size g) b) (cell_number g.shape sub k p) None) ≡ length (element_at g.fill (get_or subchunks k None) p)
+      → cell_length (get_or (shard_cells inner.cells index.cells (layout_of sub location order size g) b) (cell_number g.shape sub k p) None) ≡ length (element_at g.fill (get_or subchunks k None) p)
   length_here k p hk hp =
-      ap cell_length (cell_here inner_cells index_cells sub location order size g b divides k p hk hp
-      ∙ ap (λ o. cell_in inner_cells g.fill b (slot_by (length b) o k) p) told
-      ∙ cell_of_decoded inner_cells (sub_geo sub g) g.fill b (slot_at (length b) ns k) (get_or subchunks k None) p (each k hk) hp)
+      ap cell_length (cell_here inner.cells index.cells sub location order size g b divides k p hk hp
+      ∙ ap (λ o. cell_in inner.cells g.fill b (slot_by (length b) o k) p) told
+      ∙ cell_of_decoded inner.cells (sub_geo sub g) g.fill b (slot_at (length b) ns k) (get_or subchunks k None) p (each k hk) hp)
 
   -- where the subchunks have too many bytes together, the shard's cells are too long
-  pub long_subchunks : 0 < count_of sub → 2 ^ 64 ≤ bytes_gathered g.fill (count_of sub) subchunks → AreTooLong (shard_cells inner_cells index_cells (layout_of sub location order size g) b)
+  pub long_subchunks : 0 < count_of sub → 2 ^ 64 ≤ bytes_gathered g.fill (count_of sub) subchunks → AreTooLong (shard_cells inner.cells index.cells (layout_of sub location order size g) b)
   long_subchunks some long =
       let n : ℕ = count_of sub in
       let many : ℕ = count_of (grid_of g.shape sub) in
-      let cells : List (Option (List ℕ)) = shard_cells inner_cells index_cells (layout_of sub location order size g) b in
+      let cells : List (Option (List ℕ)) = shard_cells inner.cells index.cells (layout_of sub location order size g) b in
       let number : ℕ → ℕ = λ i. cell_number g.shape sub (i / n) (i % n) in
       let all : List ℕ = range_with_len 0 (many * n) in
       let long_all : length all ≡ many * n = length-range_with_len 0 (many * n) in
@@ -117,7 +118,7 @@ module _ (inner_cells index_cells : List ℕ → List (Option (List ℕ))) (sub 
         places = map number all;
         below = λ i inside.
             let lt : i < many * n = omega (arith, length-map all number, long_all) in
-            omega (arith, at i lt, cells_counted inner_cells index_cells sub location order size g b divides, cell_number-below g.shape sub divides (i / n) (i % n) (row i lt) (place i));
+            omega (arith, at i lt, cells_counted inner.cells index.cells sub location order size g b divides, cell_number-below g.shape sub divides (i / n) (i % n) (row i lt) (place i));
         apart = λ i j before inside same.
             let lt : j < many * n = omega (arith, length-map all number, long_all) in
             let lt_i : i < many * n = omega arith in
@@ -140,20 +141,20 @@ module _ (inner_cells index_cells : List ℕ → List (Option (List ℕ))) (sub 
       }
 
   -- the test of the lengths comes last
-  pub lengths_last : (inner_decode index_decode : List ℕ → CodecError → Type 0) (Varies : Type 0) (e : CodecError) → 0 < count_of sub
+  pub lengths_last : (Varies : Type 0) (e : CodecError) → 0 < count_of sub
       → ((Varies → bytes_gathered g.fill (count_of sub) subchunks < 2 ^ 64) or TooLarge then λ e. e ≡ OutOfMemory) e
-      → RefusedBy (DecodeTests inner_decode index_decode inner_cells index_cells (layout_of sub location order size g) b) e
-  lengths_last inner_decode index_decode Varies e some h =
+      → RefusedBy (DecodeTests inner index (layout_of sub location order size g) b) e
+  lengths_last Varies e some h =
       elim h [
         | inl long ↦ elim (cases_lt (bytes_gathered g.fill (count_of sub) subchunks) (2 ^ 64)) [
           | inl fits ↦ absurd (long.0 (λ varies. fits))
           | inr far ↦
               inr (inr (
-                long_enough index_cells location size b ns told,
+                long_enough index.cells location size b ns told,
                 inr (
                   rw told refl,
                   inr (
-                    λ k below. rw told (HasArray-decoded inner_cells (sub_geo sub g) b (slot_at (length b) ns k) (get_or subchunks k None) (each k below)),
+                    λ k below. rw told (HasArray-decoded inner.cells (sub_geo sub g) b (slot_at (length b) ns k) (get_or subchunks k None) (each k below)),
                     (long.1, long_subchunks some (omega (arith, far))),
                   ),
                 ),

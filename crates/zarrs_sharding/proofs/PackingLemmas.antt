@@ -11,6 +11,7 @@ use Rattle.zarr_parts.specs.Grid.{grid_of}
 use Rattle.zarr_parts.specs.Order.{Each, done, RefusedBy}
 use Rattle.zarr_parts.specs.declared.error.CodecError.{CodecError}
 use Rattle.zarr_parts.specs.declared.error.CodecError.TheVariants.{BadIndexEntry}
+use Rattle.zarr_codecs.specs.Meanings.{Meaning}
 use Rattle.zarrs_sharding.specs.Cells.{Layout}
 use Rattle.zarrs_sharding.specs.Index.{absent_number, slot_of_pair, slot_at, data_start, element_of_number, numbers_in_index}
 use Rattle.zarrs_sharding.specs.Encoding.{slot_size}
@@ -156,8 +157,8 @@ rewritten_shard index_written location size old bytes index all slots places h i
           (moved_shift location size old index bytes all (get_or slots k Bad) (get_or places k Bad) (taken slots k) w (ends k below) (h.moved k below));
     }
 
-module _ (index_cells : List ℕ → List (Option (List ℕ))) (index_written : List (List ℕ) → List ℕ → Type 0) (l : Layout) (old old_numbers : List ℕ) (slots : List Slot)
-    (told : numbers_in_index index_cells l.location l.index_size old ≡ Some old_numbers) (h : AreSlots (length old) old_numbers slots (count_of (grid_of l.shape l.sub))) where
+module _ (index : Meaning) (l : Layout) (old old_numbers : List ℕ) (slots : List Slot)
+    (told : numbers_in_index index.cells l.location l.index_size old ≡ Some old_numbers) (h : AreSlots (length old) old_numbers slots (count_of (grid_of l.shape l.sub))) where
   taken_present : (k : ℕ) → k ≤ count_of (grid_of l.shape l.sub) → taken slots k ≡ present_size (slot_at (length old) old_numbers) k
   taken_present k upto =
       sum_same (λ j. slot_size (get_or slots j Bad)) (λ j. slot_size (slot_at (length old) old_numbers j)) k (λ j below. ap slot_size (h.are j (omega arith)))
@@ -165,16 +166,16 @@ module _ (index_cells : List ℕ → List (Option (List ℕ))) (index_written : 
   pub size_present : l.index_size + taken slots (length slots) ≡ compact_size l (slot_at (length old) old_numbers)
   size_present = ap (λ m. l.index_size + m) (ap (taken slots) h.counted ∙ taken_present (count_of (grid_of l.shape l.sub)) (omega arith))
 
-  read_present : IsRead index_cells l old old_numbers
+  read_present : IsRead index.cells l old old_numbers
   read_present = record { told = told; good = good_slots (length old) old_numbers slots (count_of (grid_of l.shape l.sub)) h }
 
   -- a shard of the same size is compact
-  pub compact_shard : l.index_size + taken slots (length slots) ≡ length old → IsCompact index_cells l old
+  pub compact_shard : l.index_size + taken slots (length slots) ≡ length old → IsCompact index.cells l old
   compact_shard same = record { numbers = old_numbers; read = read_present; same_size = sym size_present ∙ same }
 
   -- and one of another is compacted
-  pub compacted_shard : (new : List ℕ) → l.index_size + taken slots (length slots) ≢ length old → IsRewritten index_written l.location l.index_size old slots new
-      → IsCompacted index_cells index_written l old new
+  pub compacted_shard : (new : List ℕ) → l.index_size + taken slots (length slots) ≢ length old → IsRewritten index.written l.location l.index_size old slots new
+      → IsCompacted index l old new
   compacted_shard new other r = record {
     old_numbers = old_numbers;
     read = read_present;

@@ -8,7 +8,7 @@ use Rattle.zarr_parts.specs.Grid.{grid_of}
 use Rattle.zarr_parts.specs.Arrays.{Array}
 use Rattle.zarr_parts.specs.declared.error.CodecError.{CodecError}
 use Rattle.zarr_codecs.specs.declared.bytes.Interval.{Interval}
-use Rattle.zarr_codecs.specs.Handles.{IsRead, Support}
+use Rattle.zarr_codecs.specs.Handles.{HandleState, IsRead}
 use Rattle.zarr_codecs.specs.Reads.{interval_part, HasInterval, ObjectTests}
 use Rattle.zarrs_sharding.specs.Index.{slot_at}
 use Rattle.zarrs_sharding.specs.Laws.{all_there-map_some}
@@ -36,9 +36,8 @@ group_read {shape} {sub} {numbers} {groups} asked j below places items is read =
     read ∙ ap items_of is ∙ sym (get_or-map items_of groups.places.items j places [] (omega (arith, length-map groups.places.items items_of, group_below asked j below)))
 
 -- one read after another
-pub read_then : {H : Type 0} (tells : H → Bool) (contents : H → Option (List ℕ)) (faults : H → ℕ) (supports : H → Support) (a b c : H)
-    → IsRead tells contents faults supports a b → IsRead tells contents faults supports b c → IsRead tells contents faults supports a c
-read_then tells contents faults supports a b c h k = record {
+pub read_then : (a b c : HandleState) → IsRead a b → IsRead b c → IsRead a c
+read_then a b c h k = record {
   tells_same = k.tells_same ∙ h.tells_same;
   contents_same = k.contents_same ∙ h.contents_same;
   faults_kept = omega (arith, h.faults_kept, k.faults_kept);
@@ -107,18 +106,18 @@ module _ (shape sub numbers subchunks : List ℕ) (lists : List (List ℕ))
         inl (get_or subchunks j 0, (inside, rw long at before_there, rw (long, list_at j below) at refused))
 
   -- the first group that is refused, where the shard stands in an interval
-  pub group_refused : (inner_read : List ℕ → List (List ℕ) → CodecError → Type 0) (inner_cells : List ℕ → List (Option (List ℕ))) (tells : Bool) (first before after : ℕ) (outer : Interval) (contents : Option (List ℕ)) (index : List ℕ) (parts : List (Option Array)) (j : ℕ) (e : CodecError)
-      → first ≤ before → (IsTrue tells → HasInterval outer contents) → j < length subchunks → get_or subchunks j 0 < count_of (grid_of shape sub)
-      → (IsTrue tells → (i : ℕ) → i < j
-      → IsReadAt inner_cells (interval_part outer contents) (slot_at outer.size index (get_or subchunks i 0)) (get_or lists i []) (get_or parts i None))
-      → RefusedBy (ObjectTests tells before after
-      (RefusesPlaces inner_read inner_cells sub (interval_part outer contents) (slot_at outer.size index (get_or subchunks j 0)) (get_or lists j []) (get_or subchunks j 0))) e
-      → RefusedBy (ObjectTests tells first after (PlacesTests inner_read inner_cells shape sub (interval_part outer contents) (Some index) numbers done)) e
-  group_refused inner_read inner_cells tells first before after outer contents index parts j e since has below inside read h =
+  pub group_refused : (inner_read : List ℕ → List (List ℕ) → CodecError → Type 0) (inner_cells : List ℕ → List (Option (List ℕ))) (first old new : HandleState) (outer : Interval) (index : List ℕ) (parts : List (Option Array)) (j : ℕ) (e : CodecError)
+      → IsRead first old → (IsTrue first.tells → HasInterval outer first.contents) → j < length subchunks → get_or subchunks j 0 < count_of (grid_of shape sub)
+      → (IsTrue first.tells → (i : ℕ) → i < j
+      → IsReadAt inner_cells (interval_part outer first.contents) (slot_at outer.size index (get_or subchunks i 0)) (get_or lists i []) (get_or parts i None))
+      → RefusedBy (ObjectTests old new
+      (RefusesPlaces inner_read inner_cells sub (interval_part outer first.contents) (slot_at outer.size index (get_or subchunks j 0)) (get_or lists j []) (get_or subchunks j 0))) e
+      → RefusedBy (ObjectTests first new (PlacesTests inner_read inner_cells shape sub (interval_part outer first.contents) (Some index) numbers done)) e
+  group_refused inner_read inner_cells first old new outer index parts j e since has below inside read h =
       elim h [
         | inl memory ↦ inl memory
-        | inr refused ↦ inr (λ t. elim (refused t) [
-          | inl fault ↦ inl (fault.0, omega (arith, since, fault.1))
-          | inr places ↦ inr (refused_at inner_read inner_cells (interval_part outer contents) index outer.size parts j below (read t) e (sym (length-interval_part outer contents (has t))) inside places)
+        | inr refused ↦ inr (λ t. elim (refused (rw since.tells_same t)) [
+          | inl fault ↦ inl (fault.0, omega (arith, since.faults_kept, fault.1))
+          | inr places ↦ inr (refused_at inner_read inner_cells (interval_part outer first.contents) index outer.size parts j below (read t) e (sym (length-interval_part outer first.contents (has t))) inside places)
         ])
       ]

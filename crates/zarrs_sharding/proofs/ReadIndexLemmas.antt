@@ -4,7 +4,9 @@ use Rattle.std.proofs.lemmas.Bool.{le-leb}
 use Rattle.zarr_parts.specs.Order.{◌or◌then◌, ◌or_as◌then◌, done, RefusedBy}
 use Rattle.zarr_parts.specs.declared.error.CodecError.{CodecError}
 use Rattle.zarr_parts.specs.declared.error.CodecError.TheVariants.{OutOfMemory}
+use Rattle.zarr_codecs.specs.Meanings.{Meaning}
 use Rattle.zarr_codecs.specs.Refusals.{RefusesUnserved, MayRefuseDecode}
+use Rattle.zarr_codecs.specs.Handles.{HandleState}
 use Rattle.zarr_codecs.specs.Reads.{ObjectTests}
 use Rattle.zarrs_sharding.specs.Index.{index_part, number_of_element, numbers_in_index}
 use Rattle.zarrs_sharding.specs.Laws.{all_there-map_some}
@@ -18,8 +20,8 @@ pub numbers_found : (cells : List (Option (List ℕ))) (elements : List (List �
 numbers_found cells elements items is read = rw (is, all_there-map_some elements, read) refl
 
 -- a codec that serves refuses by its later tests
-pub served : (Serves : Type 0) (check tests : CodecError → Type 0) (e : CodecError) → Serves → RefusedBy (Serves or_as RefusesUnserved Serves check then tests) e → RefusedBy tests e
-served Serves check tests e serves h =
+pub served : (codec : Meaning) (tests : CodecError → Type 0) (e : CodecError) → codec.serves → RefusedBy (codec.serves or_as RefusesUnserved codec then tests) e → RefusedBy tests e
+served codec tests e serves h =
     elim h [
       | inl memory ↦ inl memory
       | inr refused ↦ elim refused [ inl unserved ↦ absurd (unserved.0 serves) | inr later ↦ inr later.1 ]
@@ -56,8 +58,8 @@ part_refused index_decode index_cells location size b part e room is h =
     elim h [ inl memory ↦ inl memory | inr refused ↦ inr (part_tests index_decode index_cells location size b part e room is refused) ]
 
 -- also where it stands in an object
-pub read_part_refused : (tells : Bool) (before after : ℕ) (index_decode : List ℕ → CodecError → Type 0) (index_cells : List ℕ → List (Option (List ℕ))) (location : ShardingIndexLocation) (size : ℕ) (b part : List ℕ)
-    (e : CodecError) → (IsTrue tells → size ≤ length b) → (IsTrue tells → part ≡ index_part location size b) → RefusedBy (RefusesStored (index_decode part) (index_cells part)) e
-    → RefusedBy (ObjectTests tells before after (IndexTests index_decode index_cells location size b done)) e
-read_part_refused tells before after index_decode index_cells location size b part e room is h =
+pub read_part_refused : (old new : HandleState) (index_decode : List ℕ → CodecError → Type 0) (index_cells : List ℕ → List (Option (List ℕ))) (location : ShardingIndexLocation) (size : ℕ) (b part : List ℕ)
+    (e : CodecError) → (IsTrue old.tells → size ≤ length b) → (IsTrue old.tells → part ≡ index_part location size b) → RefusedBy (RefusesStored (index_decode part) (index_cells part)) e
+    → RefusedBy (ObjectTests old new (IndexTests index_decode index_cells location size b done)) e
+read_part_refused old new index_decode index_cells location size b part e room is h =
     elim h [ inl memory ↦ inl memory | inr refused ↦ inr (λ t. inr (part_tests index_decode index_cells location size b part e (room t) (is t) refused)) ]

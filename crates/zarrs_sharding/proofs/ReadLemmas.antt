@@ -10,7 +10,9 @@ use Rattle.zarr_parts.specs.Numbering.{count_of, number_of, IsInside}
 use Rattle.zarr_parts.specs.Order.{done, RefusedBy}
 use Rattle.zarr_parts.specs.declared.data_type.DataTypeSize.{DataTypeSize}
 use Rattle.zarr_parts.specs.declared.error.CodecError.{CodecError}
+use Rattle.zarr_codecs.specs.Meanings.{Meaning}
 use Rattle.zarr_codecs.specs.Cells.{cell_length}
+use Rattle.zarr_codecs.specs.Handles.{HandleState, IsRead}
 use Rattle.zarr_codecs.specs.Reads.{interval_part, cells_at, HasInterval, IntervalTests, ObjectTests}
 use Rattle.zarr_codecs.specs.declared.bytes.Interval.{Interval}
 use Rattle.zarr_codecs.specs.Refusals.{AreTooLong}
@@ -20,7 +22,7 @@ use Rattle.zarrs_sharding.specs.Index.{slot_at, numbers_in_index}
 use Rattle.zarrs_sharding.specs.Cells.{Layout, cell_in, cell_by, shard_cells}
 use Rattle.zarrs_sharding.specs.DecodeTests.{RefusesLengths}
 use Rattle.zarrs_sharding.specs.Decoding.{IsChunkOf, element_at}
-use Rattle.zarrs_sharding.specs.ReadTests.{numbers_of, places_in, HasPlaces, PlacesTests, ReadTests}
+use Rattle.zarrs_sharding.specs.ReadTests.{AnswerTests, numbers_of, places_in, HasPlaces, PlacesTests, ReadTests}
 use Rattle.zarrs_sharding.specs.Grouping.{AreGrouped, lists_of, standing_at}
 use Rattle.zarrs_sharding.specs.Reading.{IsPartOf, IsReadAt, AreRead, element_read, bytes_read, read_by}
 use Rattle.zarrs_sharding.specs.declared.grouping.Grouping.{Grouping}
@@ -187,21 +189,21 @@ module _ (inner_cells index_cells : List ℕ → List (Option (List ℕ))) (l : 
       ∙ ap cell (sym (get_or-map number points i [] 0 in_points))
       ∙ sym (get_or-map cell numbers i 0 None (omega (arith, length-map points number))))
 
-module _ (inner_cells index_cells : List ℕ → List (Option (List ℕ))) (l : Layout) (b ns : List ℕ) (points : List (List ℕ))
-    (told : numbers_in_index index_cells l.location l.index_size b ≡ Some ns) (inside : All (λ point. IsInside point l.shape) points) where
-  pub asked_cells : cells_at (shard_cells inner_cells index_cells l b) l.shape points ≡ map (read_by inner_cells l.shape l.sub l.fill b ns) (numbers_of l.shape points)
-  asked_cells = asked_by inner_cells index_cells l b points inside ∙ ap (λ o. map (cell_by inner_cells l b o) (numbers_of l.shape points)) told
+module _ (inner index : Meaning) (l : Layout) (b ns : List ℕ) (points : List (List ℕ))
+    (told : numbers_in_index index.cells l.location l.index_size b ≡ Some ns) (inside : All (λ point. IsInside point l.shape) points) where
+  pub asked_cells : cells_at (shard_cells inner.cells index.cells l b) l.shape points ≡ map (read_by inner.cells l.shape l.sub l.fill b ns) (numbers_of l.shape points)
+  asked_cells = asked_by inner.cells index.cells l b points inside ∙ ap (λ o. map (cell_by inner.cells l b o) (numbers_of l.shape points)) told
 
   -- the tests of the index are passed, and those of the asked cells come after them
-  pub cells_next : (inner_read : List ℕ → List (List ℕ) → CodecError → Type 0) (index_decode : List ℕ → CodecError → Type 0) (numbers : List ℕ) (e : CodecError) → numbers ≡ numbers_of l.shape points
-      → PlacesTests inner_read inner_cells l.shape l.sub b (Some ns) numbers (RefusesLengths (map (read_by inner_cells l.shape l.sub l.fill b ns) numbers)) e
-      → ReadTests inner_read index_decode inner_cells index_cells l b points e
-  cells_next inner_read index_decode numbers e same h =
-      let there : IsSome (numbers_in_index index_cells l.location l.index_size b) = rw told refl in
-      let lengths : AreTooLong (map (read_by inner_cells l.shape l.sub l.fill b ns) (numbers_of l.shape points)) → AreTooLong (cells_at (shard_cells inner_cells index_cells l b) l.shape points) =
+  pub cells_next : (numbers : List ℕ) (e : CodecError) → numbers ≡ numbers_of l.shape points
+      → PlacesTests (AnswerTests inner.answerable inner.read_tests) inner.cells l.shape l.sub b (Some ns) numbers (RefusesLengths (map (read_by inner.cells l.shape l.sub l.fill b ns) numbers)) e
+      → ReadTests inner index l b points e
+  cells_next numbers e same h =
+      let there : IsSome (numbers_in_index index.cells l.location l.index_size b) = rw told refl in
+      let lengths : AreTooLong (map (read_by inner.cells l.shape l.sub l.fill b ns) (numbers_of l.shape points)) → AreTooLong (cells_at (shard_cells inner.cells index.cells l b) l.shape points) =
       subst AreTooLong (sym asked_cells) in
       inr (
-        long_enough index_cells l.location l.index_size b ns told,
+        long_enough index.cells l.location l.index_size b ns told,
         inr (
           there,
           elim (rw same at h) [
@@ -212,19 +214,19 @@ module _ (inner_cells index_cells : List ℕ → List (Option (List ℕ))) (l : 
       )
 
 -- also where the index and the cells are read one after the other of a shard that stands in an object
-pub cells_refused : (tells tells' : Bool) (before before' after : ℕ) (interval : Interval) (contents : Option (List ℕ)) (inner_cells index_cells : List ℕ → List (Option (List ℕ))) (l : Layout) (ns numbers : List ℕ) (points : List (List ℕ))
-    (inner_read : List ℕ → List (List ℕ) → CodecError → Type 0) (index_decode : List ℕ → CodecError → Type 0) (e : CodecError) → tells' ≡ tells → before ≤ before'
-    → (IsTrue tells → HasInterval interval contents) → (IsTrue tells → numbers_in_index index_cells l.location l.index_size (interval_part interval contents) ≡ Some ns)
+pub cells_refused : (first old new : HandleState) (interval : Interval) (inner index : Meaning) (l : Layout) (ns numbers : List ℕ) (points : List (List ℕ))
+    (e : CodecError) → IsRead first old
+    → (IsTrue first.tells → HasInterval interval first.contents) → (IsTrue first.tells → numbers_in_index index.cells l.location l.index_size (interval_part interval first.contents) ≡ Some ns)
     → All (λ point. IsInside point l.shape) points → numbers ≡ numbers_of l.shape points
-    → RefusedBy (ObjectTests tells' before' after (PlacesTests inner_read inner_cells l.shape l.sub (interval_part interval contents) (Some ns) numbers
-    (RefusesLengths (map (read_by inner_cells l.shape l.sub l.fill (interval_part interval contents) ns) numbers)))) e
-    → RefusedBy (ObjectTests tells before after (IntervalTests interval contents (λ b. ReadTests inner_read index_decode inner_cells index_cells l b points))) e
-cells_refused tells tells' before before' after interval contents inner_cells index_cells l ns numbers points inner_read index_decode e same kept there told inside numbered h =
-    let b : List ℕ = interval_part interval contents in
+    → RefusedBy (ObjectTests old new (PlacesTests (AnswerTests inner.answerable inner.read_tests) inner.cells l.shape l.sub (interval_part interval first.contents) (Some ns) numbers
+    (RefusesLengths (map (read_by inner.cells l.shape l.sub l.fill (interval_part interval first.contents) ns) numbers)))) e
+    → RefusedBy (ObjectTests first new (IntervalTests interval first.contents (λ b. ReadTests inner index l b points))) e
+cells_refused first old new interval inner index l ns numbers points e read there told inside numbered h =
+    let b : List ℕ = interval_part interval first.contents in
     elim h [
       | inl memory ↦ inl memory
-      | inr tests ↦ inr (λ t. elim (tests (rw same t)) [
-        | inl fault ↦ inl (fault.0, omega (arith, fault.1))
-        | inr refused ↦ inr (inr (there t, cells_next inner_cells index_cells l b ns points (told t) inside inner_read index_decode numbers e numbered refused))
+      | inr tests ↦ inr (λ t. elim (tests (rw read.tells_same t)) [
+        | inl fault ↦ inl (fault.0, omega (arith, fault.1, read.faults_kept))
+        | inr refused ↦ inr (inr (there t, cells_next inner index l b ns points (told t) inside numbers e numbered refused))
       ])
     ]

@@ -17,9 +17,10 @@ use Rattle.zarr_parts.specs.declared.data_type.DataTypeSize.{DataTypeSize}
 use Rattle.zarr_parts.specs.declared.data_type.DataTypeSize.TheVariants.{Fixed, Variable}
 use Rattle.zarr_parts.specs.declared.error.CodecError.{CodecError}
 use Rattle.zarr_parts.specs.declared.error.CodecError.TheVariants.{OutOfMemory, TooLarge, Fault, Damaged}
+use Rattle.zarr_codecs.specs.Meanings.{Meaning}
 use Rattle.zarr_codecs.specs.Cells.{all_there, cell_length}
 use Rattle.zarr_codecs.specs.Refusals.{AreTooLong, AreDamaged, MayRefuseDecode}
-use Rattle.zarr_codecs.specs.Handles.{MayFault}
+use Rattle.zarr_codecs.specs.Handles.{HandleState, MayFault}
 use Rattle.zarr_codecs.specs.Reads.{interval_part, cells_at, HasInterval, MayRefuseRead, ObjectTests, IntervalTests}
 use Rattle.zarr_codecs.specs.declared.bytes.Interval.{Interval}
 use Rattle.zarr_codecs.specs.declared.representation.BytesRepresentation.{BytesRepresentation}
@@ -27,7 +28,7 @@ use Rattle.zarrs_sharding.specs.Index.{index_shape, numbers_in_index}
 use Rattle.zarrs_sharding.specs.Cells.{Layout, cell_in, cell_by, shard_cells}
 use Rattle.zarrs_sharding.specs.Serves.{fixed_size, layout_of, layout, ShardServes}
 use Rattle.zarrs_sharding.specs.DecodeTests.{stored_refusal, slot_by, IndexTests}
-use Rattle.zarrs_sharding.specs.ReadTests.{numbers_of, places_in, cells_of_places, RefusesPlaces, ReadTests}
+use Rattle.zarrs_sharding.specs.ReadTests.{AnswerTests, numbers_of, places_in, cells_of_places, RefusesPlaces, ReadTests}
 use Rattle.zarrs_sharding.specs.declared.location.ShardingIndexLocation.{ShardingIndexLocation}
 use Rattle.zarrs_sharding.specs.declared.order.SubchunkWriteOrder.{SubchunkWriteOrder}
 use Rattle.zarrs_sharding.specs.declared.slot.Slot.{Slot}
@@ -169,42 +170,41 @@ module _ (inner_cells index_cells : List ℕ → List (Option (List ℕ))) (sub 
   bad_places inner_read k Bad e hk pos counted is h = rw h.1 (damaged_cell inner_cells index_cells sub location order size g b divides k 0 hk pos (ap (λ s. cell_in inner_cells g.fill b s 0) is))
 
 -- a refusal by the tests is one that the laws allow
-pub may_refuse_read : (inner_read : List ℕ → List (List ℕ) → CodecError → Type 0) (index_decode : List ℕ → CodecError → Type 0) (inner_cells index_cells : List ℕ → List (Option (List ℕ)))
-    (InnerServed IndexServed : Type 0) (representation : Option BytesRepresentation) (sub : List ℕ) (location : ShardingIndexLocation) (order : SubchunkWriteOrder) (g : Geo) (b : List ℕ)
+pub may_refuse_read : (inner index : Meaning) (sub : List ℕ) (location : ShardingIndexLocation) (order : SubchunkWriteOrder) (g : Geo) (b : List ℕ)
     (points : List (List ℕ)) (e : CodecError)
-    → ShardServes InnerServed IndexServed representation sub g → 0 < count_of (grid_of g.shape sub) → 0 < count_of sub
-    → ((x : List ℕ) → InnerServed → length (inner_cells x) ≡ count_of sub)
-    → ((x : List ℕ) → IndexServed → length (index_cells x) ≡ count_of (index_shape (grid_of g.shape sub)))
-    → ((x : List ℕ) (i : ℕ) → IndexServed → i < count_of (index_shape (grid_of g.shape sub)) → IfSome (get_or (index_cells x) i None) (FitsKind (Fixed 8)))
+    → ShardServes inner index sub g → 0 < count_of (grid_of g.shape sub) → 0 < count_of sub
+    → ((x : List ℕ) → inner.serves → length (inner.cells x) ≡ count_of sub)
+    → ((x : List ℕ) → index.serves → length (index.cells x) ≡ count_of (index_shape (grid_of g.shape sub)))
+    → ((x : List ℕ) (i : ℕ) → index.serves → i < count_of (index_shape (grid_of g.shape sub)) → IfSome (get_or (index.cells x) i None) (FitsKind (Fixed 8)))
     → All (λ point. IsInside point g.shape) points
-    → ReadTests inner_read index_decode inner_cells index_cells (layout sub location order representation g) b points e
-    → MayRefuseRead (shard_cells inner_cells index_cells (layout sub location order representation g) b)
-    (cells_at (shard_cells inner_cells index_cells (layout sub location order representation g) b) g.shape points) e
-may_refuse_read inner_read index_decode inner_cells index_cells InnerServed IndexServed representation sub location order g b points e serves some pos counted index_counted index_fits inside h =
-    let l : Layout = layout sub location order representation g in
-    let cells : List (Option (List ℕ)) = shard_cells inner_cells index_cells l b in
-    let no_tests : List ℕ → CodecError → Type 0 = λ x r. ⊥ in
-    let index : IndexTests index_decode index_cells location (fixed_size representation) b done e → MayRefuseRead cells (cells_at cells g.shape points) e = λ refused.
+    → ReadTests inner index (layout sub location order index.representation g) b points e
+    → MayRefuseRead (shard_cells inner.cells index.cells (layout sub location order index.representation g) b)
+    (cells_at (shard_cells inner.cells index.cells (layout sub location order index.representation g) b) g.shape points) e
+may_refuse_read inner index sub location order g b points e serves some pos counted index_counted index_fitting inside h =
+    let l : Layout = layout sub location order index.representation g in
+    let cells : List (Option (List ℕ)) = shard_cells inner.cells index.cells l b in
+    let untested : Meaning = record inner { decode_tests = λ x r. ⊥ } in
+    let by_index : IndexTests index.decode_tests index.cells location (fixed_size index.representation) b done e → MayRefuseRead cells (cells_at cells g.shape points) e = λ refused.
     as_read cells (cells_at cells g.shape points) e
-    (lawful no_tests index_decode inner_cells index_cells InnerServed IndexServed representation sub location order g b e serves some pos counted index_counted index_fits
-    (index_first no_tests index_decode inner_cells index_cells l b e (inr refused))) in
+    (lawful untested index sub location order g b e (record { supported = serves.supported; fill_fits = serves.fill_fits; same_axes = serves.same_axes; divides = serves.divides; cells_fit = serves.cells_fit; bytes_fit = serves.bytes_fit; index_fits = serves.index_fits; index_served = serves.index_served; inner_served = serves.inner_served }) some pos counted index_counted index_fitting
+    (index_first untested index l b e (inr refused))) in
     elim h [
-      | inl short ↦ index (inl short)
+      | inl short ↦ by_index (inl short)
       | inr long_enough ↦ elim long_enough.1 [
-        | inl damaged ↦ index (inr (long_enough.0, inl damaged))
+        | inl damaged ↦ by_index (inr (long_enough.0, inl damaged))
         | inr there ↦ elim there.1 [
           | inl one ↦
-              bad_places inner_cells index_cells sub location order (fixed_size representation) g b serves.divides points inside inner_read one.0 _ e one.1.0 pos (λ x. counted x serves.inner_served) refl one.1.2
+              bad_places inner.cells index.cells sub location order (fixed_size index.representation) g b serves.divides points inside (AnswerTests inner.answerable inner.read_tests) one.0 _ e one.1.0 pos (λ x. counted x serves.inner_served) refl one.1.2
           | inr lengths ↦ rw lengths.1.0 (inr (inl lengths.1.1))
         ]
       ]
     ]
 
 -- also where the bytes stand in an interval of an object
-pub object_lawful : (tells : Bool) (before after : ℕ) (interval : Interval) (contents : Option (List ℕ)) (tests : List ℕ → CodecError → Type 0) (cells asked : List (Option (List ℕ))) (e : CodecError)
-    → (tests (interval_part interval contents) e → MayRefuseRead cells asked e) → RefusedBy (ObjectTests tells before after (IntervalTests interval contents tests)) e
-    → IsTrue tells → HasInterval interval contents → MayFault before after e ⊎ MayRefuseRead cells asked e
-object_lawful tells before after interval contents tests cells asked e step h t there =
+pub object_lawful : (old new : HandleState) (interval : Interval) (tests : List ℕ → CodecError → Type 0) (cells asked : List (Option (List ℕ))) (e : CodecError)
+    → (tests (interval_part interval old.contents) e → MayRefuseRead cells asked e) → RefusedBy (ObjectTests old new (IntervalTests interval old.contents tests)) e
+    → IsTrue old.tells → HasInterval interval old.contents → MayFault old new e ⊎ MayRefuseRead cells asked e
+object_lawful old new interval tests cells asked e step h t there =
     elim h [
       | inl memory ↦ inr (rw memory tt)
       | inr checked ↦ elim (checked t) [

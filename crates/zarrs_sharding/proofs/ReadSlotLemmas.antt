@@ -10,8 +10,9 @@ use Rattle.zarr_parts.specs.Selections.{Selection, LiesWithin, listed_selection}
 use Rattle.zarr_parts.specs.declared.error.CodecError.{CodecError}
 use Rattle.zarr_parts.specs.declared.error.CodecError.TheVariants.{OutOfMemory, Fault}
 use Rattle.zarr_parts.proofs.NumberingLaws.{number_of-point_of, point_inside}
+use Rattle.zarr_codecs.specs.Meanings.{Meaning}
 use Rattle.zarr_codecs.specs.declared.bytes.Interval.{Interval}
-use Rattle.zarr_codecs.specs.Handles.{MayFault}
+use Rattle.zarr_codecs.specs.Handles.{HandleState, MayFault}
 use Rattle.zarr_codecs.specs.Refusals.{RefusesUnserved}
 use Rattle.zarr_codecs.specs.Reads.{interval_part, HasInterval, cells_at, IsReadOf, MayRefuseRead, IntervalTests, ObjectTests, AskedTests}
 use Rattle.zarrs_sharding.specs.Index.{slice_at}
@@ -61,18 +62,18 @@ module _ (inner_cells : List ℕ → List (Option (List ℕ))) (g : Geo) (outer 
       ∙ ap (λ b. cells_at (inner_cells b) g.shape (place_points g.shape places)) (sym nested)
       ∙ h.read
 
-  module _ (Serves : Type 0) (check_tests : CodecError → Type 0) (CanAnswer : ℕ → Type 0) (read_tests : List ℕ → List (List ℕ) → CodecError → Type 0) (tells : Bool) (before after : ℕ) (e r : CodecError)
-      (serves : Serves) (many : length places < 2 ^ 64) (there : IsTrue tells → HasInterval outer contents)
-      (lawful : Serves → IsTrue tells → asked.axes ≡ length g.shape → LiesWithin asked.box asked.points g.shape → HasInterval interval contents
-      → MayFault before after e ⊎ MayRefuseRead (inner_cells (interval_part interval contents)) (cells_at (inner_cells (interval_part interval contents)) g.shape asked.points) e)
+  module _ (codec : Meaning) (old new : HandleState) (e r : CodecError)
+      (serves : codec.serves) (many : length places < 2 ^ 64) (there : IsTrue old.tells → HasInterval outer contents)
+      (lawful : codec.serves → IsTrue old.tells → asked.axes ≡ length g.shape → LiesWithin asked.box asked.points g.shape → HasInterval interval contents
+      → MayFault old new e ⊎ MayRefuseRead (inner_cells (interval_part interval contents)) (cells_at (inner_cells (interval_part interval contents)) g.shape asked.points) e)
       (refused : RefusedBy (
-      Serves or_as RefusesUnserved Serves check_tests then
-      AskedTests g asked CanAnswer (
-      ObjectTests tells before after (
-      IntervalTests interval contents (λ b. read_tests b asked.points)))) e)
+      codec.serves or_as RefusesUnserved codec then
+      AskedTests g asked codec.answerable (
+      ObjectTests old new (
+      IntervalTests interval contents (λ b. codec.read_tests b asked.points)))) e)
       (is : r ≡ stored_refusal e) where
     -- a refusal that is none for memory and no fault comes from its own tests of what it answers and reads
-    tested : IsTrue tells → e ≢ OutOfMemory → e ≢ Fault → AnswerTests CanAnswer read_tests bytes asked.points e
+    tested : IsTrue old.tells → e ≢ OutOfMemory → e ≢ Fault → AnswerTests codec.answerable codec.read_tests bytes asked.points e
     tested t no_memory no_fault =
         elim refused [
           | inl memory ↦ absurd (no_memory memory)
@@ -101,7 +102,7 @@ module _ (inner_cells : List ℕ → List (Option (List ℕ))) (g : Geo) (outer 
         ]
 
     -- and what becomes of it is one of the places of the slot
-    pub places_refused : (k : ℕ) → places ≢ [] → RefusedBy (ObjectTests tells before after (RefusesPlaces (AnswerTests CanAnswer read_tests) inner_cells g.shape (interval_part outer contents) (InRange offset size) places k)) r
+    pub places_refused : (k : ℕ) → places ≢ [] → RefusedBy (ObjectTests old new (RefusesPlaces (AnswerTests codec.answerable codec.read_tests) inner_cells g.shape (interval_part outer contents) (InRange offset size) places k)) r
     places_refused k some =
         elim (is_memory e) [
           | inl memory ↦ inl (is ∙ ap stored_refusal memory)

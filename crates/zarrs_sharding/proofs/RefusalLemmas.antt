@@ -14,6 +14,7 @@ use Rattle.zarr_parts.specs.declared.data_type.DataTypeSize.TheVariants.{Fixed}
 use Rattle.zarr_parts.specs.Order.{◌or◌then◌, ◌or_as◌then◌, done, RefusedBy}
 use Rattle.zarr_parts.specs.declared.error.CodecError.{CodecError}
 use Rattle.zarr_parts.specs.declared.error.CodecError.TheVariants.{OutOfMemory, TooLarge, Fault, Damaged}
+use Rattle.zarr_codecs.specs.Meanings.{Meaning}
 use Rattle.zarr_codecs.specs.Cells.{all_there}
 use Rattle.zarr_codecs.specs.Refusals.{AreTooLong, AreDamaged, MayRefuseDecode}
 use Rattle.zarr_codecs.specs.declared.representation.BytesRepresentation.{BytesRepresentation}
@@ -158,26 +159,26 @@ index_short index_cells grid counted fits room x =
     not_too_long 8 (index_cells x) (λ i below. fits x i (omega (arith, counted x))) (omega (arith, counted x, count-append_two grid, room))
 
 -- a refusal by the tests is one that the codec laws allow
-may_refuse : (inner_decode index_decode : List ℕ → CodecError → Type 0) (inner_cells index_cells : List ℕ → List (Option (List ℕ))) (sub : List ℕ) (location : ShardingIndexLocation) (order : SubchunkWriteOrder) (size : ℕ)
+may_refuse : (inner index : Meaning) (sub : List ℕ) (location : ShardingIndexLocation) (order : SubchunkWriteOrder) (size : ℕ)
     (g : Geo) (b : List ℕ) (e : CodecError)
     → Divides sub g.shape → 0 < count_of (grid_of g.shape sub) → 0 < count_of sub
-    → ((x : List ℕ) → length (inner_cells x) ≡ count_of sub) → ((x : List ℕ) → ¬ (AreTooLong (index_cells x)))
-    → RefusedBy (DecodeTests inner_decode index_decode inner_cells index_cells (layout_of sub location order size g) b) e
-    → MayRefuseDecode (shard_cells inner_cells index_cells (layout_of sub location order size g) b) e
-may_refuse inner_decode index_decode inner_cells index_cells sub location order size g b e divides some pos counted short h =
-    let none = no_index inner_cells index_cells sub location order size g b divides some pos in
+    → ((x : List ℕ) → length (inner.cells x) ≡ count_of sub) → ((x : List ℕ) → ¬ (AreTooLong (index.cells x)))
+    → RefusedBy (DecodeTests inner index (layout_of sub location order size g) b) e
+    → MayRefuseDecode (shard_cells inner.cells index.cells (layout_of sub location order size g) b) e
+may_refuse inner index sub location order size g b e divides some pos counted short h =
+    let none = no_index inner.cells index.cells sub location order size g b divides some pos in
     let part : List ℕ = index_part location size b in
     elim h [
       | inl memory ↦ rw memory tt
       | inr tests ↦ elim tests [
-        | inl too_short ↦ rw too_short.1 (none (short_index index_cells location size b too_short.0))
+        | inl too_short ↦ rw too_short.1 (none (short_index index.cells location size b too_short.0))
         | inr after_length ↦ elim after_length.1 [
-          | inl index ↦ elim (passed_refusal (index_cells part) index.inner e index.lawful index.no_memory index.passed_on) [
-            | inl large ↦ rw large.0 (elim large.1 [ inl long ↦ absurd (short _ long) | inr d ↦ inr (none (damaged_index index_cells location size b d)) ])
-            | inr d ↦ rw d.0 (none (damaged_index index_cells location size b d.1))
+          | inl found ↦ elim (passed_refusal (index.cells part) found.inner e found.lawful found.no_memory found.passed_on) [
+            | inl large ↦ rw large.0 (elim large.1 [ inl long ↦ absurd (short _ long) | inr d ↦ inr (none (damaged_index index.cells location size b d)) ])
+            | inr d ↦ rw d.0 (none (damaged_index index.cells location size b d.1))
           ]
           | inr after_index ↦ elim after_index.1 [
-            | inl one ↦ bad_subchunk inner_cells index_cells sub location order size g b divides inner_decode one.0 _ e one.1.0 pos counted refl one.1.2
+            | inl one ↦ bad_subchunk inner.cells index.cells sub location order size g b divides inner.decode_tests one.0 _ e one.1.0 pos counted refl one.1.2
             | inr after_subchunks ↦ rw after_subchunks.1.0 (inl after_subchunks.1.1)
           ]
         ]
@@ -185,41 +186,41 @@ may_refuse inner_decode index_decode inner_cells index_cells sub location order 
     ]
 
 -- the same where the codec serves, by the laws of its parts
-pub lawful : (inner_decode index_decode : List ℕ → CodecError → Type 0) (inner_cells index_cells : List ℕ → List (Option (List ℕ))) (InnerServed IndexServed : Type 0) (representation : Option BytesRepresentation) (sub : List ℕ)
+pub lawful : (inner index : Meaning) (sub : List ℕ)
     (location : ShardingIndexLocation) (order : SubchunkWriteOrder) (g : Geo) (b : List ℕ) (e : CodecError)
-    → ShardServes InnerServed IndexServed representation sub g → 0 < count_of (grid_of g.shape sub) → 0 < count_of sub
-    → ((x : List ℕ) → InnerServed → length (inner_cells x) ≡ count_of sub)
-    → ((x : List ℕ) → IndexServed → length (index_cells x) ≡ count_of (index_shape (grid_of g.shape sub)))
-    → ((x : List ℕ) (i : ℕ) → IndexServed → i < count_of (index_shape (grid_of g.shape sub)) → IfSome (get_or (index_cells x) i None) (FitsKind (Fixed 8)))
-    → RefusedBy (DecodeTests inner_decode index_decode inner_cells index_cells (layout sub location order representation g) b) e
-    → MayRefuseDecode (shard_cells inner_cells index_cells (layout sub location order representation g) b) e
-lawful inner_decode index_decode inner_cells index_cells InnerServed IndexServed representation sub location order g b e serves some pos counted index_counted index_fits h =
-    may_refuse inner_decode index_decode inner_cells index_cells sub location order (fixed_size representation) g b e serves.divides some pos
+    → ShardServes inner index sub g → 0 < count_of (grid_of g.shape sub) → 0 < count_of sub
+    → ((x : List ℕ) → inner.serves → length (inner.cells x) ≡ count_of sub)
+    → ((x : List ℕ) → index.serves → length (index.cells x) ≡ count_of (index_shape (grid_of g.shape sub)))
+    → ((x : List ℕ) (i : ℕ) → index.serves → i < count_of (index_shape (grid_of g.shape sub)) → IfSome (get_or (index.cells x) i None) (FitsKind (Fixed 8)))
+    → RefusedBy (DecodeTests inner index (layout sub location order index.representation g) b) e
+    → MayRefuseDecode (shard_cells inner.cells index.cells (layout sub location order index.representation g) b) e
+lawful inner index sub location order g b e serves some pos counted index_counted index_fitting h =
+    may_refuse inner index sub location order (fixed_size index.representation) g b e serves.divides some pos
     (λ x. counted x serves.inner_served)
-    (index_short index_cells (grid_of g.shape sub) (λ x. index_counted x serves.index_served.served) (λ x i below. index_fits x i serves.index_served.served below) serves.index_fits)
+    (index_short index.cells (grid_of g.shape sub) (λ x. index_counted x serves.index_served.served) (λ x i below. index_fitting x i serves.index_served.served below) serves.index_fits)
     h
 
 -- the tests of the index come first
-pub index_first : (inner_decode index_decode : List ℕ → CodecError → Type 0) (inner_cells index_cells : List ℕ → List (Option (List ℕ))) (l : Layout) (b : List ℕ) (e : CodecError)
-    → RefusedBy (IndexTests index_decode index_cells l.location l.index_size b done) e → RefusedBy (DecodeTests inner_decode index_decode inner_cells index_cells l b) e
-index_first inner_decode index_decode inner_cells index_cells l b e h =
+pub index_first : (inner index : Meaning) (l : Layout) (b : List ℕ) (e : CodecError)
+    → RefusedBy (IndexTests index.decode_tests index.cells l.location l.index_size b done) e → RefusedBy (DecodeTests inner index l b) e
+index_first inner index l b e h =
     elim h [
       | inl memory ↦ inl memory
       | inr tests ↦ inr (elim tests [
         | inl too_short ↦ inl too_short
-        | inr after_length ↦ inr (after_length.0, elim after_length.1 [ inl index ↦ inl index | inr nothing ↦ absurd nothing.1 ])
+        | inr after_length ↦ inr (after_length.0, elim after_length.1 [ inl found ↦ inl found | inr nothing ↦ absurd nothing.1 ])
       ])
     ]
 
 -- and those of the subchunks after them
-pub subchunks_next : (inner_decode index_decode : List ℕ → CodecError → Type 0) (inner_cells index_cells : List ℕ → List (Option (List ℕ))) (l : Layout) (b ns : List ℕ) (n : ℕ) (e : CodecError)
-    → numbers_in_index index_cells l.location l.index_size b ≡ Some ns → n ≡ count_of (grid_of l.shape l.sub)
-    → RefusedBy (SubchunkTests inner_decode inner_cells b (Some ns) n done) e → RefusedBy (DecodeTests inner_decode index_decode inner_cells index_cells l b) e
-subchunks_next inner_decode index_decode inner_cells index_cells l b ns n e told same h =
+pub subchunks_next : (inner index : Meaning) (l : Layout) (b ns : List ℕ) (n : ℕ) (e : CodecError)
+    → numbers_in_index index.cells l.location l.index_size b ≡ Some ns → n ≡ count_of (grid_of l.shape l.sub)
+    → RefusedBy (SubchunkTests inner.decode_tests inner.cells b (Some ns) n done) e → RefusedBy (DecodeTests inner index l b) e
+subchunks_next inner index l b ns n e told same h =
     elim h [
       | inl memory ↦ inl memory
       | inr tests ↦ elim tests [
-        | inl one ↦ inr (inr (long_enough index_cells l.location l.index_size b ns told, inr (rw told refl, inl (rw (told, ← same) one))))
+        | inl one ↦ inr (inr (long_enough index.cells l.location l.index_size b ns told, inr (rw told refl, inl (rw (told, ← same) one))))
         | inr nothing ↦ absurd nothing.1
       ]
     ]

@@ -7,6 +7,7 @@ use Rattle.zarr_parts.specs.Grid.{Divides, grid_of}
 use Rattle.zarr_parts.specs.declared.error.CodecError.{CodecError}
 use Rattle.zarr_parts.specs.declared.error.CodecError.TheVariants.{IncompatibleDimensionality, InvalidSubchunkShape, TooLarge, BadIndexEntry}
 use Rattle.zarr_codecs.specs.declared.representation.BytesRepresentation.{BytesRepresentation}
+use Rattle.zarr_codecs.specs.Meanings.{Meaning}
 use Rattle.zarrs_sharding.specs.Index.{slot_at, slice_at, index_part, data_start, element_of_number, numbers_in_index}
 use Rattle.zarrs_sharding.specs.Cells.{Layout}
 use Rattle.zarrs_sharding.specs.Encoding.{slot_size}
@@ -59,28 +60,26 @@ pub record IsCompact (index_cells : List ℕ → List (Option (List ℕ))) (l : 
   pub same_size : compact_size l (slot_at (length old) numbers) ≡ length old
 
 -- the new shard is a compaction of the old one, which has another size than its index and its present slices
-pub record IsCompacted (index_cells : List ℕ → List (Option (List ℕ))) (index_written : List (List ℕ) → List ℕ → Type 0) (l : Layout) (old new : List ℕ) : Type 0 where
+pub record IsCompacted (index : Meaning) (l : Layout) (old new : List ℕ) : Type 0 where
   pub old_numbers : List ℕ
-  pub read : IsRead index_cells l old old_numbers
+  pub read : IsRead index.cells l old old_numbers
   pub other_size : compact_size l (slot_at (length old) old_numbers) ≢ length old
-  pub rewritten : IsCompaction index_written l old old_numbers new
+  pub rewritten : IsCompaction index.written l old old_numbers new
 
 -- the tests of the pairs, ascending, of the size of the compacted shard, and of its index, which is written only where the
 -- shard has another size
-abbrev pub PresentTests : (index_encodable index_fits : List (List ℕ) → Type 0) → Layout → ℕ → (ℕ → Slot) → CodecError → Type 0
-PresentTests index_encodable index_fits l len slots =
+abbrev pub PresentTests : (index : Meaning) → Layout → ℕ → (ℕ → Slot) → CodecError → Type 0
+PresentTests index l len slots =
     Each (count_of (grid_of l.shape l.sub)) (λ k. IsGood (slots k)) (λ k. BadIndexEntry k) (
     compact_size l slots + 1 < 2 ^ 64 or TooLarge then
-    (λ e. (compact_size l slots ≢ len) × RefusesIndex index_encodable index_fits (count_of (grid_of l.shape l.sub)) e))
+    (λ e. (compact_size l slots ≢ len) × RefusesIndex index (count_of (grid_of l.shape l.sub)) e))
 
 -- the tests of `compact`, in their order; the data type and the fill value aren't looked at
-abbrev pub CompactTests : (IndexServed : Type 0) → (index_check : CodecError → Type 0) → Option BytesRepresentation
-    → (index_decode : List ℕ → CodecError → Type 0) → (index_cells : List ℕ → List (Option (List ℕ))) → (index_encodable index_fits : List (List ℕ) → Type 0)
-    → Layout → List ℕ → CodecError → Type 0
-CompactTests IndexServed index_check index_representation index_decode index_cells index_encodable index_fits l bytes =
+abbrev pub CompactTests : (index : Meaning) → Layout → List ℕ → CodecError → Type 0
+CompactTests index l bytes =
     length l.shape ≡ length l.sub or IncompatibleDimensionality then
     Divides l.sub l.shape or InvalidSubchunkShape then
     (count_of l.shape < 2 ^ 64 × 16 * count_of (grid_of l.shape l.sub) < 2 ^ 64) or TooLarge then
-    IndexCodecTests IndexServed index_check index_representation (
-    IndexTests index_decode index_cells l.location l.index_size bytes (
-    PresentTests index_encodable index_fits l (length bytes) (slot_by (length bytes) (numbers_in_index index_cells l.location l.index_size bytes))))
+    IndexCodecTests index (
+    IndexTests index.decode_tests index.cells l.location l.index_size bytes (
+    PresentTests index l (length bytes) (slot_by (length bytes) (numbers_in_index index.cells l.location l.index_size bytes))))

@@ -7,6 +7,7 @@ use Rattle.zarr_parts.specs.declared.error.CodecError.{CodecError}
 use Rattle.zarr_parts.specs.declared.error.CodecError.TheVariants.{OutOfMemory, TooLarge, Fault, Damaged, ShardTooShort, BadIndexEntry}
 use Rattle.zarr_codecs.specs.Cells.{all_there}
 use Rattle.zarr_codecs.specs.Refusals.{AreTooLong, MayRefuseDecode}
+use Rattle.zarr_codecs.specs.Meanings.{Meaning}
 use Rattle.zarrs_sharding.specs.Index.{slot_at, slice_at, index_part, numbers_in_index}
 use Rattle.zarrs_sharding.specs.Cells.{Layout, shard_cells}
 use Rattle.zarrs_sharding.specs.declared.location.ShardingIndexLocation.{ShardingIndexLocation}
@@ -72,8 +73,8 @@ abbrev pub RefusesLengths : List (Option (List ℕ)) → CodecError → Type 0
 RefusesLengths cells e = (e ≡ TooLarge) × AreTooLong cells
 
 -- the tests of a whole shard after those of `check`
-abbrev pub DecodeTests : (inner_decode index_decode : List ℕ → CodecError → Type 0) → (inner_cells index_cells : List ℕ → List (Option (List ℕ))) → Layout → List ℕ → CodecError → Type 0
-DecodeTests inner_decode index_decode inner_cells index_cells l bytes =
-    IndexTests index_decode index_cells l.location l.index_size bytes
-    (SubchunkTests inner_decode inner_cells bytes (numbers_in_index index_cells l.location l.index_size bytes) (count_of (grid_of l.shape l.sub))
-    (RefusesLengths (shard_cells inner_cells index_cells l bytes)))
+abbrev pub DecodeTests : (inner index : Meaning) → Layout → List ℕ → CodecError → Type 0
+DecodeTests inner index l bytes =
+    IndexTests index.decode_tests index.cells l.location l.index_size bytes
+    (SubchunkTests inner.decode_tests inner.cells bytes (numbers_in_index index.cells l.location l.index_size bytes) (count_of (grid_of l.shape l.sub))
+    (RefusesLengths (shard_cells inner.cells index.cells l bytes)))

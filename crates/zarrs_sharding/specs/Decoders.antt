@@ -1,18 +1,19 @@
 -- A shard that is read in part through a handle, by its index, which was read once.
-use Rattle.std.specs.Prelude.{◌≡◌, ◌≢◌, ◌<◌, ◌^◌, ℕ, ◌+◌, ◌-◌, ◌*◌, min, Bool, IsTrue, List, Option, Some, None, IfSome, length, replicate}
+use Rattle.std.specs.Prelude.{◌≡◌, ◌≢◌, ◌<◌, ◌^◌, ℕ, ◌+◌, ◌-◌, ◌*◌, min, IsTrue, List, Option, Some, None, IfSome, length, replicate}
 use Rattle.zarr_parts.specs.Order.{◌or◌then◌, ◌or_as◌then◌, done}
 use Rattle.zarr_parts.specs.Numbering.{count_of, number_of, IsInside}
 use Rattle.zarr_parts.specs.Grid.{grid_of}
 use Rattle.zarr_parts.specs.Geo.{Geo, geo}
 use Rattle.zarr_parts.specs.declared.error.CodecError.{CodecError}
 use Rattle.zarr_parts.specs.declared.error.CodecError.TheVariants.{TooLarge, IncompatibleDimensionality, OutOfBounds, BadIndexEntry}
-use Rattle.zarr_codecs.specs.Handles.{IsRead, Support, WasRead, seen}
+use Rattle.zarr_codecs.specs.Handles.{HandleState, IsRead, WasRead, seen}
 use Rattle.zarr_codecs.specs.Reads.{cells_at}
 use Rattle.zarr_codecs.specs.declared.bytes.ByteRange.{ByteRange}
 use Rattle.zarr_codecs.specs.declared.bytes.ByteRange.TheVariants.{FromStart}
 use Rattle.zarr_codecs.specs.declared.representation.BytesRepresentation.{BytesRepresentation}
+use Rattle.zarr_codecs.specs.Meanings.{Meaning}
 use Rattle.zarrs_sharding.specs.Index.{index_geo, slot_at, numbers_in_index}
-use Rattle.zarrs_sharding.specs.Serves.{sub_geo, fixed_size, layout}
+use Rattle.zarrs_sharding.specs.Serves.{sub_geo, fixed_size, layout_in}
 use Rattle.zarrs_sharding.specs.DecodeTests.{IndexTests, RefusesLengths}
 use Rattle.zarrs_sharding.specs.ReadTests.{AnswerTests, CellsTests}
 use Rattle.zarrs_sharding.specs.declared.codec.ShardingCodec.{ShardingCodec}
@@ -36,19 +37,19 @@ HoldsIndex index_in (Some bytes) len None = ⊥
 HoldsIndex index_in (Some bytes) len (Some numbers) = (length bytes ≡ len) × (index_in bytes ≡ Some numbers)
 
 -- the numbers of the index of a shard with this codec and geo
-abbrev pub index_in : {I X : Type 0} → (X → Geo → Option BytesRepresentation) → (X → Geo → List ℕ → List (Option (List ℕ))) → ShardingCodec I X → Geo → List ℕ → Option (List ℕ)
-index_in representation index_cells codec g bytes =
-    let index_g = index_geo (grid_of g.shape codec.subchunk_shape) in
-    numbers_in_index (index_cells codec.index_codec index_g) codec.location (fixed_size (representation codec.index_codec index_g)) bytes
+abbrev pub index_in : {I X : Type 0} → (X → Geo → Meaning) → ShardingCodec I X → Geo → List ℕ → Option (List ℕ)
+index_in meaning codec g bytes =
+    let index = meaning codec.index_codec (index_geo (grid_of g.shape codec.subchunk_shape)) in
+    numbers_in_index index.cells codec.location (fixed_size index.representation) bytes
 
--- the codec serves what the decoder reads, and where the handle tells its bytes, the held index is that of the object; `Served` says what the
--- codec serves, and `index_of` which numbers the index of some bytes has
-pub record IsOpen {I X H : Type 0} (Served : ShardingCodec I X → Geo → Type 0) (index_of : ShardingCodec I X → Geo → List ℕ → Option (List ℕ))
-    (tells : H → Bool) (contents : H → Option (List ℕ)) (d : Opened (ShardingCodec I X) H) : Type 0 where
-  pub serves : Served d.codec d.geo
+-- the codec serves what the decoder reads, and where the handle tells its bytes, the held index is that of the object; `meaning` says what the
+-- codec means, and `index_of` which numbers the index of some bytes has
+pub record IsOpen {I X H : Type 0} (meaning : ShardingCodec I X → Geo → Meaning) (index_of : ShardingCodec I X → Geo → List ℕ → Option (List ℕ))
+    (state : H → HandleState) (d : Opened (ShardingCodec I X) H) : Type 0 where
+  pub serves : (meaning d.codec d.geo).serves
   pub room : d.len + 1 < 2 ^ 64
   pub counted : IfSome d.index (λ numbers. length numbers ≡ 2 * count_of (grid_of d.geo.shape d.codec.subchunk_shape))
-  pub held : IsTrue (tells d.handle) → HoldsIndex (index_of d.codec d.geo) (contents d.handle) d.len d.index
+  pub held : IsTrue (state d.handle).tells → HoldsIndex (index_of d.codec d.geo) (state d.handle).contents d.len d.index
 
 -- the decoder of a codec and a handle that knows this of a shard
 abbrev pub opened : {C H : Type 0} → C → H → OpenShard → Opened C H
@@ -56,20 +57,20 @@ opened codec handle shard =
     record { codec = codec; geo = geo shard.shape shard.data_type shard.fill_value; handle = handle; len = shard.held.len; index = seen (λ numbers. numbers.items) shard.held.index }
 
 -- what is known of a shard: the decoder is open, and the counts and the grid are its own
-pub record IsKnown {I X H : Type 0} (Served : ShardingCodec I X → Geo → Type 0) (index_of : ShardingCodec I X → Geo → List ℕ → Option (List ℕ))
-    (tells : H → Bool) (contents : H → Option (List ℕ)) (codec : ShardingCodec I X) (handle : H) (shard : OpenShard) : Type 0 where
-  pub is_open : IsOpen Served index_of tells contents (opened codec handle shard)
+pub record IsKnown {I X H : Type 0} (meaning : ShardingCodec I X → Geo → Meaning) (index_of : ShardingCodec I X → Geo → List ℕ → Option (List ℕ))
+    (state : H → HandleState) (codec : ShardingCodec I X) (handle : H) (shard : OpenShard) : Type 0 where
+  pub is_open : IsOpen meaning index_of state (opened codec handle shard)
   pub cells : shard.cells ≡ count_of shard.shape
   pub grid : shard.grid ≡ grid_of shard.shape codec.subchunk_shape
   pub subchunks : shard.subchunks ≡ count_of (grid_of shard.shape codec.subchunk_shape)
 
 -- a reading call leaves all but the handle, and the object
-pub record Unmoved {C H : Type 0} (tells : H → Bool) (contents : H → Option (List ℕ)) (faults : H → ℕ) (supports : H → Support) (old new : Opened C H) : Type 0 where
+pub record Unmoved {C H : Type 0} (state : H → HandleState) (old new : Opened C H) : Type 0 where
   pub codec : new.codec ≡ old.codec
   pub geo : new.geo ≡ old.geo
   pub len : new.len ≡ old.len
   pub index : new.index ≡ old.index
-  pub handle : IsRead tells contents faults supports old.handle new.handle
+  pub handle : IsRead (state old.handle) (state new.handle)
 
 -- the bytes that a decoder holds in memory: the handle's, and 8 for each number of the held index
 abbrev pub bytes_held : ℕ → Option (List ℕ) → ℕ
@@ -77,13 +78,12 @@ bytes_held handle None = handle
 bytes_held handle (Some numbers) = min (handle + 8 * length numbers) (2 ^ 64 - 1)
 
 -- the tests of an object that is opened as a shard of this codec and grid: that its length can be counted, and those of its index
-abbrev pub OpenTests : {I X : Type 0} → (X → Geo → List ℕ → CodecError → Type 0) → (X → Geo → Option BytesRepresentation) → (X → Geo → List ℕ → List (Option (List ℕ)))
-    → ShardingCodec I X → (grid : List ℕ) → Option (List ℕ) → CodecError → Type 0
-OpenTests index_decode representation index_cells codec grid None = done
-OpenTests index_decode representation index_cells codec grid (Some bytes) =
-    let x = codec.index_codec in let index_g = index_geo grid in
+abbrev pub OpenTests : {I X : Type 0} → (X → Geo → Meaning) → ShardingCodec I X → (grid : List ℕ) → Option (List ℕ) → CodecError → Type 0
+OpenTests meaning codec grid None = done
+OpenTests meaning codec grid (Some bytes) =
+    let index = meaning codec.index_codec (index_geo grid) in
     length bytes + 1 < 2 ^ 64 or TooLarge then
-    IndexTests (index_decode x index_g) (index_cells x index_g) codec.location (fixed_size (representation x index_g)) bytes
+    IndexTests index.decode_tests index.cells codec.location (fixed_size index.representation) bytes
     done
 
 -- what the held index says of subchunk k: without an object each is absent
@@ -98,10 +98,10 @@ IsRangeOf (InRange offset size) range = range ≡ Some (FromStart offset (Some s
 IsRangeOf Bad range = ⊥
 
 -- what is read of the bytes that a slot names: none where the subchunk is absent; of contents that are told, just these bytes
-abbrev pub IsSliceRead : Slot → Bool → Option (List ℕ) → Option (List ℕ) → Type 0
-IsSliceRead Absent tells contents answer = answer ≡ None
-IsSliceRead (InRange offset size) tells contents answer = WasRead (FromStart offset (Some size)) tells contents answer
-IsSliceRead Bad tells contents answer = ⊥
+abbrev pub IsSliceRead : Slot → HandleState → Option (List ℕ) → Type 0
+IsSliceRead Absent state answer = answer ≡ None
+IsSliceRead (InRange offset size) state answer = WasRead (FromStart offset (Some size)) state answer
+IsSliceRead Bad state answer = ⊥
 
 -- the tests of a subchunk of a grid that is asked by its coordinate, and of which an index says this
 abbrev pub SlotTests : (grid subchunk : List ℕ) → Slot → (CodecError → Type 0) → CodecError → Type 0
@@ -117,10 +117,9 @@ object_cells cells g None = replicate (count_of g.shape) (Some g.fill)
 object_cells cells g (Some bytes) = cells bytes
 
 -- the tests of a read of the cells at some coordinates of a shard whose index was read before; without an object those of their lengths alone
-abbrev pub ObjectCellsTests : {I X : Type 0} → (I → Geo → ℕ → Type 0) → (I → Geo → List ℕ → List (List ℕ) → CodecError → Type 0) → (I → Geo → List ℕ → List (Option (List ℕ)))
-    → (X → Geo → Option BytesRepresentation) → (X → Geo → List ℕ → List (Option (List ℕ))) → ShardingCodec I X → Geo → Option (List ℕ) → List (List ℕ) → CodecError → Type 0
-ObjectCellsTests answerable read_tests inner_cells representation index_cells codec g None points = RefusesLengths (cells_at (replicate (count_of g.shape) (Some g.fill)) g.shape points)
-ObjectCellsTests answerable read_tests inner_cells representation index_cells codec g (Some bytes) points =
-    let inner_g = sub_geo codec.subchunk_shape g in let index_g = index_geo (grid_of g.shape codec.subchunk_shape) in
-    CellsTests (AnswerTests (answerable codec.inner inner_g) (read_tests codec.inner inner_g)) (inner_cells codec.inner inner_g) (index_cells codec.index_codec index_g)
-    (layout codec.subchunk_shape codec.location codec.order (representation codec.index_codec index_g) g) bytes (index_in representation index_cells codec g bytes) points
+abbrev pub ObjectCellsTests : {I X : Type 0} → (I → Geo → Meaning) → (X → Geo → Meaning) → ShardingCodec I X → Geo → Option (List ℕ) → List (List ℕ) → CodecError → Type 0
+ObjectCellsTests inner_meaning index_meaning codec g None points = RefusesLengths (cells_at (replicate (count_of g.shape) (Some g.fill)) g.shape points)
+ObjectCellsTests inner_meaning index_meaning codec g (Some bytes) points =
+    let inner = inner_meaning codec.inner (sub_geo codec.subchunk_shape g) in let index = index_meaning codec.index_codec (index_geo (grid_of g.shape codec.subchunk_shape)) in
+    CellsTests (AnswerTests inner.answerable inner.read_tests) inner.cells index.cells
+    (layout_in codec index g) bytes (index_in index_meaning codec g bytes) points

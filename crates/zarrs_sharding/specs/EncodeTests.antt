@@ -8,6 +8,7 @@ use Rattle.zarr_parts.specs.Arrays.{Array}
 use Rattle.zarr_parts.specs.declared.data_type.DataTypeSize.{DataTypeSize}
 use Rattle.zarr_parts.specs.declared.error.CodecError.{CodecError}
 use Rattle.zarr_parts.specs.declared.error.CodecError.TheVariants.{TooLarge, CannotEncode, WrongElementKind, InvalidNumberOfElements}
+use Rattle.zarr_codecs.specs.Meanings.{Meaning}
 use Rattle.zarrs_sharding.specs.Index.{element_of_number}
 use Rattle.zarrs_sharding.specs.Cells.{Layout}
 use Rattle.zarrs_sharding.specs.Encoding.{IsAllFill}
@@ -26,9 +27,9 @@ abbrev pub HasPart : (List (List ℕ) → List ℕ → Type 0) → List ℕ → 
 HasPart inner_written fill elements = (part : List ℕ) × IsPart inner_written fill elements part
 
 -- the tests of the first n subchunks, ascending: the first that is refused gives the refusal
-abbrev pub StoreTests : (inner_encodable inner_fits : List (List ℕ) → Type 0) → (List (List ℕ) → List ℕ → Type 0) → List ℕ → (ℕ → List (List ℕ)) → ℕ → (CodecError → Type 0) → CodecError → Type 0
-StoreTests inner_encodable inner_fits inner_written fill subchunks n later =
-    EachAs n (λ k. HasPart inner_written fill (subchunks k)) (λ k. RefusesToStore inner_encodable inner_fits fill (subchunks k))
+abbrev pub StoreTests : (inner : Meaning) → List ℕ → (ℕ → List (List ℕ)) → ℕ → (CodecError → Type 0) → CodecError → Type 0
+StoreTests inner fill subchunks n later =
+    EachAs n (λ k. HasPart inner.written fill (subchunks k)) (λ k. RefusesToStore inner.encodable inner.fits fill (subchunks k))
     later
 
 -- some parts of the subchunks have, with the index, a size with P
@@ -38,17 +39,17 @@ pub record SomeTotal (inner_written : List (List ℕ) → List ℕ → Type 0) (
   pub total : P (total_size l parts)
 
 -- how the index of so many subchunks may be refused
-pub record RefusesIndex (index_encodable index_fits : List (List ℕ) → Type 0) (subchunks : ℕ) (e : CodecError) : Type 0 where
+pub record RefusesIndex (index : Meaning) (subchunks : ℕ) (e : CodecError) : Type 0 where
   pub numbers : List ℕ
   pub counted : length numbers ≡ 2 * subchunks
   pub below : All (λ n. n < 2 ^ 64) numbers
-  pub refuses : RefusesToEncode (index_encodable (map element_of_number numbers)) (index_fits (map element_of_number numbers)) e
+  pub refuses : RefusesToEncode (index.encodable (map element_of_number numbers)) (index.fits (map element_of_number numbers)) e
 
 -- the tests of a whole array after those of `check`
-abbrev pub EncodeTests : (inner_encodable inner_fits index_encodable index_fits : List (List ℕ) → Type 0) → (List (List ℕ) → List ℕ → Type 0) → Layout → DataTypeSize → Array → CodecError → Type 0
-EncodeTests inner_encodable inner_fits index_encodable index_fits inner_written l kind array =
+abbrev pub EncodeTests : (inner index : Meaning) → Layout → DataTypeSize → Array → CodecError → Type 0
+EncodeTests inner index l kind array =
     array.kind ≡ kind or WrongElementKind then
     length array.elements ≡ count_of l.shape or InvalidNumberOfElements then
-    StoreTests inner_encodable inner_fits inner_written l.fill (subchunk l.shape l.sub array.elements) (count_of (grid_of l.shape l.sub))
-    (SomeTotal inner_written l array.elements (λ n. n + 1 < 2 ^ 64) or_as (λ e. (e ≡ TooLarge) × SomeTotal inner_written l array.elements (λ n. 2 ^ 64 ≤ n + 1)) then
-    RefusesIndex index_encodable index_fits (count_of (grid_of l.shape l.sub)))
+    StoreTests inner l.fill (subchunk l.shape l.sub array.elements) (count_of (grid_of l.shape l.sub))
+    (SomeTotal inner.written l array.elements (λ n. n + 1 < 2 ^ 64) or_as (λ e. (e ≡ TooLarge) × SomeTotal inner.written l array.elements (λ n. 2 ^ 64 ≤ n + 1)) then
+    RefusesIndex index (count_of (grid_of l.shape l.sub)))

@@ -15,6 +15,7 @@ use Rattle.zarr_parts.specs.Types.{size_of, FitsKind}
 use Rattle.zarr_parts.specs.Numbering.{count_of}
 use Rattle.zarr_codecs.specs.Cells.{all_there}
 use Rattle.zarr_parts.specs.Grid.{grid_of, Divides, subchunk_number, place_number, cell_number, subchunk}
+use Rattle.zarr_codecs.specs.Meanings.{Meaning}
 use Rattle.zarrs_sharding.specs.Index.{slot_at, slice_at, index_part, data_end, index_geo, index_shape, number_of_element, element_of_number, numbers_in_index}
 use Rattle.zarrs_sharding.specs.declared.slot.Slot.{Slot}
 use Rattle.zarrs_sharding.specs.declared.slot.Slot.TheVariants.{Absent, InRange, Bad}
@@ -221,19 +222,19 @@ cell_of_moved inner_cells fill old new (InRange offset size) t place p h = rw (h
 cell_of_moved inner_cells fill old new Bad t place p h = absurd h
 
 -- a compacted shard stands for the same cells
-pub cells_of_compacted : (inner_cells index_cells : List ℕ → List (Option (List ℕ))) (index_written : List (List ℕ) → List ℕ → Type 0)
+pub cells_of_compacted : (inner_cells : List ℕ → List (Option (List ℕ))) (index : Meaning)
     (sub : List ℕ) (location : ShardingIndexLocation) (order : SubchunkWriteOrder) (size : ℕ) (g : Geo) (old new : List ℕ)
     → Divides sub g.shape
-    → ((e : List (List ℕ)) (bytes : List ℕ) → IsArrayOf (index_geo (grid_of g.shape sub)) e → index_written e bytes → index_cells bytes ≡ map Some e)
-    → IsCompacted index_cells index_written (layout_of sub location order size g) old new
-    → shard_cells inner_cells index_cells (layout_of sub location order size g) new ≡ shard_cells inner_cells index_cells (layout_of sub location order size g) old
+    → ((e : List (List ℕ)) (bytes : List ℕ) → IsArrayOf (index_geo (grid_of g.shape sub)) e → index.written e bytes → index.cells bytes ≡ map Some e)
+    → IsCompacted index (layout_of sub location order size g) old new
+    → shard_cells inner_cells index.cells (layout_of sub location order size g) new ≡ shard_cells inner_cells index.cells (layout_of sub location order size g) old
 unfolding shard_cells
-cells_of_compacted inner_cells index_cells index_written sub location order size g old new divides index_law h =
+cells_of_compacted inner_cells index sub location order size g old new divides index_law h =
     let l : Layout = layout_of sub location order size g in
     let n = count_of g.shape in
     let r = h.rewritten in
-    let told : numbers_in_index index_cells location size new ≡ Some r.numbers =
-    numbers_of_index index_cells index_written sub g location size new r.numbers index_law (omega (arith, r.long)) r.counted r.below r.index in
+    let told : numbers_in_index index.cells location size new ≡ Some r.numbers =
+    numbers_of_index index.cells index.written sub g location size new r.numbers index_law (omega (arith, r.long)) r.counted r.below r.index in
     rw (told, h.read.told)
     (ext_get_or None _ _ (length-map-range_with_len (cell_by inner_cells l new (Some r.numbers)) 0 n ∙ sym (length-map-range_with_len (cell_by inner_cells l old (Some h.old_numbers)) 0 n))
     (λ i below.

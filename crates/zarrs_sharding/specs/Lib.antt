@@ -6,6 +6,7 @@ pub mod Grids
 pub mod Plans
 pub mod DecodeTests
 pub mod EncodeTests
+pub mod Meanings
 pub mod ReadTests
 pub mod Laying
 pub mod Decoding

@@ -7,6 +7,7 @@ use Rattle.zarr_parts.specs.Grid.{Divides, grid_of}
 use Rattle.zarr_parts.specs.declared.error.CodecError.{CodecError}
 use Rattle.zarr_parts.specs.declared.error.CodecError.TheVariants.{IncompatibleDimensionality, InvalidSubchunkShape, TooLarge}
 use Rattle.zarr_codecs.specs.declared.representation.BytesRepresentation.{BytesRepresentation}
+use Rattle.zarr_codecs.specs.Meanings.{Meaning}
 use Rattle.zarrs_sharding.specs.Index.{slot_at, slice_at, index_part, data_start, element_of_number}
 use Rattle.zarrs_sharding.specs.Compacting.{IsMoved}
 use Rattle.zarrs_sharding.specs.Laying.{taken}
@@ -16,19 +17,19 @@ use Rattle.zarrs_sharding.specs.declared.slot.Slot.{Slot}
 use Rattle.zarrs_sharding.specs.declared.slot.Slot.TheVariants.{Absent, InRange, Bad}
 
 -- the tests of `compact` that look at no byte
-abbrev pub PlanTests : (IndexServed : Type 0) → (CodecError → Type 0) → Option BytesRepresentation → (shape sub : List ℕ) → (CodecError → Type 0) → CodecError → Type 0
-PlanTests IndexServed index_check index_representation shape sub later =
+abbrev pub PlanTests : (index : Meaning) → (shape sub : List ℕ) → (CodecError → Type 0) → CodecError → Type 0
+PlanTests index shape sub later =
     length shape ≡ length sub or IncompatibleDimensionality then
     Divides sub shape or InvalidSubchunkShape then
     (count_of shape < 2 ^ 64 × 16 * count_of (grid_of shape sub) < 2 ^ 64) or TooLarge then
-    IndexCodecTests IndexServed index_check index_representation later
+    IndexCodecTests index later
 
 -- what they find
-pub record HasPlan (IndexServed : Type 0) (index_representation : Option BytesRepresentation) (shape sub : List ℕ) : Type 0 where
+pub record HasPlan (index : Meaning) (shape sub : List ℕ) : Type 0 where
   pub same_axes : length shape ≡ length sub
   pub divides : Divides sub shape
   pub fits : count_of shape < 2 ^ 64 × 16 * count_of (grid_of shape sub) < 2 ^ 64
-  pub index_served : IndexServes IndexServed index_representation
+  pub index_served : IndexServes index
 
 -- a slot names no byte outside a shard of so many bytes, and isn't bad
 abbrev pub IsInside : ℕ → Slot → Type 0

@@ -4,6 +4,7 @@ use Rattle.zarr_parts.specs.Numbering.{count_of}
 use Rattle.zarr_parts.specs.Grid.{grid_of}
 use Rattle.zarr_parts.specs.Geo.{Geo}
 use Rattle.zarr_codecs.specs.declared.representation.BytesRepresentation.{BytesRepresentation}
+use Rattle.zarr_codecs.specs.Meanings.{Meaning}
 use Rattle.zarrs_sharding.specs.Index.{index_shape, index_geo}
 use Rattle.zarrs_sharding.specs.Serves.{fixed_size}
 use Rattle.zarrs_sharding.specs.declared.check.IndexPlan.{IndexPlan}
@@ -26,10 +27,10 @@ pub record IsPlan (index_size : ℕ) (shape sub : List ℕ) (plan : Plan) : Type
   pub index : IsIndexPlan index_size (grid_of shape sub) plan.index
 
 -- the plan of the index that this codec has for a grid
-abbrev pub IsIndexPlanOf : {I X : Type 0} → (X → Geo → Option BytesRepresentation) → ShardingCodec I X → List ℕ → IndexPlan → Type 0
-IsIndexPlanOf representation codec grid plan = IsIndexPlan (fixed_size (representation codec.index_codec (index_geo grid))) grid plan
+abbrev pub IsIndexPlanOf : {I X : Type 0} → (X → Geo → Meaning) → ShardingCodec I X → List ℕ → IndexPlan → Type 0
+IsIndexPlanOf meaning codec grid plan = IsIndexPlan (fixed_size (meaning codec.index_codec (index_geo grid)).representation) grid plan
 
 -- the plan that this codec has for a shard of a shape
-abbrev pub IsPlanOf : {I X : Type 0} → (X → Geo → Option BytesRepresentation) → ShardingCodec I X → List ℕ → Plan → Type 0
-IsPlanOf representation codec shape plan =
-    IsPlan (fixed_size (representation codec.index_codec (index_geo (grid_of shape codec.subchunk_shape)))) shape codec.subchunk_shape plan
+abbrev pub IsPlanOf : {I X : Type 0} → (X → Geo → Meaning) → ShardingCodec I X → List ℕ → Plan → Type 0
+IsPlanOf meaning codec shape plan =
+    IsPlan (fixed_size (meaning codec.index_codec (index_geo (grid_of shape codec.subchunk_shape))).representation) shape codec.subchunk_shape plan

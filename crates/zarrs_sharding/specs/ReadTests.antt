@@ -8,6 +8,7 @@ use Rattle.zarr_parts.specs.declared.error.CodecError.{CodecError}
 use Rattle.zarr_parts.specs.declared.error.CodecError.TheVariants.{OutOfMemory, TooLarge, BadIndexEntry}
 use Rattle.zarr_codecs.specs.Cells.{all_there}
 use Rattle.zarr_codecs.specs.Reads.{cells_at, MayRefuseRead}
+use Rattle.zarr_codecs.specs.Meanings.{Meaning}
 use Rattle.zarrs_sharding.specs.Index.{slice_at, numbers_in_index}
 use Rattle.zarrs_sharding.specs.Cells.{Layout, shard_cells}
 use Rattle.zarrs_sharding.specs.DecodeTests.{stored_refusal, slot_by, IndexTests, RefusesLengths}
@@ -73,7 +74,7 @@ CellsTests inner_read inner_cells index_cells l bytes index points =
     (RefusesLengths (cells_at (shard_cells inner_cells index_cells l bytes) l.shape points))
 
 -- the tests of a read of the cells at some coordinates of the shard that bytes are
-abbrev pub ReadTests : (List ℕ → List (List ℕ) → CodecError → Type 0) → (List ℕ → CodecError → Type 0) → (inner_cells index_cells : List ℕ → List (Option (List ℕ))) → Layout → List ℕ → List (List ℕ) → CodecError → Type 0
-ReadTests inner_read index_decode inner_cells index_cells l bytes points =
-    IndexTests index_decode index_cells l.location l.index_size bytes
-    (CellsTests inner_read inner_cells index_cells l bytes (numbers_in_index index_cells l.location l.index_size bytes) points)
+abbrev pub ReadTests : (inner index : Meaning) → Layout → List ℕ → List (List ℕ) → CodecError → Type 0
+ReadTests inner index l bytes points =
+    IndexTests index.decode_tests index.cells l.location l.index_size bytes
+    (CellsTests (AnswerTests inner.answerable inner.read_tests) inner.cells index.cells l bytes (numbers_in_index index.cells l.location l.index_size bytes) points)

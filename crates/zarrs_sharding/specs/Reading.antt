@@ -9,6 +9,7 @@ use Rattle.zarr_parts.specs.declared.data_type.DataTypeSize.{DataTypeSize}
 use Rattle.zarr_parts.specs.declared.error.CodecError.{CodecError}
 use Rattle.zarr_codecs.specs.Cells.{all_there}
 use Rattle.zarr_parts.specs.Grid.{subchunk_number, place_number}
+use Rattle.zarr_codecs.specs.Meanings.{Meaning}
 use Rattle.zarrs_sharding.specs.Index.{slot_at, slice_at, number_of_element}
 use Rattle.zarrs_sharding.specs.Cells.{cell_in}
 use Rattle.zarrs_sharding.specs.Decoding.{element_at, IsChunkOf}
@@ -64,9 +65,9 @@ read_by inner_cells shape sub fill bytes index i =
     cell_in inner_cells fill bytes (slot_at (length bytes) index (subchunk_number shape sub i)) (place_number shape sub i)
 
 -- the tests of a read of the cells with these row-major numbers of the shard that bytes are, by the numbers of its index
-abbrev pub ReadByTests : {I X : Type 0} → (I → Geo → ℕ → Type 0) → (I → Geo → List ℕ → List (List ℕ) → CodecError → Type 0) → (I → Geo → List ℕ → List (Option (List ℕ)))
+abbrev pub ReadByTests : {I X : Type 0} → (I → Geo → Meaning)
     → ShardingCodec I X → Geo → (bytes index numbers : List ℕ) → CodecError → Type 0
-ReadByTests answerable read_tests inner_cells codec g bytes index numbers =
-    let sub = codec.subchunk_shape in let inner_g = sub_geo sub g in
-    PlacesTests (AnswerTests (answerable codec.inner inner_g) (read_tests codec.inner inner_g)) (inner_cells codec.inner inner_g) g.shape sub bytes (Some index) numbers
-    (RefusesLengths (map (read_by (inner_cells codec.inner inner_g) g.shape sub g.fill bytes index) numbers))
+ReadByTests meaning codec g bytes index numbers =
+    let sub = codec.subchunk_shape in let inner = meaning codec.inner (sub_geo sub g) in
+    PlacesTests (AnswerTests inner.answerable inner.read_tests) inner.cells g.shape sub bytes (Some index) numbers
+    (RefusesLengths (map (read_by inner.cells g.shape sub g.fill bytes index) numbers))

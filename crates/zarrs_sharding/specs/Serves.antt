@@ -11,6 +11,7 @@ use Rattle.zarr_parts.specs.declared.error.CodecError.TheVariants.{UnsupportedDa
 use Rattle.zarr_codecs.specs.Refusals.{RefusesUnserved}
 use Rattle.zarr_codecs.specs.declared.representation.BytesRepresentation.{BytesRepresentation}
 use Rattle.zarr_codecs.specs.declared.representation.BytesRepresentation.TheVariants.{FixedSize, BoundedSize, UnboundedSize}
+use Rattle.zarr_codecs.specs.Meanings.{Meaning}
 use Rattle.zarrs_sharding.specs.Index.{index_geo, element_of_number}
 use Rattle.zarrs_sharding.specs.Cells.{Layout}
 use Rattle.zarrs_sharding.specs.Encoding.{IsAllFill}
@@ -38,17 +39,16 @@ abbrev pub layout : List ℕ → ShardingIndexLocation → SubchunkWriteOrder �
 layout sub location order representation g = layout_of sub location order (fixed_size representation) g
 
 -- the layout of a shard with this codec and geo
-abbrev pub layout_in : {I X : Type 0} → (X → Geo → Option BytesRepresentation) → ShardingCodec I X → Geo → Layout
-layout_in representation codec g =
-    layout codec.subchunk_shape codec.location codec.order (representation codec.index_codec (index_geo (grid_of g.shape codec.subchunk_shape))) g
+abbrev pub layout_in : {I X : Type 0} → ShardingCodec I X → (index : Meaning) → Geo → Layout
+layout_in codec index g = layout codec.subchunk_shape codec.location codec.order index.representation g
 
 -- the index codec serves the index, and its encodings have one size
-pub record IndexServes (Served : Type 0) (representation : Option BytesRepresentation) : Type 0 where
-  pub served : Served
-  pub fixed : representation ≡ Some (FixedSize (fixed_size representation))
+pub record IndexServes (index : Meaning) : Type 0 where
+  pub served : index.serves
+  pub fixed : index.representation ≡ Some (FixedSize (fixed_size index.representation))
 
 -- the sharding codec serves these arrays
-pub record ShardServes (InnerServed IndexServed : Type 0) (index_representation : Option BytesRepresentation) (sub : List ℕ) (g : Geo) : Type 0 where
+pub record ShardServes (inner index : Meaning) (sub : List ℕ) (g : Geo) : Type 0 where
   pub supported : HasElements g.data_type
   pub fill_fits : FitsKind (size_of g.data_type) g.fill
   pub same_axes : length g.shape ≡ length sub
@@ -56,34 +56,34 @@ pub record ShardServes (InnerServed IndexServed : Type 0) (index_representation 
   pub cells_fit : count_of g.shape < 2 ^ 64
   pub bytes_fit : count_of g.shape * byte_size (size_of g.data_type) < 2 ^ 64
   pub index_fits : 16 * count_of (grid_of g.shape sub) < 2 ^ 64
-  pub index_served : IndexServes IndexServed index_representation
-  pub inner_served : InnerServed
+  pub index_served : IndexServes index
+  pub inner_served : inner.serves
 
 -- the tests of the index codec: its own `check`, and that its encodings have one size
-abbrev pub IndexCodecTests : Type 0 → (CodecError → Type 0) → Option BytesRepresentation → (CodecError → Type 0) → CodecError → Type 0
-IndexCodecTests Served index_check representation later =
-    Served or_as RefusesUnserved Served index_check then
-    IsSome representation or TooLarge then
-    representation ≡ Some (FixedSize (fixed_size representation)) or VariableIndexSize then
+abbrev pub IndexCodecTests : Meaning → (CodecError → Type 0) → CodecError → Type 0
+IndexCodecTests index later =
+    index.serves or_as RefusesUnserved index then
+    IsSome index.representation or TooLarge then
+    index.representation ≡ Some (FixedSize (fixed_size index.representation)) or VariableIndexSize then
     later
 
 -- the tests of `check`, in their order
-abbrev pub CheckTests : (InnerServed IndexServed : Type 0) → (inner_check index_check : CodecError → Type 0) → Option BytesRepresentation → List ℕ → Geo → CodecError → Type 0
-CheckTests InnerServed IndexServed inner_check index_check index_representation sub g =
+abbrev pub CheckTests : (inner index : Meaning) → List ℕ → Geo → CodecError → Type 0
+CheckTests inner index sub g =
     HasElements g.data_type or UnsupportedDataType then
     FitsKind (size_of g.data_type) g.fill or BadFillValue then
     length g.shape ≡ length sub or IncompatibleDimensionality then
     Divides sub g.shape or InvalidSubchunkShape then
     (count_of g.shape < 2 ^ 64 × count_of g.shape * byte_size (size_of g.data_type) < 2 ^ 64 × 16 * count_of (grid_of g.shape sub) < 2 ^ 64) or TooLarge then
-    IndexCodecTests IndexServed index_check index_representation (
-    InnerServed or_as RefusesUnserved InnerServed inner_check then
+    IndexCodecTests index (
+    inner.serves or_as RefusesUnserved inner then
     done)
 
 -- the sharding codec can encode an array whose stored subchunks the inner codec can encode, where the index codec can encode
 -- every index
-pub record ShardEncodable (inner_encodable index_encodable : List (List ℕ) → Type 0) (l : Layout) (a : List (List ℕ)) : Type 0 where
-  pub subchunks : (k : ℕ) → k < count_of (grid_of l.shape l.sub) → ¬ (IsAllFill l.fill (subchunk l.shape l.sub a k)) → inner_encodable (subchunk l.shape l.sub a k)
-  pub index : (numbers : List ℕ) → length numbers ≡ 2 * count_of (grid_of l.shape l.sub) → All (λ n. n < 2 ^ 64) numbers → index_encodable (map element_of_number numbers)
+pub record ShardEncodable (inner outer : Meaning) (l : Layout) (a : List (List ℕ)) : Type 0 where
+  pub subchunks : (k : ℕ) → k < count_of (grid_of l.shape l.sub) → ¬ (IsAllFill l.fill (subchunk l.shape l.sub a k)) → inner.encodable (subchunk l.shape l.sub a k)
+  pub index : (numbers : List ℕ) → length numbers ≡ 2 * count_of (grid_of l.shape l.sub) → All (λ n. n < 2 ^ 64) numbers → outer.encodable (map element_of_number numbers)
 
 -- what is stored of a subchunk: nothing where it is all fill, and else an encoding
 abbrev pub IsPart : (List (List ℕ) → List ℕ → Type 0) → List ℕ → List (List ℕ) → List ℕ → Type 0
@@ -95,10 +95,10 @@ total_size l parts = l.index_size + sum_by (λ k. length (parts k)) (range_with_
 
 -- an array fits where its stored subchunks and every index fit, and the index with any encodings of those subchunks stays
 -- below what memory can address
-pub record ShardFits (inner_fits index_fits : List (List ℕ) → Type 0) (inner_written : List (List ℕ) → List ℕ → Type 0) (l : Layout) (a : List (List ℕ)) : Type 0 where
-  pub subchunks : (k : ℕ) → k < count_of (grid_of l.shape l.sub) → ¬ (IsAllFill l.fill (subchunk l.shape l.sub a k)) → inner_fits (subchunk l.shape l.sub a k)
-  pub index : (numbers : List ℕ) → length numbers ≡ 2 * count_of (grid_of l.shape l.sub) → All (λ n. n < 2 ^ 64) numbers → index_fits (map element_of_number numbers)
-  pub total : (parts : ℕ → List ℕ) → ((k : ℕ) → k < count_of (grid_of l.shape l.sub) → IsPart inner_written l.fill (subchunk l.shape l.sub a k) (parts k))
+pub record ShardFits (inner outer : Meaning) (l : Layout) (a : List (List ℕ)) : Type 0 where
+  pub subchunks : (k : ℕ) → k < count_of (grid_of l.shape l.sub) → ¬ (IsAllFill l.fill (subchunk l.shape l.sub a k)) → inner.fits (subchunk l.shape l.sub a k)
+  pub index : (numbers : List ℕ) → length numbers ≡ 2 * count_of (grid_of l.shape l.sub) → All (λ n. n < 2 ^ 64) numbers → outer.fits (map element_of_number numbers)
+  pub total : (parts : ℕ → List ℕ) → ((k : ℕ) → k < count_of (grid_of l.shape l.sub) → IsPart inner.written l.fill (subchunk l.shape l.sub a k) (parts k))
       → total_size l parts + 1 < 2 ^ 64
 
 -- a bound, where a 64-bit number can say it

@@ -64,10 +64,10 @@ impl<I, X: ArrayToBytesCodecTraits> ShardingCodec<I, X> {
         grid: &ChunkShape,
     ) -> Result<IndexPlan, CodecError>
         ensures serves { let x = self.now.index_codec in let g = index_geo grid.now in
-            OnOk result (IndexServes (X.serves x g) (X.representation x g)) }
-        ensures plan { IfOk result (IsIndexPlanOf X.representation self.now grid.now) }
+            OnOk result (IndexServes (X.meaning x g)) }
+        ensures plan { IfOk result (IsIndexPlanOf X.meaning self.now grid.now) }
         ensures refused { let x = self.now.index_codec in let g = index_geo grid.now in
-            IfErr result (RefusedBy (IndexCodecTests (X.serves x g) (X.check_tests x g) (X.representation x g) done)) }
+            IfErr result (RefusedBy (IndexCodecTests (X.meaning x g) done)) }
     {
         let shape = sharding_index_shape(alloc, grid)?;
         let fill = FillValue::new(vec![in alloc; 255u8; 8]?);
@@ -91,10 +91,10 @@ impl<I: ArrayToBytesCodecTraits, X: ArrayToBytesCodecTraits> ShardingCodec<I, X>
         data_type: &DataType,
         fill_value: &FillValue,
     ) -> Result<Plan, CodecError>
-        ensures serves { OnOk result (⟦<Self as ArrayToBytesCodecTraits>⟧.serves self.now (geo shape.now data_type.now fill_value.now)) }
-        ensures plan { IfOk result (IsPlanOf X.representation self.now shape.now) }
+        ensures serves { OnOk result (⟦<Self as ArrayToBytesCodecTraits>⟧.meaning self.now (geo shape.now data_type.now fill_value.now)).serves }
+        ensures plan { IfOk result (IsPlanOf X.meaning self.now shape.now) }
         ensures refused { let codec = ⟦<Self as ArrayToBytesCodecTraits>⟧ in let g = geo shape.now data_type.now fill_value.now in
-            IfErr result (RefusedBy (RefusesUnserved (codec.serves self.now g) (codec.check_tests self.now g))) }
+            IfErr result (RefusedBy (RefusesUnserved (codec.meaning self.now g))) }
     {
         let size = element_size(data_type, fill_value)?;
         let grid = calculate_chunks_per_shard(alloc, shape, &self.subchunk_shape)?;

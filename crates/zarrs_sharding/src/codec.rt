@@ -5,6 +5,7 @@ ghost use Rattle.zarr_parts.specs.Numbering.{count_of};
 ghost use Rattle.zarr_parts.specs.Grid.{grid_of, grid_box};
 ghost use Rattle.zarr_parts.specs.Types.{size_of, byte_size};
 ghost use Rattle.zarrs_sharding.specs.Index.{index_geo};
+ghost use Rattle.zarrs_sharding.specs.Meanings.{shard_meaning};
 ghost use Rattle.zarrs_sharding.specs.Cells.{shard_cells};
 ghost use Rattle.zarrs_sharding.specs.Encoding.{IsEncoding};
 ghost use Rattle.zarrs_sharding.specs.Serves.{sub_geo, fixed_size, layout, layout_in, ShardServes, ShardEncodable, ShardFits, shard_representation, CheckTests};
@@ -103,61 +104,16 @@ impl<I, X> ShardingCodec<I, X> {
 
 impl<I: ArrayToBytesCodecTraits, X: ArrayToBytesCodecTraits> ArrayToBytesCodecTraits
     for ShardingCodec<I, X> {
-    ghost serves = { λ s g. let inner_g = sub_geo s.subchunk_shape g in let index_g = index_geo (grid_of g.shape s.subchunk_shape) in
-        ShardServes (I.serves s.inner inner_g) (X.serves s.index_codec index_g) (X.representation s.index_codec index_g) s.subchunk_shape g };
-
-    ghost cells = { λ s g b. let inner_g = sub_geo s.subchunk_shape g in let index_g = index_geo (grid_of g.shape s.subchunk_shape) in
-        shard_cells (I.cells s.inner inner_g) (X.cells s.index_codec index_g) (layout s.subchunk_shape s.location s.order (X.representation s.index_codec index_g) g) b };
-
-    ghost written = { λ s g a b. let inner_g = sub_geo s.subchunk_shape g in let index_g = index_geo (grid_of g.shape s.subchunk_shape) in
-        IsEncoding (I.written s.inner inner_g) (X.written s.index_codec index_g) (layout s.subchunk_shape s.location s.order (X.representation s.index_codec index_g) g) a b };
-
-    ghost encodable = { λ s g a. let inner_g = sub_geo s.subchunk_shape g in let index_g = index_geo (grid_of g.shape s.subchunk_shape) in
-        ShardEncodable (I.encodable s.inner inner_g) (X.encodable s.index_codec index_g) (layout s.subchunk_shape s.location s.order (X.representation s.index_codec index_g) g) a };
-
-    ghost fits = { λ s g a. let inner_g = sub_geo s.subchunk_shape g in let index_g = index_geo (grid_of g.shape s.subchunk_shape) in
-        ShardFits (I.fits s.inner inner_g) (X.fits s.index_codec index_g) (I.written s.inner inner_g)
-        (layout s.subchunk_shape s.location s.order (X.representation s.index_codec index_g) g) a };
-
-    ghost representation = { λ s g. let inner_g = sub_geo s.subchunk_shape g in let index_g = index_geo (grid_of g.shape s.subchunk_shape) in
-        shard_representation (I.representation s.inner inner_g) (count_of (grid_of g.shape s.subchunk_shape)) (fixed_size (X.representation s.index_codec index_g)) };
-
-    ghost check_tests = { λ s g. let inner_g = sub_geo s.subchunk_shape g in let index_g = index_geo (grid_of g.shape s.subchunk_shape) in
-        CheckTests (I.serves s.inner inner_g) (X.serves s.index_codec index_g) (I.check_tests s.inner inner_g) (X.check_tests s.index_codec index_g)
-        (X.representation s.index_codec index_g) s.subchunk_shape g };
-
-    ghost encode_tests = { λ s g a. let inner_g = sub_geo s.subchunk_shape g in let index_g = index_geo (grid_of g.shape s.subchunk_shape) in
-        EncodeTests (I.encodable s.inner inner_g) (I.fits s.inner inner_g) (X.encodable s.index_codec index_g) (X.fits s.index_codec index_g) (I.written s.inner inner_g)
-        (layout s.subchunk_shape s.location s.order (X.representation s.index_codec index_g) g) (size_of g.data_type) a };
-
-    ghost decode_tests = { λ s g b. let inner_g = sub_geo s.subchunk_shape g in let index_g = index_geo (grid_of g.shape s.subchunk_shape) in
-        DecodeTests (I.decode_tests s.inner inner_g) (X.decode_tests s.index_codec index_g) (I.cells s.inner inner_g) (X.cells s.index_codec index_g)
-        (layout s.subchunk_shape s.location s.order (X.representation s.index_codec index_g) g) b };
-
-    ghost compacted = { λ s g old new. let index_g = index_geo (grid_of g.shape s.subchunk_shape) in
-        IsCompacted (X.cells s.index_codec index_g) (X.written s.index_codec index_g) (layout s.subchunk_shape s.location s.order (X.representation s.index_codec index_g) g) old new };
-
-    ghost compact_tests = { λ s g b. let index_g = index_geo (grid_of g.shape s.subchunk_shape) in
-        CompactTests (X.serves s.index_codec index_g) (X.check_tests s.index_codec index_g) (X.representation s.index_codec index_g)
-        (X.decode_tests s.index_codec index_g) (X.cells s.index_codec index_g) (X.encodable s.index_codec index_g) (X.fits s.index_codec index_g)
-        (layout s.subchunk_shape s.location s.order (X.representation s.index_codec index_g) g) b };
+    ghost meaning = { λ s g. shard_meaning s (I.meaning s.inner (sub_geo s.subchunk_shape g)) (X.meaning s.index_codec (index_geo (grid_of g.shape s.subchunk_shape))) g };
 
     ghost concurrency = { λ s shape. count_of (grid_of shape s.subchunk_shape) };
 
     ghost concurrency_tests = { λ s shape. ConcurrencyTests shape s.subchunk_shape };
 
-    ghost answerable = { λ _ g n. n * byte_size (size_of g.data_type) < 2 ^ 64 };
-
-    ghost read_tests = { λ s g b points. let inner_g = sub_geo s.subchunk_shape g in let index_g = index_geo (grid_of g.shape s.subchunk_shape) in
-        ReadTests (AnswerTests (I.answerable s.inner inner_g) (I.read_tests s.inner inner_g)) (X.decode_tests s.index_codec index_g) (I.cells s.inner inner_g) (X.cells s.index_codec index_g)
-        (layout s.subchunk_shape s.location s.order (X.representation s.index_codec index_g) g) b points };
-
     ghost use Rattle.zarrs_sharding.specs.Faultless.{check_tests_faultless};
 
-    ghost check_faultless = { λ s g e h. let inner_g = sub_geo s.subchunk_shape g in let index_g = index_geo (grid_of g.shape s.subchunk_shape) in
-        check_tests_faultless (I.serves s.inner inner_g) (X.serves s.index_codec index_g) (I.check_tests s.inner inner_g) (X.check_tests s.index_codec index_g)
-        (X.representation s.index_codec index_g) s.subchunk_shape g
-        (λ x refused. I.check_faultless s.inner inner_g x refused) (λ x refused. X.check_faultless s.index_codec index_g x refused) e h };
+    ghost check_faultless = { λ s g e h. check_tests_faultless (I.meaning s.inner (sub_geo s.subchunk_shape g)) (X.meaning s.index_codec (index_geo (grid_of g.shape s.subchunk_shape))) s.subchunk_shape g
+        (λ x refused. I.check_faultless s.inner _ x refused) (λ x refused. X.check_faultless s.index_codec _ x refused) e h };
 
     ghost use Rattle.zarrs_sharding.specs.Laws.{length-shard_cells, shard_cells_fitting, cells_of_encoding, cells_of_compacted, shard_bounded};
 
@@ -170,7 +126,7 @@ impl<I: ArrayToBytesCodecTraits, X: ArrayToBytesCodecTraits> ArrayToBytesCodecTr
         (λ x y array written. I.written_cells s.inner _ x y h.inner_served array written)
         (λ x y array written. X.written_cells s.index_codec _ x y h.index_served.served array written) e };
 
-    ghost compacted_cells = { λ s g old new h rewritten. cells_of_compacted _ _ _ s.subchunk_shape s.location s.order _ g old new h.divides
+    ghost compacted_cells = { λ s g old new h rewritten. cells_of_compacted _ (X.meaning s.index_codec (index_geo (grid_of g.shape s.subchunk_shape))) s.subchunk_shape s.location s.order _ g old new h.divides
         (λ x y array written. X.written_cells s.index_codec _ x y h.index_served.served array written) rewritten };
 
     ghost bounded = { λ s g a b h array e. shard_bounded _ _ _ s.subchunk_shape s.location s.order _ g a b h.divides array
@@ -252,14 +208,14 @@ impl<I: ArrayToBytesCodecTraits, X: ArrayToBytesCodecTraits> ArrayToBytesCodecTr
         options: &CodecOptions,
     ) -> Result<Option<Vec<u8>>, CodecError>
         ensures compacted { let g = geo shape.now data_type.now fill_value.now in
-            IfOk result (λ answer. IfSome answer (λ new. ⟦<Self as ArrayToBytesCodecTraits>⟧.compacted self.now g bytes.now new.items)) }
+            IfOk result (λ answer. IfSome answer (λ new. (⟦<Self as ArrayToBytesCodecTraits>⟧.meaning self.now g).compacted bytes.now new.items)) }
         ensures kept { let g = geo shape.now data_type.now fill_value.now in let s = self.now in
-            let index_cells = X.cells s.index_codec (index_geo (grid_of g.shape s.subchunk_shape)) in
-            IfOk result (λ answer. IfNone answer (IsCompact index_cells (layout_in X.representation s g) bytes.now)) }
+            let index_cells = (X.meaning s.index_codec (index_geo (grid_of g.shape s.subchunk_shape))).cells in
+            IfOk result (λ answer. IfNone answer (IsCompact index_cells (layout_in s (X.meaning s.index_codec (index_geo (grid_of g.shape s.subchunk_shape))) g) bytes.now)) }
         ensures lawful { let codec = ⟦<Self as ArrayToBytesCodecTraits>⟧ in let g = geo shape.now data_type.now fill_value.now in
-            IfErr result (λ e. codec.serves self.now g → MayRefuseCompact (codec.cells self.now g bytes.now) e) }
+            IfErr result (λ e. (codec.meaning self.now g).serves → MayRefuseCompact ((codec.meaning self.now g).cells bytes.now) e) }
         ensures refused { let g = geo shape.now data_type.now fill_value.now in
-            IfErr result (RefusedBy (⟦<Self as ArrayToBytesCodecTraits>⟧.compact_tests self.now g bytes.now)) }
+            IfErr result (RefusedBy ((⟦<Self as ArrayToBytesCodecTraits>⟧.meaning self.now g).compact_tests bytes.now)) }
     {
         let plan = self.compact_plan(alloc, shape)?;
         let numbers = self.numbers(alloc, bytes, &plan.grid, &plan.index, options)?;

@@ -121,10 +121,10 @@ impl<I, X: ArrayToBytesCodecTraits> ShardingCodec<I, X> {
     // Makes the tests of `compact` that look at no byte.
     pub(crate) fn compact_plan(&self, alloc: Global, shape: &ChunkShape) -> Result<Plan, CodecError>
         ensures served { let s = self.now in let index_g = index_geo (grid_of shape.now s.subchunk_shape) in
-            OnOk result (HasPlan (X.serves s.index_codec index_g) (X.representation s.index_codec index_g) shape.now s.subchunk_shape) }
-        ensures plan { IfOk result (IsPlanOf X.representation self.now shape.now) }
+            OnOk result (HasPlan (X.meaning s.index_codec index_g) shape.now s.subchunk_shape) }
+        ensures plan { IfOk result (IsPlanOf X.meaning self.now shape.now) }
         ensures refused { let s = self.now in let index_g = index_geo (grid_of shape.now s.subchunk_shape) in
-            IfErr result (RefusedBy (PlanTests (X.serves s.index_codec index_g) (X.check_tests s.index_codec index_g) (X.representation s.index_codec index_g)
+            IfErr result (RefusedBy (PlanTests (X.meaning s.index_codec index_g)
             shape.now s.subchunk_shape done)) }
     {
         let grid = calculate_chunks_per_shard(alloc, shape, &self.subchunk_shape)?;
@@ -156,16 +156,16 @@ impl<I, X: ArrayToBytesCodecTraits> ShardingCodec<I, X> {
         plan: &Plan,
         options: &CodecOptions,
     ) -> Result<Vec<u8>, CodecError>
-        requires plan { IsIndexPlanOf X.representation self.now plan.now.grid plan.now.index }
-        requires serves { let g = index_geo plan.now.grid in IndexServes (X.serves self.now.index_codec g) (X.representation self.now.index_codec g) }
+        requires plan { IsIndexPlanOf X.meaning self.now plan.now.grid plan.now.index }
+        requires serves { let g = index_geo plan.now.grid in IndexServes (X.meaning self.now.index_codec g) }
         requires counted { length slots.now ≡ count_of plan.now.grid }
         requires inside { (k : ℕ) → k < length slots.now → IsInside (length bytes.now) (slice_index_or slots.now k Bad) }
         requires total { total ≡ plan.now.index.size + taken slots.now (length slots.now) }
         requires small { total + 1 < 2 ^ 64 }
         ensures rewritten { let g = index_geo plan.now.grid in
-            IfOk result (λ new. IsRewritten (X.written self.now.index_codec g) self.now.location plan.now.index.size bytes.now slots.now new.items) }
+            IfOk result (λ new. IsRewritten (X.meaning self.now.index_codec g).written self.now.location plan.now.index.size bytes.now slots.now new.items) }
         ensures refused { let x = self.now.index_codec in let g = index_geo plan.now.grid in
-            IfErr result (RefusedBy (RefusesIndex (X.encodable x g) (X.fits x g) (count_of plan.now.grid))) }
+            IfErr result (RefusedBy (RefusesIndex (X.meaning x g) (count_of plan.now.grid))) }
     {
         let laid = packed(alloc, bytes, slots, total as usize)?;
         let index = self.index_of(alloc, &laid.slots, &plan.grid, &plan.index, options)?;

@@ -46,11 +46,11 @@ impl<I: ArrayToBytesCodecTraits, X> ShardingCodec<I, X> {
         options: &CodecOptions,
     ) -> Result<Option<ArrayBytes<'a>>, CodecError>
         requires fits { FitsSlot (length bytes.now) slot }
-        requires serves { I.serves self.now.inner (geo self.now.subchunk_shape data_type.now fill_value.now) }
+        requires serves { (I.meaning self.now.inner (geo self.now.subchunk_shape data_type.now fill_value.now)).serves }
         ensures decoded { let g = geo self.now.subchunk_shape data_type.now fill_value.now in
-            IfOk result (IsDecoded (I.cells self.now.inner g) g bytes.now slot) }
+            IfOk result (IsDecoded (I.meaning self.now.inner g).cells g bytes.now slot) }
         ensures refused { let g = geo self.now.subchunk_shape data_type.now fill_value.now in
-            IfErr result (RefusedBy (RefusesSubchunk (I.decode_tests self.now.inner g) (I.cells self.now.inner g) bytes.now slot number)) }
+            IfErr result (RefusedBy (RefusesSubchunk (I.meaning self.now.inner g).decode_tests (I.meaning self.now.inner g).cells bytes.now slot number)) }
     {
         match slot {
             Slot::Absent => Ok(None),
@@ -83,13 +83,13 @@ impl<I: ArrayToBytesCodecTraits, X> ShardingCodec<I, X> {
         fill_value: &FillValue,
         options: &CodecOptions,
     ) -> Result<Vec<Option<ArrayBytes<'a>>>, CodecError>
-        requires serves { I.serves self.now.inner (geo self.now.subchunk_shape data_type.now fill_value.now) }
+        requires serves { (I.meaning self.now.inner (geo self.now.subchunk_shape data_type.now fill_value.now)).serves }
         ensures counted { IfOk result (λ found. length found.items ≡ length numbers.now / 2) }
         ensures decoded { let g = geo self.now.subchunk_shape data_type.now fill_value.now in
             IfOk result (λ found. (k : ℕ) → k < length found.items
-            → IsDecoded (I.cells self.now.inner g) g bytes.now (slot_at (length bytes.now) numbers.now k) (slice_index_or found.items k None)) }
+            → IsDecoded (I.meaning self.now.inner g).cells g bytes.now (slot_at (length bytes.now) numbers.now k) (slice_index_or found.items k None)) }
         ensures refused { let g = geo self.now.subchunk_shape data_type.now fill_value.now in
-            IfErr result (RefusedBy (SubchunkTests (I.decode_tests self.now.inner g) (I.cells self.now.inner g) bytes.now (Some numbers.now) (length numbers.now / 2) done)) }
+            IfErr result (RefusedBy (SubchunkTests (I.meaning self.now.inner g).decode_tests (I.meaning self.now.inner g).cells bytes.now (Some numbers.now) (length numbers.now / 2) done)) }
     {
         let mut found = Vec::new(alloc);
         for k in 0..numbers.len() / 2 {

@@ -84,13 +84,13 @@ impl<I: ArrayToBytesCodecTraits, X> ShardingCodec<I, X> {
         fill_value: &FillValue,
         options: &CodecOptions,
     ) -> Result<Stored, CodecError>
-        requires serves { I.serves self.now.inner (geo self.now.subchunk_shape data_type.now fill_value.now) }
+        requires serves { (I.meaning self.now.inner (geo self.now.subchunk_shape data_type.now fill_value.now)).serves }
         requires kind { part.now.kind ≡ size_of data_type.now }
         requires array { IsArrayOf (geo self.now.subchunk_shape data_type.now fill_value.now) part.now.elements }
         ensures stored { let g = geo self.now.subchunk_shape data_type.now fill_value.now in
-            IfOk result (λ stored. IsStored (I.written self.now.inner g) fill_value.now part.now.elements stored.present stored.bytes.items) }
+            IfOk result (λ stored. IsStored (I.meaning self.now.inner g).written fill_value.now part.now.elements stored.present stored.bytes.items) }
         ensures refused { let g = geo self.now.subchunk_shape data_type.now fill_value.now in
-            IfErr result (RefusedBy (RefusesToStore (I.encodable self.now.inner g) (I.fits self.now.inner g) fill_value.now part.now.elements)) }
+            IfErr result (RefusedBy (RefusesToStore (I.meaning self.now.inner g).encodable (I.meaning self.now.inner g).fits fill_value.now part.now.elements)) }
     {
         if part.is_fill_value(fill_value) {
             return Ok(Stored {
@@ -124,7 +124,7 @@ impl<I: ArrayToBytesCodecTraits, X> ShardingCodec<I, X> {
         fill_value: &FillValue,
         options: &CodecOptions,
     ) -> Result<LaidOut, CodecError>
-        requires serves { I.serves self.now.inner (geo self.now.subchunk_shape data_type.now fill_value.now) }
+        requires serves { (I.meaning self.now.inner (geo self.now.subchunk_shape data_type.now fill_value.now)).serves }
         requires supported { HasElements data_type.now }
         requires kind { array.now.kind ≡ size_of data_type.now }
         requires array { IsArrayOf (geo shape.now data_type.now fill_value.now) array.now.elements }
@@ -134,9 +134,9 @@ impl<I: ArrayToBytesCodecTraits, X> ShardingCodec<I, X> {
         requires grid { grid.now ≡ grid_of shape.now self.now.subchunk_shape }
         requires subchunks { subchunks ≡ count_of grid.now }
         ensures laid { let g = geo self.now.subchunk_shape data_type.now fill_value.now in
-            IfOk result (λ laid. IsLaidOut (I.written self.now.inner g) fill_value.now shape.now self.now.subchunk_shape array.now.elements laid.bytes.items laid.slots.items (count_of grid.now)) }
+            IfOk result (λ laid. IsLaidOut (I.meaning self.now.inner g).written fill_value.now shape.now self.now.subchunk_shape array.now.elements laid.bytes.items laid.slots.items (count_of grid.now)) }
         ensures refused { let g = geo self.now.subchunk_shape data_type.now fill_value.now in
-            IfErr result (RefusedBy (StoreTests (I.encodable self.now.inner g) (I.fits self.now.inner g) (I.written self.now.inner g) fill_value.now
+            IfErr result (RefusedBy (StoreTests (I.meaning self.now.inner g) fill_value.now
             (subchunk shape.now self.now.subchunk_shape array.now.elements) (count_of grid.now) done)) }
     {
         let mut bytes: Vec<u8> = Vec::new(alloc);
@@ -197,14 +197,14 @@ impl<I: ArrayToBytesCodecTraits, X: ArrayToBytesCodecTraits> ShardingCodec<I, X>
         fill_value: &FillValue,
         options: &CodecOptions,
     ) -> Result<Vec<u8>, CodecError>
-        requires serves { ⟦<Self as ArrayToBytesCodecTraits>⟧.serves self.now (geo shape.now data_type.now fill_value.now) }
-        requires plan { IsPlanOf X.representation self.now shape.now plan.now }
+        requires serves { (⟦<Self as ArrayToBytesCodecTraits>⟧.meaning self.now (geo shape.now data_type.now fill_value.now)).serves }
+        requires plan { IsPlanOf X.meaning self.now shape.now plan.now }
         ensures array { let g = geo shape.now data_type.now fill_value.now in
             OnOk result ((array.now.kind ≡ size_of data_type.now) × IsArrayOf g array.now.elements) }
         ensures written { let g = geo shape.now data_type.now fill_value.now in
-            IfOk result (λ shard. ⟦<Self as ArrayToBytesCodecTraits>⟧.written self.now g array.now.elements shard.items) }
+            IfOk result (λ shard. (⟦<Self as ArrayToBytesCodecTraits>⟧.meaning self.now g).written array.now.elements shard.items) }
         ensures refused { let g = geo shape.now data_type.now fill_value.now in
-            IfErr result (RefusedBy (⟦<Self as ArrayToBytesCodecTraits>⟧.encode_tests self.now g array.now)) }
+            IfErr result (RefusedBy ((⟦<Self as ArrayToBytesCodecTraits>⟧.meaning self.now g).encode_tests array.now)) }
     {
         if array.kind() != data_type.size() {
             return Err(CodecError::WrongElementKind);

@@ -13,7 +13,7 @@ impl<I: FunctionalCodec, X: FunctionalCodec> FunctionalCodec for ShardingCodec<I
     ghost functional = { λ s. is_ordered s.order && (I.functional s.inner && X.functional s.index_codec) };
 
     ghost encoding = { λ s g a. let inner_g = sub_geo s.subchunk_shape g in let index_g = index_geo (grid_of g.shape s.subchunk_shape) in
-        scratch (I.encoding s.inner inner_g) (X.encoding s.index_codec index_g) (layout s.subchunk_shape s.location s.order (X.representation s.index_codec index_g) g) a };
+        scratch (I.encoding s.inner inner_g) (X.encoding s.index_codec index_g) (layout s.subchunk_shape s.location s.order (X.meaning s.index_codec index_g).representation g) a };
 
     /// Where subchunks are written in the order `C`, and the inner codec and the index codec each have one encoding of
     /// an array.

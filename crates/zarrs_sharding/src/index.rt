@@ -150,12 +150,12 @@ impl<I, X: ArrayToBytesCodecTraits> ShardingCodec<I, X> {
         plan: &IndexPlan,
         options: &CodecOptions,
     ) -> Result<Vec<u64>, CodecError>
-        requires plan { IsIndexPlanOf X.representation self.now grid.now plan.now }
-        requires serves { X.serves self.now.index_codec (index_geo grid.now) }
-        ensures numbers { IfOk result (λ numbers. numbers_of_cells (X.cells self.now.index_codec (index_geo grid.now) part.now) ≡ Some numbers.items) }
+        requires plan { IsIndexPlanOf X.meaning self.now grid.now plan.now }
+        requires serves { (X.meaning self.now.index_codec (index_geo grid.now)).serves }
+        ensures numbers { IfOk result (λ numbers. numbers_of_cells ((X.meaning self.now.index_codec (index_geo grid.now)).cells part.now) ≡ Some numbers.items) }
         ensures counted { IfOk result (λ numbers. length numbers.items ≡ 2 * count_of grid.now) }
         ensures refused { let x = self.now.index_codec in let g = index_geo grid.now in
-            IfErr result (RefusedBy (RefusesStored (X.decode_tests x g part.now) (X.cells x g part.now))) }
+            IfErr result (RefusedBy (RefusesStored ((X.meaning x g).decode_tests part.now) ((X.meaning x g).cells part.now))) }
     {
         let data_type = DataType::UInt64;
         let index = match self
@@ -178,13 +178,13 @@ impl<I, X: ArrayToBytesCodecTraits> ShardingCodec<I, X> {
         plan: &IndexPlan,
         options: &CodecOptions,
     ) -> Result<Vec<u64>, CodecError>
-        requires plan { IsIndexPlanOf X.representation self.now grid.now plan.now }
-        requires serves { X.serves self.now.index_codec (index_geo grid.now) }
+        requires plan { IsIndexPlanOf X.meaning self.now grid.now plan.now }
+        requires serves { (X.meaning self.now.index_codec (index_geo grid.now)).serves }
         ensures numbers { IfOk result (λ numbers.
-            numbers_in_index (X.cells self.now.index_codec (index_geo grid.now)) self.now.location plan.now.size bytes.now ≡ Some numbers.items) }
+            numbers_in_index (X.meaning self.now.index_codec (index_geo grid.now)).cells self.now.location plan.now.size bytes.now ≡ Some numbers.items) }
         ensures counted { IfOk result (λ numbers. length numbers.items ≡ 2 * count_of grid.now) }
         ensures refused { let x = self.now.index_codec in let g = index_geo grid.now in
-            IfErr result (RefusedBy (IndexTests (X.decode_tests x g) (X.cells x g) self.now.location plan.now.size bytes.now done)) }
+            IfErr result (RefusedBy (IndexTests (X.meaning x g).decode_tests (X.meaning x g).cells self.now.location plan.now.size bytes.now done)) }
     {
         if (bytes.len() as u64) < plan.size {
             return Err(CodecError::ShardTooShort);
@@ -204,18 +204,18 @@ impl<I, X: ArrayToBytesCodecTraits> ShardingCodec<I, X> {
         plan: &IndexPlan,
         options: &CodecOptions,
     ) -> Result<Vec<u64>, CodecError>
-        requires plan { IsIndexPlanOf X.representation self.now grid.now plan.now }
-        requires serves { X.serves self.now.index_codec (index_geo grid.now) }
+        requires plan { IsIndexPlanOf X.meaning self.now grid.now plan.now }
+        requires serves { (X.meaning self.now.index_codec (index_geo grid.now)).serves }
         requires room { outer.offset + outer.size < 2 ^ 64 }
-        requires inside { IsTrue (H.tells handle.old) → HasInterval outer (H.contents handle.old) }
-        ensures read { IsRead H.tells H.contents H.faults H.supports handle.old handle.new }
+        requires inside { IsTrue (H.state handle.old).tells → HasInterval outer (H.state handle.old).contents }
+        ensures read { IsRead (H.state handle.old) (H.state handle.new) }
         ensures counted { IfOk result (λ numbers. length numbers.items ≡ 2 * count_of grid.now) }
-        ensures numbers { IfOk result (λ numbers. IsTrue (H.tells handle.old)
-            → numbers_in_index (X.cells self.now.index_codec (index_geo grid.now)) self.now.location plan.now.size (interval_part outer (H.contents handle.old)) ≡ Some numbers.items) }
-        ensures fault { IfErr result (IsCounted (H.faults handle.old) (H.faults handle.new)) }
+        ensures numbers { IfOk result (λ numbers. IsTrue (H.state handle.old).tells
+            → numbers_in_index (X.meaning self.now.index_codec (index_geo grid.now)).cells self.now.location plan.now.size (interval_part outer (H.state handle.old).contents) ≡ Some numbers.items) }
+        ensures fault { IfErr result (IsCounted (H.state handle.old) (H.state handle.new)) }
         ensures refused { let x = self.now.index_codec in let g = index_geo grid.now in
-            IfErr result (RefusedBy (ObjectTests (H.tells handle.old) (H.faults handle.old) (H.faults handle.new)
-            (IndexTests (X.decode_tests x g) (X.cells x g) self.now.location plan.now.size (interval_part outer (H.contents handle.old)) done))) }
+            IfErr result (RefusedBy (ObjectTests (H.state handle.old) (H.state handle.new)
+            (IndexTests (X.meaning x g).decode_tests (X.meaning x g).cells self.now.location plan.now.size (interval_part outer (H.state handle.old).contents) done))) }
     {
         if outer.size < plan.size {
             return Err(CodecError::ShardTooShort);
@@ -239,14 +239,14 @@ impl<I, X: ArrayToBytesCodecTraits> ShardingCodec<I, X> {
         plan: &IndexPlan,
         options: &CodecOptions,
     ) -> Result<Vec<u8>, CodecError>
-        requires plan { IsIndexPlanOf X.representation self.now grid.now plan.now }
-        requires serves { X.serves self.now.index_codec (index_geo grid.now) }
+        requires plan { IsIndexPlanOf X.meaning self.now grid.now plan.now }
+        requires serves { (X.meaning self.now.index_codec (index_geo grid.now)).serves }
         requires counted { length slots.now ≡ count_of grid.now }
         requires room { (k : ℕ) → k < length slots.now → EndsBelow (data_start self.now.location plan.now.size) (slice_index_or slots.now k Bad) }
         ensures index { IfOk result (λ index.
-            IsIndexOf (X.written self.now.index_codec (index_geo grid.now)) (data_start self.now.location plan.now.size) slots.now index.items) }
+            IsIndexOf (X.meaning self.now.index_codec (index_geo grid.now)).written (data_start self.now.location plan.now.size) slots.now index.items) }
         ensures refused { let x = self.now.index_codec in let g = index_geo grid.now in
-            IfErr result (RefusedBy (RefusesIndex (X.encodable x g) (X.fits x g) (count_of grid.now))) }
+            IfErr result (RefusedBy (RefusesIndex (X.meaning x g) (count_of grid.now))) }
     {
         let start = start_of_data(self.location, plan.size);
         let numbers = numbers_of_slots(alloc, slots, start)?;
@@ -276,14 +276,14 @@ impl<I, X: ArrayToBytesCodecTraits> ShardingCodec<I, X> {
         options: &CodecOptions,
     ) -> Result<Vec<u64>, CodecError>
         ensures serves { let x = self.now.index_codec in let g = index_geo chunks_per_shard.now in
-            OnOk result (IndexServes (X.serves x g) (X.representation x g)) }
+            OnOk result (IndexServes (X.meaning x g)) }
         ensures numbers { let x = self.now.index_codec in let g = index_geo chunks_per_shard.now in
-            IfOk result (λ numbers. numbers_in_index (X.cells x g) self.now.location (fixed_size (X.representation x g)) bytes.now ≡ Some numbers.items) }
+            IfOk result (λ numbers. numbers_in_index (X.meaning x g).cells self.now.location (fixed_size (X.meaning x g).representation) bytes.now ≡ Some numbers.items) }
         ensures refused { let x = self.now.index_codec in let g = index_geo chunks_per_shard.now in
             IfErr result (RefusedBy (
             16 * count_of chunks_per_shard.now < 2 ^ 64 or TooLarge then
-            IndexCodecTests (X.serves x g) (X.check_tests x g) (X.representation x g) (
-            IndexTests (X.decode_tests x g) (X.cells x g) self.now.location (fixed_size (X.representation x g)) bytes.now
+            IndexCodecTests (X.meaning x g) (
+            IndexTests (X.meaning x g).decode_tests (X.meaning x g).cells self.now.location (fixed_size (X.meaning x g).representation) bytes.now
             done))) }
     {
         let Some(subchunks) = chunks_per_shard.num_elements() else {

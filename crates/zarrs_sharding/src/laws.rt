@@ -32,10 +32,10 @@ pub fn decode_sound<'a, I: ArrayToBytesCodecTraits, X: ArrayToBytesCodecTraits>(
     fill_value: &FillValue,
     options: &CodecOptions,
 ) -> Result<ArrayBytes<'a>, CodecError>
-    requires serves { ⟦<ShardingCodec<I, X> as ArrayToBytesCodecTraits>⟧.serves codec.now (geo shape.now data_type.now fill_value.now) }
+    requires serves { (⟦<ShardingCodec<I, X> as ArrayToBytesCodecTraits>⟧.meaning codec.now (geo shape.now data_type.now fill_value.now)).serves }
     requires fixed { size_of data_type.now ≡ Fixed (byte_size (size_of data_type.now)) }
     requires sound { let g = geo shape.now data_type.now fill_value.now in
-        IsSome (all_there (⟦<ShardingCodec<I, X> as ArrayToBytesCodecTraits>⟧.cells codec.now g bytes.now)) }
+        IsSome (all_there ((⟦<ShardingCodec<I, X> as ArrayToBytesCodecTraits>⟧.meaning codec.now g).cells bytes.now)) }
     ensures { IfErr result (λ e. e ≡ OutOfMemory) }
 {
     codec.decode(alloc, bytes, shape, data_type, fill_value, options)
@@ -53,14 +53,14 @@ pub fn decode_served<'a, I: ArrayToBytesCodecTraits, X: ArrayToBytesCodecTraits>
     fill_value: &FillValue,
     options: &CodecOptions,
 ) -> Result<ArrayBytes<'a>, CodecError>
-    requires serves { ⟦<ShardingCodec<I, X> as ArrayToBytesCodecTraits>⟧.serves codec.now (geo shape.now data_type.now fill_value.now) }
+    requires serves { (⟦<ShardingCodec<I, X> as ArrayToBytesCodecTraits>⟧.meaning codec.now (geo shape.now data_type.now fill_value.now)).serves }
     ensures array { IfOk result (λ array. (array.kind ≡ size_of data_type.now) × IsArrayOf (geo shape.now data_type.now fill_value.now) array.elements) }
     ensures cells { let g = geo shape.now data_type.now fill_value.now in
-        IfOk result (λ array. ⟦<ShardingCodec<I, X> as ArrayToBytesCodecTraits>⟧.cells codec.now g shard.now ≡ map Some array.elements) }
+        IfOk result (λ array. (⟦<ShardingCodec<I, X> as ArrayToBytesCodecTraits>⟧.meaning codec.now g).cells shard.now ≡ map Some array.elements) }
     ensures lawful { let g = geo shape.now data_type.now fill_value.now in
-        IfErr result (MayRefuseDecode (⟦<ShardingCodec<I, X> as ArrayToBytesCodecTraits>⟧.cells codec.now g shard.now)) }
+        IfErr result (MayRefuseDecode ((⟦<ShardingCodec<I, X> as ArrayToBytesCodecTraits>⟧.meaning codec.now g).cells shard.now)) }
     ensures lowest { let g = geo shape.now data_type.now fill_value.now in let s = codec.now in
-        let inner_cells = I.cells s.inner (sub_geo s.subchunk_shape g) in let numbers = index_in X.representation X.cells s g shard.now in
+        let inner_cells = (I.meaning s.inner (sub_geo s.subchunk_shape g)).cells in let numbers = index_in X.meaning s g shard.now in
         IfErr result (λ e. (number : ℕ) → e ≡ BadIndexEntry number
         → IsLowestBad inner_cells shard.now numbers (count_of (grid_of g.shape s.subchunk_shape)) number) }
 {
@@ -83,8 +83,8 @@ pub fn encode_functional<I: FunctionalCodec, X: FunctionalCodec>(
     ensures scratch { let g = geo shape.now data_type.now fill_value.now in
         IfOk result (λ shard. shard.items ≡ ⟦<ShardingCodec<I, X> as FunctionalCodec>⟧.encoding codec.now g array.now.elements) }
     ensures lawful { let sharding = ⟦<ShardingCodec<I, X> as ArrayToBytesCodecTraits>⟧ in let g = geo shape.now data_type.now fill_value.now in
-        IfErr result (λ e. sharding.serves codec.now g → array.now.kind ≡ size_of data_type.now → IsArrayOf g array.now.elements
-        → MayRefuseEncode (sharding.encodable codec.now g array.now.elements) (sharding.fits codec.now g array.now.elements) e) }
+        IfErr result (λ e. (sharding.meaning codec.now g).serves → array.now.kind ≡ size_of data_type.now → IsArrayOf g array.now.elements
+        → MayRefuseEncode (sharding.meaning codec.now g) array.now.elements e) }
 {
     codec.encode(alloc, array, shape, data_type, fill_value, options)
 }
@@ -102,21 +102,21 @@ pub fn compact_encoded<I: FunctionalCodec, X: FunctionalCodec>(
     fill_value: &FillValue,
     options: &CodecOptions,
 ) -> Result<Option<Vec<u8>>, CodecError>
-    requires serves { ⟦<ShardingCodec<I, X> as ArrayToBytesCodecTraits>⟧.serves codec.now (geo shape.now data_type.now fill_value.now) }
+    requires serves { (⟦<ShardingCodec<I, X> as ArrayToBytesCodecTraits>⟧.meaning codec.now (geo shape.now data_type.now fill_value.now)).serves }
     requires array { IsArrayOf (geo shape.now data_type.now fill_value.now) array.now.elements }
     requires holds { let g = geo shape.now data_type.now fill_value.now in let s = codec.now in
-        let inner_written = I.written s.inner (sub_geo s.subchunk_shape g) in let index_cells = X.cells s.index_codec (index_geo (grid_of g.shape s.subchunk_shape)) in
-        Holds inner_written index_cells (layout_in X.representation s g) array.now.elements encoded.now }
+        let inner_written = (I.meaning s.inner (sub_geo s.subchunk_shape g)).written in let index_cells = (X.meaning s.index_codec (index_geo (grid_of g.shape s.subchunk_shape))).cells in
+        Holds inner_written index_cells (layout_in s (X.meaning s.index_codec (index_geo (grid_of g.shape s.subchunk_shape))) g) array.now.elements encoded.now }
     requires functional { let s = codec.now in IsTrue (I.functional s.inner && X.functional s.index_codec) }
     ensures scratch { let g = geo shape.now data_type.now fill_value.now in
         IfOk result (λ answer. IfSome answer (λ new. new.items ≡ ⟦<ShardingCodec<I, X> as FunctionalCodec>⟧.encoding codec.now g array.now.elements)) }
     ensures kept { let g = geo shape.now data_type.now fill_value.now in let s = codec.now in
-        let index_cells = X.cells s.index_codec (index_geo (grid_of g.shape s.subchunk_shape)) in
-        IfOk result (λ answer. IfNone answer (IsCompact index_cells (layout_in X.representation s g) encoded.now)) }
+        let index_cells = (X.meaning s.index_codec (index_geo (grid_of g.shape s.subchunk_shape))).cells in
+        IfOk result (λ answer. IfNone answer (IsCompact index_cells (layout_in s (X.meaning s.index_codec (index_geo (grid_of g.shape s.subchunk_shape))) g) encoded.now)) }
     ensures lawful { let g = geo shape.now data_type.now fill_value.now in
-        IfErr result (MayRefuseCompact (⟦<ShardingCodec<I, X> as ArrayToBytesCodecTraits>⟧.cells codec.now g encoded.now)) }
+        IfErr result (MayRefuseCompact ((⟦<ShardingCodec<I, X> as ArrayToBytesCodecTraits>⟧.meaning codec.now g).cells encoded.now)) }
     ensures refused { let g = geo shape.now data_type.now fill_value.now in
-        IfErr result (RefusedBy (⟦<ShardingCodec<I, X> as ArrayToBytesCodecTraits>⟧.compact_tests codec.now g encoded.now)) }
+        IfErr result (RefusedBy ((⟦<ShardingCodec<I, X> as ArrayToBytesCodecTraits>⟧.meaning codec.now g).compact_tests encoded.now)) }
 {
     codec.compact(alloc, encoded, shape, data_type, fill_value, options)
 }
@@ -132,10 +132,10 @@ pub fn compact_again<I: ArrayToBytesCodecTraits, X: ArrayToBytesCodecTraits>(
     fill_value: &FillValue,
     options: &CodecOptions,
 ) -> Result<bool, CodecError>
-    requires serves { ⟦<ShardingCodec<I, X> as ArrayToBytesCodecTraits>⟧.serves codec.now (geo shape.now data_type.now fill_value.now) }
+    requires serves { (⟦<ShardingCodec<I, X> as ArrayToBytesCodecTraits>⟧.meaning codec.now (geo shape.now data_type.now fill_value.now)).serves }
     ensures settled { IfOk result (λ settled. settled ≡ true) }
     ensures refused { let g = geo shape.now data_type.now fill_value.now in
-        IfErr result (RefusedBy (⟦<ShardingCodec<I, X> as ArrayToBytesCodecTraits>⟧.compact_tests codec.now g bytes.now)) }
+        IfErr result (RefusedBy ((⟦<ShardingCodec<I, X> as ArrayToBytesCodecTraits>⟧.meaning codec.now g).compact_tests bytes.now)) }
 {
     let Some(compacted) = codec.compact(alloc, bytes, shape, data_type, fill_value, options)? else {
         return Ok(true);

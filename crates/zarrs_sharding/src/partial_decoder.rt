@@ -10,6 +10,7 @@ ghost use Rattle.zarr_codecs.specs.Refusals.{RefusesUnserved};
 ghost use Rattle.zarrs_sharding.specs.Index.{index_geo, numbers_in_index};
 ghost use Rattle.zarrs_sharding.specs.Serves.{fixed_size};
 ghost use Rattle.zarrs_sharding.specs.Plans.{IsIndexPlan};
+ghost use Rattle.zarrs_sharding.specs.Meanings.{shard_meaning};
 ghost use Rattle.zarrs_sharding.specs.Decoders.{HoldsIndex, index_in, IsOpen, IsKnown, OpenTests};
 
 mod reads;
@@ -61,6 +62,7 @@ impl<'a, I: ArrayToBytesCodecTraits, X: ArrayToBytesCodecTraits, H: BytesPartial
     ghost use Rattle.zarr_parts.specs.Grid.{grid_of};
     ghost use Rattle.zarrs_sharding.specs.Index.{index_geo};
     ghost use Rattle.zarrs_sharding.specs.Serves.{sub_geo, ShardServes};
+    ghost use Rattle.zarrs_sharding.specs.Meanings.{shard_meaning};
     ghost use Rattle.zarrs_sharding.specs.Decoders.{Opened, opened, index_in, IsKnown};
 
     // its codec, what it is asked to serve, its handle, and what it holds of the object
@@ -68,9 +70,8 @@ impl<'a, I: ArrayToBytesCodecTraits, X: ArrayToBytesCodecTraits, H: BytesPartial
 
     ghost view = { λ d. opened d.codec.now d.handle d.shard };
 
-    ghost invariant = { λ d. IsKnown (λ s g. let inner_g = sub_geo s.subchunk_shape g in let index_g = index_geo (grid_of g.shape s.subchunk_shape) in
-        ShardServes (I.serves s.inner inner_g) (X.serves s.index_codec index_g) (X.representation s.index_codec index_g) s.subchunk_shape g)
-        (index_in X.representation X.cells) H.tells H.contents d.codec.now d.handle d.shard };
+    ghost invariant = { λ d. IsKnown (λ s g. shard_meaning s (I.meaning s.inner (sub_geo s.subchunk_shape g)) (X.meaning s.index_codec (index_geo (grid_of g.shape s.subchunk_shape))) g)
+        (index_in X.meaning) H.state d.codec.now d.handle d.shard };
 }
 
 impl<I, X: ArrayToBytesCodecTraits> ShardingCodec<I, X> {
@@ -83,17 +84,17 @@ impl<I, X: ArrayToBytesCodecTraits> ShardingCodec<I, X> {
         plan: &IndexPlan,
         options: &CodecOptions,
     ) -> Result<HeldIndex, CodecError>
-        requires plan { IsIndexPlan (fixed_size (X.representation self.now.index_codec (index_geo grid.now))) grid.now plan.now }
-        requires serves { X.serves self.now.index_codec (index_geo grid.now) }
-        ensures read { IsRead H.tells H.contents H.faults H.supports handle.old handle.new }
+        requires plan { IsIndexPlan (fixed_size (X.meaning self.now.index_codec (index_geo grid.now)).representation) grid.now plan.now }
+        requires serves { (X.meaning self.now.index_codec (index_geo grid.now)).serves }
+        ensures read { IsRead (H.state handle.old) (H.state handle.new) }
         ensures room { IfOk result (λ held. held.len + 1 < 2 ^ 64) }
         ensures counted { IfOk result (λ held. IfSome (seen (λ numbers. numbers.items) held.index) (λ numbers. length numbers ≡ 2 * count_of grid.now)) }
-        ensures held { IfOk result (λ held. IsTrue (H.tells handle.old)
-            → HoldsIndex (numbers_in_index (X.cells self.now.index_codec (index_geo grid.now)) self.now.location plan.now.size)
-            (H.contents handle.old) held.len (seen (λ numbers. numbers.items) held.index)) }
-        ensures fault { IfErr result (IsCounted (H.faults handle.old) (H.faults handle.new)) }
-        ensures refused { IfErr result (RefusedBy (ObjectTests (H.tells handle.old) (H.faults handle.old) (H.faults handle.new) (
-            OpenTests X.decode_tests X.representation X.cells self.now grid.now (H.contents handle.old)))) }
+        ensures held { IfOk result (λ held. IsTrue (H.state handle.old).tells
+            → HoldsIndex (numbers_in_index (X.meaning self.now.index_codec (index_geo grid.now)).cells self.now.location plan.now.size)
+            (H.state handle.old).contents held.len (seen (λ numbers. numbers.items) held.index)) }
+        ensures fault { IfErr result (IsCounted (H.state handle.old) (H.state handle.new)) }
+        ensures refused { IfErr result (RefusedBy (ObjectTests (H.state handle.old) (H.state handle.new) (
+            OpenTests X.meaning self.now grid.now (H.state handle.old).contents))) }
     {
         let Some(len) = handle.len()? else {
             return Ok(HeldIndex {
@@ -127,15 +128,15 @@ impl<I: ArrayToBytesCodecTraits, X: ArrayToBytesCodecTraits> ShardingCodec<I, X>
         fill_value: &FillValue,
         options: &CodecOptions,
     ) -> Result<OpenShard, CodecError>
-        ensures read { IsRead H.tells H.contents H.faults H.supports handle.old handle.new }
+        ensures read { IsRead (H.state handle.old) (H.state handle.new) }
         ensures asked { IfOk result (λ shard. geo shard.shape shard.data_type shard.fill_value ≡ geo shape.now data_type.now fill_value.now) }
-        ensures known { IfOk result (IsKnown ⟦<Self as ArrayToBytesCodecTraits>⟧.serves (index_in X.representation X.cells) H.tells H.contents self.now handle.new) }
-        ensures fault { IfErr result (IsCounted (H.faults handle.old) (H.faults handle.new)) }
+        ensures known { IfOk result (IsKnown ⟦<Self as ArrayToBytesCodecTraits>⟧.meaning (index_in X.meaning) H.state self.now handle.new) }
+        ensures fault { IfErr result (IsCounted (H.state handle.old) (H.state handle.new)) }
         ensures refused { let codec = ⟦<Self as ArrayToBytesCodecTraits>⟧ in let s = self.now in let g = geo shape.now data_type.now fill_value.now in
             IfErr result (RefusedBy (
-            codec.serves s g or_as RefusesUnserved (codec.serves s g) (codec.check_tests s g) then
-            ObjectTests (H.tells handle.old) (H.faults handle.old) (H.faults handle.new) (
-            OpenTests X.decode_tests X.representation X.cells s (grid_of g.shape s.subchunk_shape) (H.contents handle.old)))) }
+            (codec.meaning s g).serves or_as RefusesUnserved (codec.meaning s g) then
+            ObjectTests (H.state handle.old) (H.state handle.new) (
+            OpenTests X.meaning s (grid_of g.shape s.subchunk_shape) (H.state handle.old).contents))) }
     {
         let plan = self.prepared(alloc, shape, data_type, fill_value)?;
         let Plan {
@@ -171,15 +172,15 @@ impl<I: ArrayToBytesCodecTraits, X: ArrayToBytesCodecTraits> ShardingCodec<I, X>
     ) -> Result<ShardingPartialDecoder<'a, I, X, H>, (H, CodecError)>
         ensures codec { IfOk result (λ decoder. decoder.codec ≡ self.now) }
         ensures asked { IfOk result (λ decoder. decoder.geo ≡ geo shape.now data_type.now fill_value.now) }
-        ensures read { IfOk result (λ decoder. IsRead H.tells H.contents H.faults H.supports handle decoder.handle) }
-        ensures is_open { IfOk result (IsOpen ⟦<Self as ArrayToBytesCodecTraits>⟧.serves (index_in X.representation X.cells) H.tells H.contents) }
-        ensures returned { IfErr result (λ e. IsRead H.tells H.contents H.faults H.supports handle e.0) }
-        ensures fault { IfErr result (λ e. IsCounted (H.faults handle) (H.faults e.0) e.1) }
+        ensures read { IfOk result (λ decoder. IsRead (H.state handle) (H.state decoder.handle)) }
+        ensures is_open { IfOk result (IsOpen ⟦<Self as ArrayToBytesCodecTraits>⟧.meaning (index_in X.meaning) H.state) }
+        ensures returned { IfErr result (λ e. IsRead (H.state handle) (H.state e.0)) }
+        ensures fault { IfErr result (λ e. IsCounted (H.state handle) (H.state e.0) e.1) }
         ensures refused { let codec = ⟦<Self as ArrayToBytesCodecTraits>⟧ in let s = self.now in let g = geo shape.now data_type.now fill_value.now in
             IfErr result (λ e. RefusedBy (
-            codec.serves s g or_as RefusesUnserved (codec.serves s g) (codec.check_tests s g) then
-            ObjectTests (H.tells handle) (H.faults handle) (H.faults e.0) (
-            OpenTests X.decode_tests X.representation X.cells s (grid_of g.shape s.subchunk_shape) (H.contents handle))) e.1) }
+            (codec.meaning s g).serves or_as RefusesUnserved (codec.meaning s g) then
+            ObjectTests (H.state handle) (H.state e.0) (
+            OpenTests X.meaning s (grid_of g.shape s.subchunk_shape) (H.state handle).contents)) e.1) }
     {
         match self.open_shard(alloc, &mut handle, shape, data_type, fill_value, options) {
             Ok(shard) => Ok(ShardingPartialDecoder {
@@ -203,17 +204,17 @@ impl<
     /// The data type of the cells.
     pub fn data_type(&self) -> &DataType
         ensures data_type { result.now ≡ self.now.geo.data_type }
-        ensures is_open { IsOpen ⟦<ShardingCodec<I, X> as ArrayToBytesCodecTraits>⟧.serves (index_in X.representation X.cells) H.tells H.contents self.now }
+        ensures is_open { IsOpen ⟦<ShardingCodec<I, X> as ArrayToBytesCodecTraits>⟧.meaning (index_in X.meaning) H.state self.now }
     {
         &self.shard.data_type
     }
 
     /// Whether there is an object. Refused only as `Fault`, where the handle failed.
     pub fn exists(&mut self) -> Result<bool, CodecError>
-        ensures unmoved { Unmoved H.tells H.contents H.faults H.supports self.old self.new }
-        ensures is_open { IsOpen ⟦<ShardingCodec<I, X> as ArrayToBytesCodecTraits>⟧.serves (index_in X.representation X.cells) H.tells H.contents self.new }
-        ensures told { IfOk result (λ there. IsTrue (H.tells self.old.handle) → there ≡ is_some (H.contents self.old.handle)) }
-        ensures refused { IfErr result (MayFault (H.faults self.old.handle) (H.faults self.new.handle)) }
+        ensures unmoved { Unmoved H.state self.old self.new }
+        ensures is_open { IsOpen ⟦<ShardingCodec<I, X> as ArrayToBytesCodecTraits>⟧.meaning (index_in X.meaning) H.state self.new }
+        ensures told { IfOk result (λ there. IsTrue (H.state self.old.handle).tells → there ≡ is_some (H.state self.old.handle).contents) }
+        ensures refused { IfErr result (MayFault (H.state self.old.handle) (H.state self.new.handle)) }
     {
         self.handle.exists()
     }
@@ -221,8 +222,8 @@ impl<
     /// How many bytes the decoder holds in memory: the handle's, and 8 for each number of the index, or `usize::MAX` where
     /// these are more. Without an object it holds no index.
     pub fn size_held(&self) -> usize
-        ensures held { result ≡ bytes_held (H.held self.now.handle) self.now.index }
-        ensures is_open { IsOpen ⟦<ShardingCodec<I, X> as ArrayToBytesCodecTraits>⟧.serves (index_in X.representation X.cells) H.tells H.contents self.now }
+        ensures held { result ≡ bytes_held (H.state self.now.handle).held self.now.index }
+        ensures is_open { IsOpen ⟦<ShardingCodec<I, X> as ArrayToBytesCodecTraits>⟧.meaning (index_in X.meaning) H.state self.now }
     {
         let held = self.handle.size_held();
         match &self.shard.held.index {
@@ -233,8 +234,8 @@ impl<
 
     /// Whether the handle can be read in part.
     pub fn supports_partial_decode(&self) -> bool
-        ensures supported { result ≡ (H.supports self.now.handle).decode }
-        ensures is_open { IsOpen ⟦<ShardingCodec<I, X> as ArrayToBytesCodecTraits>⟧.serves (index_in X.representation X.cells) H.tells H.contents self.now }
+        ensures supported { result ≡ (H.state self.now.handle).supports.decode }
+        ensures is_open { IsOpen ⟦<ShardingCodec<I, X> as ArrayToBytesCodecTraits>⟧.meaning (index_in X.meaning) H.state self.now }
     {
         self.handle.supports_partial_decode()
     }
@@ -242,7 +243,7 @@ impl<
     /// Gives the handle back. Takes no memory.
     pub fn close(self) -> H
         ensures handle { result ≡ self.entry.handle }
-        ensures is_open { IsOpen ⟦<ShardingCodec<I, X> as ArrayToBytesCodecTraits>⟧.serves (index_in X.representation X.cells) H.tells H.contents self.entry }
+        ensures is_open { IsOpen ⟦<ShardingCodec<I, X> as ArrayToBytesCodecTraits>⟧.meaning (index_in X.meaning) H.state self.entry }
     {
         let ShardingPartialDecoder {
             codec: _,

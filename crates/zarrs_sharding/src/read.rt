@@ -38,19 +38,19 @@ impl<I: ArrayToBytesCodecTraits, X> ShardingCodec<I, X> {
     ) -> Result<Option<ArrayBytes<'static>>, CodecError>
         requires fits { FitsSlot outer.size slot }
         requires room { outer.offset + outer.size < 2 ^ 64 }
-        requires inside { IsTrue (H.tells handle.old) → HasInterval outer (H.contents handle.old) }
-        requires serves { I.serves self.now.inner (geo self.now.subchunk_shape data_type.now fill_value.now) }
+        requires inside { IsTrue (H.state handle.old).tells → HasInterval outer (H.state handle.old).contents }
+        requires serves { (I.meaning self.now.inner (geo self.now.subchunk_shape data_type.now fill_value.now)).serves }
         requires some { places.now ≢ [] }
         requires below { All (λ place. place < count_of self.now.subchunk_shape) places.now }
-        ensures read { IsRead H.tells H.contents H.faults H.supports handle.old handle.new }
+        ensures read { IsRead (H.state handle.old) (H.state handle.new) }
         ensures part { IfOk result (IsPartOf (size_of data_type.now) (length places.now)) }
         ensures cells { let g = geo self.now.subchunk_shape data_type.now fill_value.now in
-            IfOk result (λ found. IsTrue (H.tells handle.old)
-            → IsReadAt (I.cells self.now.inner g) (interval_part outer (H.contents handle.old)) slot places.now found) }
-        ensures fault { IfErr result (IsCounted (H.faults handle.old) (H.faults handle.new)) }
+            IfOk result (λ found. IsTrue (H.state handle.old).tells
+            → IsReadAt (I.meaning self.now.inner g).cells (interval_part outer (H.state handle.old).contents) slot places.now found) }
+        ensures fault { IfErr result (IsCounted (H.state handle.old) (H.state handle.new)) }
         ensures refused { let x = self.now.inner in let g = geo self.now.subchunk_shape data_type.now fill_value.now in
-            IfErr result (RefusedBy (ObjectTests (H.tells handle.old) (H.faults handle.old) (H.faults handle.new)
-            (RefusesPlaces (AnswerTests (I.answerable x g) (I.read_tests x g)) (I.cells x g) self.now.subchunk_shape (interval_part outer (H.contents handle.old)) slot places.now number))) }
+            IfErr result (RefusedBy (ObjectTests (H.state handle.old) (H.state handle.new)
+            (RefusesPlaces (AnswerTests (I.meaning x g).answerable (I.meaning x g).read_tests) (I.meaning x g).cells self.now.subchunk_shape (interval_part outer (H.state handle.old).contents) slot places.now number))) }
     {
         match slot {
             Slot::Absent => Ok(None),
@@ -93,24 +93,24 @@ impl<I: ArrayToBytesCodecTraits, X> ShardingCodec<I, X> {
         options: &CodecOptions,
     ) -> Result<Vec<Option<ArrayBytes<'static>>>, CodecError>
         requires room { outer.offset + outer.size < 2 ^ 64 }
-        requires inside { IsTrue (H.tells handle.old) → HasInterval outer (H.contents handle.old) }
-        requires serves { I.serves self.now.inner (geo self.now.subchunk_shape data_type.now fill_value.now) }
+        requires inside { IsTrue (H.state handle.old).tells → HasInterval outer (H.state handle.old).contents }
+        requires serves { (I.meaning self.now.inner (geo self.now.subchunk_shape data_type.now fill_value.now)).serves }
         requires index { length index.now ≡ 2 * count_of (grid_of _shape.now self.now.subchunk_shape) }
         requires groups { AreGrouped _shape.now self.now.subchunk_shape _numbers.now groups.now }
         requires below { All (λ k. k < count_of (grid_of _shape.now self.now.subchunk_shape)) groups.now.subchunks.items }
         requires places_below { All (All (λ place. place < count_of self.now.subchunk_shape)) (lists_of groups.now) }
-        ensures read { IsRead H.tells H.contents H.faults H.supports handle.old handle.new }
+        ensures read { IsRead (H.state handle.old) (H.state handle.new) }
         ensures counted { IfOk result (λ parts. length parts.items ≡ length groups.now.subchunks.items) }
         ensures parts { IfOk result (λ parts. (j : ℕ) → j < length parts.items
             → IsPartOf (size_of data_type.now) (length (slice_index_or (lists_of groups.now) j [])) (slice_index_or parts.items j None)) }
         ensures cells { let g = geo self.now.subchunk_shape data_type.now fill_value.now in
-            IfOk result (λ parts. IsTrue (H.tells handle.old) → (j : ℕ) → j < length parts.items
-            → IsReadAt (I.cells self.now.inner g) (interval_part outer (H.contents handle.old)) (slot_at outer.size index.now (slice_index groups.now.subchunks.items j))
+            IfOk result (λ parts. IsTrue (H.state handle.old).tells → (j : ℕ) → j < length parts.items
+            → IsReadAt (I.meaning self.now.inner g).cells (interval_part outer (H.state handle.old).contents) (slot_at outer.size index.now (slice_index groups.now.subchunks.items j))
             (slice_index_or (lists_of groups.now) j []) (slice_index_or parts.items j None)) }
-        ensures fault { IfErr result (IsCounted (H.faults handle.old) (H.faults handle.new)) }
+        ensures fault { IfErr result (IsCounted (H.state handle.old) (H.state handle.new)) }
         ensures refused { let x = self.now.inner in let g = geo self.now.subchunk_shape data_type.now fill_value.now in
-            IfErr result (RefusedBy (ObjectTests (H.tells handle.old) (H.faults handle.old) (H.faults handle.new)
-            (PlacesTests (AnswerTests (I.answerable x g) (I.read_tests x g)) (I.cells x g) _shape.now self.now.subchunk_shape (interval_part outer (H.contents handle.old))
+            IfErr result (RefusedBy (ObjectTests (H.state handle.old) (H.state handle.new)
+            (PlacesTests (AnswerTests (I.meaning x g).answerable (I.meaning x g).read_tests) (I.meaning x g).cells _shape.now self.now.subchunk_shape (interval_part outer (H.state handle.old).contents)
             (Some index.now) _numbers.now done))) }
     {
         let mut parts = Vec::new(alloc);

@@ -135,8 +135,8 @@ impl<I: ArrayToBytesCodecTraits, X> ShardingCodec<I, X> {
         options: &CodecOptions,
     ) -> Result<ArrayBytes<'static>, CodecError>
         requires room { outer.offset + outer.size < 2 ^ 64 }
-        requires inside { IsTrue (H.tells handle.old) → HasInterval outer (H.contents handle.old) }
-        requires serves { I.serves self.now.inner (geo self.now.subchunk_shape data_type.now fill_value.now) }
+        requires inside { IsTrue (H.state handle.old).tells → HasInterval outer (H.state handle.old).contents }
+        requires serves { (I.meaning self.now.inner (geo self.now.subchunk_shape data_type.now fill_value.now)).serves }
         requires index { length index.now ≡ 2 * count_of (grid_of shape.now self.now.subchunk_shape) }
         requires numbers { All (λ number. number < count_of shape.now) numbers.now }
         requires cells { cells ≡ count_of shape.now }
@@ -144,17 +144,17 @@ impl<I: ArrayToBytesCodecTraits, X> ShardingCodec<I, X> {
         requires divides { Divides self.now.subchunk_shape shape.now }
         requires supported { HasElements data_type.now }
         requires fill { FitsKind (size_of data_type.now) fill_value.now }
-        ensures read { IsRead H.tells H.contents H.faults H.supports handle.old handle.new }
+        ensures read { IsRead (H.state handle.old) (H.state handle.new) }
         ensures kind { IfOk result (λ array. array.kind ≡ size_of data_type.now) }
         ensures counted { IfOk result (λ array. length array.elements ≡ length numbers.now) }
         ensures fitting { IfOk result (λ array. All (FitsKind (size_of data_type.now)) array.elements) }
         ensures cells { let g = geo self.now.subchunk_shape data_type.now fill_value.now in let sub = self.now.subchunk_shape in
-            IfOk result (λ array. IsTrue (H.tells handle.old)
-            → map (read_by (I.cells self.now.inner g) shape.now sub fill_value.now (interval_part outer (H.contents handle.old)) index.now) numbers.now ≡ map Some array.elements) }
-        ensures fault { IfErr result (IsCounted (H.faults handle.old) (H.faults handle.new)) }
+            IfOk result (λ array. IsTrue (H.state handle.old).tells
+            → map (read_by (I.meaning self.now.inner g).cells shape.now sub fill_value.now (interval_part outer (H.state handle.old).contents) index.now) numbers.now ≡ map Some array.elements) }
+        ensures fault { IfErr result (IsCounted (H.state handle.old) (H.state handle.new)) }
         ensures refused { let g = geo shape.now data_type.now fill_value.now in
-            IfErr result (RefusedBy (ObjectTests (H.tells handle.old) (H.faults handle.old) (H.faults handle.new)
-            (ReadByTests I.answerable I.read_tests I.cells self.now g (interval_part outer (H.contents handle.old)) index.now numbers.now))) }
+            IfErr result (RefusedBy (ObjectTests (H.state handle.old) (H.state handle.new)
+            (ReadByTests I.meaning self.now g (interval_part outer (H.state handle.old).contents) index.now numbers.now))) }
     {
         let groups = grouped(
             alloc,
@@ -194,21 +194,21 @@ impl<I: ArrayToBytesCodecTraits, X: ArrayToBytesCodecTraits> ShardingCodec<I, X>
         indexer: &N,
         options: &CodecOptions,
     ) -> Result<ArrayBytes<'static>, CodecError>
-        requires serves { ⟦<Self as ArrayToBytesCodecTraits>⟧.serves self.now (geo shape.now data_type.now fill_value.now) }
+        requires serves { (⟦<Self as ArrayToBytesCodecTraits>⟧.meaning self.now (geo shape.now data_type.now fill_value.now)).serves }
         requires plan { let s = self.now in
-            IsPlan (fixed_size (X.representation s.index_codec (index_geo (grid_of shape.now s.subchunk_shape)))) shape.now s.subchunk_shape plan.now }
+            IsPlan (fixed_size ((X.meaning s.index_codec (index_geo (grid_of shape.now s.subchunk_shape))).representation)) shape.now s.subchunk_shape plan.now }
         requires selection { IsSelectionOf shape.now (N.selection indexer.now) }
         requires count { count ≡ length (N.selection indexer.now).points }
         requires points { All (λ point. IsInside point shape.now) (N.selection indexer.now).points }
-        ensures read { IsRead H.tells H.contents H.faults H.supports handle.old handle.new }
+        ensures read { IsRead (H.state handle.old) (H.state handle.new) }
         ensures answer { IfOk result (IsAnswer (geo shape.now data_type.now fill_value.now) (N.selection indexer.now)) }
         ensures cells { let codec = ⟦<Self as ArrayToBytesCodecTraits>⟧ in let g = geo shape.now data_type.now fill_value.now in
-            IfOk result (λ array. IsTrue (H.tells handle.old)
-            → IsReadOf (codec.cells self.now g) interval (H.contents handle.old) shape.now (N.selection indexer.now).points array.elements) }
-        ensures fault { IfErr result (IsCounted (H.faults handle.old) (H.faults handle.new)) }
+            IfOk result (λ array. IsTrue (H.state handle.old).tells
+            → IsReadOf (codec.meaning self.now g).cells interval (H.state handle.old).contents shape.now (N.selection indexer.now).points array.elements) }
+        ensures fault { IfErr result (IsCounted (H.state handle.old) (H.state handle.new)) }
         ensures refused { let codec = ⟦<Self as ArrayToBytesCodecTraits>⟧ in let g = geo shape.now data_type.now fill_value.now in
-            IfErr result (RefusedBy (ObjectTests (H.tells handle.old) (H.faults handle.old) (H.faults handle.new) (
-            IntervalTests interval (H.contents handle.old) (λ b. codec.read_tests self.now g b (N.selection indexer.now).points)))) }
+            IfErr result (RefusedBy (ObjectTests (H.state handle.old) (H.state handle.new) (
+            IntervalTests interval (H.state handle.old).contents (λ b. (codec.meaning self.now g).read_tests b (N.selection indexer.now).points)))) }
     {
         check_interval(handle, interval)?;
         let numbers = point_numbers(alloc, indexer, count, shape)?;

@@ -1,6 +1,7 @@
 // Writes to an object in memory, in place.
-ghost use Rattle.std.specs.Prelude.{◌≡◌, ◌≤◌, ◌+◌, ◌^◌, true, IfOk, IfErr, OnOk, OnErr, length};
+ghost use Rattle.std.specs.Prelude.{◌≡◌, ◌≤◌, ◌+◌, ◌^◌, Some, IfOk, IfErr, OnOk, OnErr, length};
 ghost use Rattle.zarr_parts.specs.declared.error.CodecError.TheVariants.{TooLarge};
+ghost use Rattle.zarr_codecs.specs.Handles.{in_memory};
 ghost use Rattle.zarr_codecs.specs.Writes.{RefusesWrite, written_all};
 
 use super::MemoryHandle;
@@ -41,7 +42,7 @@ fn overwrite(bytes: &mut [u8], pieces: &[(u64, &[u8])])
 fn write_into(bytes: &mut Vec<u8>, pieces: &[(u64, &[u8])]) -> Result<(), CodecError>
     ensures written { OnOk result (bytes.new.items ≡ written_all pieces.now bytes.old.items) }
     ensures kept { OnErr result (bytes.new.items ≡ bytes.old.items) }
-    ensures refused { IfErr result (RefusesWrite true (length (written_all pieces.now bytes.old.items)) 0 0) }
+    ensures refused { IfErr result (RefusesWrite (length (written_all pieces.now bytes.old.items)) (in_memory (Some bytes.old.items)) (in_memory (Some bytes.new.items))) }
 {
     let length = length_after(bytes.as_slice(), pieces)?;
     bytes.resize(length, 0)?;

@@ -56,20 +56,20 @@ impl<I: ArrayToBytesCodecTraits, X: ArrayToBytesCodecTraits> ShardingCodec<I, X>
         indexer: &N,
         options: &CodecOptions,
     ) -> Result<ArrayBytes<'static>, CodecError>
-        requires known { IsKnown ⟦<Self as ArrayToBytesCodecTraits>⟧.serves (index_in X.representation X.cells) H.tells H.contents self.now handle.old shard.now }
+        requires known { IsKnown ⟦<Self as ArrayToBytesCodecTraits>⟧.meaning (index_in X.meaning) H.state self.now handle.old shard.now }
         requires index { seen (λ numbers. numbers.items) shard.now.held.index ≡ Some index.now }
         requires selection { IsSelectionOf shard.now.shape (N.selection indexer.now) }
         requires points { All (λ point. IsInside point shard.now.shape) (N.selection indexer.now).points }
         requires count { count ≡ length (N.selection indexer.now).points }
-        ensures read { IsRead H.tells H.contents H.faults H.supports handle.old handle.new }
+        ensures read { IsRead (H.state handle.old) (H.state handle.new) }
         ensures answer { IfOk result (IsAnswer (geo shard.now.shape shard.now.data_type shard.now.fill_value) (N.selection indexer.now)) }
         ensures cells { let codec = ⟦<Self as ArrayToBytesCodecTraits>⟧ in let g = geo shard.now.shape shard.now.data_type shard.now.fill_value in
-            IfOk result (λ array. IsTrue (H.tells handle.old)
-            → cells_at (object_cells (codec.cells self.now g) g (H.contents handle.old)) g.shape (N.selection indexer.now).points ≡ map Some array.elements) }
-        ensures fault { IfErr result (IsCounted (H.faults handle.old) (H.faults handle.new)) }
+            IfOk result (λ array. IsTrue (H.state handle.old).tells
+            → cells_at (object_cells (codec.meaning self.now g).cells g (H.state handle.old).contents) g.shape (N.selection indexer.now).points ≡ map Some array.elements) }
+        ensures fault { IfErr result (IsCounted (H.state handle.old) (H.state handle.new)) }
         ensures refused { let g = geo shard.now.shape shard.now.data_type shard.now.fill_value in
-            IfErr result (RefusedBy (ObjectTests (H.tells handle.old) (H.faults handle.old) (H.faults handle.new) (
-            ObjectCellsTests I.answerable I.read_tests I.cells X.representation X.cells self.now g (H.contents handle.old) (N.selection indexer.now).points))) }
+            IfErr result (RefusedBy (ObjectTests (H.state handle.old) (H.state handle.new) (
+            ObjectCellsTests I.meaning X.meaning self.now g (H.state handle.old).contents (N.selection indexer.now).points))) }
     {
         let numbers = point_numbers(alloc, indexer, count, &shard.shape)?;
         let whole = Interval {
@@ -102,19 +102,19 @@ impl<I: ArrayToBytesCodecTraits, X: ArrayToBytesCodecTraits> ShardingCodec<I, X>
         indexer: &N,
         options: &CodecOptions,
     ) -> Result<ArrayBytes<'static>, CodecError>
-        requires known { IsKnown ⟦<Self as ArrayToBytesCodecTraits>⟧.serves (index_in X.representation X.cells) H.tells H.contents self.now handle.old shard.now }
+        requires known { IsKnown ⟦<Self as ArrayToBytesCodecTraits>⟧.meaning (index_in X.meaning) H.state self.now handle.old shard.now }
         requires selection { IsSelectionOf shard.now.shape (N.selection indexer.now) }
         requires points { All (λ point. IsInside point shard.now.shape) (N.selection indexer.now).points }
         requires count { count ≡ length (N.selection indexer.now).points }
-        ensures read { IsRead H.tells H.contents H.faults H.supports handle.old handle.new }
+        ensures read { IsRead (H.state handle.old) (H.state handle.new) }
         ensures answer { IfOk result (IsAnswer (geo shard.now.shape shard.now.data_type shard.now.fill_value) (N.selection indexer.now)) }
         ensures cells { let codec = ⟦<Self as ArrayToBytesCodecTraits>⟧ in let g = geo shard.now.shape shard.now.data_type shard.now.fill_value in
-            IfOk result (λ array. IsTrue (H.tells handle.old)
-            → cells_at (object_cells (codec.cells self.now g) g (H.contents handle.old)) g.shape (N.selection indexer.now).points ≡ map Some array.elements) }
-        ensures fault { IfErr result (IsCounted (H.faults handle.old) (H.faults handle.new)) }
+            IfOk result (λ array. IsTrue (H.state handle.old).tells
+            → cells_at (object_cells (codec.meaning self.now g).cells g (H.state handle.old).contents) g.shape (N.selection indexer.now).points ≡ map Some array.elements) }
+        ensures fault { IfErr result (IsCounted (H.state handle.old) (H.state handle.new)) }
         ensures refused { let g = geo shard.now.shape shard.now.data_type shard.now.fill_value in
-            IfErr result (RefusedBy (ObjectTests (H.tells handle.old) (H.faults handle.old) (H.faults handle.new) (
-            ObjectCellsTests I.answerable I.read_tests I.cells X.representation X.cells self.now g (H.contents handle.old) (N.selection indexer.now).points))) }
+            IfErr result (RefusedBy (ObjectTests (H.state handle.old) (H.state handle.new) (
+            ObjectCellsTests I.meaning X.meaning self.now g (H.state handle.old).contents (N.selection indexer.now).points))) }
     {
         let Some(index) = &shard.held.index else {
             let array = filled(alloc, &shard.data_type, count, &shard.fill_value)?;
@@ -142,17 +142,17 @@ impl<
         indexer: &N,
         options: &CodecOptions,
     ) -> Result<ArrayBytes<'static>, CodecError>
-        ensures unmoved { Unmoved H.tells H.contents H.faults H.supports self.old self.new }
-        ensures is_open { IsOpen ⟦<ShardingCodec<I, X> as ArrayToBytesCodecTraits>⟧.serves (index_in X.representation X.cells) H.tells H.contents self.new }
+        ensures unmoved { Unmoved H.state self.old self.new }
+        ensures is_open { IsOpen ⟦<ShardingCodec<I, X> as ArrayToBytesCodecTraits>⟧.meaning (index_in X.meaning) H.state self.new }
         ensures answer { IfOk result (IsAnswer self.old.geo (N.selection indexer.now)) }
         ensures cells { let codec = ⟦<ShardingCodec<I, X> as ArrayToBytesCodecTraits>⟧ in let s = self.old.codec in let g = self.old.geo in
-            IfOk result (λ array. IsTrue (H.tells self.old.handle)
-            → cells_at (object_cells (codec.cells s g) g (H.contents self.old.handle)) g.shape (N.selection indexer.now).points ≡ map Some array.elements) }
-        ensures fault { IfErr result (IsCounted (H.faults self.old.handle) (H.faults self.new.handle)) }
+            IfOk result (λ array. IsTrue (H.state self.old.handle).tells
+            → cells_at (object_cells (codec.meaning s g).cells g (H.state self.old.handle).contents) g.shape (N.selection indexer.now).points ≡ map Some array.elements) }
+        ensures fault { IfErr result (IsCounted (H.state self.old.handle) (H.state self.new.handle)) }
         ensures refused { let codec = ⟦<ShardingCodec<I, X> as ArrayToBytesCodecTraits>⟧ in let s = self.old.codec in let g = self.old.geo in
-            IfErr result (RefusedBy (AskedTests g (N.selection indexer.now) (codec.answerable s g) (
-            ObjectTests (H.tells self.old.handle) (H.faults self.old.handle) (H.faults self.new.handle) (
-            ObjectCellsTests I.answerable I.read_tests I.cells X.representation X.cells s g (H.contents self.old.handle) (N.selection indexer.now).points)))) }
+            IfErr result (RefusedBy (AskedTests g (N.selection indexer.now) (codec.meaning s g).answerable (
+            ObjectTests (H.state self.old.handle) (H.state self.new.handle) (
+            ObjectCellsTests I.meaning X.meaning s g (H.state self.old.handle).contents (N.selection indexer.now).points)))) }
     {
         let count = check_asked(indexer, &self.shard.shape, &self.shard.data_type)?;
         let array = self.codec.read_open(
@@ -177,20 +177,20 @@ impl<
         target: &mut FixedTarget,
         options: &CodecOptions,
     ) -> Result<(), CodecError>
-        ensures unmoved { Unmoved H.tells H.contents H.faults H.supports self.old self.new }
-        ensures is_open { IsOpen ⟦<ShardingCodec<I, X> as ArrayToBytesCodecTraits>⟧.serves (index_in X.representation X.cells) H.tells H.contents self.new }
+        ensures unmoved { Unmoved H.state self.old self.new }
+        ensures is_open { IsOpen ⟦<ShardingCodec<I, X> as ArrayToBytesCodecTraits>⟧.meaning (index_in X.meaning) H.state self.new }
         ensures selected { OnOk result (IsSelectionOf self.old.geo.shape (N.selection indexer.now)) }
         ensures written { OnOk result ((elements : List (List ℕ)) × IsWritten target.old target.new (λ k. slice_index_or elements k [])) }
         ensures cells { let codec = ⟦<ShardingCodec<I, X> as ArrayToBytesCodecTraits>⟧ in let s = self.old.codec in let g = self.old.geo in
-            OnOk result (IsTrue (H.tells self.old.handle)
-            → IsDecodedInto target.old target.new (cells_at (object_cells (codec.cells s g) g (H.contents self.old.handle)) g.shape (N.selection indexer.now).points)) }
+            OnOk result (IsTrue (H.state self.old.handle).tells
+            → IsDecodedInto target.old target.new (cells_at (object_cells (codec.meaning s g).cells g (H.state self.old.handle).contents) g.shape (N.selection indexer.now).points)) }
         ensures kept { OnErr result (target.new ≡ target.old) }
-        ensures fault { IfErr result (IsCounted (H.faults self.old.handle) (H.faults self.new.handle)) }
+        ensures fault { IfErr result (IsCounted (H.state self.old.handle) (H.state self.new.handle)) }
         ensures refused { let codec = ⟦<ShardingCodec<I, X> as ArrayToBytesCodecTraits>⟧ in let s = self.old.codec in let g = self.old.geo in
             IfErr result (RefusedBy (TargetTests (size_of g.data_type) (length (N.selection indexer.now).points) target.old (
-            AskedTests g (N.selection indexer.now) (codec.answerable s g) (
-            ObjectTests (H.tells self.old.handle) (H.faults self.old.handle) (H.faults self.new.handle) (
-            ObjectCellsTests I.answerable I.read_tests I.cells X.representation X.cells s g (H.contents self.old.handle) (N.selection indexer.now).points))))) }
+            AskedTests g (N.selection indexer.now) (codec.meaning s g).answerable (
+            ObjectTests (H.state self.old.handle) (H.state self.new.handle) (
+            ObjectCellsTests I.meaning X.meaning s g (H.state self.old.handle).contents (N.selection indexer.now).points))))) }
     {
         check_target(target, indexer.len(), &self.shard.data_type)?;
         let array = self.partial_decode(alloc, indexer, options)?;

@@ -72,7 +72,7 @@ impl<
             IfOk result (IsRangeOf (held_slot self.now.len self.now.index (number_of subchunk.now grid))) }
         ensures refused { let grid = grid_of self.now.geo.shape self.now.codec.subchunk_shape in
             IfErr result (SlotTests grid subchunk.now (held_slot self.now.len self.now.index (number_of subchunk.now grid)) done) }
-        ensures is_open { IsOpen ⟦<ShardingCodec<I, X> as ArrayToBytesCodecTraits>⟧.serves (index_in X.representation X.cells) H.tells H.contents self.now }
+        ensures is_open { IsOpen ⟦<ShardingCodec<I, X> as ArrayToBytesCodecTraits>⟧.meaning (index_in X.meaning) H.state self.now }
     {
         self.shard.held.range(self.shard.grid.as_slice(), subchunk)
     }
@@ -86,16 +86,16 @@ impl<
         alloc: Global,
         subchunk: &[u64],
     ) -> Result<Option<CowSlice<'static, u8>>, CodecError>
-        ensures unmoved { Unmoved H.tells H.contents H.faults H.supports self.old self.new }
-        ensures is_open { IsOpen ⟦<ShardingCodec<I, X> as ArrayToBytesCodecTraits>⟧.serves (index_in X.representation X.cells) H.tells H.contents self.new }
+        ensures unmoved { Unmoved H.state self.old self.new }
+        ensures is_open { IsOpen ⟦<ShardingCodec<I, X> as ArrayToBytesCodecTraits>⟧.meaning (index_in X.meaning) H.state self.new }
         ensures inside { OnOk result (IsInside subchunk.now (grid_of self.old.geo.shape self.old.codec.subchunk_shape)) }
         ensures slice { let grid = grid_of self.old.geo.shape self.old.codec.subchunk_shape in
-            IfOk result (λ o. IsSliceRead (held_slot self.old.len self.old.index (number_of subchunk.now grid)) (H.tells self.old.handle) (H.contents self.old.handle)
+            IfOk result (λ o. IsSliceRead (held_slot self.old.len self.old.index (number_of subchunk.now grid)) (H.state self.old.handle)
             (seen (λ bytes. cow_slice_items bytes) o)) }
-        ensures fault { IfErr result (IsCounted (H.faults self.old.handle) (H.faults self.new.handle)) }
+        ensures fault { IfErr result (IsCounted (H.state self.old.handle) (H.state self.new.handle)) }
         ensures refused { let grid = grid_of self.old.geo.shape self.old.codec.subchunk_shape in
             IfErr result (RefusedBy (SlotTests grid subchunk.now (held_slot self.old.len self.old.index (number_of subchunk.now grid)) (
-            ObjectTests (H.tells self.old.handle) (H.faults self.old.handle) (H.faults self.new.handle) done))) }
+            ObjectTests (H.state self.old.handle) (H.state self.new.handle) done))) }
     {
         let range = self.shard.held.range(self.shard.grid.as_slice(), subchunk)?;
         let Some(range) = range else {

@@ -406,15 +406,13 @@ struct CountingHandle {
 impl LendsSlice for CountingHandle {
     ghost use Rattle.std.specs.Prelude.{true, false, Some, length};
 
-    ghost tells = { λ _. true };
-
-    ghost contents = { λ handle. Some handle.object.items };
-
-    ghost faults = { λ _. 0 };
-
-    ghost held = { λ handle. length handle.object.items };
-
-    ghost supports = { λ _. record { decode = true; encode = false } };
+    ghost state = { λ handle. record {
+        tells = true;
+        contents = Some handle.object.items;
+        faults = 0;
+        held = length handle.object.items;
+        supports = record { decode = true; encode = false }
+    } };
 
     fn find(&mut self) -> Result<bool, CodecError> {
         Ok(true)

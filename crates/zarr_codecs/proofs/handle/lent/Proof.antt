@@ -71,7 +71,7 @@ lent_spec 𝓤 𝓛 𝓜 𝓡 wired H L gs d met =
     sets ! (addr ! (through ! refl (stop !))) refl (tt, tt) $
     calls_at ! (framed 𝓤 𝓛.H 𝓜 𝓣) G₁ met.partial_decode z₁ (and_then ! (get ! refl) (and_then ! (get ! refl) (and_then ! (get ! refl) (no_more !)))) (λ v.
     use1 𝓛 (later (some (λ (r : (Lent ν).Denot). (both ⊛ ‵ ((Lent ν).own_val r (v ∷ []))) ⊛ some (λ (ws : Lasts (h.ended H gs d) κs z₁.0.3).
-    ‵ (lasts (h.ended H gs d) κs z₁.0.3 ws) ⊛ ‵ (Rests R a.0 (λ n. HasRead gs.tells gs.contents gs.faults gs.supports a.1.1.1.0 a.0.now n (refusal r))) ⊛ raw (fact 𝓤 (IfOk r (λ o. WasRead a.1.1.1.0 (gs.tells a.0.now) (gs.contents a.0.now) (seen (λ b. cow_slice_items b) o)))))))) (id⊢ 𝓤 _) $
+    ‵ (lasts (h.ended H gs d) κs z₁.0.3 ws) ⊛ ‵ (Rests R a.0 (λ n. HasRead a.1.1.1.0 (gs.state a.0.now) (gs.state n) (refusal r))) ⊛ raw (fact 𝓤 (IfOk r (λ o. WasRead a.1.1.1.0 (gs.state a.0.now) (seen (λ b. cow_slice_items b) o)))))))) (id⊢ 𝓤 _) $
     await ! tt $ pick ! (λ r. split ! $ split ! $ move ! (1 ∷ []) $
     peeks ! (Lent ν) (Is (Lent ν)) (shows 𝓛 (Lent ν)) r (v ∷ []) (λ r_is.
     lands_as ! refl refl ((((Lent-laws ν).lawful 𝓛).typed r (v ∷ []) r_is).0) $
@@ -89,9 +89,9 @@ lent_spec 𝓤 𝓛 𝓜 𝓡 wired H L gs d met =
     lands_as ! refl refl ((((Part-laws ν).lawful 𝓛).typed s (w ∷ []) s_is).0) $
     move ! (2 ∷ []) $ pick ! (λ ws₂. split ! $ drop ! $ heard ! _ (λ agrees.
     -- [the second result; the first token; the other tokens; what the handle rests as]
-    rewrite ! 3 (λ (e : Maybe.Option Error.CodecError). ‵ (Rests R a.0 (λ n. HasRead gs.tells gs.contents gs.faults gs.supports a.1.1.1.0 a.0.now n (e)))) (sym agrees.same_refusal) refl $
+    rewrite ! 3 (λ (e : Maybe.Option Error.CodecError). ‵ (Rests R a.0 (λ n. HasRead a.1.1.1.0 (gs.state a.0.now) (gs.state n) (e)))) (sym agrees.same_refusal) refl $
     returns ! (look_at ! 0 refl) $ free_all ! refl $
     suffices ! _ (leaves 𝓛 T hs c y w s (tt, (tt, (tt, (tt, tt)))) (tt, (tt, (tt, (tt, tt))))) $
-    use0 𝓛 (raw (fact 𝓤 (IfOk s (λ o. WasRead a.1.1.1.0 (gs.tells a.0.now) (gs.contents a.0.now) (seen (λ b. b.now) o))))) (fact_i 𝓤 (IfOk s (λ o. WasRead a.1.1.1.0 (gs.tells a.0.now) (gs.contents a.0.now) (seen (λ b. b.now) o))) (emp 𝓤) (joined (WasRead a.1.1.1.0 (gs.tells a.0.now) (gs.contents a.0.now)) (λ b. cow_slice_items b) (λ b. b.now) r s told agrees)) $
+    use0 𝓛 (raw (fact 𝓤 (IfOk s (λ o. WasRead a.1.1.1.0 (gs.state a.0.now) (seen (λ b. b.now) o))))) (fact_i 𝓤 (IfOk s (λ o. WasRead a.1.1.1.0 (gs.state a.0.now) (seen (λ b. b.now) o))) (emp 𝓤) (joined (WasRead a.1.1.1.0 (gs.state a.0.now)) (λ b. cow_slice_items b) (λ b. b.now) r s told agrees)) $
     move ! (4 ∷ 0 ∷ []) $ join ! $ move ! (1 ∷ 0 ∷ []) $ join ! $ nothing ! $ nothing ! $ fjoin ! $ nothing ! $ fjoin ! $ nothing ! $ fjoin ! $ nothing ! $ fjoin ! $ join ! $
     move ! (1 ∷ []) $ split ! $ move ! (1 ∷ []) $ drop ! $ move ! (0 ∷ 2 ∷ []) $ join ! $ join ! $ done !))))))))))))

@@ -7,7 +7,7 @@ use Rattle.zarr_codecs.proofs.laws.decode_after_encode.Goals as goal
 use Rattle.zarr_codecs.proofs.laws.decode_after_encode.Goals.{In_ok-encoded}
 
 -- the encoding stands for the array
-cells_are : (g : _) (c : In_ok-encoded g) → g.C.ArrayToBytesCodecTraits.cells c.args.codec.now (geo c.args.shape.now c.args.data_type.now c.args.fill_value.now) c.in_ok-encoded.encoded.items ≡ map Some c.args.array.now.elements
+cells_are : (g : _) (c : In_ok-encoded g) → (g.C.ArrayToBytesCodecTraits.meaning c.args.codec.now (geo c.args.shape.now c.args.data_type.now c.args.fill_value.now)).cells c.in_ok-encoded.encoded.items ≡ map Some c.args.array.now.elements
 cells_are g c =
     let arrays = geo c.args.shape.now c.args.data_type.now c.args.fill_value.now in
     let encoded = c.in_ok-encoded.ensures in
@@ -17,7 +17,7 @@ pub returns-in_err-decoded-clause-lawful : goal.returns-in_err-decoded-clause-la
 returns-in_err-decoded-clause-lawful g c =
     let gone = err_from_is_err_and c.from_residual-in_err-decoded.result c.from_residual-in_err-decoded.ensures.1 in
     let cells = cells_are g (goal.at.returns-in_err-decoded-clause-lawful g c).In_ok-encoded in
-    rw (gone.1, gone.2) (λ serves kind array. refused_by_decode _ _ c.args.array.now.elements _ c.in_err-decoded.field-0.0 cells
+    rw (gone.1, gone.2) (λ serves kind array. refused_by_decode (g.C.ArrayToBytesCodecTraits.meaning c.args.codec.now (geo c.args.shape.now c.args.data_type.now c.args.fill_value.now)) c.args.array.now.elements _ c.in_err-decoded.field-0.0 cells
     ((rw c.deref.ensures.value at c.in_err-decoded.ensures.lawful) serves))
 
 pub returns-clause-same : goal.returns-clause-same

@@ -16,18 +16,16 @@ returns-in-Ok-Some-clause-settled g c =
     let inner = g.I.ArrayToBytesCodecTraits in
     let outer = g.X.ArrayToBytesCodecTraits in
     let x = s.index_codec in
-    let representation = outer.representation x index_g in
+    let representation = (outer.meaning x index_g).representation in
     let l = layout s.subchunk_shape s.location s.order representation asked in
     let new = c.in-Some.compacted.items in
-    let first : IsCompacted (outer.cells x index_g) (outer.written x index_g) l c.args.bytes.now new = rw c.in-Some.is at c.in_ok-compacted.ensures.compacted in
-    let compact : IsCompact (outer.cells x index_g) l new =
-    again_compact (outer.serves x index_g) (inner.serves s.inner (sub_geo s.subchunk_shape asked)) (outer.check_tests x index_g) representation (outer.decode_tests x index_g)
-    (outer.cells x index_g) (outer.written x index_g) (outer.encodable x index_g) (outer.fits x index_g) s.subchunk_shape s.location s.order asked c.args.bytes.now new
+    let first : IsCompacted (outer.meaning x index_g) l c.args.bytes.now new = rw c.in-Some.is at c.in_ok-compacted.ensures.compacted in
+    let compact : IsCompact (outer.meaning x index_g).cells l new =
+    again_compact (inner.meaning s.inner (sub_geo s.subchunk_shape asked)) (outer.meaning x index_g) s.subchunk_shape s.location s.order asked c.args.bytes.now new
     (λ y z array written. g.met.X.ArrayToBytesCodecTraits.written_cells x index_g y z c.requires.serves.index_served.served array written) first in
-    let second : IsCompacted (outer.cells x index_g) (outer.written x index_g) l new c.in-Ok-Some.field-0-0.items =
+    let second : IsCompacted (outer.meaning x index_g) l new c.in-Ok-Some.field-0-0.items =
     rw (c.in-Ok-Some.field-0-is, c.deref.ensures.value) at c.in-Ok-Some.ensures.compacted in
-    absurd (never_compacted (outer.serves x index_g) (inner.serves s.inner (sub_geo s.subchunk_shape asked)) (outer.check_tests x index_g) representation (outer.decode_tests x index_g)
-    (outer.cells x index_g) (outer.written x index_g) (outer.encodable x index_g) (outer.fits x index_g) s.subchunk_shape s.location s.order asked new compact
+    absurd (never_compacted (inner.meaning s.inner (sub_geo s.subchunk_shape asked)) (outer.meaning x index_g) s.subchunk_shape s.location s.order asked new compact
     c.in-Ok-Some.field-0-0.items second)
 
 pub returns : goal.returns
@@ -38,18 +36,16 @@ returns g c =
     let inner = g.I.ArrayToBytesCodecTraits in
     let outer = g.X.ArrayToBytesCodecTraits in
     let x = s.index_codec in
-    let representation = outer.representation x index_g in
+    let representation = (outer.meaning x index_g).representation in
     let l = layout s.subchunk_shape s.location s.order representation asked in
     let new = c.in-Some.compacted.items in
-    let first : IsCompacted (outer.cells x index_g) (outer.written x index_g) l c.args.bytes.now new = rw c.in-Some.is at c.in_ok-compacted.ensures.compacted in
-    let compact : IsCompact (outer.cells x index_g) l new =
-    again_compact (outer.serves x index_g) (inner.serves s.inner (sub_geo s.subchunk_shape asked)) (outer.check_tests x index_g) representation (outer.decode_tests x index_g)
-    (outer.cells x index_g) (outer.written x index_g) (outer.encodable x index_g) (outer.fits x index_g) s.subchunk_shape s.location s.order asked c.args.bytes.now new
+    let first : IsCompacted (outer.meaning x index_g) l c.args.bytes.now new = rw c.in-Some.is at c.in_ok-compacted.ensures.compacted in
+    let compact : IsCompact (outer.meaning x index_g).cells l new =
+    again_compact (inner.meaning s.inner (sub_geo s.subchunk_shape asked)) (outer.meaning x index_g) s.subchunk_shape s.location s.order asked c.args.bytes.now new
     (λ y z array written. g.met.X.ArrayToBytesCodecTraits.written_cells x index_g y z c.requires.serves.index_served.served array written) first in
-    let short = index_short (outer.cells x index_g) (grid_of asked.shape s.subchunk_shape) (λ y. g.met.X.ArrayToBytesCodecTraits.cells_counted x index_g y c.requires.serves.index_served.served)
+    let short = index_short (outer.meaning x index_g).cells (grid_of asked.shape s.subchunk_shape) (λ y. g.met.X.ArrayToBytesCodecTraits.cells_counted x index_g y c.requires.serves.index_served.served)
     (λ y i below. g.met.X.ArrayToBytesCodecTraits.cells_fitting x index_g y i c.requires.serves.index_served.served below) c.requires.serves.index_fits in
     let small : length new + 1 < 2 ^ 64 = omega (arith, c.in-Some.compacted.ok.0, c.in-Some.compacted.small) in
-    let memory = refused_for_memory (outer.serves x index_g) (inner.serves s.inner (sub_geo s.subchunk_shape asked)) (outer.check_tests x index_g) representation (outer.decode_tests x index_g)
-    (outer.cells x index_g) (outer.written x index_g) (outer.encodable x index_g) (outer.fits x index_g) s.subchunk_shape s.location s.order asked new compact
+    let memory = refused_for_memory (inner.meaning s.inner (sub_geo s.subchunk_shape asked)) (outer.meaning x index_g) s.subchunk_shape s.location s.order asked new compact
     c.in-Err.error c.requires.serves short small (rw c.deref.ensures.value at c.in-Err.ensures.refused) in
     absurd (c.in_default-error.not-OutOfMemory memory)

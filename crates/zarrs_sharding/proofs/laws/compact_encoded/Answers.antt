@@ -29,7 +29,7 @@ returns-clause-scratch g c =
     let functional = and_parts (inner.functional s.inner) (index.functional s.index_codec) c.requires.functional in
     rewritten _ _ c.compact.result c.compact.ensures.compacted
     (λ new compacted.
-    scratch_of_compacted _ _ _ (inner.encoding s.inner inner_g) (index.encoding s.index_codec index_g) s.subchunk_shape s.location s.order _ asked c.args.array.now.elements
+    scratch_of_compacted _ _ (inner.encoding s.inner inner_g) (index.encoding s.index_codec index_g) s.subchunk_shape s.location s.order _ asked c.args.array.now.elements
     c.args.encoded.now new.items serves.divides c.requires.array
     (λ x y of written. g.met.I.FunctionalCodec.one_encoding s.inner inner_g x y functional.0 serves.inner_served of written)
     (λ x y of written. g.met.X.FunctionalCodec.one_encoding s.index_codec index_g x y functional.1 serves.index_served.served of written)

@@ -3,6 +3,7 @@ use Rattle.zarr_parts.specs.Geo.{geo}
 use Rattle.zarr_parts.specs.Grid.{grid_of}
 use Rattle.zarrs_sharding.specs.Index.{index_geo}
 use Rattle.zarrs_sharding.specs.Serves.{sub_geo, layout}
+use Rattle.zarrs_sharding.specs.Meanings.{shard_meaning}
 use Rattle.zarrs_sharding.proofs.CallerLemmas.{reported}
 use Rattle.zarrs_sharding.proofs.laws.decode_served.Goals as goal
 
@@ -22,10 +23,9 @@ returns-clause-lowest g c =
     let index_g = index_geo (grid_of c.args.shape.now s.subchunk_shape) in
     let inner = g.I.ArrayToBytesCodecTraits in
     let index = g.X.ArrayToBytesCodecTraits in
-    let representation = index.representation s.index_codec index_g in
+    let representation = (index.meaning s.index_codec index_g).representation in
     refused _ _ c.decode.result c.decode.ensures.refused
     (λ e tests number is.
-    reported _ _ (inner.check_tests s.inner inner_g) (index.check_tests s.index_codec index_g) representation s.subchunk_shape asked
-    (inner.decode_tests s.inner inner_g) (index.decode_tests s.index_codec index_g) (inner.cells s.inner inner_g) (index.cells s.index_codec index_g)
+    reported (shard_meaning s (inner.meaning s.inner inner_g) (index.meaning s.index_codec index_g) asked) (inner.meaning s.inner inner_g) (index.meaning s.index_codec index_g)
     (layout s.subchunk_shape s.location s.order representation asked) c.args.shard.now e number
     c.requires.serves tests is)

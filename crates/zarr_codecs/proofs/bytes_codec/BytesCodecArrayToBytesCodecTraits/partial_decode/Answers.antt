@@ -49,7 +49,7 @@ returns-clause-cells g c tells =
     let has = c.in_ok-check_interval.ensures.inside tells in
     let read = c.in_ok-check_interval.ensures.read in
     let told = rw read.contents_same at ((rw c.in-Some-2.is at c.in_ok-bytes.ensures.told).told (rw read.tells_same tells)) in
-    let bytes_are = interval_read a.interval c.in_ok-size.field-0.total (g.H.BytesPartialDecoderTraits.contents a.handle.now) c.in-Some-2.bytes.now c.if-interval-total.false told in
+    let bytes_are = interval_read a.interval c.in_ok-size.field-0.total (g.H.BytesPartialDecoderTraits.state a.handle.now).contents c.in-Some-2.bytes.now c.if-interval-total.false told in
     let asked = rw (c.deref.ensures.value, c.in_ok-numbers.ensures.numbers) at c.in_ok-asked.ensures in
     record {
       inside = has;

@@ -5,7 +5,7 @@ use Rattle.zarr_parts.specs.Geo.{geo}
 use Rattle.zarr_parts.specs.Types.{size_of}
 use Rattle.zarrs_sharding.specs.Index.{absent_number, index_geo, data_start}
 use Rattle.zarrs_sharding.specs.Laying.{IsIndexOf}
-use Rattle.zarrs_sharding.specs.Serves.{sub_geo, fixed_size}
+use Rattle.zarrs_sharding.specs.Serves.{sub_geo, fixed_size, layout_in}
 use Rattle.zarrs_sharding.proofs.RefusalLemmas.{passed_on}
 use Rattle.zarrs_sharding.proofs.EncodingLemmas.{encoded_shard}
 use Rattle.zarrs_sharding.proofs.EncodeRefusals.{store_next, total_next, index_next, index_length}
@@ -13,36 +13,39 @@ use Rattle.zarrs_sharding.proofs.codec.ShardingCodec.encode_planned.Goals as goa
 
 pub returns-in_err-laid-clause-refused : goal.returns-in_err-laid-clause-refused
 returns-in_err-laid-clause-refused g c =
-    let inner = g.I.ArrayToBytesCodecTraits in
-    let x = c.args.self.now.inner in
-    let asked = geo c.args.self.now.subchunk_shape c.args.data_type.now c.args.fill_value.now in
+    let s = c.args.self.now in
+    let asked = geo c.args.shape.now c.args.data_type.now c.args.fill_value.now in
+    let inner = g.I.ArrayToBytesCodecTraits.meaning s.inner (sub_geo s.subchunk_shape asked) in
+    let index = g.X.ArrayToBytesCodecTraits.meaning s.index_codec (index_geo (grid_of asked.shape s.subchunk_shape)) in
     let kind : c.args.array.now.kind ≡ size_of c.args.data_type.now = search rules in
     let counted : length c.args.array.now.elements ≡ count_of c.args.shape.now = omega (arith, c.requires.plan.cells) in
     let e = c.in_err-laid.field-0.0 in
-    passed_on _ e _ c.from_residual.ensures.1 (store_next (inner.encodable x asked) (inner.fits x asked) _ _ _ _ _ _ e kind counted (rw c.requires.plan.grid at c.in_err-laid.ensures.refused))
+    passed_on _ e _ c.from_residual.ensures.1 (store_next inner index (layout_in s index asked) (size_of c.args.data_type.now) c.args.array.now e kind counted (rw c.requires.plan.grid at c.in_err-laid.ensures.refused))
 
 pub returns-then-plan-len-clause-refused : goal.returns-then-plan-len-clause-refused
 returns-then-plan-len-clause-refused g c =
-    let inner = g.I.ArrayToBytesCodecTraits in
-    let x = c.args.self.now.inner in
-    let asked = geo c.args.self.now.subchunk_shape c.args.data_type.now c.args.fill_value.now in
+    let s = c.args.self.now in
+    let asked = geo c.args.shape.now c.args.data_type.now c.args.fill_value.now in
+    let inner = g.I.ArrayToBytesCodecTraits.meaning s.inner (sub_geo s.subchunk_shape asked) in
+    let index = g.X.ArrayToBytesCodecTraits.meaning s.index_codec (index_geo (grid_of asked.shape s.subchunk_shape)) in
     let kind : c.args.array.now.kind ≡ size_of c.args.data_type.now = search rules in
     let counted : length c.args.array.now.elements ≡ count_of c.args.shape.now = omega (arith, c.requires.plan.cells) in
     let laid = rw c.requires.plan.grid at c.in_ok-laid.ensures.laid in
-    inr (total_next (inner.encodable x asked) (inner.fits x asked) _ _ _ _ _ _ c.in_ok-laid.laid.bytes.items c.in_ok-laid.laid.slots.items laid kind counted
+    inr (total_next inner index (layout_in s index asked) (size_of c.args.data_type.now) c.args.array.now c.in_ok-laid.laid.bytes.items c.in_ok-laid.laid.slots.items laid kind counted
     (omega (arith, c.if-plan-len.true, c.len-len.ensures, c.in_ok-laid.laid.bytes.ok.0, c.requires.plan.index.size)))
 
 pub returns-in_err-index-clause-refused : goal.returns-in_err-index-clause-refused
 returns-in_err-index-clause-refused g c =
-    let inner = g.I.ArrayToBytesCodecTraits in
-    let x = c.args.self.now.inner in
-    let asked = geo c.args.self.now.subchunk_shape c.args.data_type.now c.args.fill_value.now in
+    let s = c.args.self.now in
+    let asked = geo c.args.shape.now c.args.data_type.now c.args.fill_value.now in
+    let inner = g.I.ArrayToBytesCodecTraits.meaning s.inner (sub_geo s.subchunk_shape asked) in
+    let index = g.X.ArrayToBytesCodecTraits.meaning s.index_codec (index_geo (grid_of asked.shape s.subchunk_shape)) in
     let kind : c.args.array.now.kind ≡ size_of c.args.data_type.now = search rules in
     let counted : length c.args.array.now.elements ≡ count_of c.args.shape.now = omega (arith, c.requires.plan.cells) in
     let laid = rw c.requires.plan.grid at c.in_ok-laid.ensures.laid in
     let e = c.in_err-index.field-0.0 in
     passed_on _ e _ c.from_residual-in_err-index.ensures.1
-    (index_next (inner.encodable x asked) (inner.fits x asked) _ _ _ _ _ _ c.in_ok-laid.laid.bytes.items c.in_ok-laid.laid.slots.items laid e kind counted
+    (index_next inner index (layout_in s index asked) (size_of c.args.data_type.now) c.args.array.now c.in_ok-laid.laid.bytes.items c.in_ok-laid.laid.slots.items laid e kind counted
     (omega (arith, c.if-plan-len.false, c.len-len.ensures, c.in_ok-laid.laid.bytes.ok.0, c.requires.plan.index.size))
     (rw c.requires.plan.grid at c.in_err-index.ensures.refused))
 
@@ -53,16 +56,16 @@ returns-clause-written g c =
     let inner = g.I.ArrayToBytesCodecTraits in
     let outer = g.X.ArrayToBytesCodecTraits in
     let grid = grid_of c.args.shape.now s.subchunk_shape in
-    let representation = outer.representation s.index_codec (index_geo grid) in
+    let representation = (outer.meaning s.index_codec (index_geo grid)).representation in
     let served = c.requires.serves.index_served in
     let bytes = c.in_ok-laid.laid.bytes.items in
     let slots = c.in_ok-laid.laid.slots.items in
     let small : fixed_size representation + length bytes < absent_number =
     omega (arith, c.if-plan-len.false, c.len-len.ensures, c.in_ok-laid.laid.bytes.ok.0, c.requires.plan.index.size) in
     let laid = rw c.requires.plan.grid at c.in_ok-laid.ensures.laid in
-    let index : IsIndexOf (outer.written s.index_codec (index_geo grid)) (data_start s.location (fixed_size representation)) slots c.in_ok-index.index.items =
+    let index : IsIndexOf (outer.meaning s.index_codec (index_geo grid)).written (data_start s.location (fixed_size representation)) slots c.in_ok-index.index.items =
     rw (c.deref.ensures.value, c.requires.plan.index.size, c.requires.plan.grid) at c.in_ok-index.ensures.index in
-    let sized = index_length (outer.written s.index_codec (index_geo grid)) representation grid (data_start s.location (fixed_size representation)) slots c.in_ok-index.index.items
+    let sized = index_length (outer.meaning s.index_codec (index_geo grid)).written representation grid (data_start s.location (fixed_size representation)) slots c.in_ok-index.index.items
     laid.counted served.fixed (λ x y array written. g.met.X.ArrayToBytesCodecTraits.bounded s.index_codec (index_geo grid) x y served.served array written) index in
-    encoded_shard (inner.written s.inner (sub_geo s.subchunk_shape asked)) (outer.written s.index_codec (index_geo grid)) s.subchunk_shape s.location s.order (fixed_size representation) asked
+    encoded_shard (inner.meaning s.inner (sub_geo s.subchunk_shape asked)).written (outer.meaning s.index_codec (index_geo grid)).written s.subchunk_shape s.location s.order (fixed_size representation) asked
     c.args.array.now.elements bytes c.in_ok-index.index.items c.in_ok-shard.shard.items slots laid index sized small c.in_ok-shard.ensures.bytes

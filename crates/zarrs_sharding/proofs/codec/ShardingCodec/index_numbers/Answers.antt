@@ -13,14 +13,14 @@ returns-in-Err-clause-refused g c =
     let refused = rw (c.requires.plan.shape, c.requires.plan.fill) at c.in-Err.ensures.refused in
     let s = a.self.now.index_codec in
     let lawful = rw (c.requires.plan.shape, c.requires.plan.fill) at c.in-Err.ensures.lawful in
-    stored (x.decode_tests s index_g a.part.now) (x.cells s index_g a.part.now) c.in-Err.error c.of_stored.result
-    (lawful c.requires.serves) (served (x.serves s index_g) (x.check_tests s index_g) (x.decode_tests s index_g a.part.now) c.in-Err.error c.requires.serves refused) c.of_stored.ensures
+    stored ((x.meaning s index_g).decode_tests a.part.now) ((x.meaning s index_g).cells a.part.now) c.in-Err.error c.of_stored.result
+    (lawful c.requires.serves) (served (x.meaning s index_g) ((x.meaning s index_g).decode_tests a.part.now) c.in-Err.error c.requires.serves refused) c.of_stored.ensures
 
 pub returns-clause-numbers : goal.returns-clause-numbers
 returns-clause-numbers g c =
     let a = c.args in
     let read = rw (c.requires.plan.shape, c.requires.plan.fill) at c.in-Ok.ensures.cells in
-    numbers_found (g.X.ArrayToBytesCodecTraits.cells a.self.now.index_codec (index_geo a.grid.now) a.part.now) c.in-Ok.index.elements c.in_ok-numbers.numbers.items
+    numbers_found ((g.X.ArrayToBytesCodecTraits.meaning a.self.now.index_codec (index_geo a.grid.now)).cells a.part.now) c.in-Ok.index.elements c.in_ok-numbers.numbers.items
     read c.in_ok-numbers.ensures.numbers
 
 pub returns-clause-counted : goal.returns-clause-counted

@@ -16,5 +16,5 @@ returns-in_err-index-clause-refused g c =
     let elements = rw c.deref.ensures.value at c.in_ok-array.ensures.elements in
     let law = rw (c.requires.plan.shape, c.requires.plan.fill, elements) at c.in_err-index.ensures.lawful in
     passed_on _ e _ c.from_residual-in_err-index.ensures.1
-    (index_refused (codec.encodable x (index_geo grid)) (codec.fits x (index_geo grid)) (count_of grid) numbers e counted c.in_ok-numbers.ensures.below
+    (index_refused (codec.meaning x (index_geo grid)) (count_of grid) numbers e counted c.in_ok-numbers.ensures.below
     (law c.requires.serves c.in_ok-array.ensures.kind (array_of_index grid numbers counted)))

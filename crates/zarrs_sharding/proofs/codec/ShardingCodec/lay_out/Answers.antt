@@ -21,7 +21,7 @@ returns-in_err-stored-clause-refused g c =
     let codec = g.I.ArrayToBytesCodecTraits in
     let e = c.in_err-stored.field-0.0 in
     passed_on _ e _ c.from_residual-in_err-stored.ensures.1
-    (one_not_stored (codec.encodable s.inner sub_g) (codec.fits s.inner sub_g) (codec.written s.inner sub_g) a.fill_value.now a.shape.now s.subchunk_shape a.array.now.elements c.loop-k.bytes.items c.loop-k.slots.items
+    (one_not_stored (codec.meaning s.inner sub_g) a.fill_value.now a.shape.now s.subchunk_shape a.array.now.elements c.loop-k.bytes.items c.loop-k.slots.items
     (count_of a.grid.now) c.loop-k.k c.in_ok-part.part.elements e (rw c.requires.subchunks at c.loop-k-test.true) c.loop-k.invariant c.in_ok-part.ensures.elements c.in_err-stored.ensures.refused)
 
 pub loop-k-preserved : goal.loop-k-preserved
@@ -29,7 +29,7 @@ loop-k-preserved g c =
     let a = c.args in
     let s = a.self.now in
     let sub_g = geo s.subchunk_shape a.data_type.now a.fill_value.now in
-    one_more_laid (g.I.ArrayToBytesCodecTraits.written s.inner sub_g) a.fill_value.now a.shape.now s.subchunk_shape a.array.now.elements
+    one_more_laid (g.I.ArrayToBytesCodecTraits.meaning s.inner sub_g).written a.fill_value.now a.shape.now s.subchunk_shape a.array.now.elements
     c.loop-k.bytes.items c.in_ok-stored.stored.bytes.items c.extend_from_slice.new.self.items c.loop-k.slots.items c.push.new.self.items c.loop-k.k c.in_ok-stored.stored.present
     c.loop-k.invariant (rw c.in_ok-part.ensures.elements at c.in_ok-stored.ensures.stored) (rw c.deref.ensures.value at c.in_ok-extend_from_slice.ensures.items)
     (rw (c.placed-slot.ensures, c.len.ensures, c.len-in-loop-k.ensures, c.loop-k.bytes.ok.0, c.in_ok-stored.stored.bytes.ok.0) at c.in_ok-push.ensures.items)

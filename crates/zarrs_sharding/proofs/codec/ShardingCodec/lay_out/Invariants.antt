@@ -5,4 +5,4 @@ use Rattle.zarrs_sharding.proofs.codec.ShardingCodec.lay_out.Given as goal
 
 abbrev pub invariant-loop-k : goal.invariant-loop-k
 invariant-loop-k g l =
-    IsLaidOut (g.I.ArrayToBytesCodecTraits.written l.self.inner (geo l.self.subchunk_shape l.data_type l.fill_value)) l.fill_value l.shape l.self.subchunk_shape l.array.elements l.bytes.items l.slots.items l.k
+    IsLaidOut (g.I.ArrayToBytesCodecTraits.meaning l.self.inner (geo l.self.subchunk_shape l.data_type l.fill_value)).written l.fill_value l.shape l.self.subchunk_shape l.array.elements l.bytes.items l.slots.items l.k

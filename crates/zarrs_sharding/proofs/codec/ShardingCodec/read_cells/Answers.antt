@@ -14,14 +14,14 @@ returns-in_err-array-clause-refused g c =
     let parts = c.in_ok-parts.parts.items in
     let fill = a.fill_value.now in
     let sub = a.self.now.subchunk_shape in
-    let cells = g.I.ArrayToBytesCodecTraits.cells a.self.now.inner (geo sub a.data_type.now fill) in
-    let bytes = interval_part a.outer (g.H.BytesPartialDecoderTraits.contents a.handle.now) in
+    let cells = (g.I.ArrayToBytesCodecTraits.meaning a.self.now.inner (geo sub a.data_type.now fill)).cells in
+    let bytes = interval_part a.outer (g.H.BytesPartialDecoderTraits.state a.handle.now).contents in
     let grouped = rw (c.as_slice.ensures.value, c.as_slice-2.ensures.value) at c.in_ok-groups.ensures.grouped in
     let refused = rw (c.deref.ensures.value, c.as_ne_bytes.ensures) at c.in_err-array.ensures.refused in
     passed_on _ c.in_err-array.field-0.0 _ c.from_residual-in_err-array.ensures.1 (elim refused [
       | inl memory ↦ inl memory
       | inr large ↦ inr (λ tells.
-          let size = length-interval_part a.outer (g.H.BytesPartialDecoderTraits.contents a.handle.now) (c.requires.inside tells) in
+          let size = length-interval_part a.outer (g.H.BytesPartialDecoderTraits.state a.handle.now).contents (c.requires.inside tells) in
           let read = c.in_ok-parts.ensures.cells tells in
           let placed = places_read cells a.shape.now sub fill bytes a.index.now a.numbers.now a.outer.size groups parts size grouped c.in_ok-parts.ensures.counted read in
           let long = too_long_read cells a.shape.now sub fill bytes a.index.now a.numbers.now a.outer.size groups parts size grouped c.in_ok-parts.ensures.counted read large.1 in
@@ -45,8 +45,8 @@ returns-clause-cells g c = λ tells.
     let a = c.args in
     let fill = a.fill_value.now in
     let sub = a.self.now.subchunk_shape in
-    let cells = g.I.ArrayToBytesCodecTraits.cells a.self.now.inner (geo sub a.data_type.now fill) in
-    let contents = g.H.BytesPartialDecoderTraits.contents a.handle.now in
+    let cells = (g.I.ArrayToBytesCodecTraits.meaning a.self.now.inner (geo sub a.data_type.now fill)).cells in
+    let contents = (g.H.BytesPartialDecoderTraits.state a.handle.now).contents in
     let grouped = rw (c.as_slice.ensures.value, c.as_slice-2.ensures.value) at c.in_ok-groups.ensures.grouped in
     let elements = rw (c.deref.ensures.value, c.as_ne_bytes.ensures) at c.in_ok-array.ensures.elements in
     let size = length-interval_part a.outer contents (c.requires.inside tells) in

@@ -51,11 +51,11 @@ returns-in_err-part-clause-refused g c =
     let places = group_read asked c.loop-j.j below c.index.result.now c.as_slice-places.result.now c.index.ensures c.as_slice-places.ensures.value in
     let number : c.index-number.result.now ≡ get_or groups.subchunks.items c.loop-j.j 0 = get_or_read groups.subchunks.items _ _ below c.index-number.ensures 0 in
     let slot : c.slot_of-slot.result ≡ slot_at a.outer.size a.index.now (get_or groups.subchunks.items c.loop-j.j 0) = c.slot_of-slot.ensures.pair ∙ ap (slot_at a.outer.size a.index.now) number in
-    let refused = rw (inv.read.tells_same, inv.read.contents_same, slot, places, number) at c.in_err-part.ensures.refused in
+    let refused = rw (inv.read.contents_same, slot, places, number) at c.in_err-part.ensures.refused in
     passed_on _ e _ c.from_residual.ensures.1
     (group_refused a._shape.now s.subchunk_shape a._numbers.now groups.subchunks.items (lists_of groups) asked.used asked.places
-    (AnswerTests (x.answerable s.inner sub_g) (x.read_tests s.inner sub_g)) (x.cells s.inner sub_g) (h.tells a.handle.now) (h.faults a.handle.now) (h.faults c.loop-j.handle) (h.faults c.read_slot.new.handle)
-    a.outer (h.contents a.handle.now) a.index.now c.loop-j.parts.items c.loop-j.j e inv.read.faults_kept c.requires.inside below (c.requires.below c.loop-j.j 0 below) inv.cells refused)
+    (AnswerTests (x.meaning s.inner sub_g).answerable (x.meaning s.inner sub_g).read_tests) (x.meaning s.inner sub_g).cells (h.state a.handle.now) (h.state c.loop-j.handle) (h.state c.read_slot.new.handle)
+    a.outer a.index.now c.loop-j.parts.items c.loop-j.j e inv.read c.requires.inside below (c.requires.below c.loop-j.j 0 below) inv.cells refused)
 
 pub loop-j-preserved : goal.loop-j-preserved
 unfolding slot_at
@@ -68,7 +68,7 @@ loop-j-preserved g c =
     let groups = a.groups.now in
     let lists = lists_of groups in
     let numbers = groups.subchunks.items in
-    let bytes = interval_part a.outer (h.contents a.handle.now) in
+    let bytes = interval_part a.outer (h.state a.handle.now).contents in
     let asked = c.requires.groups in
     let inv = c.loop-j.invariant in
     let found = c.in_ok-part.ensures in
@@ -78,10 +78,10 @@ loop-j-preserved g c =
     let slot : c.slot_of-slot.result ≡ slot_at a.outer.size a.index.now (get_or numbers c.loop-j.j 0) = c.slot_of-slot.ensures.pair ∙ ap (slot_at a.outer.size a.index.now) number in
     let cells = rw (inv.read.tells_same, inv.read.contents_same, slot, places) at found.cells in
     record {
-      read = read_then h.tells h.contents h.faults h.supports a.handle.now c.loop-j.handle c.read_slot.new.handle inv.read found.read;
+      read = read_then (h.state a.handle.now) (h.state c.loop-j.handle) (h.state c.read_slot.new.handle) inv.read found.read;
       counted = counted_more c.loop-j.parts.items c.push.new.self.items c.in_ok-part.part c.loop-j.j inv.counted c.in_ok-push.ensures.items;
       parts = each_more (λ i o. IsPartOf (size_of a.data_type.now) (length (get_or lists i [])) o) c.loop-j.parts.items c.push.new.self.items c.in_ok-part.part c.loop-j.j
           inv.counted inv.parts c.in_ok-push.ensures.items (rw places at found.part);
-      cells = λ t. each_more (λ i o. IsReadAt (x.cells s.inner sub_g) bytes (slot_at a.outer.size a.index.now (get_or numbers i 0)) (get_or lists i []) o)
+      cells = λ t. each_more (λ i o. IsReadAt (x.meaning s.inner sub_g).cells bytes (slot_at a.outer.size a.index.now (get_or numbers i 0)) (get_or lists i []) o)
           c.loop-j.parts.items c.push.new.self.items c.in_ok-part.part c.loop-j.j inv.counted (inv.cells t) c.in_ok-push.ensures.items (cells t);
     }

@@ -11,10 +11,10 @@ use Rattle.zarrs_sharding.proofs.codec.ShardingCodec.read_groups.Given as goal
 
 abbrev pub invariant-loop-j : goal.invariant-loop-j
 invariant-loop-j g l = let h = g.H.BytesPartialDecoderTraits in let sub_g = geo l.self.subchunk_shape l.data_type l.fill_value in record {
-  read : IsRead h.tells h.contents h.faults h.supports l.fn.handle l.handle;
+  read : IsRead (h.state l.fn.handle) (h.state l.handle);
   counted : length l.parts.items ≡ l.j;
   parts : (i : ℕ) → i < l.j → IsPartOf (size_of l.data_type) (length (get_or (lists_of l.groups) i [])) (get_or l.parts.items i None);
-  cells : IsTrue (h.tells l.fn.handle) → (i : ℕ) → i < l.j
-      → IsReadAt (g.I.ArrayToBytesCodecTraits.cells l.self.inner sub_g) (interval_part l.outer (h.contents l.fn.handle)) (slot_at l.outer.size l.index (get_or l.groups.subchunks.items i 0))
+  cells : IsTrue (h.state l.fn.handle).tells → (i : ℕ) → i < l.j
+      → IsReadAt (g.I.ArrayToBytesCodecTraits.meaning l.self.inner sub_g).cells (interval_part l.outer (h.state l.fn.handle).contents) (slot_at l.outer.size l.index (get_or l.groups.subchunks.items i 0))
       (get_or (lists_of l.groups) i []) (get_or l.parts.items i None);
 }

@@ -14,5 +14,5 @@ returns-in_err-numbers-clause-refused g c =
     let room : len + 1 < 2 ^ 64 = omega (arith, c.if-len.false) in
     let e = c.in_err-numbers.field-0.0 in
     passed_on _ e _ c.from_residual-in_err-numbers.ensures.1
-    (open_refused (h.tells a.handle.now) _ (h.faults a.handle.now) _ _ len (h.contents a.handle.now) x.decode_tests x.representation x.cells s a.grid.now a.plan.now.size e
-    before.tells_same before.faults_kept room (rw c.in-Some.is at c.in_ok-len.ensures.told) c.requires.plan.size (rw before.contents_same at c.in_err-numbers.ensures.refused))
+    (open_refused (h.state a.handle.now) (h.state c.len.new.self) (h.state c.read_index.new.handle) len x.meaning s a.grid.now a.plan.now.size e
+    before room (rw c.in-Some.is at c.in_ok-len.ensures.told) c.requires.plan.size (rw before.contents_same at c.in_err-numbers.ensures.refused))

@@ -19,8 +19,8 @@ returns-in_err-array-clause-refused g c =
     let h = g.H.BytesPartialDecoderTraits in
     let e = c.in_err-array.field-0.0 in
     passed_on _ e _ c.from_residual.ensures.1
-    (no_object_refused (h.tells a.handle.now) (h.faults a.handle.now) (h.faults a.handle.now) a.count (index_in outer.representation outer.cells s asked)
-    inner.answerable inner.read_tests inner.cells outer.representation outer.cells s asked (h.contents a.handle.now) a.shard.now.held.len (g.N.Indexer.selection a.indexer.now).points e
+    (no_object_refused (h.state a.handle.now) (h.state a.handle.now) a.count (index_in outer.meaning s asked)
+    inner.meaning outer.meaning s asked a.shard.now.held.len (g.N.Indexer.selection a.indexer.now).points e
     (λ t. rw c.in_default.is at (c.requires.known.is_open.held t)) c.requires.points c.requires.count c.in_err-array.ensures.refused)
 
 pub returns-in_default-clause-cells : goal.returns-in_default-clause-cells
@@ -30,8 +30,8 @@ returns-in_default-clause-cells g c = λ t.
     let asked = geo a.shard.now.shape a.shard.now.data_type a.shard.now.fill_value in
     let outer = g.X.ArrayToBytesCodecTraits in
     let index_g = index_geo (grid_of a.shard.now.shape s.subchunk_shape) in
-    let l = layout s.subchunk_shape s.location s.order (outer.representation s.index_codec index_g) asked in
+    let l = layout s.subchunk_shape s.location s.order (outer.meaning s.index_codec index_g).representation asked in
     let held = rw c.in_default.is at (c.requires.known.is_open.held t) in
-    no_object_cells (index_in outer.representation outer.cells s asked) (shard_cells (g.I.ArrayToBytesCodecTraits.cells s.inner (sub_geo s.subchunk_shape asked)) (outer.cells s.index_codec index_g) l) asked
-    (g.H.BytesPartialDecoderTraits.contents a.handle.now) a.shard.now.held.len (g.N.Indexer.selection a.indexer.now).points held c.requires.points
+    no_object_cells (index_in outer.meaning s asked) (shard_cells (g.I.ArrayToBytesCodecTraits.meaning s.inner (sub_geo s.subchunk_shape asked)).cells (outer.meaning s.index_codec index_g).cells l) asked
+    (g.H.BytesPartialDecoderTraits.state a.handle.now).contents a.shard.now.held.len (g.N.Indexer.selection a.indexer.now).points held c.requires.points
     ∙ rw (c.in_ok-array.ensures.filled, c.requires.count) refl

@@ -1,4 +1,4 @@
-use Rattle.std.proofs.Common.{◌∙◌, arith}
+use Rattle.std.proofs.Common.{◌∙◌, inl, inr, arith}
 use Rattle.zarr_parts.specs.Geo.{geo}
 use Rattle.zarr_parts.specs.Grid.{grid_of}
 use Rattle.zarr_codecs.specs.Reads.{interval_part}
@@ -7,7 +7,26 @@ use Rattle.zarrs_sharding.specs.Serves.{sub_geo, layout}
 use Rattle.zarrs_sharding.specs.ReadTests.{AnswerTests}
 use Rattle.zarrs_sharding.proofs.RefusalLemmas.{passed_on}
 use Rattle.zarrs_sharding.proofs.ReadLemmas.{asked_cells, cells_refused}
+use Rattle.zarrs_sharding.proofs.ReadGroupLemmas.{read_then}
 use Rattle.zarrs_sharding.proofs.codec.ShardingCodec.read_planned.Goals as goal
+
+pub returns-in_err-index-clause-refused : goal.returns-in_err-index-clause-refused
+returns-in_err-index-clause-refused g c =
+    let before = c.check_interval.ensures.read in
+    let plan = c.requires.plan in
+    let e = c.in_err-index.field-0.0 in
+    let refused = rw (plan.grid, plan.index.size, before.contents_same) at c.in_err-index.ensures.refused in
+    passed_on _ e _ c.from_residual-in_err-index.ensures.1
+    (elim refused [
+      | inl memory ↦ inl memory
+      | inr tests ↦ inr (λ t. elim (tests (rw before.tells_same t)) [
+        | inl fault ↦ inl (fault.0, omega (arith, fault.1, before.faults_kept))
+        | inr index ↦ inr (inr (c.in_ok-check_interval.ensures.inside t, elim index [
+          | inl short ↦ inl short
+          | inr long ↦ inr (long.0, elim long.1 [ inl damaged ↦ inl damaged | inr none ↦ absurd none.1 ])
+        ]))
+      ])
+    ])
 
 pub returns-in_err-array-clause-refused : goal.returns-in_err-array-clause-refused
 returns-in_err-array-clause-refused g c =
@@ -19,7 +38,7 @@ returns-in_err-array-clause-refused g c =
     let h = g.H.BytesPartialDecoderTraits in
     let sub_g = sub_geo s.subchunk_shape asked in
     let index_g = index_geo (grid_of a.shape.now s.subchunk_shape) in
-    let l = layout s.subchunk_shape s.location s.order (outer.representation s.index_codec index_g) asked in
+    let l = layout s.subchunk_shape s.location s.order (outer.meaning s.index_codec index_g).representation asked in
     let points = (g.N.Indexer.selection a.indexer.now).points in
     let before = c.check_interval.ensures.read in
     let then = c.read_index.ensures.read in
@@ -27,9 +46,9 @@ returns-in_err-array-clause-refused g c =
     let e = c.in_err-array.field-0.0 in
     let refused = rw (c.deref.ensures.value, c.deref-2.ensures.value, then.contents_same, before.contents_same) at c.in_err-array.ensures.refused in
     passed_on _ e _ c.from_residual-in_err-array.ensures.1
-    (cells_refused (h.tells a.handle.now) _ (h.faults a.handle.now) _ _ a.interval (h.contents a.handle.now) (inner.cells s.inner sub_g) (outer.cells s.index_codec index_g) l
-    c.in_ok-index.index.items c.in_ok-numbers.numbers.items points (AnswerTests (inner.answerable s.inner sub_g) (inner.read_tests s.inner sub_g)) (outer.decode_tests s.index_codec index_g) e
-    (then.tells_same ∙ before.tells_same) (omega (arith, then.faults_kept, before.faults_kept)) c.in_ok-check_interval.ensures.inside
+    (cells_refused (h.state a.handle.now) (h.state c.read_index.new.handle) (h.state c.read_cells.new.handle) a.interval (inner.meaning s.inner sub_g) (outer.meaning s.index_codec index_g) l
+    c.in_ok-index.index.items c.in_ok-numbers.numbers.items points e
+    (read_then _ _ _ before then) c.in_ok-check_interval.ensures.inside
     (λ t. rw (plan.grid, plan.index.size, before.contents_same) at (c.in_ok-index.ensures.numbers (rw before.tells_same t))) c.requires.points c.in_ok-numbers.ensures.numbers refused)
 
 pub returns-clause-cells : goal.returns-clause-cells
@@ -40,9 +59,9 @@ returns-clause-cells g c = λ t.
     let h = g.H.BytesPartialDecoderTraits in
     let sub_g = sub_geo s.subchunk_shape asked in
     let index_g = index_geo (grid_of a.shape.now s.subchunk_shape) in
-    let l = layout s.subchunk_shape s.location s.order (g.X.ArrayToBytesCodecTraits.representation s.index_codec index_g) asked in
+    let l = layout s.subchunk_shape s.location s.order (g.X.ArrayToBytesCodecTraits.meaning s.index_codec index_g).representation asked in
     let points = (g.N.Indexer.selection a.indexer.now).points in
-    let bytes = interval_part a.interval (h.contents a.handle.now) in
+    let bytes = interval_part a.interval (h.state a.handle.now).contents in
     let before = c.check_interval.ensures.read in
     let then = c.read_index.ensures.read in
     let plan = c.requires.plan in
@@ -51,5 +70,5 @@ returns-clause-cells g c = λ t.
     let read = rw (c.deref.ensures.value, c.deref-2.ensures.value, contents, c.in_ok-numbers.ensures.numbers) at (c.in_ok-array.ensures.cells (rw (then.tells_same ∙ before.tells_same) t)) in
     record {
       inside = c.in_ok-check_interval.ensures.inside t;
-      read = asked_cells (g.I.ArrayToBytesCodecTraits.cells s.inner sub_g) (g.X.ArrayToBytesCodecTraits.cells s.index_codec index_g) l bytes c.in_ok-index.index.items points told c.requires.points ∙ read;
+      read = asked_cells (g.I.ArrayToBytesCodecTraits.meaning s.inner sub_g) (g.X.ArrayToBytesCodecTraits.meaning s.index_codec index_g) l bytes c.in_ok-index.index.items points told c.requires.points ∙ read;
     }

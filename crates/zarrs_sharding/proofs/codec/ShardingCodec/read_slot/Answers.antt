@@ -13,7 +13,7 @@ returns-in-Ok-clause-cells g c =
     let fits = rw c.in-InRange.is at c.requires.fits in
     let read = rw c.new-asked.ensures at c.in-Ok.ensures.cells in
     λ t. rw c.in-InRange.is
-    (places_read (x.cells s.inner sub_g) sub_g a.outer (h.contents a.handle.now) c.in-InRange.offset c.in-InRange.size a.places.now fits c.requires.below c.in-Ok.array.elements (read t))
+    (places_read (x.meaning s.inner sub_g).cells sub_g a.outer (h.state a.handle.now).contents c.in-InRange.offset c.in-InRange.size a.places.now fits c.requires.below c.in-Ok.array.elements (read t))
 
 pub returns-in-Err-clause-refused : goal.returns-in-Err-clause-refused
 returns-in-Err-clause-refused g c =
@@ -26,6 +26,6 @@ returns-in-Err-clause-refused g c =
     let law = rw c.new-asked.ensures at c.in-Err.ensures.lawful in
     let refused = rw c.new-asked.ensures at c.in-Err.ensures.refused in
     rw c.in-InRange.is
-    (places_refused (x.cells s.inner sub_g) sub_g a.outer (h.contents a.handle.now) c.in-InRange.offset c.in-InRange.size a.places.now fits c.requires.below
-    (x.serves s.inner sub_g) (x.check_tests s.inner sub_g) (x.answerable s.inner sub_g) (x.read_tests s.inner sub_g) (h.tells a.handle.now) (h.faults a.handle.now) (h.faults c.partial_decode.new.handle)
+    (places_refused (x.meaning s.inner sub_g).cells sub_g a.outer (h.state a.handle.now).contents c.in-InRange.offset c.in-InRange.size a.places.now fits c.requires.below
+    (x.meaning s.inner sub_g) (h.state a.handle.now) (h.state c.partial_decode.new.handle)
     c.in-Err.error c.of_stored.result c.requires.serves (omega arith) c.requires.inside law refused c.of_stored.ensures a.number c.requires.some)

@@ -15,8 +15,8 @@ returns-in_err-array-clause-refused g c =
     let h = g.H.BytesPartialDecoderTraits in
     let e = c.in_err-array.field-0.0 in
     passed_on _ e _ c.from_residual-in_err-array.ensures.1
-    (stored_refused (h.tells a.handle.now) (h.faults a.handle.now) _ inner.answerable inner.read_tests inner.cells outer.representation outer.cells a.self.now asked
-    (h.contents a.handle.now) a.shard.now.held.len a.index.now c.in_ok-numbers.numbers.items (g.N.Indexer.selection a.indexer.now).points e
+    (stored_refused (h.state a.handle.now) (h.state c.read_cells.new.handle) inner.meaning outer.meaning a.self.now asked
+    a.shard.now.held.len a.index.now c.in_ok-numbers.numbers.items (g.N.Indexer.selection a.indexer.now).points e
     (λ t. rw c.requires.index at (c.requires.known.is_open.held t)) c.requires.points c.in_ok-numbers.ensures.numbers (rw c.deref.ensures.value at c.in_err-array.ensures.refused))
 
 pub returns-clause-cells : goal.returns-clause-cells
@@ -29,7 +29,7 @@ returns-clause-cells g c = λ t.
     let h = g.H.BytesPartialDecoderTraits in
     let sub_g = sub_geo s.subchunk_shape asked in
     let index_g = index_geo (grid_of a.shard.now.shape s.subchunk_shape) in
-    let l = layout s.subchunk_shape s.location s.order (outer.representation s.index_codec index_g) asked in
-    stored_cells (inner.cells s.inner sub_g) (outer.cells s.index_codec index_g) l asked (h.contents a.handle.now) a.shard.now.held.len a.index.now c.in_ok-numbers.numbers.items
+    let l = layout s.subchunk_shape s.location s.order (outer.meaning s.index_codec index_g).representation asked in
+    stored_cells (inner.meaning s.inner sub_g) (outer.meaning s.index_codec index_g) l asked (h.state a.handle.now).contents a.shard.now.held.len a.index.now c.in_ok-numbers.numbers.items
     (g.N.Indexer.selection a.indexer.now).points c.in_ok-array.array.elements
     (rw c.requires.index at (c.requires.known.is_open.held t)) c.requires.points c.in_ok-numbers.ensures.numbers (rw c.deref.ensures.value at (c.in_ok-array.ensures.cells t))

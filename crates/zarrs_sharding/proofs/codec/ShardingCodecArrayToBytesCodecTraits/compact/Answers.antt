@@ -22,17 +22,16 @@ returns-in_err-numbers-clause-lawful g c =
     let outer = g.X.ArrayToBytesCodecTraits in
     let x = s.index_codec in
     let index_g = index_geo (grid_of c.args.shape.now s.subchunk_shape) in
-    let representation = outer.representation x index_g in
+    let representation = (outer.meaning x index_g).representation in
     let l = layout s.subchunk_shape s.location s.order representation asked in
     let plan = c.in_ok-plan.ensures.plan in
     let inner_g = sub_geo s.subchunk_shape asked in
     let inner = g.I.ArrayToBytesCodecTraits in
     let e = c.in_err-numbers.field-0.0 in
-    let tests = index_next (outer.serves x index_g) (outer.check_tests x index_g) representation (outer.decode_tests x index_g) (outer.cells x index_g) (outer.encodable x index_g) (outer.fits x index_g) l b c.in_ok-plan.ensures.served e
+    let tests = index_next (outer.meaning x index_g) l b c.in_ok-plan.ensures.served e
     (rw (plan.grid, plan.index.size) at c.in_err-numbers.ensures.refused) in
     passed_on _ e _ c.from_residual-in_err-numbers.ensures.1
-    (λ serves. may_refuse_compact (inner.serves s.inner inner_g) (outer.serves x index_g) (outer.check_tests x index_g) representation (outer.decode_tests x index_g) (inner.cells s.inner inner_g) (outer.cells x index_g)
-    (outer.encodable x index_g) (outer.fits x index_g) s.subchunk_shape s.location s.order asked b e serves (rw plan.subchunks at plan.some) plan.places tests)
+    (λ serves. may_refuse_compact (inner.meaning s.inner inner_g) (outer.meaning x index_g) s.subchunk_shape s.location s.order asked b e serves (rw plan.subchunks at plan.some) plan.places tests)
 
 pub returns-in_err-slots-clause-lawful : goal.returns-in_err-slots-clause-lawful
 returns-in_err-slots-clause-lawful g c =
@@ -42,21 +41,20 @@ returns-in_err-slots-clause-lawful g c =
     let outer = g.X.ArrayToBytesCodecTraits in
     let x = s.index_codec in
     let index_g = index_geo (grid_of c.args.shape.now s.subchunk_shape) in
-    let representation = outer.representation x index_g in
+    let representation = (outer.meaning x index_g).representation in
     let l = layout s.subchunk_shape s.location s.order representation asked in
     let plan = c.in_ok-plan.ensures.plan in
     let numbers = c.in_ok-numbers.numbers.items in
-    let told : numbers_in_index (outer.cells x index_g) l.location l.index_size b ≡ Some numbers = rw (plan.grid, plan.index.size) at c.in_ok-numbers.ensures.numbers in
+    let told : numbers_in_index (outer.meaning x index_g).cells l.location l.index_size b ≡ Some numbers = rw (plan.grid, plan.index.size) at c.in_ok-numbers.ensures.numbers in
     let counted : length numbers ≡ 2 * count_of (grid_of l.shape l.sub) = rw plan.grid at c.in_ok-numbers.ensures.counted in
     let many : length numbers / 2 ≡ count_of (grid_of l.shape l.sub) = omega (arith, counted) in
     let inner_g = sub_geo s.subchunk_shape asked in
     let inner = g.I.ArrayToBytesCodecTraits in
     let e = c.in_err-slots.field-0.0 in
-    let tests = pairs_next (outer.serves x index_g) (outer.check_tests x index_g) representation (outer.decode_tests x index_g) (outer.cells x index_g) (outer.encodable x index_g) (outer.fits x index_g) l b c.in_ok-plan.ensures.served numbers told (length numbers / 2) e many
+    let tests = pairs_next (outer.meaning x index_g) l b c.in_ok-plan.ensures.served numbers told (length numbers / 2) e many
     (rw c.deref.ensures.value at c.in_err-slots.ensures.refused) in
     passed_on _ e _ c.from_residual-in_err-slots.ensures.1
-    (λ serves. may_refuse_compact (inner.serves s.inner inner_g) (outer.serves x index_g) (outer.check_tests x index_g) representation (outer.decode_tests x index_g) (inner.cells s.inner inner_g) (outer.cells x index_g)
-    (outer.encodable x index_g) (outer.fits x index_g) s.subchunk_shape s.location s.order asked b e serves (rw plan.subchunks at plan.some) plan.places tests)
+    (λ serves. may_refuse_compact (inner.meaning s.inner inner_g) (outer.meaning x index_g) s.subchunk_shape s.location s.order asked b e serves (rw plan.subchunks at plan.some) plan.places tests)
 
 pub returns-in_err-slots-clause-refused : goal.returns-in_err-slots-clause-refused
 returns-in_err-slots-clause-refused g c =
@@ -66,17 +64,17 @@ returns-in_err-slots-clause-refused g c =
     let outer = g.X.ArrayToBytesCodecTraits in
     let x = s.index_codec in
     let index_g = index_geo (grid_of c.args.shape.now s.subchunk_shape) in
-    let representation = outer.representation x index_g in
+    let representation = (outer.meaning x index_g).representation in
     let l = layout s.subchunk_shape s.location s.order representation asked in
     let plan = c.in_ok-plan.ensures.plan in
     let numbers = c.in_ok-numbers.numbers.items in
-    let told : numbers_in_index (outer.cells x index_g) l.location l.index_size b ≡ Some numbers = rw (plan.grid, plan.index.size) at c.in_ok-numbers.ensures.numbers in
+    let told : numbers_in_index (outer.meaning x index_g).cells l.location l.index_size b ≡ Some numbers = rw (plan.grid, plan.index.size) at c.in_ok-numbers.ensures.numbers in
     let counted : length numbers ≡ 2 * count_of (grid_of l.shape l.sub) = rw plan.grid at c.in_ok-numbers.ensures.counted in
     let many : length numbers / 2 ≡ count_of (grid_of l.shape l.sub) = omega (arith, counted) in
     let e = c.in_err-slots.field-0.0 in
-    let tests = pairs_next (outer.serves x index_g) (outer.check_tests x index_g) representation (outer.decode_tests x index_g) (outer.cells x index_g) (outer.encodable x index_g) (outer.fits x index_g) l b c.in_ok-plan.ensures.served numbers told (length numbers / 2) e many
+    let tests = pairs_next (outer.meaning x index_g) l b c.in_ok-plan.ensures.served numbers told (length numbers / 2) e many
     (rw c.deref.ensures.value at c.in_err-slots.ensures.refused) in
-    passed_on c.from_residual-in_err-slots.result e (RefusedBy (CompactTests (outer.serves x index_g) (outer.check_tests x index_g) representation (outer.decode_tests x index_g) (outer.cells x index_g) (outer.encodable x index_g) (outer.fits x index_g) l b)) c.from_residual-in_err-slots.ensures.1 tests
+    passed_on c.from_residual-in_err-slots.result e (RefusedBy (CompactTests (outer.meaning x index_g) l b)) c.from_residual-in_err-slots.ensures.1 tests
 
 pub returns-in_default-clause-refused : goal.returns-in_default-clause-refused
 returns-in_default-clause-refused g c =
@@ -86,18 +84,18 @@ returns-in_default-clause-refused g c =
     let outer = g.X.ArrayToBytesCodecTraits in
     let x = s.index_codec in
     let index_g = index_geo (grid_of c.args.shape.now s.subchunk_shape) in
-    let representation = outer.representation x index_g in
+    let representation = (outer.meaning x index_g).representation in
     let l = layout s.subchunk_shape s.location s.order representation asked in
     let plan = c.in_ok-plan.ensures.plan in
     let numbers = c.in_ok-numbers.numbers.items in
-    let told : numbers_in_index (outer.cells x index_g) l.location l.index_size b ≡ Some numbers = rw (plan.grid, plan.index.size) at c.in_ok-numbers.ensures.numbers in
+    let told : numbers_in_index (outer.meaning x index_g).cells l.location l.index_size b ≡ Some numbers = rw (plan.grid, plan.index.size) at c.in_ok-numbers.ensures.numbers in
     let counted : length numbers ≡ 2 * count_of (grid_of l.shape l.sub) = rw plan.grid at c.in_ok-numbers.ensures.counted in
     let many : length numbers / 2 ≡ count_of (grid_of l.shape l.sub) = omega (arith, counted) in
     let slots = c.in_ok-slots.slots.items in
     let are : AreSlots (length b) numbers slots (count_of (grid_of l.shape l.sub)) =
     rw (c.deref.ensures.value, many) at c.in_ok-slots.ensures.slots in
-    let size = size_present (outer.cells x index_g) (outer.written x index_g) l b numbers slots told are in
-    size_next (outer.serves x index_g) (outer.check_tests x index_g) representation (outer.decode_tests x index_g) (outer.cells x index_g) (outer.encodable x index_g) (outer.fits x index_g) l b c.in_ok-plan.ensures.served numbers told
+    let size = size_present (outer.meaning x index_g) l b numbers slots told are in
+    size_next (outer.meaning x index_g) l b c.in_ok-plan.ensures.served numbers told
     (good_slots (length b) numbers slots (count_of (grid_of l.shape l.sub)) are)
     (λ fits. c.in_default.ensures (rw (c.deref-2.ensures.value, plan.index.size) (omega (arith, size, fits))))
 
@@ -109,18 +107,18 @@ returns-then-total-len-clause-kept g c =
     let outer = g.X.ArrayToBytesCodecTraits in
     let x = s.index_codec in
     let index_g = index_geo (grid_of c.args.shape.now s.subchunk_shape) in
-    let representation = outer.representation x index_g in
+    let representation = (outer.meaning x index_g).representation in
     let l = layout s.subchunk_shape s.location s.order representation asked in
     let plan = c.in_ok-plan.ensures.plan in
     let numbers = c.in_ok-numbers.numbers.items in
-    let told : numbers_in_index (outer.cells x index_g) l.location l.index_size b ≡ Some numbers = rw (plan.grid, plan.index.size) at c.in_ok-numbers.ensures.numbers in
+    let told : numbers_in_index (outer.meaning x index_g).cells l.location l.index_size b ≡ Some numbers = rw (plan.grid, plan.index.size) at c.in_ok-numbers.ensures.numbers in
     let counted : length numbers ≡ 2 * count_of (grid_of l.shape l.sub) = rw plan.grid at c.in_ok-numbers.ensures.counted in
     let many : length numbers / 2 ≡ count_of (grid_of l.shape l.sub) = omega (arith, counted) in
     let slots = c.in_ok-slots.slots.items in
     let are : AreSlots (length b) numbers slots (count_of (grid_of l.shape l.sub)) =
     rw (c.deref.ensures.value, many) at c.in_ok-slots.ensures.slots in
     let total : c.in-Some.total ≡ l.index_size + taken slots (length slots) = rw (c.deref-2.ensures.value, plan.index.size) at c.in-Some.ensures.1 in
-    compact_shard (outer.cells x index_g) (outer.written x index_g) l b numbers slots told are (sym total ∙ c.if-total-len.true)
+    compact_shard (outer.meaning x index_g) l b numbers slots told are (sym total ∙ c.if-total-len.true)
 
 pub returns-in_err-shard-clause-refused : goal.returns-in_err-shard-clause-refused
 returns-in_err-shard-clause-refused g c =
@@ -130,22 +128,22 @@ returns-in_err-shard-clause-refused g c =
     let outer = g.X.ArrayToBytesCodecTraits in
     let x = s.index_codec in
     let index_g = index_geo (grid_of c.args.shape.now s.subchunk_shape) in
-    let representation = outer.representation x index_g in
+    let representation = (outer.meaning x index_g).representation in
     let l = layout s.subchunk_shape s.location s.order representation asked in
     let plan = c.in_ok-plan.ensures.plan in
     let numbers = c.in_ok-numbers.numbers.items in
-    let told : numbers_in_index (outer.cells x index_g) l.location l.index_size b ≡ Some numbers = rw (plan.grid, plan.index.size) at c.in_ok-numbers.ensures.numbers in
+    let told : numbers_in_index (outer.meaning x index_g).cells l.location l.index_size b ≡ Some numbers = rw (plan.grid, plan.index.size) at c.in_ok-numbers.ensures.numbers in
     let counted : length numbers ≡ 2 * count_of (grid_of l.shape l.sub) = rw plan.grid at c.in_ok-numbers.ensures.counted in
     let many : length numbers / 2 ≡ count_of (grid_of l.shape l.sub) = omega (arith, counted) in
     let slots = c.in_ok-slots.slots.items in
     let are : AreSlots (length b) numbers slots (count_of (grid_of l.shape l.sub)) =
     rw (c.deref.ensures.value, many) at c.in_ok-slots.ensures.slots in
-    let size = size_present (outer.cells x index_g) (outer.written x index_g) l b numbers slots told are in
+    let size = size_present (outer.meaning x index_g) l b numbers slots told are in
     let total : c.in-Some.total ≡ l.index_size + taken slots (length slots) = rw (c.deref-2.ensures.value, plan.index.size) at c.in-Some.ensures.1 in
     let small : l.index_size + taken slots (length slots) + 1 < 2 ^ 64 = rw (c.deref-2.ensures.value, plan.index.size) at c.in-Some.ensures.0 in
     let e = c.in_err-shard.field-0.0 in
     passed_on _ e _ c.from_residual-in_err-shard.ensures.1
-    (rewrite_next (outer.serves x index_g) (outer.check_tests x index_g) representation (outer.decode_tests x index_g) (outer.cells x index_g) (outer.encodable x index_g) (outer.fits x index_g) l b c.in_ok-plan.ensures.served numbers told
+    (rewrite_next (outer.meaning x index_g) l b c.in_ok-plan.ensures.served numbers told
     (good_slots (length b) numbers slots (count_of (grid_of l.shape l.sub)) are) e
     (omega (arith, size, total, small)) (λ same. c.if-total-len.false (total ∙ size ∙ same))
     (rw plan.grid at c.in_err-shard.ensures.refused))
@@ -158,16 +156,16 @@ returns-clause-compacted g c =
     let outer = g.X.ArrayToBytesCodecTraits in
     let x = s.index_codec in
     let index_g = index_geo (grid_of c.args.shape.now s.subchunk_shape) in
-    let representation = outer.representation x index_g in
+    let representation = (outer.meaning x index_g).representation in
     let l = layout s.subchunk_shape s.location s.order representation asked in
     let plan = c.in_ok-plan.ensures.plan in
     let numbers = c.in_ok-numbers.numbers.items in
-    let told : numbers_in_index (outer.cells x index_g) l.location l.index_size b ≡ Some numbers = rw (plan.grid, plan.index.size) at c.in_ok-numbers.ensures.numbers in
+    let told : numbers_in_index (outer.meaning x index_g).cells l.location l.index_size b ≡ Some numbers = rw (plan.grid, plan.index.size) at c.in_ok-numbers.ensures.numbers in
     let counted : length numbers ≡ 2 * count_of (grid_of l.shape l.sub) = rw plan.grid at c.in_ok-numbers.ensures.counted in
     let many : length numbers / 2 ≡ count_of (grid_of l.shape l.sub) = omega (arith, counted) in
     let slots = c.in_ok-slots.slots.items in
     let are : AreSlots (length b) numbers slots (count_of (grid_of l.shape l.sub)) =
     rw (c.deref.ensures.value, many) at c.in_ok-slots.ensures.slots in
     let total : c.in-Some.total ≡ l.index_size + taken slots (length slots) = rw (c.deref-2.ensures.value, plan.index.size) at c.in-Some.ensures.1 in
-    compacted_shard (outer.cells x index_g) (outer.written x index_g) l b numbers slots told are c.in_ok-shard.shard.items
+    compacted_shard (outer.meaning x index_g) l b numbers slots told are c.in_ok-shard.shard.items
     (λ same. c.if-total-len.false (total ∙ same)) (rw (c.deref-3.ensures.value, plan.grid, plan.index.size) at c.in_ok-shard.ensures.rewritten)

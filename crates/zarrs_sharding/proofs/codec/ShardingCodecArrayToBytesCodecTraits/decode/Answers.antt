@@ -13,16 +13,13 @@ returns-in_err-numbers-clause-lawful g c =
     let s = c.args.self.now in
     let asked = geo c.args.shape.now c.args.data_type.now c.args.fill_value.now in
     let index_g = index_geo (grid_of c.args.shape.now s.subchunk_shape) in
-    let inner_decode = g.I.ArrayToBytesCodecTraits.decode_tests s.inner (sub_geo s.subchunk_shape asked) in
-    let index_decode = g.X.ArrayToBytesCodecTraits.decode_tests s.index_codec index_g in
-    let inner_cells = g.I.ArrayToBytesCodecTraits.cells s.inner (sub_geo s.subchunk_shape asked) in
-    let index_cells = g.X.ArrayToBytesCodecTraits.cells s.index_codec index_g in
-    let representation = g.X.ArrayToBytesCodecTraits.representation s.index_codec index_g in
+    let inner = g.I.ArrayToBytesCodecTraits.meaning s.inner (sub_geo s.subchunk_shape asked) in
+    let index = g.X.ArrayToBytesCodecTraits.meaning s.index_codec index_g in
     let plan = c.in_ok-plan.ensures.plan in
     let e = c.in_err-numbers.field-0.0 in
-    let tests = index_first inner_decode index_decode inner_cells index_cells (layout s.subchunk_shape s.location s.order representation asked) c.args.bytes.now e
+    let tests = index_first inner index (layout s.subchunk_shape s.location s.order index.representation asked) c.args.bytes.now e
     (rw (plan.grid, plan.index.size) at c.in_err-numbers.ensures.refused) in
-    passed_on _ e _ c.from_residual-in_err-numbers.ensures.1 (λ serves. lawful inner_decode index_decode inner_cells index_cells _ _ representation s.subchunk_shape s.location s.order asked c.args.bytes.now e
+    passed_on _ e _ c.from_residual-in_err-numbers.ensures.1 (λ serves. lawful inner index s.subchunk_shape s.location s.order asked c.args.bytes.now e
     serves (rw plan.subchunks at plan.some) plan.places
     (g.met.I.ArrayToBytesCodecTraits.cells_counted s.inner _) (g.met.X.ArrayToBytesCodecTraits.cells_counted s.index_codec _) (g.met.X.ArrayToBytesCodecTraits.cells_fitting s.index_codec _) tests)
 
@@ -31,17 +28,14 @@ returns-in_err-subchunks-clause-lawful g c =
     let s = c.args.self.now in
     let asked = geo c.args.shape.now c.args.data_type.now c.args.fill_value.now in
     let index_g = index_geo (grid_of c.args.shape.now s.subchunk_shape) in
-    let inner_decode = g.I.ArrayToBytesCodecTraits.decode_tests s.inner (sub_geo s.subchunk_shape asked) in
-    let index_decode = g.X.ArrayToBytesCodecTraits.decode_tests s.index_codec index_g in
-    let inner_cells = g.I.ArrayToBytesCodecTraits.cells s.inner (sub_geo s.subchunk_shape asked) in
-    let index_cells = g.X.ArrayToBytesCodecTraits.cells s.index_codec index_g in
-    let representation = g.X.ArrayToBytesCodecTraits.representation s.index_codec index_g in
+    let inner = g.I.ArrayToBytesCodecTraits.meaning s.inner (sub_geo s.subchunk_shape asked) in
+    let index = g.X.ArrayToBytesCodecTraits.meaning s.index_codec index_g in
     let plan = c.in_ok-plan.ensures.plan in
     let e = c.in_err-subchunks.field-0.0 in
     let counted = rw plan.grid at c.in_ok-numbers.ensures.counted in
-    let tests = subchunks_next inner_decode index_decode inner_cells index_cells (layout s.subchunk_shape s.location s.order representation asked) c.args.bytes.now c.in_ok-numbers.numbers.items _ e
+    let tests = subchunks_next inner index (layout s.subchunk_shape s.location s.order index.representation asked) c.args.bytes.now c.in_ok-numbers.numbers.items _ e
     (rw (plan.grid, plan.index.size) at c.in_ok-numbers.ensures.numbers) (omega (arith, counted)) (rw c.deref.ensures.value at c.in_err-subchunks.ensures.refused) in
-    passed_on _ e _ c.from_residual-in_err-subchunks.ensures.1 (λ serves. lawful inner_decode index_decode inner_cells index_cells _ _ representation s.subchunk_shape s.location s.order asked c.args.bytes.now e
+    passed_on _ e _ c.from_residual-in_err-subchunks.ensures.1 (λ serves. lawful inner index s.subchunk_shape s.location s.order asked c.args.bytes.now e
     serves (rw plan.subchunks at plan.some) plan.places
     (g.met.I.ArrayToBytesCodecTraits.cells_counted s.inner _) (g.met.X.ArrayToBytesCodecTraits.cells_counted s.index_codec _) (g.met.X.ArrayToBytesCodecTraits.cells_fitting s.index_codec _) tests)
 
@@ -50,15 +44,12 @@ returns-in_err-subchunks-clause-refused g c =
     let s = c.args.self.now in
     let asked = geo c.args.shape.now c.args.data_type.now c.args.fill_value.now in
     let index_g = index_geo (grid_of c.args.shape.now s.subchunk_shape) in
-    let inner_decode = g.I.ArrayToBytesCodecTraits.decode_tests s.inner (sub_geo s.subchunk_shape asked) in
-    let index_decode = g.X.ArrayToBytesCodecTraits.decode_tests s.index_codec index_g in
-    let inner_cells = g.I.ArrayToBytesCodecTraits.cells s.inner (sub_geo s.subchunk_shape asked) in
-    let index_cells = g.X.ArrayToBytesCodecTraits.cells s.index_codec index_g in
-    let representation = g.X.ArrayToBytesCodecTraits.representation s.index_codec index_g in
+    let inner = g.I.ArrayToBytesCodecTraits.meaning s.inner (sub_geo s.subchunk_shape asked) in
+    let index = g.X.ArrayToBytesCodecTraits.meaning s.index_codec index_g in
     let plan = c.in_ok-plan.ensures.plan in
     let e = c.in_err-subchunks.field-0.0 in
     let counted = rw plan.grid at c.in_ok-numbers.ensures.counted in
-    let tests = subchunks_next inner_decode index_decode inner_cells index_cells (layout s.subchunk_shape s.location s.order representation asked) c.args.bytes.now c.in_ok-numbers.numbers.items _ e
+    let tests = subchunks_next inner index (layout s.subchunk_shape s.location s.order index.representation asked) c.args.bytes.now c.in_ok-numbers.numbers.items _ e
     (rw (plan.grid, plan.index.size) at c.in_ok-numbers.ensures.numbers) (omega (arith, counted)) (rw c.deref.ensures.value at c.in_err-subchunks.ensures.refused) in
     let serves = c.in_ok-plan.ensures.serves in
     passed_on _ e _ c.from_residual-in_err-subchunks.ensures.1 (elim tests [ inl memory ↦ inl memory | inr refused ↦ inr (inr (serves, refused)) ])
@@ -67,9 +58,9 @@ pub returns-clause-array : goal.returns-clause-array
 returns-clause-array g c =
     let s = c.args.self.now in
     let asked = geo c.args.shape.now c.args.data_type.now c.args.fill_value.now in
-    let inner_cells = g.I.ArrayToBytesCodecTraits.cells s.inner (sub_geo s.subchunk_shape asked) in
-    let index_cells = g.X.ArrayToBytesCodecTraits.cells s.index_codec (index_geo (grid_of c.args.shape.now s.subchunk_shape)) in
-    let size = fixed_size (g.X.ArrayToBytesCodecTraits.representation s.index_codec (index_geo (grid_of c.args.shape.now s.subchunk_shape))) in
+    let inner_cells = (g.I.ArrayToBytesCodecTraits.meaning s.inner (sub_geo s.subchunk_shape asked)).cells in
+    let index_cells = (g.X.ArrayToBytesCodecTraits.meaning s.index_codec (index_geo (grid_of c.args.shape.now s.subchunk_shape))).cells in
+    let size = fixed_size ((g.X.ArrayToBytesCodecTraits.meaning s.index_codec (index_geo (grid_of c.args.shape.now s.subchunk_shape))).representation) in
     let plan = c.in_ok-plan.ensures.plan in
     let serves = c.in_ok-plan.ensures.serves in
     let found = rw c.deref.ensures.value at c.in_ok-subchunks.ensures.decoded in
@@ -85,9 +76,9 @@ pub returns-clause-cells : goal.returns-clause-cells
 returns-clause-cells g c =
     let s = c.args.self.now in
     let asked = geo c.args.shape.now c.args.data_type.now c.args.fill_value.now in
-    let inner_cells = g.I.ArrayToBytesCodecTraits.cells s.inner (sub_geo s.subchunk_shape asked) in
-    let index_cells = g.X.ArrayToBytesCodecTraits.cells s.index_codec (index_geo (grid_of c.args.shape.now s.subchunk_shape)) in
-    let size = fixed_size (g.X.ArrayToBytesCodecTraits.representation s.index_codec (index_geo (grid_of c.args.shape.now s.subchunk_shape))) in
+    let inner_cells = (g.I.ArrayToBytesCodecTraits.meaning s.inner (sub_geo s.subchunk_shape asked)).cells in
+    let index_cells = (g.X.ArrayToBytesCodecTraits.meaning s.index_codec (index_geo (grid_of c.args.shape.now s.subchunk_shape))).cells in
+    let size = fixed_size ((g.X.ArrayToBytesCodecTraits.meaning s.index_codec (index_geo (grid_of c.args.shape.now s.subchunk_shape))).representation) in
     let plan = c.in_ok-plan.ensures.plan in
     let serves = c.in_ok-plan.ensures.serves in
     let found = rw c.deref.ensures.value at c.in_ok-subchunks.ensures.decoded in
@@ -103,21 +94,18 @@ returns-in_err-array-clause-lawful g c =
     let s = c.args.self.now in
     let asked = geo c.args.shape.now c.args.data_type.now c.args.fill_value.now in
     let index_g = index_geo (grid_of c.args.shape.now s.subchunk_shape) in
-    let inner_decode = g.I.ArrayToBytesCodecTraits.decode_tests s.inner (sub_geo s.subchunk_shape asked) in
-    let index_decode = g.X.ArrayToBytesCodecTraits.decode_tests s.index_codec index_g in
-    let inner_cells = g.I.ArrayToBytesCodecTraits.cells s.inner (sub_geo s.subchunk_shape asked) in
-    let index_cells = g.X.ArrayToBytesCodecTraits.cells s.index_codec index_g in
-    let representation = g.X.ArrayToBytesCodecTraits.representation s.index_codec index_g in
+    let inner = g.I.ArrayToBytesCodecTraits.meaning s.inner (sub_geo s.subchunk_shape asked) in
+    let index = g.X.ArrayToBytesCodecTraits.meaning s.index_codec index_g in
     let plan = c.in_ok-plan.ensures.plan in
     let serves = c.in_ok-plan.ensures.serves in
     let e = c.in_err-array.field-0.0 in
     let found = rw c.deref.ensures.value at c.in_ok-subchunks.ensures.decoded in
     let many = rw c.deref.ensures.value at c.in_ok-subchunks.ensures.counted in
     let counted = rw plan.grid at c.in_ok-numbers.ensures.counted in
-    let tests = lengths_last inner_cells index_cells s.subchunk_shape s.location s.order (fixed_size representation) asked c.args.bytes.now c.in_ok-numbers.numbers.items c.in_ok-subchunks.subchunks.items
+    let tests = lengths_last inner index s.subchunk_shape s.location s.order (fixed_size index.representation) asked c.args.bytes.now c.in_ok-numbers.numbers.items c.in_ok-subchunks.subchunks.items
     serves.divides (rw (plan.grid, plan.index.size) at c.in_ok-numbers.ensures.numbers) (omega (arith, many, counted)) (λ k below. found k (omega (arith, many, counted)))
-    inner_decode index_decode _ e plan.places (rw (c.deref-2.ensures.value, c.as_ne_bytes.ensures) at c.in_err-array.ensures.refused) in
-    passed_on _ e _ c.from_residual-in_err-array.ensures.1 (λ serves. lawful inner_decode index_decode inner_cells index_cells _ _ representation s.subchunk_shape s.location s.order asked c.args.bytes.now e
+    _ e plan.places (rw (c.deref-2.ensures.value, c.as_ne_bytes.ensures) at c.in_err-array.ensures.refused) in
+    passed_on _ e _ c.from_residual-in_err-array.ensures.1 (λ serves. lawful inner index s.subchunk_shape s.location s.order asked c.args.bytes.now e
     serves (rw plan.subchunks at plan.some) plan.places
     (g.met.I.ArrayToBytesCodecTraits.cells_counted s.inner _) (g.met.X.ArrayToBytesCodecTraits.cells_counted s.index_codec _) (g.met.X.ArrayToBytesCodecTraits.cells_fitting s.index_codec _) tests)
 
@@ -126,18 +114,15 @@ returns-in_err-array-clause-refused g c =
     let s = c.args.self.now in
     let asked = geo c.args.shape.now c.args.data_type.now c.args.fill_value.now in
     let index_g = index_geo (grid_of c.args.shape.now s.subchunk_shape) in
-    let inner_decode = g.I.ArrayToBytesCodecTraits.decode_tests s.inner (sub_geo s.subchunk_shape asked) in
-    let index_decode = g.X.ArrayToBytesCodecTraits.decode_tests s.index_codec index_g in
-    let inner_cells = g.I.ArrayToBytesCodecTraits.cells s.inner (sub_geo s.subchunk_shape asked) in
-    let index_cells = g.X.ArrayToBytesCodecTraits.cells s.index_codec index_g in
-    let representation = g.X.ArrayToBytesCodecTraits.representation s.index_codec index_g in
+    let inner = g.I.ArrayToBytesCodecTraits.meaning s.inner (sub_geo s.subchunk_shape asked) in
+    let index = g.X.ArrayToBytesCodecTraits.meaning s.index_codec index_g in
     let plan = c.in_ok-plan.ensures.plan in
     let serves = c.in_ok-plan.ensures.serves in
     let e = c.in_err-array.field-0.0 in
     let found = rw c.deref.ensures.value at c.in_ok-subchunks.ensures.decoded in
     let many = rw c.deref.ensures.value at c.in_ok-subchunks.ensures.counted in
     let counted = rw plan.grid at c.in_ok-numbers.ensures.counted in
-    let tests = lengths_last inner_cells index_cells s.subchunk_shape s.location s.order (fixed_size representation) asked c.args.bytes.now c.in_ok-numbers.numbers.items c.in_ok-subchunks.subchunks.items
+    let tests = lengths_last inner index s.subchunk_shape s.location s.order (fixed_size index.representation) asked c.args.bytes.now c.in_ok-numbers.numbers.items c.in_ok-subchunks.subchunks.items
     serves.divides (rw (plan.grid, plan.index.size) at c.in_ok-numbers.ensures.numbers) (omega (arith, many, counted)) (λ k below. found k (omega (arith, many, counted)))
-    inner_decode index_decode _ e plan.places (rw (c.deref-2.ensures.value, c.as_ne_bytes.ensures) at c.in_err-array.ensures.refused) in
+    _ e plan.places (rw (c.deref-2.ensures.value, c.as_ne_bytes.ensures) at c.in_err-array.ensures.refused) in
     passed_on _ e _ c.from_residual-in_err-array.ensures.1 (elim tests [ inl memory ↦ inl memory | inr refused ↦ inr (inr (serves, refused)) ])

@@ -2,7 +2,8 @@ use Rattle.zarr_parts.specs.Grid.{grid_of}
 use Rattle.zarr_parts.specs.Geo.{geo}
 use Rattle.zarr_parts.specs.Types.{size_of}
 use Rattle.zarrs_sharding.specs.Index.{index_geo}
-use Rattle.zarrs_sharding.specs.Serves.{sub_geo, layout}
+use Rattle.zarrs_sharding.specs.Serves.{sub_geo, layout_in}
+use Rattle.zarrs_sharding.specs.Meanings.{shard_meaning}
 use Rattle.zarrs_sharding.proofs.EncodeRefusals.{refused_as, may_refuse_encode}
 use Rattle.zarrs_sharding.proofs.codec.ShardingCodecArrayToBytesCodecTraits.encode.Goals as goal
 
@@ -16,6 +17,7 @@ returns-clause-lawful g c =
     let index_g = index_geo (grid_of asked.shape s.subchunk_shape) in
     refused_as c.encode_planned.result _ _
     (λ e tests served kind array.
-    may_refuse_encode (inner.encodable s.inner inner_g) (inner.fits s.inner inner_g) (outer.encodable s.index_codec index_g) (outer.fits s.index_codec index_g) (inner.written s.inner inner_g)
-    (layout s.subchunk_shape s.location s.order (outer.representation s.index_codec index_g) asked) (size_of c.args.data_type.now) c.args.bytes.now e kind array.counted tests)
+    let l = layout_in s (outer.meaning s.index_codec index_g) asked in
+    let whole = shard_meaning s (inner.meaning s.inner inner_g) (outer.meaning s.index_codec index_g) asked in
+    may_refuse_encode (inner.meaning s.inner inner_g) (outer.meaning s.index_codec index_g) l (size_of c.args.data_type.now) c.args.bytes.now whole e (λ h. h) (λ h. h) kind array.counted tests)
     c.encode_planned.ensures.refused

@@ -19,11 +19,11 @@ returns-in_err-count-clause-lawful g c =
     let asked = geo a.shape.now a.data_type.now a.fill_value.now in
     let inner = g.I.ArrayToBytesCodecTraits in
     let outer = g.X.ArrayToBytesCodecTraits in
-    let inner_cells = inner.cells s.inner (sub_geo s.subchunk_shape asked) in
+    let inner_cells = (inner.meaning s.inner (sub_geo s.subchunk_shape asked)).cells in
     let index_g = index_geo (grid_of a.shape.now s.subchunk_shape) in
-    let index_cells = outer.cells s.index_codec index_g in
-    let l = layout s.subchunk_shape s.location s.order (outer.representation s.index_codec index_g) asked in
-    let b = interval_part a.interval (g.H.BytesPartialDecoderTraits.contents a.handle.now) in
+    let index_cells = (outer.meaning s.index_codec index_g).cells in
+    let l = layout s.subchunk_shape s.location s.order (outer.meaning s.index_codec index_g).representation asked in
+    let b = interval_part a.interval (g.H.BytesPartialDecoderTraits.state a.handle.now).contents in
     let selection = g.N.Indexer.selection a.indexer.now in
     let e = c.in_err-count.field-0.0 in
     passed_on _ e _ c.from_residual-in_err-count.ensures.1 (λ serves t axes within there.
@@ -42,21 +42,21 @@ returns-in_err-cells-clause-lawful g c =
     let h = g.H.BytesPartialDecoderTraits in
     let sub_g = sub_geo s.subchunk_shape asked in
     let index_g = index_geo (grid_of a.shape.now s.subchunk_shape) in
-    let inner_cells = inner.cells s.inner sub_g in
-    let index_cells = outer.cells s.index_codec index_g in
-    let representation = outer.representation s.index_codec index_g in
+    let inner_cells = (inner.meaning s.inner sub_g).cells in
+    let index_cells = (outer.meaning s.index_codec index_g).cells in
+    let representation = (outer.meaning s.index_codec index_g).representation in
     let l = layout s.subchunk_shape s.location s.order representation asked in
-    let contents = h.contents a.handle.now in
+    let contents = (h.state a.handle.now).contents in
     let b = interval_part a.interval contents in
     let points = (g.N.Indexer.selection a.indexer.now).points in
-    let inner_read = AnswerTests (inner.answerable s.inner sub_g) (inner.read_tests s.inner sub_g) in
-    let index_decode = outer.decode_tests s.index_codec index_g in
+    let inner_read = AnswerTests (inner.meaning s.inner sub_g).answerable (inner.meaning s.inner sub_g).read_tests in
+    let index_decode = (outer.meaning s.index_codec index_g).decode_tests in
     let cells = shard_cells inner_cells index_cells l b in
     let plan = c.in_ok-plan.ensures.plan in
     let e = c.in_err-cells.field-0.0 in
     passed_on _ e _ c.from_residual-in_err-cells.ensures.1 (λ serves t axes within there.
-    object_lawful (h.tells a.handle.now) _ _ a.interval contents (λ x. ReadTests inner_read index_decode inner_cells index_cells l x points) cells (cells_at cells a.shape.now points) e
-    (λ tests. may_refuse_read inner_read index_decode inner_cells index_cells _ _ representation s.subchunk_shape s.location s.order asked b points e
+    object_lawful (h.state a.handle.now) (h.state c.read_planned.new.handle) a.interval (λ x. ReadTests (inner.meaning s.inner sub_g) (outer.meaning s.index_codec index_g) l x points) cells (cells_at cells a.shape.now points) e
+    (λ tests. may_refuse_read (inner.meaning s.inner sub_g) (outer.meaning s.index_codec index_g) s.subchunk_shape s.location s.order asked b points e
     serves (rw plan.subchunks at plan.some) plan.places
     (g.met.I.ArrayToBytesCodecTraits.cells_counted s.inner _) (g.met.X.ArrayToBytesCodecTraits.cells_counted s.index_codec _) (g.met.X.ArrayToBytesCodecTraits.cells_fitting s.index_codec _)
     c.in_ok-count.ensures.inside tests)

@@ -19,6 +19,6 @@ returns-in_err-array-clause-refused g c =
     let e = c.in_err-array.field-0.0 in
     rw (← c.self.view_is) (passed_on _ e _ c.from_residual-in_err-array.ensures.1
     (asked_refused asked selection (λ n. n * byte_size (size_of d.shard.data_type) < 2 ^ 64)
-    (ObjectTests (h.tells d.handle) (h.faults d.handle) (h.faults c.read_open.new.handle)
-    (ObjectCellsTests inner.answerable inner.read_tests inner.cells outer.representation outer.cells s asked (h.contents d.handle) selection.points))
+    (ObjectTests (h.state d.handle) (h.state c.read_open.new.handle)
+    (ObjectCellsTests inner.meaning outer.meaning s asked (h.state d.handle).contents selection.points))
     e c.in_ok-count.ensures.selection c.in_ok-count.ensures.fits c.in_err-array.ensures.refused))

@@ -17,7 +17,7 @@ returns-in_err-range-clause-refused g c =
     let subchunk = c.args.subchunk.now in
     let e = c.in_err-range.field-0.0 in
     rw (← c.self.view_is) (passed_on _ e _ c.from_residual.ensures.1
-    (slot_first grid subchunk (held_slot d.shard.held.len (seen (λ numbers. numbers.items) d.shard.held.index) (number_of subchunk grid)) (ObjectTests (h.tells d.handle) (h.faults d.handle) (h.faults d.handle) done) e
+    (slot_first grid subchunk (held_slot d.shard.held.len (seen (λ numbers. numbers.items) d.shard.held.index) (number_of subchunk grid)) (ObjectTests (h.state d.handle) (h.state d.handle) done) e
     (rw (c.as_slice.ensures.value, c.self.invariant.grid) at c.in_err-range.ensures.refused)))
 
 pub returns-in_err-bytes-clause-refused : goal.returns-in_err-bytes-clause-refused
@@ -32,5 +32,5 @@ returns-in_err-bytes-clause-refused g c =
     let e = c.in_err-bytes.field-0.0 in
     let found = rw (c.as_slice.ensures.value, c.self.invariant.grid) at c.in_ok-range.ensures in
     rw (← c.self.view_is) (passed_on _ e _ c.from_residual-in_err-bytes.ensures.1
-    (slice_refused (h.tells d.handle) (h.faults d.handle) (h.faults c.copied.new.handle) grid subchunk (index_in g.X.ArrayToBytesCodecTraits.representation g.X.ArrayToBytesCodecTraits.cells s asked)
-    (h.contents d.handle) index d.shard.held.len c.in-Some.range e c.self.invariant.is_open.held found.axes found.inside (rw c.in-Some.is at found.range) found.fits c.in_err-bytes.ensures.refused))
+    (slice_refused (h.state d.handle) (h.state c.copied.new.handle) grid subchunk (index_in g.X.ArrayToBytesCodecTraits.meaning s asked)
+    index d.shard.held.len c.in-Some.range e c.self.invariant.is_open.held found.axes found.inside (rw c.in-Some.is at found.range) found.fits c.in_err-bytes.ensures.refused))
