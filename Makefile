@@ -6,7 +6,7 @@
 SCRIPT := $(CURDIR)/crates/shard_tool/stdin
 
 run:
-	@echo "Proving zarr_parts, zarr_codecs, zarrs_sharding and shard_tool, then building it."
+	@echo "Proving shard_tool and the crates that it stands on, then building it."
 	@echo "The first time this takes some minutes; what it says of each function comes as it goes."
 	@cd crates/shard_tool && rt run < $(SCRIPT)
 

@@ -1,10 +1,10 @@
 // The laws of the definitions, each as the contract of a function that does nothing.
 ghost use Rattle.std.specs.Prelude.{◌≡◌, length};
-ghost use Rattle.zarr_parts.specs.Boxes.{LiesIn};
-ghost use Rattle.zarr_parts.specs.Grid.{Divides};
-ghost use Rattle.zarr_parts.specs.Laws.{NumberingLaw, GridLaw, BoxLaw, OverlapLaw};
+ghost use Rattle.zarr_boxes.specs.Boxes.{LiesIn};
+ghost use Rattle.zarr_boxes.specs.Grid.{Divides};
+ghost use Rattle.zarr_boxes.specs.Laws.{NumberingLaw, GridLaw, BoxLaw, OverlapLaw};
 
-use crate::subset::ArraySubset;
+use zarr_boxes::ArraySubset;
 
 /// Coordinates and numbers correspond one to one.
 pub fn numbering_law(_shape: &[u64])
@@ -32,20 +32,4 @@ pub fn overlap_law(subset: &ArraySubset, other: &ArraySubset)
 {
     let _start = subset.start();
     let _other_start = other.start();
-}
-
-#[cfg(test)]
-mod tests {
-    use super::*;
-    use std::test::Fail;
-
-    #[test]
-    fn the_laws_can_be_called(rt: HostRuntime) -> Result<(), Fail> {
-        numbering_law(&[4, 4]);
-        grid_law(&[4, 4], &[2, 2]);
-        let whole = ArraySubset::new_with_shape(rt.alloc(), [4, 4].to_vec(rt.alloc())?)?;
-        box_law(&whole, &[4, 4]);
-        overlap_law(&whole, &whole);
-        Ok(())
-    }
 }

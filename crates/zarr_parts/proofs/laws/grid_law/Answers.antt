@@ -1,4 +1,4 @@
-use Rattle.zarr_parts.proofs.GridLaws.{subchunk_of_inside, place_of_inside, joined_split, joined_inside, subchunk_of_joined, place_of_joined}
+use Rattle.zarr_boxes.proofs.GridLaws.{subchunk_of_inside, place_of_inside, joined_split, joined_inside, subchunk_of_joined, place_of_joined}
 use Rattle.zarr_parts.proofs.laws.grid_law.Goals as goal
 
 pub returns : goal.returns

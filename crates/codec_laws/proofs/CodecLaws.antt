@@ -1,0 +1,46 @@
+-- What follows from the laws of codecs.
+use Rattle.std.proofs.Common.{◌≡◌, inl, inr, ℕ, List, [], ◌∷◌, Option, Some, None, map, refl, sym, ap, ◌∙◌}
+use Rattle.zarr_parts.specs.Arrays.{Array}
+use Rattle.zarr_elements.specs.declared.data_type.DataTypeSize.{DataTypeSize}
+use Rattle.zarr_words.specs.declared.error.CodecError.{CodecError}
+use Rattle.zarr_words.specs.declared.error.CodecError.TheVariants.{OutOfMemory, TooLarge, Fault}
+use Rattle.codec_laws.specs.Meanings.{Meaning}
+use Rattle.codec_laws.specs.Cells.{all_there}
+use Rattle.codec_laws.specs.Refusals.{AreDamaged, MayRefuseDecode}
+use Rattle.codec_laws.specs.RoundTrip.{MayRefuseRoundTrip}
+
+-- elements are told by their cells
+pub same_elements : (xs ys : List (List ℕ)) → map {B = Option (List ℕ)} Some xs ≡ map Some ys → xs ≡ ys
+same_elements [] [] h = refl
+same_elements [] (y ∷ ys) h = cc
+same_elements (x ∷ xs) [] h = cc
+same_elements (x ∷ xs) (y ∷ ys) h =
+    let first : x ≡ y = cc in
+    let rest : map {B = Option (List ℕ)} Some xs ≡ map Some ys = cc in
+    rw (first, same_elements xs ys rest) refl
+
+-- arrays of one kind are told by their cells
+pub same_array : (x y : Array) (kind : DataTypeSize) (cells : List (Option (List ℕ))) → x.kind ≡ kind → y.kind ≡ kind → cells ≡ map Some x.elements → cells ≡ map Some y.elements → x ≡ y
+same_array x y kind cells kind_x kind_y cells_x cells_y =
+    let same_kind : x.kind ≡ y.kind = kind_x ∙ sym kind_y in
+    let elements : x.elements ≡ y.elements = same_elements x.elements y.elements (sym cells_x ∙ cells_y) in
+    ap (λ k. record { kind = k; elements = x.elements }) same_kind ∙ ap (λ es. record { kind = y.kind; elements = es }) elements
+
+-- cells that are all there are not damaged
+pub all_there-some : (xs : List (List ℕ)) → all_there (map Some xs) ≡ Some xs
+all_there-some [] = refl
+all_there-some (x ∷ xs) = rw (all_there-some xs) refl
+
+pub undamaged : (cells : List (Option (List ℕ))) (xs : List (List ℕ)) → cells ≡ map Some xs → AreDamaged cells → ⊥
+undamaged cells xs is damaged =
+    let some : Some xs ≡ None = sym (ap all_there is ∙ all_there-some xs) ∙ damaged in
+    cc
+
+-- what `decode` may refuse of an array that was encoded
+pub refused_by_decode : (codec : Meaning) (xs : List (List ℕ)) (cells : List (Option (List ℕ))) (e : CodecError) → cells ≡ map Some xs → MayRefuseDecode cells e
+    → MayRefuseRoundTrip codec xs e
+refused_by_decode codec xs cells OutOfMemory is h = tt
+refused_by_decode codec xs cells TooLarge is (inl long) = inr (rw is at long)
+refused_by_decode codec xs cells TooLarge is (inr damaged) = absurd (undamaged cells xs is damaged)
+refused_by_decode codec xs cells Fault is h = absurd h
+refused_by_decode codec xs cells _ is h = absurd (undamaged cells xs is h)

@@ -1,0 +1,2 @@
+pub mod CodecLaws
+pub mod ReadLemmas

@@ -1,0 +1,19 @@
+-- Tests that refuse nothing as a fault.
+use Rattle.std.proofs.Common.{inl, inr, sym, subst}
+use Rattle.zarr_parts.specs.Order.{◌or◌then◌, ◌or_as◌then◌}
+use Rattle.zarr_words.specs.declared.error.CodecError.{CodecError}
+use Rattle.codec_laws.specs.Refusals.{IsNoFault}
+
+-- a test of our own, and the later tests
+pub test_faultless : (P : Type 0) (r : CodecError) (later : CodecError → Type 0)
+    → IsNoFault r → ((e : CodecError) → later e → IsNoFault e)
+    → (e : CodecError) → (P or r then later) e → IsNoFault e
+test_faultless P r later h rest e (inl refused) = subst IsNoFault (sym refused.1) h
+test_faultless P r later h rest e (inr passed) = rest e passed.1
+
+-- a test that another codec makes, and the later tests
+pub test_as_faultless : (P : Type 0) (R later : CodecError → Type 0)
+    → ((e : CodecError) → R e → IsNoFault e) → ((e : CodecError) → later e → IsNoFault e)
+    → (e : CodecError) → (P or_as R then later) e → IsNoFault e
+test_as_faultless P R later h rest e (inl refused) = h e refused
+test_as_faultless P R later h rest e (inr passed) = rest e passed.1

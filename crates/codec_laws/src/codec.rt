@@ -1,0 +1,239 @@
+// What the sharding codec asks of a codec from arrays to bytes, and keeps itself.
+ghost use Rattle.std.specs.Prelude.{◌≡◌, ◌<◌, ◌^◌, ◌⊎◌, ℕ, List, Option, Some, None, SomeIff, IfOk, IfErr, OnOk, OnErr, IfSome, IsSome, IsTrue, map, length, slice_index_or};
+ghost use Rattle.zarr_parts.specs.Order.{◌or◌then◌, ◌or_as◌then◌, done, RefusedBy};
+ghost use Rattle.zarr_parts.specs.Numbering.{count_of};
+ghost use Rattle.zarr_parts.specs.Geo.{Geo, geo, IsArrayOf};
+ghost use Rattle.zarr_parts.specs.Types.{size_of, FitsKind};
+ghost use Rattle.zarr_parts.specs.Arrays.{Array};
+ghost use Rattle.zarr_words.specs.declared.error.CodecError.{CodecError};
+ghost use Rattle.zarr_parts.specs.Selections.{LiesWithin};
+ghost use Rattle.zarr_parts.specs.Targets.{TargetTests};
+ghost use Rattle.zarr_elements.specs.declared.data_type.DataTypeSize.TheVariants.{Fixed};
+ghost use Rattle.zarr_words.specs.declared.error.CodecError.TheVariants.{TooLarge};
+ghost use Rattle.object_handles.specs.Handles.{IsRead, IsCounted, MayFault};
+ghost use Rattle.codec_laws.specs.Reads.{IsDecodedInto, cells_at, IsAnswer, IsReadOf, MayRefuseRead, AskedTests};
+ghost use Rattle.object_handles.specs.Objects.{interval_part, HasInterval, ObjectTests, IntervalTests};
+ghost use Rattle.codec_laws.specs.Meanings.{Meaning};
+ghost use Rattle.codec_laws.specs.Laws.{IsLawful};
+ghost use Rattle.codec_laws.specs.Refusals.{RefusesUnserved, MayRefuseEncode, MayRefuseDecode, MayRefuseCompact};
+ghost use Rattle.codec_laws.specs.declared.representation.BytesRepresentation.{BytesRepresentation};
+
+use crate::concurrency::RecommendedConcurrency;
+use crate::representation::BytesRepresentation;
+use object_handles::{BytesPartialDecoderTraits, Interval};
+use std::alloc::Global;
+use zarr_parts::{
+    ArrayBytes, ChunkShape, CodecError, CodecOptions, DataType, DataTypeSize, FillValue,
+    FixedTarget, Indexer,
+};
+
+/// Tests that a target has room for as many elements of a type, which is `None` past `u64::MAX`. Refused, in this order, as
+/// `WrongElementKind` (a type of another element size or of none) and as `InvalidNumberOfElements`.
+pub fn check_target(
+    target: &FixedTarget,
+    count: Option<u64>,
+    data_type: &DataType,
+) -> Result<(), CodecError>
+    ensures kind { OnOk result (size_of data_type.now ≡ Fixed target.now.element_size) }
+    ensures counted { (n : ℕ) → SomeIff count (n < 2 ^ 64) n → OnOk result (count_of target.now.subset.now.shape ≡ n) }
+    ensures refused { (n : ℕ) → SomeIff count (n < 2 ^ 64) n → IfErr result (TargetTests (size_of data_type.now) n target.now done) }
+{
+    if data_type.size() != DataTypeSize::Fixed(target.element_size()) {
+        return Err(CodecError::WrongElementKind);
+    }
+    if count != Some(target.num_elements()) {
+        return Err(CodecError::InvalidNumberOfElements);
+    }
+    Ok(())
+}
+
+/// A codec from arrays to bytes (Zarr V3 core, "Codecs"). Every call takes the shape, the data type and the
+/// fill value of the array that it is about. Every call makes the tests of `check` first.
+pub trait ArrayToBytesCodecTraits {
+    // what the codec means for the arrays of a shape, a type and a fill value
+    ghost meaning: { Self → Geo → Meaning };
+
+    // how many workers can share the work on an array of a shape
+    ghost concurrency: { Self → List ℕ → ℕ };
+
+    // how `recommended_concurrency` refuses: its tests in their order
+    ghost concurrency_tests: { Self → List ℕ → CodecError → Type 0 };
+
+    /// Tests whether the codec serves these arrays. Each codec states its refusals and their order.
+    fn check(
+        &self,
+        alloc: Global,
+        shape: &ChunkShape,
+        data_type: &DataType,
+        fill_value: &FillValue,
+    ) -> Result<(), CodecError>
+        ensures serves { OnOk result (meaning self.now (geo shape.now data_type.now fill_value.now)).serves }
+        ensures refused { let m = meaning self.now (geo shape.now data_type.now fill_value.now) in
+            IfErr result (RefusedBy (RefusesUnserved m)) };
+
+    /// Encodes the elements of an array, which come in row-major order. Refused as `check` refuses, then as
+    /// `WrongElementKind`, `InvalidNumberOfElements`, `CannotEncode` or `TooLarge`.
+    fn encode(
+        &self,
+        alloc: Global,
+        bytes: &ArrayBytes,
+        shape: &ChunkShape,
+        data_type: &DataType,
+        fill_value: &FillValue,
+        options: &CodecOptions,
+    ) -> Result<Vec<u8>, CodecError>
+        ensures serves { OnOk result (meaning self.now (geo shape.now data_type.now fill_value.now)).serves }
+        ensures array { let g = geo shape.now data_type.now fill_value.now in
+            OnOk result ((bytes.now.kind ≡ size_of data_type.now) × IsArrayOf g bytes.now.elements) }
+        ensures written { let m = meaning self.now (geo shape.now data_type.now fill_value.now) in
+            IfOk result (λ encoded. m.written bytes.now.elements encoded.items) }
+        ensures lawful { let g = geo shape.now data_type.now fill_value.now in let m = meaning self.now g in
+            IfErr result (λ e. m.serves → bytes.now.kind ≡ size_of data_type.now → IsArrayOf g bytes.now.elements
+            → MayRefuseEncode m bytes.now.elements e) }
+        ensures refused { let m = meaning self.now (geo shape.now data_type.now fill_value.now) in
+            IfErr result (RefusedBy (
+            m.serves or_as RefusesUnserved m then
+            m.encode_tests bytes.now)) };
+
+    /// Decodes an array. The answer may lend the bytes on. Refused as `check` refuses, then as the codec's
+    /// bytes may be bad, or as `TooLarge`.
+    fn decode<'a>(
+        &self,
+        alloc: Global,
+        bytes: &'a [u8],
+        shape: &ChunkShape,
+        data_type: &DataType,
+        fill_value: &FillValue,
+        options: &CodecOptions,
+    ) -> Result<ArrayBytes<'a>, CodecError>
+        ensures serves { OnOk result (meaning self.now (geo shape.now data_type.now fill_value.now)).serves }
+        ensures array { let g = geo shape.now data_type.now fill_value.now in
+            IfOk result (λ array. (array.kind ≡ size_of data_type.now) × IsArrayOf g array.elements) }
+        ensures cells { let m = meaning self.now (geo shape.now data_type.now fill_value.now) in
+            IfOk result (λ array. m.cells bytes.now ≡ map Some array.elements) }
+        ensures lawful { let m = meaning self.now (geo shape.now data_type.now fill_value.now) in
+            IfErr result (λ e. m.serves → MayRefuseDecode (m.cells bytes.now) e) }
+        ensures refused { let m = meaning self.now (geo shape.now data_type.now fill_value.now) in
+            IfErr result (RefusedBy (
+            m.serves or_as RefusesUnserved m then
+            m.decode_tests bytes.now)) };
+
+    /// Decodes an array into a target: its elements go to the target's subset, in row-major order. A refusal leaves the
+    /// target. Refused as `check` refuses, then as `WrongElementKind` (a type of another element size or of none),
+    /// `InvalidNumberOfElements` (another number of elements in the target's subset), then as `decode`.
+    fn decode_into(
+        &self,
+        alloc: Global,
+        bytes: &[u8],
+        shape: &ChunkShape,
+        data_type: &DataType,
+        fill_value: &FillValue,
+        target: &mut FixedTarget,
+        options: &CodecOptions,
+    ) -> Result<(), CodecError>
+        ensures serves { OnOk result (meaning self.now (geo shape.now data_type.now fill_value.now)).serves }
+        ensures kind { OnOk result (size_of data_type.now ≡ Fixed target.old.element_size) }
+        ensures counted { OnOk result (count_of target.old.subset.now.shape ≡ count_of shape.now) }
+        ensures cells { OnOk result (IsDecodedInto target.old target.new ((meaning self.now (geo shape.now data_type.now fill_value.now)).cells bytes.now)) }
+        ensures kept { OnErr result (target.new ≡ target.old) }
+        ensures lawful { let m = meaning self.now (geo shape.now data_type.now fill_value.now) in
+            IfErr result (λ e. m.serves → size_of data_type.now ≡ Fixed target.old.element_size
+            → count_of target.old.subset.now.shape ≡ count_of shape.now → MayRefuseDecode (m.cells bytes.now) e) }
+        ensures refused { let m = meaning self.now (geo shape.now data_type.now fill_value.now) in
+            IfErr result (RefusedBy (
+            m.serves or_as RefusesUnserved m then
+            TargetTests (size_of data_type.now) (count_of shape.now) target.old (
+            m.decode_tests bytes.now))) }
+    {
+        self.check(alloc, shape, data_type, fill_value)?;
+        check_target(target, shape.num_elements(), data_type)?;
+        let array = self.decode(alloc, bytes, shape, data_type, fill_value, options)?;
+        target.copy_from(&array)
+    }
+
+    /// The bytes rewritten without what is not needed, or `None` where there is nothing to gain; they stand for the
+    /// same cells. By default `None`, with no test. Each codec that compacts states its refusals and their order.
+    fn compact(
+        &self,
+        alloc: Global,
+        bytes: &[u8],
+        shape: &ChunkShape,
+        data_type: &DataType,
+        fill_value: &FillValue,
+        options: &CodecOptions,
+    ) -> Result<Option<Vec<u8>>, CodecError>
+        ensures compacted { let m = meaning self.now (geo shape.now data_type.now fill_value.now) in
+            IfOk result (λ answer. IfSome answer (λ new. m.compacted bytes.now new.items)) }
+        ensures lawful { let m = meaning self.now (geo shape.now data_type.now fill_value.now) in
+            IfErr result (λ e. m.serves → MayRefuseCompact (m.cells bytes.now) e) }
+        ensures refused { IfErr result (RefusedBy ((meaning self.now (geo shape.now data_type.now fill_value.now)).compact_tests bytes.now)) }
+    {
+        Ok(None)
+    }
+
+    /// How many workers can share the work on an array of a shape. Takes no memory and makes no test of the fill
+    /// value. Each codec states its refusals and their order.
+    fn recommended_concurrency(
+        &self,
+        shape: &ChunkShape,
+        data_type: &DataType,
+    ) -> Result<RecommendedConcurrency, CodecError>
+        ensures recommended { IfOk result (λ told. told ≡ concurrency self.now shape.now) }
+        ensures refused { IfErr result (concurrency_tests self.now shape.now) };
+
+    /// How long the encodings of such an array are. Refused as `check` refuses, then as `TooLarge` where no
+    /// 64-bit number can say it.
+    fn encoded_representation(
+        &self,
+        alloc: Global,
+        shape: &ChunkShape,
+        data_type: &DataType,
+        fill_value: &FillValue,
+    ) -> Result<BytesRepresentation, CodecError>
+        ensures serves { OnOk result (meaning self.now (geo shape.now data_type.now fill_value.now)).serves }
+        ensures told { let m = meaning self.now (geo shape.now data_type.now fill_value.now) in
+            IfOk result (λ told. m.representation ≡ Some told) }
+        ensures refused { let m = meaning self.now (geo shape.now data_type.now fill_value.now) in
+            IfErr result (RefusedBy (
+            m.serves or_as RefusesUnserved m then
+            IsSome m.representation or TooLarge then
+            done)) };
+
+    /// Reads the cells that an indexer asks, in its order, of an array that stands in an interval of an object; duplicates are
+    /// kept. Ok or refused, the object stays. Refused as `check` refuses, then, in this order, as `IncompatibleDimensionality`
+    /// (shape and indexer), as `OutOfBounds` (cells outside the shape), as `TooLarge` (their count), as `OutOfBounds` where no
+    /// object has the interval, and as the codec's bytes may be bad; or as `Fault`, where the handle failed, or `OutOfMemory`.
+    fn partial_decode<H: BytesPartialDecoderTraits, N: Indexer>(
+        &self,
+        alloc: Global,
+        handle: &mut H,
+        interval: Interval,
+        shape: &ChunkShape,
+        data_type: &DataType,
+        fill_value: &FillValue,
+        indexer: &N,
+        options: &CodecOptions,
+    ) -> Result<ArrayBytes<'static>, CodecError>
+        ensures serves { OnOk result (meaning self.now (geo shape.now data_type.now fill_value.now)).serves }
+        ensures read { IsRead (H.state handle.old) (H.state handle.new) }
+        ensures answer { IfOk result (IsAnswer (geo shape.now data_type.now fill_value.now) (N.selection indexer.now)) }
+        ensures cells { let m = meaning self.now (geo shape.now data_type.now fill_value.now) in
+            IfOk result (λ array. IsTrue (H.state handle.old).tells
+            → IsReadOf m.cells interval (H.state handle.old).contents shape.now (N.selection indexer.now).points array.elements) }
+        ensures counted { IfErr result (IsCounted (H.state handle.old) (H.state handle.new)) }
+        ensures lawful { let m = meaning self.now (geo shape.now data_type.now fill_value.now) in
+            IfErr result (λ e. m.serves → IsTrue (H.state handle.old).tells → (N.selection indexer.now).axes ≡ length shape.now
+            → LiesWithin (N.selection indexer.now).box (N.selection indexer.now).points shape.now → HasInterval interval (H.state handle.old).contents
+            → MayFault (H.state handle.old) (H.state handle.new) e
+            ⊎ MayRefuseRead (m.cells (interval_part interval (H.state handle.old).contents))
+            (cells_at (m.cells (interval_part interval (H.state handle.old).contents)) shape.now (N.selection indexer.now).points) e) }
+        ensures refused { let g = geo shape.now data_type.now fill_value.now in let m = meaning self.now g in
+            IfErr result (RefusedBy (
+            m.serves or_as RefusesUnserved m then
+            AskedTests g (N.selection indexer.now) m.answerable (
+            ObjectTests (H.state handle.old) (H.state handle.new) (
+            IntervalTests interval (H.state handle.old).contents (λ b. m.read_tests b (N.selection indexer.now).points))))) };
+
+    // what the codec means for the arrays of a shape, a type and a fill value keeps the laws
+    ghost lawful: { (x : Self) (g : Geo) → IsLawful g (meaning x g) };
+}

@@ -1,0 +1,14 @@
+// The laws of codecs from arrays to bytes.
+#![tactic(auto)]
+
+mod codec;
+mod concurrency;
+mod functional;
+mod laws;
+mod representation;
+
+pub use codec::{ArrayToBytesCodecTraits, check_target};
+pub use concurrency::RecommendedConcurrency;
+pub use functional::FunctionalCodec;
+pub use laws::{decode_after_encode, read_and_decode};
+pub use representation::BytesRepresentation;

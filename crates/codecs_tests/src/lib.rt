@@ -1,0 +1,19 @@
+// Tests of the handles and the codecs, over their public calls alone.
+#![tactic(auto)]
+
+#[cfg(test)]
+mod bytes_codec;
+#[cfg(test)]
+mod counting;
+#[cfg(test)]
+mod faults;
+#[cfg(test)]
+mod handles;
+#[cfg(test)]
+mod laws;
+#[cfg(test)]
+mod reads;
+#[cfg(test)]
+mod targets;
+#[cfg(test)]
+mod writes;

@@ -1,0 +1,3 @@
+pub mod HandleRows
+pub mod HandleLaws
+pub mod WriteLaws

@@ -1,0 +1,3 @@
+pub mod Handles
+pub mod Objects
+pub mod Writes

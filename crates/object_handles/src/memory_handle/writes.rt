@@ -1,0 +1,83 @@
+// Writes to an object in memory, in place.
+ghost use Rattle.std.specs.Prelude.{◌≡◌, ◌≤◌, ◌+◌, ◌^◌, Some, IfOk, IfErr, OnOk, OnErr, length};
+ghost use Rattle.zarr_words.specs.declared.error.CodecError.TheVariants.{TooLarge};
+ghost use Rattle.object_handles.specs.Handles.{in_memory};
+ghost use Rattle.object_handles.specs.Writes.{RefusesWrite, written_all};
+
+use super::MemoryHandle;
+use crate::writing::BytesPartialEncoderTraits;
+use std::alloc::Global;
+use zarr_words::CodecError;
+
+// The length that an object of these bytes has once the pieces are written. Refused as `TooLarge` where it would reach
+// `usize::MAX`.
+fn length_after(bytes: &[u8], pieces: &[(u64, &[u8])]) -> Result<usize, CodecError>
+    ensures length { IfOk result (λ n. n ≡ length (written_all pieces.now bytes.now)) }
+    ensures too_large { IfErr result (λ e. (e ≡ TooLarge) × (2 ^ 64 ≤ length (written_all pieces.now bytes.now) + 1)) }
+{
+    let mut length = bytes.len();
+    for piece in pieces {
+        let size = piece.1.len() as u64;
+        if piece.0 >= u64::MAX - size {
+            return Err(CodecError::TooLarge);
+        }
+        length = length.max((piece.0 + size) as usize);
+    }
+    Ok(length)
+}
+
+// Writes pieces, which lie in the bytes.
+fn overwrite(bytes: &mut [u8], pieces: &[(u64, &[u8])])
+    requires { length (written_all pieces.now bytes.old) ≤ length bytes.old }
+    ensures { bytes.new ≡ written_all pieces.now bytes.old }
+{
+    for piece in pieces {
+        let start = piece.0 as usize;
+        let end = start + piece.1.len();
+        bytes[start..end].copy_from_slice(piece.1);
+    }
+}
+
+// Writes pieces into the bytes, which grow as they need to.
+fn write_into(bytes: &mut Vec<u8>, pieces: &[(u64, &[u8])]) -> Result<(), CodecError>
+    ensures written { OnOk result (bytes.new.items ≡ written_all pieces.now bytes.old.items) }
+    ensures kept { OnErr result (bytes.new.items ≡ bytes.old.items) }
+    ensures refused { IfErr result (RefusesWrite (length (written_all pieces.now bytes.old.items)) (in_memory (Some bytes.old.items)) (in_memory (Some bytes.new.items))) }
+{
+    let length = length_after(bytes.as_slice(), pieces)?;
+    bytes.resize(length, 0)?;
+    overwrite(bytes.as_mut_slice(), pieces);
+    Ok(())
+}
+
+impl BytesPartialEncoderTraits for MemoryHandle {
+    fn partial_encode_many(
+        &mut self,
+        alloc: Global,
+        pieces: &[(u64, &[u8])],
+    ) -> Result<(), CodecError> {
+        match &mut self.object {
+            Some(bytes) => write_into(bytes, pieces),
+            None => {
+                let mut bytes = Vec::new(alloc);
+                write_into(&mut bytes, pieces)?;
+                self.object = Some(bytes);
+                Ok(())
+            }
+        }
+    }
+
+    fn replace(&mut self, alloc: Global, bytes: &[u8]) -> Result<(), CodecError> {
+        self.object = Some(bytes.to_vec(alloc)?);
+        Ok(())
+    }
+
+    fn erase(&mut self) -> Result<(), CodecError> {
+        self.object = None;
+        Ok(())
+    }
+
+    fn supports_partial_encode(&self) -> bool {
+        true
+    }
+}

@@ -1,0 +1,27 @@
+// Tests of shapes, boxes, arrays and targets, over the public calls of zarr_parts alone.
+#![tactic(auto)]
+
+#[cfg(test)]
+mod arrays;
+#[cfg(test)]
+mod boxes;
+#[cfg(test)]
+mod examples;
+#[cfg(test)]
+mod grid;
+#[cfg(test)]
+mod indexers;
+#[cfg(test)]
+mod numbering;
+#[cfg(test)]
+mod overlaps;
+#[cfg(test)]
+mod selections;
+#[cfg(test)]
+mod shapes;
+#[cfg(test)]
+mod targets;
+#[cfg(test)]
+mod types;
+#[cfg(test)]
+mod words;

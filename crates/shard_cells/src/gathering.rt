@@ -1,0 +1,111 @@
+// The cells of a shard, gathered from its decoded subchunks.
+ghost use Rattle.std.specs.Prelude.{◌≡◌, ◌≢◌, ◌≤◌, ◌<◌, ◌/◌, ◌*◌, ◌^◌, Option, SomeIff, IfOk, IfErr, OnOk, map};
+ghost use Rattle.std.specs.List.{range_with_len};
+ghost use Rattle.zarr_parts.specs.Order.{◌or◌then◌};
+ghost use Rattle.zarr_parts.specs.Numbering.{count_of};
+ghost use Rattle.zarr_parts.specs.Grid.{Divides, grid_of};
+ghost use Rattle.zarr_parts.specs.Types.{FitsKind};
+ghost use Rattle.zarr_elements.specs.declared.data_type.DataTypeSize.TheVariants.{Fixed, Variable};
+ghost use Rattle.zarr_words.specs.declared.error.CodecError.TheVariants.{OutOfMemory, TooLarge};
+ghost use Rattle.shard_format.specs.Decoding.{AreChunks, IsChunkOf, element_at, element_in, bytes_in, bytes_gathered};
+
+use std::alloc::Global;
+use zarr_parts::{ArrayBuilder, ArrayBytes, ChunkShape, CodecError, DataTypeSize, Located, locate};
+
+// The element at a place of a decoded subchunk, which is the fill value where it is absent.
+pub(crate) fn element_of<'a>(
+    subchunk: &'a Option<ArrayBytes<'_>>,
+    place: usize,
+    _kind: DataTypeSize,
+    fill: &'a [u8],
+) -> &'a [u8]
+    requires subchunk { IsChunkOf _kind place subchunk.now }
+    requires fill { FitsKind _kind fill.now }
+    ensures element { result.now ≡ element_at fill.now subchunk.now place }
+    ensures fits { FitsKind _kind result.now }
+{
+    match subchunk {
+        None => fill,
+        Some(array) => array.element(place),
+    }
+}
+
+// How many bytes the elements of a decoded subchunk of so many places have together, where a number can say it.
+fn bytes_in(subchunk: &Option<ArrayBytes>, places: u64, fill: &[u8]) -> Option<u64>
+    ensures { SomeIff result (bytes_in fill.now places subchunk.now < 2 ^ 64) (bytes_in fill.now places subchunk.now) }
+{
+    match subchunk {
+        None => places.checked_mul(fill.len() as u64),
+        Some(array) => Some(array.byte_len() as u64),
+    }
+}
+
+/// Tests, where elements have lengths of their own, that a number can say how many bytes those of all decoded subchunks
+/// have together. Each subchunk has so many places, and is looked at once. Refused only as `TooLarge`.
+pub fn check_lengths(
+    subchunks: &[Option<ArrayBytes>],
+    places: u64,
+    kind: DataTypeSize,
+    fill: &[u8],
+) -> Result<(), CodecError>
+    ensures fits { OnOk result (kind ≡ Variable → bytes_gathered fill.now places subchunks.now < 2 ^ 64) }
+    ensures refused { IfErr result (λ e. (e ≡ TooLarge) × (kind ≡ Variable) × (2 ^ 64 ≤ bytes_gathered fill.now places subchunks.now)) }
+{
+    if kind != DataTypeSize::Variable {
+        return Ok(());
+    }
+    let mut total = 0u64;
+    for subchunk in subchunks {
+        let Some(bytes) = bytes_in(subchunk, places, fill) else {
+            return Err(CodecError::TooLarge);
+        };
+        let Some(sum) = total.checked_add(bytes) else {
+            return Err(CodecError::TooLarge);
+        };
+        total = sum;
+    }
+    Ok(())
+}
+
+/// The cells of a shard, gathered from its decoded subchunks. Refused as `TooLarge` where no number can say how many bytes
+/// the elements have together; that is tested before any memory is asked.
+pub fn gathered(
+    alloc: Global,
+    subchunks: &[Option<ArrayBytes>],
+    cells: u64,
+    shape: &ChunkShape,
+    sub: &ChunkShape,
+    kind: DataTypeSize,
+    fill: &[u8],
+) -> Result<ArrayBytes<'static>, CodecError>
+    requires kind { kind ≢ Fixed 0 }
+    requires fill { FitsKind kind fill.now }
+    requires cells { cells ≡ count_of shape.now }
+    requires divides { Divides sub.now shape.now }
+    requires some { 0 < count_of (grid_of shape.now sub.now) }
+    requires subchunks { AreChunks kind sub.now (count_of (grid_of shape.now sub.now)) subchunks.now }
+    ensures refused { IfErr result (
+        (kind ≡ Variable → bytes_gathered fill.now (count_of sub.now) subchunks.now < 2 ^ 64) or TooLarge then
+        λ e. e ≡ OutOfMemory) }
+    ensures fits { OnOk result (kind ≡ Variable → bytes_gathered fill.now (count_of sub.now) subchunks.now < 2 ^ 64) }
+    ensures kind { IfOk result (λ array. array.kind ≡ kind) }
+    ensures elements { IfOk result (λ array. array.elements ≡ map (element_in subchunks.now fill.now shape.now sub.now) (range_with_len 0 (count_of shape.now))) }
+{
+    let many = subchunks.len() as u64;
+    let places = cells / many;
+    check_lengths(subchunks, places, kind, fill)?;
+    let mut elements = ArrayBuilder::new(alloc, kind)?;
+    for i in 0..cells {
+        let Located { subchunk, place } = locate(
+            i,
+            cells,
+            many,
+            places,
+            shape.as_slice(),
+            sub.as_slice(),
+        );
+        let element = element_of(&subchunks[subchunk as usize], place as usize, kind, fill);
+        elements.push(element)?;
+    }
+    Ok(elements.finish())
+}

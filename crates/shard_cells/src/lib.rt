@@ -1,0 +1,10 @@
+// The cells of a shard: those that a read asks, by their subchunks, and the elements put together from subchunks.
+#![tactic(auto)]
+
+mod asked;
+mod gathering;
+mod grouping;
+
+pub use asked::{check_asked, put_together};
+pub use gathering::{check_lengths, gathered};
+pub use grouping::{Grouping, Places, Standing, grouped};

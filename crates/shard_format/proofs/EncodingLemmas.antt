@@ -1,0 +1,156 @@
+-- An index and slices laid end to end are an encoding of a shard.
+use Rattle.std.proofs.Common.{◌≡◌, ℕ, ◌+◌, ◌-◌, ◌*◌, ◌<◌, ◌≤◌, inl, inr, false, eqb, List, ◌++◌, length, map, get_or, take, drop, refl, sym, ap, ◌∙◌, subst, arith, length-append, length-drop}
+use Rattle.std.specs.List.{range_with_len, sum_by}
+use Rattle.std.proofs.Math.Seq.{take-append_seam, drop-append_seam, drop-append-add}
+use Rattle.std.proofs.lemmas.List.{take-append-le, drop-append-le}
+use Rattle.std.proofs.lemmas.Bool.{le-leb}
+use Rattle.std.proofs.lemmas.Bool.Decides.{eqb_tells}
+use Rattle.zarr_parts.specs.Geo.{Geo}
+use Rattle.zarr_parts.specs.Numbering.{count_of}
+use Rattle.zarr_parts.specs.Grid.{grid_of, subchunk}
+use Rattle.shard_format.specs.Cells.{Layout}
+use Rattle.shard_format.specs.Index.{absent_number, slot_of_pair, slot_at, index_part, data_start, data_end, element_of_number}
+use Rattle.shard_format.specs.Encoding.{StandsAt, AreApart, slot_size, BeginsAt, IsEncoding}
+use Rattle.shard_format.specs.Laying.{IsLaid, taken, IsLaidOut, offset_number, size_number, EndsBelow, IsIndexOf, whole_shard}
+use Rattle.shard_format.specs.Serves.{layout_of}
+use Rattle.shard_format.proofs.LayingLemmas.{sum_more, sum_same, sum_grows_to}
+use Rattle.shard_format.specs.declared.slot.Slot.{Slot}
+use Rattle.shard_format.specs.declared.slot.Slot.TheVariants.{Absent, InRange, Bad}
+use Rattle.shard_format.specs.declared.order.SubchunkWriteOrder.{SubchunkWriteOrder}
+use Rattle.shard_format.specs.declared.location.ShardingIndexLocation.{ShardingIndexLocation}
+use Rattle.shard_format.specs.declared.location.ShardingIndexLocation.TheVariants.{Start, End}
+
+-- how an index and a data part stand in a shard
+pub record Whole (location : ShardingIndexLocation) (size : ℕ) (index bytes all : List ℕ) : Type 0 where
+  pub len : length all ≡ size + length bytes
+  pub index_is : index_part location size all ≡ index
+  pub slice : (o n : ℕ) → o + n ≤ length bytes → take n (drop (data_start location size + o) all) ≡ take n (drop o bytes)
+  pub inside : data_start location size + length bytes ≤ data_end location size (length all)
+  pub start_small : data_start location size ≤ size
+
+plain_plus : (o : ℕ) → 0 + o ≡ o
+plain_plus o = omega arith
+
+pub whole_of : (location : ShardingIndexLocation) (size : ℕ) (index bytes : List ℕ) → length index ≡ size → Whole location size index bytes (whole_shard location index bytes)
+whole_of Start size index bytes h = record {
+  len = omega (arith, length-append index bytes, h);
+  index_is = ap (λ n. take n (index ++ bytes)) (sym h) ∙ take-append_seam index bytes;
+  slice = λ o n below. ap (λ m. take n (drop (m + o) (index ++ bytes))) (sym h) ∙ ap (take n) (drop-append-add index bytes o);
+  inside = omega (arith, length-append index bytes, h);
+  start_small = omega arith;
+}
+whole_of End size index bytes h =
+    let before : length (bytes ++ index) - size ≡ length bytes = omega (arith, length-append bytes index, h) in
+    record {
+      len = omega (arith, length-append bytes index, h);
+      index_is = ap (λ n. drop n (bytes ++ index)) before ∙ drop-append_seam bytes index;
+      slice = λ o n below. ap (λ m. take n (drop m (bytes ++ index))) (plain_plus o) ∙ ap (take n) (drop-append-le o bytes index (omega arith)) ∙ take-append-le n (drop o bytes) index (omega (arith, length-drop o bytes));
+      inside = omega (arith, length-append bytes index, h);
+      start_small = omega arith;
+    }
+
+-- a slot of the data part in the shard
+abbrev pub shifted : ℕ → Slot → Slot
+shifted start Absent = Absent
+shifted start (InRange offset size) = InRange (start + offset) size
+shifted start Bad = Bad
+
+pub other_number : (a b : ℕ) → (¬ (a ≡ b)) → eqb a b ≡ false
+other_number a b h = elim (eqb_tells a b) [ inl same ↦ absurd (h same.1) | inr other ↦ other.0 ]
+
+shifted_pair : (inner_written : List (List ℕ) → List ℕ → Type 0) (fill : List ℕ) (e : List (List ℕ)) (bytes : List ℕ) (start len : ℕ) (s : Slot)
+    → IsLaid inner_written fill e bytes s → start + length bytes ≤ len → start + length bytes < absent_number
+    → slot_of_pair len (offset_number start s) (size_number s) ≡ shifted start s
+shifted_pair inner_written fill e bytes start len Absent h room small = refl
+shifted_pair inner_written fill e bytes start len (InRange offset size) h room small =
+    rw (
+      other_number (start + offset) absent_number (λ same. omega (arith, same, h.2, small)),
+      other_number size absent_number (λ same. omega (arith, same, h.2, small)),
+      le-leb (start + offset + size) len (omega (arith, h.2, room)),
+    ) refl
+shifted_pair inner_written fill e bytes start len Bad h room small = absurd h
+
+stands_shifted : (inner_written : List (List ℕ) → List ℕ → Type 0) (l : Layout) (e : List (List ℕ)) (index bytes all : List ℕ) (s : Slot)
+    → Whole l.location l.index_size index bytes all → IsLaid inner_written l.fill e bytes s
+    → StandsAt inner_written l all e (shifted (data_start l.location l.index_size) s)
+stands_shifted inner_written l e index bytes all Absent w h = h
+stands_shifted inner_written l e index bytes all (InRange offset size) w h =
+    (h.0, rw (w.slice offset size h.2) h.1, omega arith, omega (arith, h.2, w.inside))
+stands_shifted inner_written l e index bytes all Bad w h = absurd h
+
+apart_shifted : (start p q : ℕ) (s t : Slot) → BeginsAt p s → BeginsAt q t → p + slot_size s ≤ q → AreApart (shifted start s) (shifted start t)
+apart_shifted start p q Absent t h k below = tt
+apart_shifted start p q (InRange o n) Absent h k below = tt
+apart_shifted start p q (InRange o n) (InRange r m) h k below = inl (omega (arith, h, k, below))
+apart_shifted start p q (InRange o n) Bad h k below = tt
+apart_shifted start p q Bad t h k below = tt
+
+size_shifted : (start : ℕ) (s : Slot) → slot_size (shifted start s) ≡ slot_size s
+size_shifted start Absent = refl
+size_shifted start (InRange o n) = refl
+size_shifted start Bad = refl
+
+begins_shifted : (start p : ℕ) (s : Slot) → BeginsAt p s → BeginsAt (start + p) (shifted start s)
+begins_shifted start p Absent h = tt
+begins_shifted start p (InRange o n) h = ap (λ (x : ℕ). start + x) h
+begins_shifted start p Bad h = tt
+
+-- the shard is an encoding of the array
+pub encoded_shard : (inner_written index_written : List (List ℕ) → List ℕ → Type 0) (sub : List ℕ) (location : ShardingIndexLocation) (order : SubchunkWriteOrder) (size : ℕ) (g : Geo) (a : List (List ℕ)) (bytes index all : List ℕ) (slots : List Slot)
+    → IsLaidOut inner_written g.fill g.shape sub a bytes slots (count_of (grid_of g.shape sub))
+    → IsIndexOf index_written (data_start location size) slots index
+    → length index ≡ size → size + length bytes < absent_number → all ≡ whole_shard location index bytes
+    → IsEncoding inner_written index_written (layout_of sub location order size g) a all
+unfolding slot_at
+encoded_shard inner_written index_written sub location order size g a bytes index all slots h i sized small is =
+    let l : Layout = layout_of sub location order size g in
+    let n : ℕ = count_of (grid_of g.shape sub) in
+    let start : ℕ = data_start location size in
+    let w : Whole location size index bytes all = subst (Whole location size index bytes) (sym is) (whole_of location size index bytes sized) in
+    let in_slots : (k : ℕ) → k < n → k < length slots = λ k below. omega (arith, below, h.counted) in
+    let at : (k : ℕ) → k < n → slot_at (length all) i.numbers k ≡ shifted start (get_or slots k Bad) =
+    λ k below. rw (i.are.offsets k (in_slots k below), i.are.sizes k (in_slots k below))
+    (shifted_pair inner_written g.fill (subchunk g.shape sub a k) bytes start (length all) (get_or slots k Bad) (h.laid k below)
+    (omega (arith, w.len, w.start_small)) (omega (arith, small, w.start_small))) in
+    let sums : (k : ℕ) → k ≤ n → sum_by (λ j. slot_size (slot_at (length all) i.numbers j)) (range_with_len 0 k) ≡ taken slots k =
+    λ k upto. sum_same (λ j. slot_size (slot_at (length all) i.numbers j)) (λ j. slot_size (get_or slots j Bad)) k
+    (λ j below. ap slot_size (at j (omega arith)) ∙ size_shifted start (get_or slots j Bad)) in
+    record {
+      numbers = i.numbers;
+      holds = record {
+        long_enough = omega (arith, w.len);
+        counted = i.are.counted ∙ ap (λ m. 2 * m) h.counted;
+        below = i.below;
+        index = subst (index_written (map element_of_number i.numbers)) (sym w.index_is) i.written;
+        stand = λ k below. subst (StandsAt inner_written l all (subchunk g.shape sub a k)) (sym (at k below))
+            (stands_shifted inner_written l (subchunk g.shape sub a k) index bytes all (get_or slots k Bad) w (h.laid k below));
+        apart = λ j k before below.
+            let j_in : j < n = omega arith in
+            subst (λ s. AreApart s (slot_at (length all) i.numbers k)) (sym (at j j_in))
+            (subst (λ t. AreApart (shifted start (get_or slots j Bad)) t) (sym (at k below))
+            (apart_shifted start (taken slots j) (taken slots k) (get_or slots j Bad) (get_or slots k Bad) (h.begins j j_in) (h.begins k below)
+            (omega (arith, sum_more (λ (i : ℕ). slot_size (get_or slots i Bad)) j, sum_grows_to (λ (i : ℕ). slot_size (get_or slots i Bad)) (j + 1) k (omega arith)))));
+        filled = omega (arith, sums n (omega arith), h.filled, w.len);
+        in_order = λ ordered k below.
+            subst (λ p. BeginsAt (start + p) (slot_at (length all) i.numbers k)) (sym (sums k (omega arith)))
+            (subst (BeginsAt (start + taken slots k)) (sym (at k below)) (begins_shifted start (taken slots k) (get_or slots k Bad) (h.begins k below)));
+      };
+    }
+
+pub start_small : (location : ShardingIndexLocation) (size : ℕ) → data_start location size ≤ size
+start_small Start size = omega arith
+start_small End size = omega arith
+
+-- the slots' numbers fit
+ends_laid : (inner_written : List (List ℕ) → List ℕ → Type 0) (fill : List ℕ) (e : List (List ℕ)) (bytes : List ℕ) (start : ℕ) (s : Slot)
+    → IsLaid inner_written fill e bytes s → start + length bytes < absent_number → EndsBelow start s
+ends_laid inner_written fill e bytes start Absent h small = tt
+ends_laid inner_written fill e bytes start (InRange o n) h small = omega (arith, h.2, small)
+ends_laid inner_written fill e bytes start Bad h small = absurd h
+
+pub room_laid : (inner_written : List (List ℕ) → List ℕ → Type 0) (fill shape sub : List ℕ) (a : List (List ℕ)) (bytes : List ℕ) (slots : List Slot) (n size : ℕ) (location : ShardingIndexLocation)
+    → IsLaidOut inner_written fill shape sub a bytes slots n → size + length bytes < absent_number
+    → (k : ℕ) → k < length slots → EndsBelow (data_start location size) (get_or slots k Bad)
+room_laid inner_written fill shape sub a bytes slots n size location h small k below =
+    ends_laid inner_written fill (subchunk shape sub a k) bytes (data_start location size) (get_or slots k Bad) (h.laid k (omega (arith, below, h.counted)))
+    (omega (arith, small, start_small location size))

@@ -1,0 +1,40 @@
+-- What the bytes of a shard stand for.
+use Rattle.std.specs.Prelude.{ℕ, List, Option, Some, None, map, length, slice_index_or}
+use Rattle.std.specs.List.{range_with_len}
+use Rattle.zarr_words.specs.Words.{CellList, CellsOf}
+use Rattle.zarr_parts.specs.Numbering.{count_of}
+use Rattle.zarr_parts.specs.Grid.{subchunk_number, place_number}
+use Rattle.shard_format.specs.Index.{slot_at, slice_at, numbers_in_index}
+use Rattle.shard_format.specs.declared.location.ShardingIndexLocation.{ShardingIndexLocation}
+use Rattle.shard_format.specs.declared.order.SubchunkWriteOrder.{SubchunkWriteOrder}
+use Rattle.shard_format.specs.declared.slot.Slot.{Slot}
+use Rattle.shard_format.specs.declared.slot.Slot.TheVariants.{Absent, InRange, Bad}
+
+-- how a shard is laid out: its shape, that of its subchunks, the fill value, where the index stands and how many bytes it
+-- has, and in which order the subchunks are written
+pub record Layout : Type 0 where
+  pub shape : List ℕ
+  pub sub : List ℕ
+  pub fill : List ℕ
+  pub location : ShardingIndexLocation
+  pub index_size : ℕ
+  pub order : SubchunkWriteOrder
+
+-- the cell at a place of the subchunk that a slot names: the fill value where it is absent, what the inner codec reads in
+-- the named slice where it is in range, and no cell where the pair is bad; `inner_cells` says what bytes stand for in the
+-- inner codec
+abbrev pub cell_in : CellsOf → List ℕ → List ℕ → Slot → ℕ → Option (List ℕ)
+cell_in inner_cells fill bytes Absent place = Some fill
+cell_in inner_cells fill bytes (InRange offset size) place = slice_index_or (inner_cells (slice_at offset size bytes)) place None
+cell_in inner_cells fill bytes Bad place = None
+
+-- cell i of the shard, by the numbers of its index; no cell where there is no index
+abbrev pub cell_by : CellsOf → Layout → List ℕ → Option (List ℕ) → ℕ → Option (List ℕ)
+cell_by inner_cells l bytes None i = None
+cell_by inner_cells l bytes (Some numbers) i =
+    cell_in inner_cells l.fill bytes (slot_at (length bytes) numbers (subchunk_number l.shape l.sub i)) (place_number l.shape l.sub i)
+
+-- the cells of the shard, in row-major order
+unfoldable pub shard_cells : CellsOf → CellsOf → Layout → List ℕ → CellList
+shard_cells inner_cells index_cells l bytes =
+    map (cell_by inner_cells l bytes (numbers_in_index index_cells l.location l.index_size bytes)) (range_with_len 0 (count_of l.shape))

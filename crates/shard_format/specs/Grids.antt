@@ -1,0 +1,35 @@
+-- The calls on the grid of a shard: their tests, in their order.
+use Rattle.std.specs.Prelude.{◌≡◌, ◌<◌, ◌^◌, ℕ, List, length}
+use Rattle.zarr_parts.specs.Order.{◌or◌then◌, done}
+use Rattle.zarr_parts.specs.Numbering.{count_of}
+use Rattle.zarr_parts.specs.Boxes.{IsBox}
+use Rattle.zarr_parts.specs.Grid.{Divides, grid_of, grid_box}
+use Rattle.zarr_words.specs.declared.error.CodecError.{CodecError}
+use Rattle.zarr_words.specs.declared.error.CodecError.TheVariants.{IncompatibleDimensionality, InvalidSubchunkShape, TooLarge}
+
+-- the tests of a shard shape and a subchunk shape
+abbrev pub GridTests : List ℕ → List ℕ → CodecError → Type 0
+GridTests shape sub =
+    length shape ≡ length sub or IncompatibleDimensionality then
+    Divides sub shape or InvalidSubchunkShape then
+    done
+
+-- every end of the box of subchunk k, where the grid has it, fits 64 bits
+abbrev pub EndsFit : List ℕ → List ℕ → ℕ → Type 0
+EndsFit grid sub k = k < count_of grid → IsBox (grid_box grid sub k).start sub
+
+-- the tests of a subchunk's number
+abbrev pub SubsetTests : List ℕ → List ℕ → ℕ → CodecError → Type 0
+SubsetTests grid sub k =
+    length grid ≡ length sub or IncompatibleDimensionality then
+    count_of grid < 2 ^ 64 or TooLarge then
+    EndsFit grid sub k or TooLarge then
+    done
+
+-- the tests of the number of subchunks
+abbrev pub ConcurrencyTests : List ℕ → List ℕ → CodecError → Type 0
+ConcurrencyTests shape sub =
+    length shape ≡ length sub or IncompatibleDimensionality then
+    Divides sub shape or InvalidSubchunkShape then
+    count_of (grid_of shape sub) < 2 ^ 64 or TooLarge then
+    done

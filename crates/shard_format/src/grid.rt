@@ -1,0 +1,158 @@
+// The grid of subchunks that a shard is cut into.
+ghost use Rattle.std.specs.Prelude.{IsTrue, ◌↔◌, ◌≡◌, ◌<◌, ◌^◌, ◌*◌, IfOk, IfErr, OnOk, SomeIff, MatchOption, length};
+ghost use Rattle.zarr_parts.specs.Order.{RefusedBy};
+ghost use Rattle.zarr_parts.specs.Numbering.{AllPositive, count_of, zip_with};
+ghost use Rattle.zarr_parts.specs.Boxes.{IsBox};
+ghost use Rattle.zarr_parts.specs.Grid.{Divides, grid_of, grid_box};
+ghost use Rattle.shard_format.specs.Index.{index_shape};
+ghost use Rattle.shard_format.specs.Grids.{GridTests, SubsetTests, EndsFit, ConcurrencyTests};
+
+use std::alloc::{AllocError, Global};
+use zarr_parts::{ArraySubset, ChunkShape, CodecError, unravel_index};
+
+/// How many subchunks a shard has along each axis (Zarr V3 codec `sharding_indexed`, "chunk_shape").
+/// Refused, in this order, as `IncompatibleDimensionality` where the numbers of axes differ and as
+/// `InvalidSubchunkShape` where an axis is not divided evenly; or as `OutOfMemory`.
+pub fn calculate_chunks_per_shard(
+    alloc: Global,
+    shard_shape: &ChunkShape,
+    subchunk_shape: &ChunkShape,
+) -> Result<ChunkShape, CodecError>
+    ensures grid { IfOk result (λ grid. grid ≡ grid_of shard_shape.now subchunk_shape.now) }
+    ensures served { OnOk result ((length shard_shape.now ≡ length subchunk_shape.now) × Divides subchunk_shape.now shard_shape.now) }
+    ensures refused { IfErr result (RefusedBy (GridTests shard_shape.now subchunk_shape.now)) }
+{
+    let axes = quotients(alloc, shard_shape.as_slice(), subchunk_shape.as_slice())?;
+    Ok(ChunkShape::from_positive(axes))
+}
+
+// The quotients of a shard's axes by the subchunk's.
+fn quotients(alloc: Global, shape: &[u64], sub: &[u64]) -> Result<Vec<u64>, CodecError>
+    requires shape { AllPositive shape.now }
+    requires sub { AllPositive sub.now }
+    ensures grid { IfOk result (λ grid. grid.items ≡ grid_of shape.now sub.now) }
+    ensures served { OnOk result ((length shape.now ≡ length sub.now) × Divides sub.now shape.now) }
+    ensures positive { IfOk result (λ grid. AllPositive grid.items) }
+    ensures refused { IfErr result (RefusedBy (GridTests shape.now sub.now)) }
+{
+    if shape.len() != sub.len() {
+        return Err(CodecError::IncompatibleDimensionality);
+    }
+    let mut axes = Vec::with_capacity(alloc, shape.len())?;
+    for i in 0..shape.len() {
+        if shape[i] % sub[i] != 0 {
+            return Err(CodecError::InvalidSubchunkShape);
+        }
+        axes.push(shape[i] / sub[i])?;
+    }
+    Ok(axes)
+}
+
+// Whether a subchunk shape divides a shape with as many axes evenly.
+fn divides(shape: &[u64], sub: &[u64]) -> bool
+    requires axes { length shape.now ≡ length sub.now }
+    requires sub { AllPositive sub.now }
+    ensures { IsTrue result ↔ Divides sub.now shape.now }
+{
+    for axis in 0..shape.len() {
+        if shape[axis] % sub[axis] != 0 {
+            return false;
+        }
+    }
+    true
+}
+
+// The product of the quotients of a shard's axes by the subchunk's, if it fits.
+fn count_quotients(shape: &[u64], sub: &[u64]) -> Option<u64>
+    requires shape { AllPositive shape.now }
+    requires sub { AllPositive sub.now }
+    requires axes { length shape.now ≡ length sub.now }
+    requires divides { Divides sub.now shape.now }
+    ensures { SomeIff result (count_of (grid_of shape.now sub.now) < 2 ^ 64) (count_of (grid_of shape.now sub.now)) }
+{
+    let mut product = 1u64;
+    for axis in 0..shape.len() {
+        product = product.checked_mul(shape[axis] / sub[axis])?;
+    }
+    Some(product)
+}
+
+// How many subchunks a shard has. Takes no memory.
+pub fn count_subchunks(shape: &[u64], sub: &[u64]) -> Result<u64, CodecError>
+    requires shape { AllPositive shape.now }
+    requires sub { AllPositive sub.now }
+    ensures count { IfOk result (λ count. count ≡ count_of (grid_of shape.now sub.now)) }
+    ensures refused { IfErr result (ConcurrencyTests shape.now sub.now) }
+{
+    if shape.len() != sub.len() {
+        return Err(CodecError::IncompatibleDimensionality);
+    }
+    if !divides(shape, sub) {
+        return Err(CodecError::InvalidSubchunkShape);
+    }
+    count_quotients(shape, sub).ok_or(CodecError::TooLarge)
+}
+
+/// The shape of the index of a grid of subchunks: the grid with one more axis of length 2, for offset and size.
+/// Refused only as out of memory.
+pub fn sharding_index_shape(
+    alloc: Global,
+    chunks_per_shard: &ChunkShape,
+) -> Result<ChunkShape, AllocError>
+    ensures { IfOk result (λ shape. shape ≡ index_shape chunks_per_shard.now) }
+{
+    let grid = chunks_per_shard.as_slice();
+    let mut axes = Vec::with_capacity(alloc, grid.len() + 1)?;
+    axes.extend_from_slice(grid)?;
+    axes.push(2)?;
+    Ok(ChunkShape::from_positive(axes))
+}
+
+// The first cell of a subchunk along each axis. `None` where an end of its box passes `u64::MAX`.
+fn first_cell(alloc: Global, point: &[u64], sub: &[u64]) -> Result<Option<Vec<u64>>, AllocError>
+    requires { length point.now ≡ length sub.now }
+    ensures { IfOk result (λ found. MatchOption found
+        (¬ (IsBox (zip_with ◌*◌ point.now sub.now) sub.now))
+        (λ start. start.items ≡ zip_with ◌*◌ point.now sub.now)) }
+{
+    let mut start = Vec::with_capacity(alloc, sub.len())?;
+    for axis in 0..sub.len() {
+        let Some(first) = point[axis].checked_mul(sub[axis]) else {
+            return Ok(None);
+        };
+        start.push(first)?;
+    }
+    Ok(Some(start))
+}
+
+/// The box of the cells of a subchunk, by its number in the grid; `None` where the grid has no such number.
+/// Refused, in this order, as `IncompatibleDimensionality` where grid and subchunk shape differ in their number
+/// of axes, as `TooLarge` where the grid's count or an end of the box passes `u64::MAX`; or as `OutOfMemory`.
+pub fn subchunk_subset(
+    alloc: Global,
+    number: u64,
+    grid: &ChunkShape,
+    sub: &ChunkShape,
+) -> Result<Option<ArraySubset>, CodecError>
+    ensures subset { IfOk result (λ found. SomeIff found (number < count_of grid.now) (grid_box grid.now sub.now number)) }
+    ensures served { OnOk result ((length grid.now ≡ length sub.now) × (count_of grid.now < 2 ^ 64) × EndsFit grid.now sub.now number) }
+    ensures refused { IfErr result (RefusedBy (SubsetTests grid.now sub.now number)) }
+{
+    if grid.as_slice().len() != sub.as_slice().len() {
+        return Err(CodecError::IncompatibleDimensionality);
+    }
+    if grid.num_elements().is_none() {
+        return Err(CodecError::TooLarge);
+    }
+    let Some(point) = unravel_index(alloc, number, grid.as_slice())? else {
+        return Ok(None);
+    };
+    let Some(start) = first_cell(alloc, &point, sub.as_slice())? else {
+        return Err(CodecError::TooLarge);
+    };
+    let shape = sub.as_slice().to_vec(alloc)?;
+    match ArraySubset::new_with_start_shape(start, shape) {
+        Some(subset) => Ok(Some(subset)),
+        None => Err(CodecError::TooLarge),
+    }
+}

@@ -1,0 +1,8 @@
+// The index of a shard: what the index codec is asked to serve, from bytes to numbers, and from slots to bytes.
+#![tactic(auto)]
+
+mod index;
+mod numbers;
+mod place;
+
+pub use index::{IndexCodec, IndexPlan};

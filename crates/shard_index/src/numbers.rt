@@ -1,0 +1,100 @@
+// The numbers of an index: from the elements of an array and back, and from slots.
+ghost use Rattle.std.specs.Prelude.{◌≡◌, ◌<◌, ◌*◌, ◌^◌, ℕ, IfOk, IfErr, map, length, slice_index_or};
+ghost use Rattle.std.specs.List.{All};
+ghost use Rattle.zarr_elements.specs.declared.data_type.DataTypeSize.TheVariants.{Fixed};
+ghost use Rattle.zarr_words.specs.declared.error.CodecError.TheVariants.{OutOfMemory};
+ghost use Rattle.shard_format.specs.Index.{number_of_element, element_of_number};
+ghost use Rattle.shard_format.specs.Laying.{offset_number, size_number, EndsBelow, AreNumbersOf};
+ghost use Rattle.shard_format.specs.declared.slot.Slot.TheVariants.{Bad};
+
+use shard_format::Slot;
+use std::alloc::Global;
+use zarr_parts::{ArrayBuilder, ArrayBytes, CodecError, DataTypeSize};
+
+// The number that an element of the index is.
+fn number_at(element: &[u8]) -> u64
+    requires { length element.now ≡ 8 }
+    ensures { result ≡ number_of_element element.now }
+{
+    u64::from_le_bytes([
+        element[0], element[1], element[2], element[3], element[4], element[5], element[6],
+        element[7],
+    ])
+}
+
+// The numbers that an array's elements are.
+pub(crate) fn numbers_of_array(alloc: Global, index: &ArrayBytes) -> Result<Vec<u64>, CodecError>
+    requires { All (λ e. length e ≡ 8) index.now.elements }
+    ensures refused { IfErr result (λ e. e ≡ OutOfMemory) }
+    ensures numbers { IfOk result (λ numbers. numbers.items ≡ map number_of_element index.now.elements) }
+{
+    let mut numbers = Vec::with_capacity(alloc, index.len())?;
+    for i in 0..index.len() {
+        let number = number_at(index.element(i));
+        numbers.push(number)?;
+    }
+    Ok(numbers)
+}
+
+// A pair of the index.
+#[derive(Drop)]
+struct Pair {
+    offset: u64,
+    size: u64,
+}
+
+// The pair of a slot of the data part, which begins at `start`.
+fn pair_of(slot: Slot, start: u64) -> Pair
+    requires { EndsBelow start slot }
+    ensures offset { result.offset ≡ offset_number start slot }
+    ensures size { result.size ≡ size_number slot }
+{
+    match slot {
+        Slot::Absent => Pair {
+            offset: u64::MAX,
+            size: u64::MAX,
+        },
+        Slot::InRange { offset, size } => Pair {
+            offset: start + offset,
+            size,
+        },
+        Slot::Bad => Pair { offset: 0, size: 0 },
+    }
+}
+
+// The numbers of the index of these slots.
+pub(crate) fn numbers_of_slots(
+    alloc: Global,
+    slots: &[Slot],
+    start: u64,
+) -> Result<Vec<u64>, CodecError>
+    requires { (k : ℕ) → k < length slots.now → EndsBelow start (slice_index_or slots.now k Bad) }
+    ensures refused { IfErr result (λ e. e ≡ OutOfMemory) }
+    ensures numbers { IfOk result (λ numbers. AreNumbersOf start slots.now numbers.items (length slots.now)) }
+    ensures below { IfOk result (λ numbers. All (λ n. n < 2 ^ 64) numbers.items) }
+{
+    let mut numbers = Vec::with_capacity(alloc, 2 * slots.len())?;
+    for k in 0..slots.len() {
+        let pair = pair_of(slots[k], start);
+        numbers.push(pair.offset)?;
+        numbers.push(pair.size)?;
+    }
+    Ok(numbers)
+}
+
+// The array of these numbers.
+pub(crate) fn array_of_numbers(
+    alloc: Global,
+    numbers: &[u64],
+) -> Result<ArrayBytes<'static>, CodecError>
+    ensures refused { IfErr result (λ e. e ≡ OutOfMemory) }
+    ensures kind { IfOk result (λ array. array.kind ≡ Fixed 8) }
+    ensures elements { IfOk result (λ array. array.elements ≡ map element_of_number numbers.now) }
+{
+    let mut elements = ArrayBuilder::new(alloc, DataTypeSize::Fixed(8))?;
+    for i in 0..numbers.len() {
+        let element = numbers[i].to_le_bytes();
+        elements.push(&element)?;
+    }
+    Ok(elements.finish())
+}

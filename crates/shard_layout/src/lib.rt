@@ -1,0 +1,8 @@
+// Where the slices of a shard go: subchunks laid end to end, and slices packed.
+#![tactic(auto)]
+
+mod laying;
+mod packing;
+
+pub use laying::{LaidOut, gather_subchunk, joined_shard, placed};
+pub use packing::{compact_size, packed, present_slots};

@@ -1,0 +1,5 @@
+pub mod Text
+pub mod Elements
+pub mod Script
+pub mod Shards
+pub mod Hex

@@ -1,0 +1,15 @@
+// Scripts: lines of text that make shards, encode, decode and compact them, and tell their index and bytes.
+#![tactic(auto)]
+
+mod command;
+mod element_type;
+mod elements;
+mod parse;
+mod pieces;
+mod print;
+mod script;
+mod selections;
+mod stop;
+mod tool;
+
+pub use script::run_script;

@@ -1,0 +1,357 @@
+// What a script works on: the codec of its last `shard` and the object that it stored.
+ghost use Rattle.std.specs.Prelude.{◌≡◌, ◌≤◌, Some, None, IfOk, IfErr, IfSome, IfNone, IsSomeAnd, OnOk, OnErr, length, map, vec_len};
+ghost use Rattle.std.specs.List.{All};
+ghost use Rattle.zarr_parts.specs.Grid.{grid_of};
+ghost use Rattle.zarr_parts.specs.Order.{◌or_as◌then◌, RefusedBy};
+ghost use Rattle.zarr_codecs.specs.Handles.{seen};
+ghost use Rattle.zarr_codecs.specs.Reads.{cells_at};
+ghost use Rattle.zarr_codecs.specs.Refusals.{RefusesUnserved};
+ghost use Rattle.zarrs_sharding.specs.Decoders.{object_cells};
+ghost use Rattle.zarrs_sharding.specs.Index.{index_geo, numbers_in_index};
+ghost use Rattle.zarrs_sharding.specs.Serves.{fixed_size, layout};
+ghost use Rattle.zarrs_sharding.specs.Compacting.{IsCompact};
+ghost use Rattle.shard_script.specs.Shards.{codec_of, asked_by, geo_of};
+
+use crate::command::{Command, Settings};
+use crate::element_type::ElementType;
+use crate::print::{
+    write_cells, write_compacted, write_done, write_index, write_none, write_object, write_refusal,
+    write_stored,
+};
+use crate::stop::Stop;
+use std::alloc::Global;
+use std::io;
+use std::io::Write;
+use zarr_codecs::{ArrayToBytesCodecTraits, BytesCodec, MemoryHandle};
+use zarr_parts::{ArrayBytes, ChunkShape, CodecError, CodecOptions, FillValue, Indexer};
+use zarrs_sharding::{ShardingCodec, SubchunkWriteOrder, calculate_chunks_per_shard};
+
+type Codec = ShardingCodec<BytesCodec, BytesCodec>;
+
+// A shard of one shape and type, and its object once something was stored.
+#[derive(Drop)]
+struct Shard {
+    codec: Codec,
+    shape: ChunkShape,
+    chunks_per_shard: ChunkShape,
+    element_type: ElementType,
+    fill_value: FillValue,
+    object: Option<Vec<u8>>,
+}
+
+impl Shard {
+    // The shard of these settings, without an object. Refused as the codec's `check` refuses.
+    fn new(alloc: Global, settings: Settings) -> Result<Self, CodecError>
+        ensures made { IfOk result (λ shard. (shard.object ≡ None) × (shard.codec ≡ codec_of settings) × (geo_of shard ≡ asked_by settings)) }
+        ensures refused { let codec = ⟦<Codec as ArrayToBytesCodecTraits>⟧ in let c = codec_of settings in let g = asked_by settings in
+            IfErr result (RefusedBy (RefusesUnserved (codec.meaning c g))) }
+    {
+        let Settings {
+            shape,
+            subchunk_shape,
+            element_type,
+            fill_value,
+            location,
+        } = settings;
+        let codec = ShardingCodec::new(
+            subchunk_shape,
+            BytesCodec::little(),
+            BytesCodec::little(),
+            location,
+        )
+        .with_subchunk_write_order(SubchunkWriteOrder::C);
+        codec.check(alloc, &shape, &element_type.data_type(), &fill_value)?;
+        let chunks_per_shard = calculate_chunks_per_shard(
+            alloc,
+            &shape,
+            codec.partial_decode_granularity(),
+        )?;
+        Ok(Shard {
+            codec,
+            shape,
+            chunks_per_shard,
+            element_type,
+            fill_value,
+            object: None,
+        })
+    }
+
+    // Stores the encoding of these elements, and answers its length. Where that is refused the object stays.
+    fn encode(&mut self, alloc: Global, elements: &ArrayBytes) -> Result<usize, CodecError>
+        ensures ok { IfOk result (λ len. IsSomeAnd self.new.object (λ object. (vec_len object ≡ len)
+            × (⟦<Codec as ArrayToBytesCodecTraits>⟧.meaning self.old.codec (geo_of self.old)).written elements.now.elements object.items)) }
+        ensures kept { OnErr result (self.new ≡ self.old) }
+        ensures refused { let codec = ⟦<Codec as ArrayToBytesCodecTraits>⟧ in let c = self.old.codec in let g = geo_of self.old in
+            IfErr result (RefusedBy (
+            (codec.meaning c g).serves or_as RefusesUnserved (codec.meaning c g) then
+            (codec.meaning c g).encode_tests elements.now)) }
+    {
+        let object = self.codec.encode(
+            alloc,
+            elements,
+            &self.shape,
+            &self.element_type.data_type(),
+            &self.fill_value,
+            &CodecOptions::default(),
+        )?;
+        Ok(self.store(object))
+    }
+
+    // The elements of the object, where there is one.
+    fn decode(&self, alloc: Global) -> Result<Option<ArrayBytes<'_>>, CodecError>
+        ensures none { IfOk result (λ found. IfNone found (self.now.object ≡ None)) }
+        ensures cells { let codec = ⟦<Codec as ArrayToBytesCodecTraits>⟧ in
+            IfOk result (λ found. IfSome found (λ cells. IsSomeAnd self.now.object (λ object.
+            (codec.meaning self.now.codec (geo_of self.now)).cells object.items ≡ map Some cells.elements))) }
+        ensures short { IfOk result (λ found. IfSome found (λ cells. All (λ element. length element ≤ 8) cells.elements)) }
+        ensures refused { let codec = ⟦<Codec as ArrayToBytesCodecTraits>⟧ in let c = self.now.codec in let g = geo_of self.now in
+            IfErr result (λ e. IsSomeAnd self.now.object (λ object. RefusedBy (
+            (codec.meaning c g).serves or_as RefusesUnserved (codec.meaning c g) then
+            (codec.meaning c g).decode_tests object.items) e)) }
+    {
+        let Some(object) = &self.object else {
+            return Ok(None);
+        };
+        let array = self.codec.decode(
+            alloc,
+            object,
+            &self.shape,
+            &self.element_type.data_type(),
+            &self.fill_value,
+            &CodecOptions::default(),
+        )?;
+        Ok(Some(array))
+    }
+
+    // The numbers of the object's index, where there is one.
+    fn index(&self, alloc: Global) -> Result<Option<Vec<u64>>, CodecError>
+        ensures none { IfOk result (λ found. IfNone found (self.now.object ≡ None)) }
+        ensures numbers { let bytes = ⟦<BytesCodec as ArrayToBytesCodecTraits>⟧ in let c = self.now.codec in let g = index_geo self.now.chunks_per_shard in
+            IfOk result (λ found. IfSome found (λ numbers. IsSomeAnd self.now.object (λ object.
+            numbers_in_index (bytes.meaning c.index_codec g).cells c.location (fixed_size (bytes.meaning c.index_codec g).representation) object.items ≡ Some numbers.items))) }
+    {
+        let Some(object) = &self.object else {
+            return Ok(None);
+        };
+        let options = CodecOptions::default();
+        let index = self
+            .codec
+            .decode_index(alloc, object, &self.chunks_per_shard, &options)?;
+        Ok(Some(index))
+    }
+
+    // Stores these bytes as the object, and answers its length.
+    fn store(&mut self, bytes: Vec<u8>) -> usize
+        ensures stored { self.new.object ≡ Some bytes }
+        ensures len { result ≡ vec_len bytes }
+    {
+        let len = bytes.len();
+        self.object = Some(bytes);
+        len
+    }
+
+    // What a shard of these bytes is compacted to; nothing where there is nothing to gain.
+    fn compacted(&self, alloc: Global, bytes: &[u8]) -> Result<Option<Vec<u8>>, CodecError>
+        ensures compacted { let codec = ⟦<Codec as ArrayToBytesCodecTraits>⟧ in
+            IfOk result (λ answer. IfSome answer (λ new. (codec.meaning self.now.codec (geo_of self.now)).compacted bytes.now new.items)) }
+        ensures nothing { let bytes_codec = ⟦<BytesCodec as ArrayToBytesCodecTraits>⟧ in let c = self.now.codec in let g = geo_of self.now in
+            let index_g = index_geo (grid_of g.shape c.subchunk_shape) in
+            IfOk result (λ answer. IfNone answer (IsCompact (bytes_codec.meaning c.index_codec index_g).cells
+            (layout c.subchunk_shape c.location c.order (bytes_codec.meaning c.index_codec index_g).representation g) bytes.now)) }
+        ensures refused { let codec = ⟦<Codec as ArrayToBytesCodecTraits>⟧ in
+            IfErr result (RefusedBy ((codec.meaning self.now.codec (geo_of self.now)).compact_tests bytes.now)) }
+    {
+        let compacted = self.codec.compact(
+            alloc,
+            bytes,
+            &self.shape,
+            &self.element_type.data_type(),
+            &self.fill_value,
+            &CodecOptions::default(),
+        )?;
+        Ok(compacted)
+    }
+
+    // Compacts the object, and answers its new length; `None`, and the object stays, where there is nothing to gain
+    // or no object. Where that is refused the object stays.
+    fn compact(&mut self, alloc: Global) -> Result<Option<usize>, CodecError>
+        ensures compacted { let codec = ⟦<Codec as ArrayToBytesCodecTraits>⟧ in
+            IfOk result (λ answer. IfSome answer (λ len. IsSomeAnd self.old.object (λ old. IsSomeAnd self.new.object (λ object. (vec_len object ≡ len)
+            × (codec.meaning self.old.codec (geo_of self.old)).compacted old.items object.items)))) }
+        ensures nothing { let bytes = ⟦<BytesCodec as ArrayToBytesCodecTraits>⟧ in let c = self.old.codec in let g = geo_of self.old in
+            let index_g = index_geo (grid_of g.shape c.subchunk_shape) in
+            IfOk result (λ answer. IfNone answer (IfSome self.old.object (λ object. IsCompact (bytes.meaning c.index_codec index_g).cells
+            (layout c.subchunk_shape c.location c.order (bytes.meaning c.index_codec index_g).representation g) object.items))) }
+        ensures stays { IfOk result (λ answer. IfNone answer (self.new ≡ self.old)) }
+        ensures kept { OnErr result (self.new ≡ self.old) }
+        ensures refused { let codec = ⟦<Codec as ArrayToBytesCodecTraits>⟧ in
+            IfErr result (λ e. IsSomeAnd self.old.object (λ object. RefusedBy ((codec.meaning self.old.codec (geo_of self.old)).compact_tests object.items) e)) }
+    {
+        let Some(object) = &self.object else {
+            return Ok(None);
+        };
+        match self.compacted(alloc, object)? {
+            Some(bytes) => Ok(Some(self.store(bytes))),
+            None => Ok(None),
+        }
+    }
+
+    // The cells that an indexer asks, in its order: of the object, or fill values where there is none. The object stays.
+    fn read<N: Indexer>(
+        &mut self,
+        alloc: Global,
+        indexer: &N,
+    ) -> Result<ArrayBytes<'static>, CodecError>
+        ensures kept { seen (λ bytes. bytes.items) self.new.object ≡ seen (λ bytes. bytes.items) self.old.object }
+        ensures short { IfOk result (λ cells. All (λ element. length element ≤ 8) cells.elements) }
+        ensures cells { let codec = ⟦<Codec as ArrayToBytesCodecTraits>⟧ in let g = geo_of self.old in
+            IfOk result (λ array. cells_at (object_cells (codec.meaning self.old.codec g).cells g (seen (λ bytes. bytes.items) self.old.object)) g.shape
+            (N.selection indexer.now).points ≡ map Some array.elements) }
+    {
+        let handle = MemoryHandle::new(self.object.take());
+        let options = CodecOptions::default();
+        let opened = self.codec.partial_decoder(
+            alloc,
+            handle,
+            &self.shape,
+            &self.element_type.data_type(),
+            &self.fill_value,
+            &options,
+        );
+        match opened {
+            Ok(mut decoder) => {
+                let cells = decoder.partial_decode(alloc, indexer, &options);
+                self.object = decoder.close().into_inner();
+                cells
+            }
+            Err((handle, error)) => {
+                self.object = handle.into_inner();
+                Err(error)
+            }
+        }
+    }
+
+    // Answers the cells that an indexer asks.
+    fn run_read<N: Indexer, W: Write>(
+        &mut self,
+        alloc: Global,
+        indexer: &N,
+        out: &mut W,
+    ) -> io::Result<()> {
+        match self.read(alloc, indexer) {
+            Ok(cells) => write_cells(out, &cells),
+            Err(error) => write_refusal(out, error),
+        }
+    }
+
+    // Stores elements, and answers the object's length.
+    fn run_encode<W: Write>(
+        &mut self,
+        alloc: Global,
+        elements: &ArrayBytes,
+        out: &mut W,
+    ) -> io::Result<()> {
+        match self.encode(alloc, elements) {
+            Ok(len) => write_stored(out, len),
+            Err(error) => write_refusal(out, error),
+        }
+    }
+
+    // Answers the elements of the object.
+    fn run_decode<W: Write>(&self, alloc: Global, out: &mut W) -> io::Result<()> {
+        match self.decode(alloc) {
+            Ok(Some(cells)) => write_cells(out, &cells),
+            Ok(None) => write_none(out),
+            Err(error) => write_refusal(out, error),
+        }
+    }
+
+    // Answers the numbers of the object's index.
+    fn run_index<W: Write>(&self, alloc: Global, out: &mut W) -> io::Result<()> {
+        match self.index(alloc) {
+            Ok(Some(numbers)) => write_index(out, &numbers),
+            Ok(None) => write_none(out),
+            Err(error) => write_refusal(out, error),
+        }
+    }
+
+    // Answers the object's bytes.
+    fn run_object<W: Write>(&self, out: &mut W) -> io::Result<()> {
+        match &self.object {
+            Some(object) => write_object(out, object),
+            None => write_none(out),
+        }
+    }
+
+    // Compacts the object, and answers its new length where it changed.
+    fn run_compact<W: Write>(&mut self, alloc: Global, out: &mut W) -> io::Result<()> {
+        match self.compact(alloc) {
+            Ok(answer) => write_compacted(out, answer),
+            Err(error) => write_refusal(out, error),
+        }
+    }
+}
+
+/// What a script works on.
+#[derive(Drop)]
+pub struct Tool {
+    shard: Option<Shard>,
+}
+
+impl Tool {
+    /// Nothing to work on yet.
+    pub fn new() -> Self {
+        Tool { shard: None }
+    }
+
+    // Takes another shard. Where it is refused everything stays as it was.
+    fn open(&mut self, alloc: Global, settings: Settings) -> Result<(), CodecError>
+        ensures ok { OnOk result (IsSomeAnd self.new.shard (λ shard. (shard.object ≡ None) × (shard.codec ≡ codec_of settings) × (geo_of shard ≡ asked_by settings))) }
+        ensures kept { OnErr result (self.new ≡ self.old) }
+        ensures refused { let codec = ⟦<Codec as ArrayToBytesCodecTraits>⟧ in let c = codec_of settings in let g = asked_by settings in
+            IfErr result (RefusedBy (RefusesUnserved (codec.meaning c g))) }
+    {
+        self.shard = Some(Shard::new(alloc, settings)?);
+        Ok(())
+    }
+
+    // The type of the elements, where there is a shard.
+    fn element_type(&self) -> Option<ElementType> {
+        match &self.shard {
+            Some(shard) => Some(shard.element_type),
+            None => None,
+        }
+    }
+
+    // Takes another shard, and answers that it did.
+    fn run_shard<W: Write>(
+        &mut self,
+        alloc: Global,
+        settings: Settings,
+        out: &mut W,
+    ) -> io::Result<()> {
+        match self.open(alloc, settings) {
+            Ok(()) => write_done(out),
+            Err(error) => write_refusal(out, error),
+        }
+    }
+
+    /// Runs a line that is not empty, and writes its answer. `Malformed` where the line is no command's, and nothing
+    /// is written then; `Failed` where a write fails or a growth of the script's own is refused.
+    pub fn run<W: Write>(&mut self, alloc: Global, line: &[u8], out: &mut W) -> Result<(), Stop> {
+        let command = Command::parse(alloc, line, self.element_type())?;
+        match (command, &mut self.shard) {
+            (Command::Shard(settings), _) => self.run_shard(alloc, settings, out)?,
+            (Command::Encode(elements), Some(shard)) => shard.run_encode(alloc, &elements, out)?,
+            (Command::Index, Some(shard)) => shard.run_index(alloc, out)?,
+            (Command::Decode, Some(shard)) => shard.run_decode(alloc, out)?,
+            (Command::Object, Some(shard)) => shard.run_object(out)?,
+            (Command::Store(bytes), Some(shard)) => write_stored(out, shard.store(bytes))?,
+            (Command::Compact, Some(shard)) => shard.run_compact(alloc, out)?,
+            (Command::Read(subset), Some(shard)) => shard.run_read(alloc, &subset, out)?,
+            (Command::Cells(coordinates), Some(shard)) => shard.run_read(alloc, &coordinates, out)?,
+            (_, None) => return Err(Stop::Malformed),
+        }
+        Ok(())
+    }
+}

@@ -1,0 +1,31 @@
+use Rattle.std.proofs.Common.{arith}
+use Rattle.shard_subchunks.specs.Inner.{subchunk_geo}
+use Rattle.shard_format.proofs.ReadSlotLemmas.{places_read, places_refused}
+use Rattle.shard_subchunks.proofs.subchunks.Subchunks.read_slot.Goals as goal
+
+pub returns-in-Ok-clause-cells : goal.returns-in-Ok-clause-cells
+returns-in-Ok-clause-cells g c =
+    let a = c.args in
+    let s = a.self.now in
+    let x = g.I.ArrayToBytesCodecTraits in
+    let h = g.H.BytesPartialDecoderTraits in
+    let sub_g = subchunk_geo s in
+    let fits = rw c.in-InRange.is at c.requires.fits in
+    let read = rw c.new-asked.ensures at c.in-Ok.ensures.cells in
+    λ t. rw c.in-InRange.is
+    (places_read (x.meaning s.codec.now sub_g).cells sub_g a.outer (h.state a.handle.now).contents c.in-InRange.offset c.in-InRange.size a.places.now fits c.requires.below c.in-Ok.array.elements (read t))
+
+pub returns-in-Err-clause-refused : goal.returns-in-Err-clause-refused
+returns-in-Err-clause-refused g c =
+    let a = c.args in
+    let s = a.self.now in
+    let x = g.I.ArrayToBytesCodecTraits in
+    let h = g.H.BytesPartialDecoderTraits in
+    let sub_g = subchunk_geo s in
+    let fits = rw c.in-InRange.is at c.requires.fits in
+    let law = rw c.new-asked.ensures at c.in-Err.ensures.lawful in
+    let refused = rw c.new-asked.ensures at c.in-Err.ensures.refused in
+    rw c.in-InRange.is
+    (places_refused (x.meaning s.codec.now sub_g).cells sub_g a.outer (h.state a.handle.now).contents c.in-InRange.offset c.in-InRange.size a.places.now fits c.requires.below
+    (x.meaning s.codec.now sub_g) (h.state a.handle.now) (h.state c.partial_decode.new.handle)
+    c.in-Err.error c.of_stored.result c.requires.serves (omega arith) c.requires.inside law refused c.of_stored.ensures a.number c.requires.some)

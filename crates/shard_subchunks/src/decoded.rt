@@ -1,0 +1,76 @@
+// Subchunks of a shard, decoded.
+ghost use Rattle.std.specs.Prelude.{◌≡◌, ◌<◌, ◌/◌, ℕ, Some, None, IfOk, IfErr, length, slice_index_or};
+ghost use Rattle.zarr_parts.specs.Order.{done, RefusedBy};
+ghost use Rattle.shard_format.specs.Index.{slot_at};
+ghost use Rattle.shard_format.specs.DecodeTests.{RefusesSubchunk, SubchunkTests};
+ghost use Rattle.shard_format.specs.Decoding.{IsDecoded, FitsSlot};
+ghost use Rattle.shard_subchunks.specs.Inner.{subchunk_geo, inner_meaning};
+
+use crate::subchunks::Subchunks;
+use codec_laws::ArrayToBytesCodecTraits;
+use shard_format::{ShardIndex, Slot, of_stored};
+use std::alloc::Global;
+use zarr_parts::{ArrayBytes, CodecError};
+
+impl<I: ArrayToBytesCodecTraits> Subchunks<'_, I> {
+    // The subchunk that a slot names, decoded, or nothing where it is absent.
+    fn decode_slot<'a>(
+        &self,
+        alloc: Global,
+        bytes: &'a [u8],
+        number: u64,
+        slot: Slot,
+    ) -> Result<Option<ArrayBytes<'a>>, CodecError>
+        requires fits { FitsSlot (length bytes.now) slot }
+        requires serves { (inner_meaning I.meaning self.now).serves }
+        ensures decoded { let inner = inner_meaning I.meaning self.now in
+            IfOk result (IsDecoded inner.cells (subchunk_geo self.now) bytes.now slot) }
+        ensures refused { let inner = inner_meaning I.meaning self.now in
+            IfErr result (RefusedBy (RefusesSubchunk inner.decode_tests inner.cells bytes.now slot number)) }
+    {
+        match slot {
+            Slot::Absent => Ok(None),
+            Slot::InRange { offset, size } => {
+                let rest = &bytes[offset as usize..];
+                let part = &rest[..size as usize];
+                match self.codec.decode(
+                    alloc,
+                    part,
+                    self.shape,
+                    self.data_type,
+                    self.fill_value,
+                    self.options,
+                ) {
+                    Ok(array) => Ok(Some(array)),
+                    Err(error) => Err(of_stored(error)),
+                }
+            }
+            Slot::Bad => Err(CodecError::BadIndexEntry { number }),
+        }
+    }
+
+    /// Each subchunk of a shard decoded, in ascending order; nothing of one that is absent. The lowest that is refused gives
+    /// the refusal: `BadIndexEntry` with its number, `Damaged`, `TooLarge`; or `OutOfMemory`.
+    pub fn decode<'a>(
+        &self,
+        alloc: Global,
+        bytes: &'a [u8],
+        index: &ShardIndex,
+    ) -> Result<Vec<Option<ArrayBytes<'a>>>, CodecError>
+        requires serves { (inner_meaning I.meaning self.now).serves }
+        requires len { index.now.len ≡ length bytes.now }
+        ensures counted { IfOk result (λ found. length found.items ≡ length index.now.numbers.items / 2) }
+        ensures decoded { let inner = inner_meaning I.meaning self.now in
+            IfOk result (λ found. (k : ℕ) → k < length found.items
+            → IsDecoded inner.cells (subchunk_geo self.now) bytes.now (slot_at (length bytes.now) index.now.numbers.items k) (slice_index_or found.items k None)) }
+        ensures refused { let inner = inner_meaning I.meaning self.now in
+            IfErr result (RefusedBy (SubchunkTests inner.decode_tests inner.cells bytes.now (Some index.now.numbers.items) (length index.now.numbers.items / 2) done)) }
+    {
+        let mut found = Vec::new(alloc);
+        for k in 0..index.subchunks() {
+            let subchunk = self.decode_slot(alloc, bytes, k as u64, index.slot(k))?;
+            found.push(subchunk)?;
+        }
+        Ok(found)
+    }
+}

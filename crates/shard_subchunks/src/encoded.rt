@@ -1,0 +1,97 @@
+// Subchunks of an array, encoded and laid end to end.
+ghost use Rattle.std.specs.Prelude.{◌≡◌, ◌<◌, ◌^◌, IfOk, IfErr, length};
+ghost use Rattle.zarr_parts.specs.Order.{done, RefusedBy};
+ghost use Rattle.zarr_parts.specs.Numbering.{count_of};
+ghost use Rattle.zarr_parts.specs.Grid.{Divides, grid_of, subchunk};
+ghost use Rattle.zarr_parts.specs.Geo.{geo, IsArrayOf};
+ghost use Rattle.zarr_parts.specs.Types.{size_of, HasElements};
+ghost use Rattle.shard_format.specs.Laying.{IsStored, IsLaidOut};
+ghost use Rattle.shard_format.specs.EncodeTests.{RefusesToStore, StoreTests};
+ghost use Rattle.shard_subchunks.specs.Inner.{subchunk_geo, inner_meaning};
+
+use crate::subchunks::Subchunks;
+use codec_laws::ArrayToBytesCodecTraits;
+use shard_layout::{LaidOut, gather_subchunk, placed};
+use std::alloc::Global;
+use zarr_parts::{ArrayBytes, ChunkShape, CodecError};
+
+// What is to be stored of a subchunk: nothing where it is all fill.
+#[derive(Drop)]
+struct Stored {
+    present: bool,
+    bytes: Vec<u8>,
+}
+
+impl<I: ArrayToBytesCodecTraits> Subchunks<'_, I> {
+    // Encodes a subchunk that isn't all fill.
+    fn stored_of(&self, alloc: Global, part: &ArrayBytes) -> Result<Stored, CodecError>
+        requires serves { (inner_meaning I.meaning self.now).serves }
+        requires kind { part.now.kind ≡ size_of self.now.data_type.now }
+        requires array { IsArrayOf (subchunk_geo self.now) part.now.elements }
+        ensures stored { let inner = inner_meaning I.meaning self.now in
+            IfOk result (λ stored. IsStored inner.written self.now.fill_value.now part.now.elements stored.present stored.bytes.items) }
+        ensures refused { let inner = inner_meaning I.meaning self.now in
+            IfErr result (RefusedBy (RefusesToStore inner.encodable inner.fits self.now.fill_value.now part.now.elements)) }
+    {
+        if part.is_fill_value(self.fill_value) {
+            return Ok(Stored {
+                present: false,
+                bytes: Vec::new(alloc),
+            });
+        }
+        let bytes = self.codec.encode(
+            alloc,
+            part,
+            self.shape,
+            self.data_type,
+            self.fill_value,
+            self.options,
+        )?;
+        Ok(Stored {
+            present: true,
+            bytes,
+        })
+    }
+
+    /// Each subchunk of an array that isn't all fill encoded, one after the other in ascending order. The lowest that the
+    /// inner codec refuses gives the refusal: `CannotEncode`, `TooLarge`; or `OutOfMemory`.
+    pub fn lay_out(
+        &self,
+        alloc: Global,
+        array: &ArrayBytes,
+        shape: &ChunkShape,
+        grid: &ChunkShape,
+        subchunks: u64,
+    ) -> Result<LaidOut, CodecError>
+        requires serves { (inner_meaning I.meaning self.now).serves }
+        requires supported { HasElements self.now.data_type.now }
+        requires kind { array.now.kind ≡ size_of self.now.data_type.now }
+        requires array { IsArrayOf (geo shape.now self.now.data_type.now self.now.fill_value.now) array.now.elements }
+        requires fits { count_of shape.now < 2 ^ 64 }
+        requires axes { length shape.now ≡ length self.now.shape.now }
+        requires divides { Divides self.now.shape.now shape.now }
+        requires grid { grid.now ≡ grid_of shape.now self.now.shape.now }
+        requires subchunks { subchunks ≡ count_of grid.now }
+        ensures laid { let inner = inner_meaning I.meaning self.now in
+            IfOk result (λ laid. IsLaidOut inner.written self.now.fill_value.now shape.now self.now.shape.now array.now.elements
+            laid.bytes.items laid.slots.items (count_of grid.now)) }
+        ensures refused { let inner = inner_meaning I.meaning self.now in
+            IfErr result (RefusedBy (StoreTests inner self.now.fill_value.now
+            (subchunk shape.now self.now.shape.now array.now.elements) (count_of grid.now) done)) }
+    {
+        let mut bytes: Vec<u8> = Vec::new(alloc);
+        let mut slots = Vec::new(alloc);
+        for k in 0..subchunks {
+            let part = gather_subchunk(alloc, array, k, shape, grid, self.shape, self.data_type)?;
+            let stored = self.stored_of(alloc, &part)?;
+            let slot = placed(
+                stored.present,
+                bytes.len() as u64,
+                stored.bytes.len() as u64,
+            );
+            bytes.extend_from_slice(&stored.bytes)?;
+            slots.push(slot)?;
+        }
+        Ok(LaidOut { bytes, slots })
+    }
+}

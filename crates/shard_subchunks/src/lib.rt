@@ -1,0 +1,10 @@
+// The subchunks of a shard, by its inner codec: decoded, read in part, encoded.
+#![tactic(auto)]
+
+mod cells;
+mod decoded;
+mod encoded;
+mod read;
+mod subchunks;
+
+pub use subchunks::Subchunks;

@@ -1,8 +1,0 @@
-use Rattle.zarrs_sharding.proofs.RefusalLemmas.{passed_on}
-use Rattle.shard_tool.proofs.OptionLaws.{there}
-use Rattle.shard_tool.proofs.tool.Shard.compact.Goals as goal
-
-pub returns-in_err-bytes-clause-refused : goal.returns-in_err-bytes-clause-refused
-returns-in_err-bytes-clause-refused c =
-    passed_on _ c.in_err-bytes.field-0.0 _ c.from_residual.ensures.1
-    (there _ _ _ c.in-Some.is (rw c.deref.ensures.value at c.in_err-bytes.ensures.refused))

@@ -1,5 +1,0 @@
-use Rattle.zarrs_sharding.proofs.RefusalLemmas.{passed_on}
-use Rattle.shard_tool.proofs.tool.Shard.compacted.Goals as goal
-
-pub returns-in_err-compacted-clause-refused : goal.returns-in_err-compacted-clause-refused
-returns-in_err-compacted-clause-refused c = passed_on _ c.in_err-compacted.field-0.0 _ c.from_residual.ensures.1 c.in_err-compacted.ensures.refused

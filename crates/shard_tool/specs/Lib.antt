@@ -1,6 +1,0 @@
-pub mod Text
-pub mod Elements
-pub mod Script
-pub mod Shards
-pub mod Refusals
-pub mod Hex

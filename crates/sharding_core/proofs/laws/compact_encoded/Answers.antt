@@ -1,0 +1,39 @@
+use Rattle.std.proofs.Common.{Option, Some, None, Result, Ok, Err, IfOk, IfErr, IfSome}
+use Rattle.std.proofs.lemmas.Bool.{and_parts}
+use Rattle.zarr_parts.specs.Geo.{geo}
+use Rattle.zarr_parts.specs.Grid.{grid_of}
+use Rattle.shard_format.specs.Index.{index_geo}
+use Rattle.shard_format.specs.Serves.{sub_geo}
+use Rattle.shard_format.proofs.CompactionLemmas.{scratch_of_compacted}
+use Rattle.sharding_core.proofs.laws.compact_encoded.Goals as goal
+
+-- what an answer's and a refusal's facts say of it
+rewritten : {V E : Type 0} (P Q : V → Type 0) (r : Result (Option V) E) → IfOk r (λ o. IfSome o P) → ((v : V) → P v → Q v) → IfOk r (λ o. IfSome o Q)
+rewritten P Q (Ok (Some v)) h told = told v h
+rewritten P Q (Ok None) h told = tt
+rewritten P Q (Err e) h told = tt
+
+refused : {V E : Type 0} (P Q : E → Type 0) (r : Result V E) → IfErr r P → ((e : E) → P e → Q e) → IfErr r Q
+refused P Q (Ok v) h told = tt
+refused P Q (Err e) h told = told e h
+
+pub returns-clause-scratch : goal.returns-clause-scratch
+returns-clause-scratch g c =
+    let s = c.args.codec.now in
+    let asked = geo c.args.shape.now c.args.data_type.now c.args.fill_value.now in
+    let inner_g = sub_geo s.subchunk_shape asked in
+    let index_g = index_geo (grid_of c.args.shape.now s.subchunk_shape) in
+    let inner = g.I.FunctionalCodec in
+    let index = g.X.FunctionalCodec in
+    let serves = c.requires.serves in
+    let functional = and_parts (inner.functional s.inner) (index.functional s.index_codec) c.requires.functional in
+    rewritten _ _ c.compact.result c.compact.ensures.compacted
+    (λ new compacted.
+    scratch_of_compacted _ _ (inner.encoding s.inner inner_g) (index.encoding s.index_codec index_g) s.subchunk_shape s.location s.order _ asked c.args.array.now.elements
+    c.args.encoded.now new.items serves.divides c.requires.array
+    (λ x y of written. g.met.I.FunctionalCodec.one_encoding s.inner inner_g x y functional.0 serves.inner_served of written)
+    (λ x y of written. g.met.X.FunctionalCodec.one_encoding s.index_codec index_g x y functional.1 serves.index_served.served of written)
+    c.requires.holds compacted)
+
+pub returns-clause-lawful : goal.returns-clause-lawful
+returns-clause-lawful g c = refused _ _ c.compact.result c.compact.ensures.lawful (λ e may. may c.requires.serves)

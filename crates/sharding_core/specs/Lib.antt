@@ -1,0 +1,4 @@
+pub mod Meanings
+pub mod ShardLaws
+pub mod Plans
+pub mod Decoders

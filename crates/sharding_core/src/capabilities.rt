@@ -1,0 +1,49 @@
+// What the sharding codec can do with parts of an array.
+ghost use Rattle.std.specs.Prelude.{◌≡◌, true};
+
+use crate::codec::ShardingCodec;
+use zarr_parts::ChunkShape;
+
+/// What a codec's partial decoder can spare.
+#[derive(Debug, Clone, Copy, PartialEq, Eq)]
+pub struct PartialDecoderCapability {
+    /// Whether it reads only a part of the bytes.
+    pub partial_read: bool,
+    /// Whether it decodes only a part of the array.
+    pub partial_decode: bool,
+}
+
+/// What a codec's partial encoder can spare.
+#[derive(Debug, Clone, Copy, PartialEq, Eq)]
+pub struct PartialEncoderCapability {
+    /// Whether it encodes only a part of the array.
+    pub partial_encode: bool,
+}
+
+impl<I, X> ShardingCodec<I, X> {
+    /// The least part of an array that is decoded by itself: the subchunk shape.
+    pub fn partial_decode_granularity(&self) -> &ChunkShape
+        ensures { result.now ≡ self.now.subchunk_shape }
+    {
+        &self.subchunk_shape
+    }
+
+    /// Only the index and the subchunks that are asked for are read and decoded.
+    pub fn partial_decoder_capability() -> PartialDecoderCapability
+        ensures { result ≡ record { partial_read = true; partial_decode = true } }
+    {
+        PartialDecoderCapability {
+            partial_read: true,
+            partial_decode: true,
+        }
+    }
+
+    /// Only the subchunks that are written are encoded.
+    pub fn partial_encoder_capability() -> PartialEncoderCapability
+        ensures { result ≡ record { partial_encode = true } }
+    {
+        PartialEncoderCapability {
+            partial_encode: true,
+        }
+    }
+}

@@ -1,0 +1,319 @@
+// The sharding codec, as a codec from arrays to bytes.
+ghost use Rattle.std.specs.Prelude.{IfSome, IfNone, ◌≡◌, ◌<◌, ◌^◌, ◌*◌, Some, IfOk, IfErr, OnOk, SomeIff, length};
+ghost use Rattle.zarr_parts.specs.Order.{RefusedBy};
+ghost use Rattle.zarr_parts.specs.Numbering.{count_of};
+ghost use Rattle.zarr_parts.specs.Grid.{grid_of, grid_box};
+ghost use Rattle.zarr_parts.specs.Types.{size_of, byte_size};
+ghost use Rattle.shard_format.specs.Index.{index_geo};
+ghost use Rattle.sharding_core.specs.Meanings.{shard_meaning};
+ghost use Rattle.shard_format.specs.Cells.{shard_cells};
+ghost use Rattle.shard_format.specs.Encoding.{IsEncoding};
+ghost use Rattle.shard_format.specs.Serves.{sub_geo, fixed_size, layout, ShardServes, ShardEncodable, ShardFits, shard_representation, CheckTests};
+ghost use Rattle.sharding_core.specs.Meanings.{layout_in};
+ghost use Rattle.shard_format.specs.DecodeTests.{DecodeTests};
+ghost use Rattle.shard_format.specs.EncodeTests.{EncodeTests};
+ghost use Rattle.shard_format.specs.ReadTests.{AnswerTests, ReadTests};
+ghost use Rattle.shard_format.specs.Grids.{SubsetTests, EndsFit, ConcurrencyTests};
+ghost use Rattle.shard_format.specs.Compacting.{IsCompacted, IsCompact, CompactTests};
+ghost use Rattle.codec_laws.specs.Refusals.{MayRefuseCompact};
+ghost use Rattle.zarr_parts.specs.Geo.{geo};
+ghost use Rattle.shard_format.specs.declared.order.SubchunkWriteOrder.TheVariants.{Unordered};
+
+use crate::asked::Asked;
+use codec_laws::{ArrayToBytesCodecTraits, BytesRepresentation, RecommendedConcurrency};
+use object_handles::{BytesPartialDecoderTraits, Interval};
+use shard_cells::{check_asked, gathered};
+use shard_format::{ShardingIndexLocation, SubchunkWriteOrder, count_subchunks, subchunk_subset};
+use shard_index::IndexCodec;
+use shard_layout::{compact_size, present_slots};
+use shard_subchunks::Subchunks;
+use std::alloc::Global;
+use zarr_parts::{
+    ArrayBytes, ArraySubset, ChunkShape, CodecError, CodecOptions, DataType, FillValue, Indexer,
+};
+
+/// The codec `sharding_indexed` (Zarr V3): cuts an array into equal subchunks, encodes each that is not wholly the
+/// fill value by the inner codec `I`, and lays them beside an index, which the index codec `X` encodes.
+#[derive(Debug, Drop)]
+pub struct ShardingCodec<I, X> {
+    pub(crate) subchunk_shape: ChunkShape,
+    pub(crate) inner: I,
+    pub(crate) index_codec: X,
+    pub(crate) location: ShardingIndexLocation,
+    pub(crate) order: SubchunkWriteOrder,
+}
+
+impl<I, X> ShardingCodec<I, X> {
+    /// The codec of these parts, which writes subchunks in the order `Unordered`.
+    pub fn new(
+        subchunk_shape: ChunkShape,
+        inner_codec: I,
+        index_codec: X,
+        index_location: ShardingIndexLocation,
+    ) -> Self
+        ensures { result ≡ record { subchunk_shape = subchunk_shape; inner = inner_codec; index_codec = index_codec; location = index_location; order = Unordered } }
+    {
+        ShardingCodec {
+            subchunk_shape,
+            inner: inner_codec,
+            index_codec,
+            location: index_location,
+            order: SubchunkWriteOrder::Unordered,
+        }
+    }
+
+    /// The same codec with another order in which subchunks are written.
+    pub fn with_subchunk_write_order(self, order: SubchunkWriteOrder) -> Self
+        ensures { result ≡ record self { order = order } }
+    {
+        let ShardingCodec {
+            subchunk_shape,
+            inner,
+            index_codec,
+            location,
+            order: _,
+        } = self;
+        ShardingCodec {
+            subchunk_shape,
+            inner,
+            index_codec,
+            location,
+            order,
+        }
+    }
+
+    /// The box of the cells of a subchunk of a shard, by the subchunk's number in the grid `chunks_per_shard`; `None`
+    /// where the grid has no such number. Refused, in this order, as `IncompatibleDimensionality` where grid and
+    /// subchunk shape differ in their number of axes, as `TooLarge` where the grid's count or an end of the box passes
+    /// `u64::MAX`; or as `OutOfMemory`.
+    pub fn chunk_index_to_subset(
+        &self,
+        alloc: Global,
+        chunk_index: u64,
+        chunks_per_shard: &ChunkShape,
+    ) -> Result<Option<ArraySubset>, CodecError>
+        ensures subset { IfOk result (λ found. SomeIff found (chunk_index < count_of chunks_per_shard.now) (grid_box chunks_per_shard.now self.now.subchunk_shape chunk_index)) }
+        ensures served { OnOk result ((length chunks_per_shard.now ≡ length self.now.subchunk_shape)
+            × (count_of chunks_per_shard.now < 2 ^ 64) × EndsFit chunks_per_shard.now self.now.subchunk_shape chunk_index) }
+        ensures refused { IfErr result (RefusedBy (SubsetTests chunks_per_shard.now self.now.subchunk_shape chunk_index)) }
+    {
+        subchunk_subset(alloc, chunk_index, chunks_per_shard, &self.subchunk_shape)
+    }
+}
+
+impl<I: ArrayToBytesCodecTraits, X: ArrayToBytesCodecTraits> ArrayToBytesCodecTraits
+    for ShardingCodec<I, X> {
+    ghost meaning = { λ s g. shard_meaning s (I.meaning s.inner (sub_geo s.subchunk_shape g)) (X.meaning s.index_codec (index_geo (grid_of g.shape s.subchunk_shape))) g };
+
+    ghost concurrency = { λ s shape. count_of (grid_of shape s.subchunk_shape) };
+
+    ghost concurrency_tests = { λ s shape. ConcurrencyTests shape s.subchunk_shape };
+
+    ghost use Rattle.sharding_core.specs.ShardLaws.{shard_lawful};
+
+    ghost lawful = { λ s g. let index_g = index_geo (grid_of g.shape s.subchunk_shape) in
+        shard_lawful s (I.meaning s.inner (sub_geo s.subchunk_shape g)) (X.meaning s.index_codec index_g) g
+        (I.lawful s.inner (sub_geo s.subchunk_shape g)) (X.lawful s.index_codec index_g) };
+
+    /// Refused, in this order, as `UnsupportedDataType` (`Optional`, `Raw(0)`), `BadFillValue` (a fill value of another
+    /// length than the fixed type), `IncompatibleDimensionality` (shape and subchunk shape), `InvalidSubchunkShape` (an
+    /// axis is not divided evenly), `TooLarge` (the count of cells, their bytes, or 16 bytes for each subchunk), as the
+    /// index codec's `check` refuses, as `TooLarge` or `VariableIndexSize` where the index has no fixed size, and as the
+    /// inner codec's `check` refuses; or as `OutOfMemory`.
+    fn check(
+        &self,
+        alloc: Global,
+        shape: &ChunkShape,
+        data_type: &DataType,
+        fill_value: &FillValue,
+    ) -> Result<(), CodecError> {
+        let asked = Asked {
+            shape,
+            data_type,
+            fill_value,
+        };
+        let _ = self.prepared(alloc, &asked)?;
+        Ok(())
+    }
+
+    /// Stores each subchunk that is not wholly the fill value. Refused as `check` refuses, then as `WrongElementKind`,
+    /// `InvalidNumberOfElements`, as the inner codec refuses the lowest refused subchunk (`CannotEncode`, `TooLarge`),
+    /// as `TooLarge` where the shard would reach `usize::MAX` bytes, and as the index codec refuses; or as `OutOfMemory`.
+    fn encode(
+        &self,
+        alloc: Global,
+        bytes: &ArrayBytes,
+        shape: &ChunkShape,
+        data_type: &DataType,
+        fill_value: &FillValue,
+        options: &CodecOptions,
+    ) -> Result<Vec<u8>, CodecError> {
+        let asked = Asked {
+            shape,
+            data_type,
+            fill_value,
+        };
+        let plan = self.prepared(alloc, &asked)?;
+        self.encode_planned(alloc, bytes, &asked, &plan, options)
+    }
+
+    /// Refused as `check` refuses, then as `ShardTooShort`, as `Damaged` where the index does not decode, as the lowest
+    /// refused subchunk is (`BadIndexEntry` with its number, `Damaged`, `TooLarge`), and as `TooLarge` where the lengths of
+    /// the cells pass `usize::MAX`; or as `OutOfMemory`.
+    fn decode<'a>(
+        &self,
+        alloc: Global,
+        bytes: &'a [u8],
+        shape: &ChunkShape,
+        data_type: &DataType,
+        fill_value: &FillValue,
+        options: &CodecOptions,
+    ) -> Result<ArrayBytes<'a>, CodecError> {
+        let asked = Asked {
+            shape,
+            data_type,
+            fill_value,
+        };
+        let plan = self.prepared(alloc, &asked)?;
+        let index_codec = IndexCodec {
+            codec: &self.index_codec,
+            location: self.location,
+        };
+        let index = index_codec.decode(alloc, bytes, &plan.index, options)?;
+        let inner = Subchunks {
+            codec: &self.inner,
+            shape: &self.subchunk_shape,
+            data_type,
+            fill_value,
+            options,
+        };
+        let subchunks = inner.decode(alloc, bytes, &index)?;
+        let array = gathered(
+            alloc,
+            &subchunks,
+            plan.cells,
+            shape,
+            &self.subchunk_shape,
+            data_type.size(),
+            fill_value.as_ne_bytes(),
+        )?;
+        Ok(array)
+    }
+
+    /// The index and the present slices in ascending subchunk number without gaps, each copied for itself; `None` exactly
+    /// where the shard has as many bytes as its index and its present slices, whatever their order. Refused, in this order,
+    /// as `IncompatibleDimensionality`, `InvalidSubchunkShape`, `TooLarge` (the count of cells, or 16 bytes for each
+    /// subchunk), as the index codec's `check` refuses, as `TooLarge` or `VariableIndexSize` where the index has no fixed
+    /// size, as `ShardTooShort`, as `Damaged` where the index does not decode, as `BadIndexEntry` with the lowest bad pair,
+    /// as `TooLarge` where the compacted shard would reach `usize::MAX` bytes, and as the index codec refuses; or as
+    /// `OutOfMemory`. The data type and the fill value are not looked at.
+    fn compact(
+        &self,
+        alloc: Global,
+        bytes: &[u8],
+        shape: &ChunkShape,
+        data_type: &DataType,
+        fill_value: &FillValue,
+        options: &CodecOptions,
+    ) -> Result<Option<Vec<u8>>, CodecError>
+        ensures compacted { let g = geo shape.now data_type.now fill_value.now in
+            IfOk result (λ answer. IfSome answer (λ new. (⟦<Self as ArrayToBytesCodecTraits>⟧.meaning self.now g).compacted bytes.now new.items)) }
+        ensures kept { let g = geo shape.now data_type.now fill_value.now in let s = self.now in
+            let index_cells = (X.meaning s.index_codec (index_geo (grid_of g.shape s.subchunk_shape))).cells in
+            IfOk result (λ answer. IfNone answer (IsCompact index_cells (layout_in s (X.meaning s.index_codec (index_geo (grid_of g.shape s.subchunk_shape))) g) bytes.now)) }
+        ensures lawful { let codec = ⟦<Self as ArrayToBytesCodecTraits>⟧ in let g = geo shape.now data_type.now fill_value.now in
+            IfErr result (λ e. (codec.meaning self.now g).serves → MayRefuseCompact ((codec.meaning self.now g).cells bytes.now) e) }
+        ensures refused { let g = geo shape.now data_type.now fill_value.now in
+            IfErr result (RefusedBy ((⟦<Self as ArrayToBytesCodecTraits>⟧.meaning self.now g).compact_tests bytes.now)) }
+    {
+        let plan = self.compact_plan(alloc, shape)?;
+        let index_codec = IndexCodec {
+            codec: &self.index_codec,
+            location: self.location,
+        };
+        let index = index_codec.decode(alloc, bytes, &plan.index, options)?;
+        let len = bytes.len() as u64;
+        let slots = present_slots(alloc, &index)?;
+        let Some(total) = compact_size(&slots, plan.index.size) else {
+            return Err(CodecError::TooLarge);
+        };
+        if total == len {
+            return Ok(None);
+        }
+        let shard = self.rewritten(alloc, bytes, &slots, total, &plan.index, options)?;
+        Ok(Some(shard))
+    }
+
+    /// As many workers as the shard has subchunks. Refused, in this order, as `IncompatibleDimensionality`,
+    /// `InvalidSubchunkShape`, and `TooLarge` where the count of subchunks passes `u64::MAX`.
+    fn recommended_concurrency(
+        &self,
+        shape: &ChunkShape,
+        _data_type: &DataType,
+    ) -> Result<RecommendedConcurrency, CodecError> {
+        let subchunks = count_subchunks(shape.as_slice(), self.subchunk_shape.as_slice())?;
+        Ok(RecommendedConcurrency::new_maximum(subchunks as usize))
+    }
+
+    /// Reads the index and, of each subchunk in which cells are asked, these cells; the others are not looked at. Refused as
+    /// `check` refuses, then, in this order, as `IncompatibleDimensionality` (shape and indexer), as `OutOfBounds` (cells
+    /// outside the shape), as `TooLarge` (their count or, where they have one size, their bytes), as `OutOfBounds` where no
+    /// object has the interval, as `ShardTooShort`, as `Damaged` where the index does not decode, as the lowest refused
+    /// subchunk is (`BadIndexEntry` with its number, `Damaged`, `TooLarge`), and as `TooLarge` where the
+    /// lengths of the asked cells pass `usize::MAX`; or as `Fault`, where the handle failed, or `OutOfMemory`.
+    fn partial_decode<H: BytesPartialDecoderTraits, N: Indexer>(
+        &self,
+        alloc: Global,
+        handle: &mut H,
+        interval: Interval,
+        shape: &ChunkShape,
+        data_type: &DataType,
+        fill_value: &FillValue,
+        indexer: &N,
+        options: &CodecOptions,
+    ) -> Result<ArrayBytes<'static>, CodecError> {
+        let asked = Asked {
+            shape,
+            data_type,
+            fill_value,
+        };
+        let plan = self.prepared(alloc, &asked)?;
+        let count = check_asked(indexer, shape, data_type)?;
+        let cells = self.read_planned(
+            alloc, handle, interval, &asked, &plan, count, indexer, options,
+        )?;
+        Ok(cells)
+    }
+
+    /// `BoundedSize` of as many times the inner codec's size as there are subchunks, and the index; `UnboundedSize`
+    /// where the inner codec says so. Refused as `check` refuses, then as `TooLarge`.
+    fn encoded_representation(
+        &self,
+        alloc: Global,
+        shape: &ChunkShape,
+        data_type: &DataType,
+        fill_value: &FillValue,
+    ) -> Result<BytesRepresentation, CodecError> {
+        let asked = Asked {
+            shape,
+            data_type,
+            fill_value,
+        };
+        let plan = self.prepared(alloc, &asked)?;
+        let told = self
+            .inner
+            .encoded_representation(alloc, &self.subchunk_shape, data_type, fill_value)?;
+        let size = match told {
+            BytesRepresentation::FixedSize(size) => size,
+            BytesRepresentation::BoundedSize(size) => size,
+            BytesRepresentation::UnboundedSize => return Ok(BytesRepresentation::UnboundedSize),
+        };
+        let Some(all) = plan.subchunks.checked_mul(size) else {
+            return Err(CodecError::TooLarge);
+        };
+        let Some(total) = all.checked_add(plan.index.size) else {
+            return Err(CodecError::TooLarge);
+        };
+        Ok(BytesRepresentation::BoundedSize(total))
+    }
+}

@@ -1,0 +1,152 @@
+// What callers learn from the sharding codec's laws, each as the contract of a call.
+ghost use Rattle.std.specs.Prelude.{◌≡◌, ◌&&◌, ℕ, Some, IsTrue, IfOk, IfErr, IfSome, IfNone, IsSome, map, true};
+ghost use Rattle.zarr_parts.specs.Order.{RefusedBy};
+ghost use Rattle.zarr_parts.specs.Numbering.{count_of};
+ghost use Rattle.zarr_parts.specs.Grid.{grid_of};
+ghost use Rattle.zarr_parts.specs.Geo.{geo, IsArrayOf};
+ghost use Rattle.zarr_parts.specs.Types.{size_of, byte_size};
+ghost use Rattle.zarr_elements.specs.declared.data_type.DataTypeSize.TheVariants.{Fixed};
+ghost use Rattle.zarr_words.specs.declared.error.CodecError.TheVariants.{OutOfMemory, BadIndexEntry};
+ghost use Rattle.codec_laws.specs.Cells.{all_there};
+ghost use Rattle.codec_laws.specs.Refusals.{MayRefuseEncode, MayRefuseDecode, MayRefuseCompact};
+ghost use Rattle.shard_format.specs.Index.{index_geo};
+ghost use Rattle.shard_format.specs.Holding.{Holds};
+ghost use Rattle.shard_format.specs.Compacting.{IsCompact};
+ghost use Rattle.shard_format.specs.Serves.{sub_geo};
+ghost use Rattle.sharding_core.specs.Meanings.{layout_in};
+ghost use Rattle.shard_format.specs.DecodeTests.{IsLowestBad};
+ghost use Rattle.sharding_core.specs.Decoders.{index_in};
+
+use crate::codec::ShardingCodec;
+use codec_laws::{ArrayToBytesCodecTraits, FunctionalCodec};
+use std::alloc::Global;
+use zarr_parts::{ArrayBytes, ChunkShape, CodecError, CodecOptions, DataType, FillValue};
+
+/// Decodes a shard that the codec serves and whose cells are all there, of elements of one length. Refused only as
+/// out of memory.
+pub fn decode_sound<'a, I: ArrayToBytesCodecTraits, X: ArrayToBytesCodecTraits>(
+    codec: &ShardingCodec<I, X>,
+    alloc: Global,
+    bytes: &'a [u8],
+    shape: &ChunkShape,
+    data_type: &DataType,
+    fill_value: &FillValue,
+    options: &CodecOptions,
+) -> Result<ArrayBytes<'a>, CodecError>
+    requires serves { (⟦<ShardingCodec<I, X> as ArrayToBytesCodecTraits>⟧.meaning codec.now (geo shape.now data_type.now fill_value.now)).serves }
+    requires fixed { size_of data_type.now ≡ Fixed (byte_size (size_of data_type.now)) }
+    requires sound { let g = geo shape.now data_type.now fill_value.now in
+        IsSome (all_there ((⟦<ShardingCodec<I, X> as ArrayToBytesCodecTraits>⟧.meaning codec.now g).cells bytes.now)) }
+    ensures { IfErr result (λ e. e ≡ OutOfMemory) }
+{
+    codec.decode(alloc, bytes, shape, data_type, fill_value, options)
+}
+
+/// Decodes a shard of an array that the codec serves. An array that is decoded has the cells that the shard stands for. A
+/// refusal as `BadIndexEntry` names the lowest subchunk that has no array, whose pair is bad; `Damaged` says that some cell
+/// is not there, and no shard is refused as `Fault`.
+pub fn decode_served<'a, I: ArrayToBytesCodecTraits, X: ArrayToBytesCodecTraits>(
+    codec: &ShardingCodec<I, X>,
+    alloc: Global,
+    shard: &'a [u8],
+    shape: &ChunkShape,
+    data_type: &DataType,
+    fill_value: &FillValue,
+    options: &CodecOptions,
+) -> Result<ArrayBytes<'a>, CodecError>
+    requires serves { (⟦<ShardingCodec<I, X> as ArrayToBytesCodecTraits>⟧.meaning codec.now (geo shape.now data_type.now fill_value.now)).serves }
+    ensures array { IfOk result (λ array. (array.kind ≡ size_of data_type.now) × IsArrayOf (geo shape.now data_type.now fill_value.now) array.elements) }
+    ensures cells { let g = geo shape.now data_type.now fill_value.now in
+        IfOk result (λ array. (⟦<ShardingCodec<I, X> as ArrayToBytesCodecTraits>⟧.meaning codec.now g).cells shard.now ≡ map Some array.elements) }
+    ensures lawful { let g = geo shape.now data_type.now fill_value.now in
+        IfErr result (MayRefuseDecode ((⟦<ShardingCodec<I, X> as ArrayToBytesCodecTraits>⟧.meaning codec.now g).cells shard.now)) }
+    ensures lowest { let g = geo shape.now data_type.now fill_value.now in let s = codec.now in
+        let inner_cells = (I.meaning s.inner (sub_geo s.subchunk_shape g)).cells in let numbers = index_in X.meaning s g shard.now in
+        IfErr result (λ e. (number : ℕ) → e ≡ BadIndexEntry number
+        → IsLowestBad inner_cells shard.now numbers (count_of (grid_of g.shape s.subchunk_shape)) number) }
+{
+    codec.decode(alloc, shard, shape, data_type, fill_value, options)
+}
+
+/// Encodes an array by a codec of which each array has one encoding (`is_functional`): the encoding is the shard that is
+/// made from scratch, with the encodings of the subchunks that are not wholly the fill value in ascending number, laid end
+/// to end. Refused as `encode` refuses.
+pub fn encode_functional<I: FunctionalCodec, X: FunctionalCodec>(
+    codec: &ShardingCodec<I, X>,
+    alloc: Global,
+    array: &ArrayBytes,
+    shape: &ChunkShape,
+    data_type: &DataType,
+    fill_value: &FillValue,
+    options: &CodecOptions,
+) -> Result<Vec<u8>, CodecError>
+    requires functional { IsTrue (⟦<ShardingCodec<I, X> as FunctionalCodec>⟧.functional codec.now) }
+    ensures scratch { let g = geo shape.now data_type.now fill_value.now in
+        IfOk result (λ shard. shard.items ≡ ⟦<ShardingCodec<I, X> as FunctionalCodec>⟧.encoding codec.now g array.now.elements) }
+    ensures lawful { let sharding = ⟦<ShardingCodec<I, X> as ArrayToBytesCodecTraits>⟧ in let g = geo shape.now data_type.now fill_value.now in
+        IfErr result (λ e. (sharding.meaning codec.now g).serves → array.now.kind ≡ size_of data_type.now → IsArrayOf g array.now.elements
+        → MayRefuseEncode (sharding.meaning codec.now g) array.now.elements e) }
+{
+    codec.encode(alloc, array, shape, data_type, fill_value, options)
+}
+
+/// Compacts a shard that holds an array, in whatever order and with whatever gaps, by codecs of which each has one encoding
+/// of an array (`is_functional`): the answer is the shard that is made from scratch, as `encode_functional` makes it. `None`
+/// where nothing is to be gained, as for each encoding. Refused as `compact` refuses.
+pub fn compact_encoded<I: FunctionalCodec, X: FunctionalCodec>(
+    codec: &ShardingCodec<I, X>,
+    alloc: Global,
+    encoded: &[u8],
+    array: &ArrayBytes,
+    shape: &ChunkShape,
+    data_type: &DataType,
+    fill_value: &FillValue,
+    options: &CodecOptions,
+) -> Result<Option<Vec<u8>>, CodecError>
+    requires serves { (⟦<ShardingCodec<I, X> as ArrayToBytesCodecTraits>⟧.meaning codec.now (geo shape.now data_type.now fill_value.now)).serves }
+    requires array { IsArrayOf (geo shape.now data_type.now fill_value.now) array.now.elements }
+    requires holds { let g = geo shape.now data_type.now fill_value.now in let s = codec.now in
+        let inner_written = (I.meaning s.inner (sub_geo s.subchunk_shape g)).written in let index_cells = (X.meaning s.index_codec (index_geo (grid_of g.shape s.subchunk_shape))).cells in
+        Holds inner_written index_cells (layout_in s (X.meaning s.index_codec (index_geo (grid_of g.shape s.subchunk_shape))) g) array.now.elements encoded.now }
+    requires functional { let s = codec.now in IsTrue (I.functional s.inner && X.functional s.index_codec) }
+    ensures scratch { let g = geo shape.now data_type.now fill_value.now in
+        IfOk result (λ answer. IfSome answer (λ new. new.items ≡ ⟦<ShardingCodec<I, X> as FunctionalCodec>⟧.encoding codec.now g array.now.elements)) }
+    ensures kept { let g = geo shape.now data_type.now fill_value.now in let s = codec.now in
+        let index_cells = (X.meaning s.index_codec (index_geo (grid_of g.shape s.subchunk_shape))).cells in
+        IfOk result (λ answer. IfNone answer (IsCompact index_cells (layout_in s (X.meaning s.index_codec (index_geo (grid_of g.shape s.subchunk_shape))) g) encoded.now)) }
+    ensures lawful { let g = geo shape.now data_type.now fill_value.now in
+        IfErr result (MayRefuseCompact ((⟦<ShardingCodec<I, X> as ArrayToBytesCodecTraits>⟧.meaning codec.now g).cells encoded.now)) }
+    ensures refused { let g = geo shape.now data_type.now fill_value.now in
+        IfErr result (RefusedBy ((⟦<ShardingCodec<I, X> as ArrayToBytesCodecTraits>⟧.meaning codec.now g).compact_tests encoded.now)) }
+{
+    codec.compact(alloc, encoded, shape, data_type, fill_value, options)
+}
+
+/// Compacts a shard that the codec serves, and what it got again. Always `true`: the second answer is `None` where memory
+/// lasts. Refused as `compact` refuses the shard, and as `OutOfMemory`.
+pub fn compact_again<I: ArrayToBytesCodecTraits, X: ArrayToBytesCodecTraits>(
+    codec: &ShardingCodec<I, X>,
+    alloc: Global,
+    bytes: &[u8],
+    shape: &ChunkShape,
+    data_type: &DataType,
+    fill_value: &FillValue,
+    options: &CodecOptions,
+) -> Result<bool, CodecError>
+    requires serves { (⟦<ShardingCodec<I, X> as ArrayToBytesCodecTraits>⟧.meaning codec.now (geo shape.now data_type.now fill_value.now)).serves }
+    ensures settled { IfOk result (λ settled. settled ≡ true) }
+    ensures refused { let g = geo shape.now data_type.now fill_value.now in
+        IfErr result (RefusedBy ((⟦<ShardingCodec<I, X> as ArrayToBytesCodecTraits>⟧.meaning codec.now g).compact_tests bytes.now)) }
+{
+    let Some(compacted) = codec.compact(alloc, bytes, shape, data_type, fill_value, options)? else {
+        return Ok(true);
+    };
+    match codec.compact(alloc, &compacted, shape, data_type, fill_value, options) {
+        Ok(None) => Ok(true),
+        Ok(Some(_)) => Ok(false),
+        Err(error) => match error {
+            CodecError::OutOfMemory => Err(error),
+            _ => Ok(false),
+        },
+    }
+}

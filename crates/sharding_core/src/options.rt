@@ -1,0 +1,91 @@
+// The sharding codec's own options.
+ghost use Rattle.std.specs.Prelude.{◌≡◌, MatchOption};
+
+use crate::codec::ShardingCodec;
+use shard_format::SubchunkWriteOrder;
+use std::marker::Model;
+use zarr_parts::CodecSpecificOptions;
+
+/// What a caller asks of the sharding codec alone.
+#[derive(Debug, Clone, Copy)]
+pub struct ShardingCodecOptions {
+    subchunk_write_order: SubchunkWriteOrder,
+}
+
+impl Model for ShardingCodecOptions {
+    ghost use Rattle.shard_format.specs.declared.order.SubchunkWriteOrder.{SubchunkWriteOrder};
+
+    // the order in which subchunks are written
+    ghost Value = { SubchunkWriteOrder };
+
+    ghost view = { λ options. options.subchunk_write_order };
+
+    ghost inverse = { λ order. record { subchunk_write_order = order } };
+}
+
+impl Default for ShardingCodecOptions {
+    ghost use Rattle.std.specs.Prelude.{◌≡◌};
+    ghost use Rattle.shard_format.specs.declared.order.SubchunkWriteOrder.TheVariants.{Unordered};
+
+    ghost is_default = { λ options. options ≡ Unordered };
+
+    /// Subchunks in the order `Unordered`.
+    fn default() -> Self {
+        ShardingCodecOptions {
+            subchunk_write_order: SubchunkWriteOrder::Unordered,
+        }
+    }
+}
+
+impl ShardingCodecOptions {
+    /// The same options with another order in which subchunks are written.
+    pub fn with_subchunk_write_order(self, subchunk_write_order: SubchunkWriteOrder) -> Self
+        ensures { result ≡ subchunk_write_order }
+    {
+        ShardingCodecOptions {
+            subchunk_write_order,
+        }
+    }
+
+    /// Sets the order in which subchunks are written, and lends the options on.
+    pub fn set_subchunk_write_order(
+        &mut self,
+        subchunk_write_order: SubchunkWriteOrder,
+    ) -> &mut Self
+        ensures same { result.ghost_name ≡ self.entry.ghost_name }
+        ensures order { result.now ≡ subchunk_write_order }
+    {
+        *self = self.with_subchunk_write_order(subchunk_write_order);
+        self
+    }
+
+    /// The order in which subchunks are written.
+    pub fn subchunk_write_order(&self) -> SubchunkWriteOrder
+        ensures { result ≡ self.now }
+    {
+        self.subchunk_write_order
+    }
+}
+
+impl<I, X> ShardingCodec<I, X> {
+    /// The same codec with these options.
+    pub fn with_options(self, options: ShardingCodecOptions) -> Self
+        ensures { result ≡ record self { order = options } }
+    {
+        self.with_subchunk_write_order(options.subchunk_write_order())
+    }
+
+    /// The same codec with the options that are set, which replace the codec's; none leaves them. The inner codec and the
+    /// index codec keep theirs.
+    pub fn with_codec_specific_options(
+        self,
+        options: &CodecSpecificOptions<ShardingCodecOptions>,
+    ) -> Self
+        ensures { MatchOption options.now (result ≡ self) (λ order. result ≡ record self { order = order }) }
+    {
+        match options.get_option() {
+            Some(options) => self.with_options(*options),
+            None => self,
+        }
+    }
+}

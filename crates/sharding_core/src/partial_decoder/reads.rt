@@ -1,0 +1,207 @@
+// Reads of some cells of a shard that is open.
+ghost use Rattle.std.specs.Prelude.{◌≡◌, ◌*◌, ◌^◌, ◌≤◌, ℕ, List, [], IsTrue, Some, IfOk, IfErr, OnOk, OnErr, map, length, replicate, slice_index_or};
+ghost use Rattle.std.specs.List.{All};
+ghost use Rattle.zarr_parts.specs.Order.{RefusedBy};
+ghost use Rattle.zarr_parts.specs.Numbering.{IsInside};
+ghost use Rattle.zarr_parts.specs.Geo.{geo};
+ghost use Rattle.zarr_parts.specs.Types.{size_of, HasElements, FitsKind};
+ghost use Rattle.zarr_parts.specs.Selections.{IsSelectionOf};
+ghost use Rattle.zarr_parts.specs.Targets.{IsWritten, TargetTests};
+ghost use Rattle.zarr_words.specs.declared.error.CodecError.TheVariants.{TooLarge};
+ghost use Rattle.object_handles.specs.Handles.{IsRead, IsCounted};
+ghost use Rattle.codec_laws.specs.Reads.{cells_at, IsAnswer, IsDecodedInto, AskedTests};
+ghost use Rattle.object_handles.specs.Objects.{ObjectTests};
+ghost use Rattle.sharding_core.specs.Decoders.{index_in, IsOpen, IsKnown, Unmoved, object_cells, ObjectCellsTests};
+
+use super::{OpenShard, ShardingPartialDecoder};
+use crate::codec::ShardingCodec;
+use codec_laws::{ArrayToBytesCodecTraits, check_target};
+use object_handles::{BytesPartialDecoderTraits, Interval};
+use shard_cells::check_asked;
+use shard_format::ShardIndex;
+use shard_subchunks::Subchunks;
+use std::alloc::Global;
+use zarr_parts::{
+    ArrayBytes, CodecError, CodecOptions, DataType, FillValue, FixedTarget, Indexer, point_numbers,
+};
+
+// So many fill values of a type. Only where no number says how many bytes they have is this too large; `u64::MAX` elements
+// are more than any memory has.
+fn filled(
+    alloc: Global,
+    data_type: &DataType,
+    count: u64,
+    fill_value: &FillValue,
+) -> Result<ArrayBytes<'static>, CodecError>
+    requires supported { HasElements data_type.now }
+    requires fits { FitsKind (size_of data_type.now) fill_value.now }
+    ensures filled { IfOk result (λ array. array ≡ record { kind = size_of data_type.now; elements = replicate count fill_value.now }) }
+    ensures refused { IfErr result (RefusedBy (λ e. (e ≡ TooLarge) × (2 ^ 64 ≤ count * length fill_value.now))) }
+{
+    let size = fill_value.as_ne_bytes().len() as u64;
+    if count.checked_mul(size).is_none() {
+        return Err(CodecError::TooLarge);
+    }
+    if count == u64::MAX {
+        return Err(CodecError::OutOfMemory);
+    }
+    ArrayBytes::new_fill_value(alloc, data_type, count, fill_value)
+}
+
+impl<I: ArrayToBytesCodecTraits, X: ArrayToBytesCodecTraits> ShardingCodec<I, X> {
+    // The cells that an indexer asks of a shard that is open and has this index.
+    fn read_stored<H: BytesPartialDecoderTraits, N: Indexer>(
+        &self,
+        alloc: Global,
+        handle: &mut H,
+        shard: &OpenShard,
+        index: &ShardIndex,
+        count: u64,
+        indexer: &N,
+        options: &CodecOptions,
+    ) -> Result<ArrayBytes<'static>, CodecError>
+        requires known { IsKnown ⟦<Self as ArrayToBytesCodecTraits>⟧.meaning (index_in X.meaning) H.state self.now handle.old shard.now }
+        requires index { shard.now.held ≡ Some index.now }
+        requires selection { IsSelectionOf shard.now.shape (N.selection indexer.now) }
+        requires points { All (λ point. IsInside point shard.now.shape) (N.selection indexer.now).points }
+        requires count { count ≡ length (N.selection indexer.now).points }
+        ensures read { IsRead (H.state handle.old) (H.state handle.new) }
+        ensures answer { IfOk result (IsAnswer (geo shard.now.shape shard.now.data_type shard.now.fill_value) (N.selection indexer.now)) }
+        ensures cells { let codec = ⟦<Self as ArrayToBytesCodecTraits>⟧ in let g = geo shard.now.shape shard.now.data_type shard.now.fill_value in
+            IfOk result (λ array. IsTrue (H.state handle.old).tells
+            → cells_at (object_cells (codec.meaning self.now g).cells g (H.state handle.old).contents) g.shape (N.selection indexer.now).points ≡ map Some array.elements) }
+        ensures fault { IfErr result (IsCounted (H.state handle.old) (H.state handle.new)) }
+        ensures refused { let g = geo shard.now.shape shard.now.data_type shard.now.fill_value in
+            IfErr result (RefusedBy (ObjectTests (H.state handle.old) (H.state handle.new) (
+            ObjectCellsTests I.meaning X.meaning self.now g (H.state handle.old).contents (N.selection indexer.now).points))) }
+    {
+        let numbers = point_numbers(alloc, indexer, count, &shard.shape)?;
+        let whole = Interval {
+            offset: 0,
+            size: index.len,
+        };
+        let subchunks = Subchunks {
+            codec: &self.inner,
+            shape: &self.subchunk_shape,
+            data_type: &shard.data_type,
+            fill_value: &shard.fill_value,
+            options,
+        };
+        let array = subchunks.read_cells(
+            alloc,
+            handle,
+            whole,
+            index,
+            &numbers,
+            &shard.shape,
+            shard.cells,
+            shard.subchunks,
+        )?;
+        Ok(array)
+    }
+
+    // The cells that an indexer asks of a shard that is open.
+    fn read_open<H: BytesPartialDecoderTraits, N: Indexer>(
+        &self,
+        alloc: Global,
+        handle: &mut H,
+        shard: &OpenShard,
+        count: u64,
+        indexer: &N,
+        options: &CodecOptions,
+    ) -> Result<ArrayBytes<'static>, CodecError>
+        requires known { IsKnown ⟦<Self as ArrayToBytesCodecTraits>⟧.meaning (index_in X.meaning) H.state self.now handle.old shard.now }
+        requires selection { IsSelectionOf shard.now.shape (N.selection indexer.now) }
+        requires points { All (λ point. IsInside point shard.now.shape) (N.selection indexer.now).points }
+        requires count { count ≡ length (N.selection indexer.now).points }
+        ensures read { IsRead (H.state handle.old) (H.state handle.new) }
+        ensures answer { IfOk result (IsAnswer (geo shard.now.shape shard.now.data_type shard.now.fill_value) (N.selection indexer.now)) }
+        ensures cells { let codec = ⟦<Self as ArrayToBytesCodecTraits>⟧ in let g = geo shard.now.shape shard.now.data_type shard.now.fill_value in
+            IfOk result (λ array. IsTrue (H.state handle.old).tells
+            → cells_at (object_cells (codec.meaning self.now g).cells g (H.state handle.old).contents) g.shape (N.selection indexer.now).points ≡ map Some array.elements) }
+        ensures fault { IfErr result (IsCounted (H.state handle.old) (H.state handle.new)) }
+        ensures refused { let g = geo shard.now.shape shard.now.data_type shard.now.fill_value in
+            IfErr result (RefusedBy (ObjectTests (H.state handle.old) (H.state handle.new) (
+            ObjectCellsTests I.meaning X.meaning self.now g (H.state handle.old).contents (N.selection indexer.now).points))) }
+    {
+        let Some(index) = &shard.held else {
+            let array = filled(alloc, &shard.data_type, count, &shard.fill_value)?;
+            return Ok(array);
+        };
+        self.read_stored(alloc, handle, shard, index, count, indexer, options)
+    }
+}
+
+impl<
+    'a,
+    I: ArrayToBytesCodecTraits,
+    X: ArrayToBytesCodecTraits,
+    H: BytesPartialDecoderTraits,
+> ShardingPartialDecoder<'a, I, X, H> {
+    /// Reads the cells that an indexer asks, in its order; duplicates are kept. Of each subchunk in which cells are asked, these
+    /// cells are read; the others are not looked at, and nor is the index. Refused, in this order, as
+    /// `IncompatibleDimensionality`, as `OutOfBounds` (also without an object), as `TooLarge` (the count of cells or, where
+    /// they have one size, their bytes), as the lowest refused subchunk is (`BadIndexEntry` with its number, `Damaged`,
+    /// `TooLarge`), and as `TooLarge` where the lengths of the asked cells pass `usize::MAX`; or as `Fault`,
+    /// where the handle failed, or `OutOfMemory`.
+    pub fn partial_decode<N: Indexer>(
+        &mut self,
+        alloc: Global,
+        indexer: &N,
+        options: &CodecOptions,
+    ) -> Result<ArrayBytes<'static>, CodecError>
+        ensures unmoved { Unmoved H.state self.old self.new }
+        ensures is_open { IsOpen ⟦<ShardingCodec<I, X> as ArrayToBytesCodecTraits>⟧.meaning (index_in X.meaning) H.state self.new }
+        ensures answer { IfOk result (IsAnswer self.old.geo (N.selection indexer.now)) }
+        ensures cells { let codec = ⟦<ShardingCodec<I, X> as ArrayToBytesCodecTraits>⟧ in let s = self.old.codec in let g = self.old.geo in
+            IfOk result (λ array. IsTrue (H.state self.old.handle).tells
+            → cells_at (object_cells (codec.meaning s g).cells g (H.state self.old.handle).contents) g.shape (N.selection indexer.now).points ≡ map Some array.elements) }
+        ensures fault { IfErr result (IsCounted (H.state self.old.handle) (H.state self.new.handle)) }
+        ensures refused { let codec = ⟦<ShardingCodec<I, X> as ArrayToBytesCodecTraits>⟧ in let s = self.old.codec in let g = self.old.geo in
+            IfErr result (RefusedBy (AskedTests g (N.selection indexer.now) (codec.meaning s g).answerable (
+            ObjectTests (H.state self.old.handle) (H.state self.new.handle) (
+            ObjectCellsTests I.meaning X.meaning s g (H.state self.old.handle).contents (N.selection indexer.now).points)))) }
+    {
+        let count = check_asked(indexer, &self.shard.shape, &self.shard.data_type)?;
+        let array = self.codec.read_open(
+            alloc,
+            &mut self.handle,
+            &self.shard,
+            count,
+            indexer,
+            options,
+        )?;
+        Ok(array)
+    }
+
+    /// Reads the cells that an indexer asks into a target: in the indexer's order they go to the target's subset, in row-major
+    /// order of this. A refusal leaves the target. Refused, in this order, as `WrongElementKind` (a type of another element
+    /// size or of none), as `InvalidNumberOfElements` (another number of elements in the target's subset), then as
+    /// `partial_decode`.
+    pub fn partial_decode_into<N: Indexer>(
+        &mut self,
+        alloc: Global,
+        indexer: &N,
+        target: &mut FixedTarget,
+        options: &CodecOptions,
+    ) -> Result<(), CodecError>
+        ensures unmoved { Unmoved H.state self.old self.new }
+        ensures is_open { IsOpen ⟦<ShardingCodec<I, X> as ArrayToBytesCodecTraits>⟧.meaning (index_in X.meaning) H.state self.new }
+        ensures selected { OnOk result (IsSelectionOf self.old.geo.shape (N.selection indexer.now)) }
+        ensures written { OnOk result ((elements : List (List ℕ)) × IsWritten target.old target.new (λ k. slice_index_or elements k [])) }
+        ensures cells { let codec = ⟦<ShardingCodec<I, X> as ArrayToBytesCodecTraits>⟧ in let s = self.old.codec in let g = self.old.geo in
+            OnOk result (IsTrue (H.state self.old.handle).tells
+            → IsDecodedInto target.old target.new (cells_at (object_cells (codec.meaning s g).cells g (H.state self.old.handle).contents) g.shape (N.selection indexer.now).points)) }
+        ensures kept { OnErr result (target.new ≡ target.old) }
+        ensures fault { IfErr result (IsCounted (H.state self.old.handle) (H.state self.new.handle)) }
+        ensures refused { let codec = ⟦<ShardingCodec<I, X> as ArrayToBytesCodecTraits>⟧ in let s = self.old.codec in let g = self.old.geo in
+            IfErr result (RefusedBy (TargetTests (size_of g.data_type) (length (N.selection indexer.now).points) target.old (
+            AskedTests g (N.selection indexer.now) (codec.meaning s g).answerable (
+            ObjectTests (H.state self.old.handle) (H.state self.new.handle) (
+            ObjectCellsTests I.meaning X.meaning s g (H.state self.old.handle).contents (N.selection indexer.now).points))))) }
+    {
+        check_target(target, indexer.len(), &self.shard.data_type)?;
+        let array = self.partial_decode(alloc, indexer, options)?;
+        target.copy_from(&array)
+    }
+}

@@ -1,0 +1,110 @@
+// Subchunks of a shard that is read in part, by their coordinates in the grid.
+ghost use Rattle.std.specs.Prelude.{◌≡◌, ◌+◌, ◌^◌, ◌<◌, ◌*◌, IfOk, IfErr, IfSome, OnOk, length};
+ghost use Rattle.zarr_parts.specs.Order.{done, RefusedBy};
+ghost use Rattle.zarr_parts.specs.Numbering.{count_of, number_of, IsInside};
+ghost use Rattle.zarr_parts.specs.Grid.{grid_of};
+ghost use Rattle.std.specs.Cow.{cow_slice_items};
+ghost use Rattle.object_handles.specs.Handles.{IsCounted, seen};
+ghost use Rattle.object_handles.specs.Objects.{ObjectTests};
+ghost use Rattle.shard_format.specs.Decoding.{FitsSlot};
+ghost use Rattle.sharding_core.specs.Decoders.{held_len, held_numbers, index_in, IsOpen, Unmoved, held_slot, IsRangeOf, IsSliceRead, SlotTests};
+
+use super::ShardingPartialDecoder;
+use crate::codec::ShardingCodec;
+use codec_laws::ArrayToBytesCodecTraits;
+use object_handles::{ByteRange, BytesPartialDecoderTraits, copied};
+use shard_format::{ShardIndex, Slot};
+use std::alloc::Global;
+use std::borrow::CowSlice;
+use zarr_parts::{CodecError, ravel_indices};
+
+// What the held index says of a subchunk. Without an object each is absent.
+fn slot_in(held: &Option<ShardIndex>, number: u64) -> Slot
+    requires { IfSome (held_numbers held.now) (λ numbers. 2 * number + 1 < length numbers) }
+    ensures slot { result ≡ held_slot (held_len held.now) (held_numbers held.now) number }
+    ensures fits { FitsSlot (held_len held.now) result }
+{
+    match held {
+        Some(index) => index.slot(number as usize),
+        None => Slot::Absent,
+    }
+}
+
+// The range of the bytes of a subchunk of a grid.
+fn range_in(
+    held: &Option<ShardIndex>,
+    grid: &[u64],
+    subchunk: &[u64],
+) -> Result<Option<ByteRange>, CodecError>
+    requires counted { IfSome (held_numbers held.now) (λ numbers. length numbers ≡ 2 * count_of grid.now) }
+    requires fits { count_of grid.now < 2 ^ 64 }
+    ensures axes { OnOk result (length subchunk.now ≡ length grid.now) }
+    ensures inside { OnOk result (IsInside subchunk.now grid.now) }
+    ensures range { IfOk result (IsRangeOf (held_slot (held_len held.now) (held_numbers held.now) (number_of subchunk.now grid.now))) }
+    ensures fits { OnOk result (FitsSlot (held_len held.now) (held_slot (held_len held.now) (held_numbers held.now) (number_of subchunk.now grid.now))) }
+    ensures refused { IfErr result (SlotTests grid.now subchunk.now
+        (held_slot (held_len held.now) (held_numbers held.now) (number_of subchunk.now grid.now)) done) }
+{
+    if subchunk.len() != grid.len() {
+        return Err(CodecError::IncompatibleDimensionality);
+    }
+    let Some(number) = ravel_indices(subchunk, grid) else {
+        return Err(CodecError::OutOfBounds);
+    };
+    match slot_in(held, number) {
+        Slot::Absent => Ok(None),
+        Slot::InRange { offset, size } => Ok(Some(ByteRange::FromStart(offset, Some(size)))),
+        Slot::Bad => Err(CodecError::BadIndexEntry { number }),
+    }
+}
+
+impl<
+    'a,
+    I: ArrayToBytesCodecTraits,
+    X: ArrayToBytesCodecTraits,
+    H: BytesPartialDecoderTraits,
+> ShardingPartialDecoder<'a, I, X, H> {
+    /// The range of the bytes of a subchunk, by its coordinate in the grid of subchunks and by the held index; `None` where
+    /// it is absent, and so where there is no object. Refused, in this order, as `IncompatibleDimensionality`, as
+    /// `OutOfBounds`, and as `BadIndexEntry` with the subchunk's number. Takes no memory.
+    pub fn subchunk_byte_range(&self, subchunk: &[u64]) -> Result<Option<ByteRange>, CodecError>
+        ensures inside { OnOk result (IsInside subchunk.now (grid_of self.now.geo.shape self.now.codec.subchunk_shape)) }
+        ensures range { let grid = grid_of self.now.geo.shape self.now.codec.subchunk_shape in
+            IfOk result (IsRangeOf (held_slot self.now.len self.now.index (number_of subchunk.now grid))) }
+        ensures refused { let grid = grid_of self.now.geo.shape self.now.codec.subchunk_shape in
+            IfErr result (SlotTests grid subchunk.now (held_slot self.now.len self.now.index (number_of subchunk.now grid)) done) }
+        ensures is_open { IsOpen ⟦<ShardingCodec<I, X> as ArrayToBytesCodecTraits>⟧.meaning (index_in X.meaning) H.state self.now }
+    {
+        range_in(&self.shard.held, self.shard.grid.as_slice(), subchunk)
+    }
+
+    /// The bytes of a subchunk as they are stored, by its coordinate in the grid of subchunks and by the held index; `None`
+    /// where it is absent, and so where there is no object. Refused, in this order, as `IncompatibleDimensionality`, as
+    /// `OutOfBounds`, and as `BadIndexEntry` with the subchunk's number; or as `Fault`, where the handle failed, or
+    /// `OutOfMemory`.
+    pub fn retrieve_subchunk_encoded(
+        &mut self,
+        alloc: Global,
+        subchunk: &[u64],
+    ) -> Result<Option<CowSlice<'static, u8>>, CodecError>
+        ensures unmoved { Unmoved H.state self.old self.new }
+        ensures is_open { IsOpen ⟦<ShardingCodec<I, X> as ArrayToBytesCodecTraits>⟧.meaning (index_in X.meaning) H.state self.new }
+        ensures inside { OnOk result (IsInside subchunk.now (grid_of self.old.geo.shape self.old.codec.subchunk_shape)) }
+        ensures slice { let grid = grid_of self.old.geo.shape self.old.codec.subchunk_shape in
+            IfOk result (λ o. IsSliceRead (held_slot self.old.len self.old.index (number_of subchunk.now grid)) (H.state self.old.handle)
+            (seen (λ bytes. cow_slice_items bytes) o)) }
+        ensures fault { IfErr result (IsCounted (H.state self.old.handle) (H.state self.new.handle)) }
+        ensures refused { let grid = grid_of self.old.geo.shape self.old.codec.subchunk_shape in
+            IfErr result (RefusedBy (SlotTests grid subchunk.now (held_slot self.old.len self.old.index (number_of subchunk.now grid)) (
+            ObjectTests (H.state self.old.handle) (H.state self.new.handle) done))) }
+    {
+        let range = range_in(&self.shard.held, self.shard.grid.as_slice(), subchunk)?;
+        let Some(range) = range else {
+            return Ok(None);
+        };
+        match copied(&mut self.handle, alloc, range)? {
+            Some(bytes) => Ok(Some(CowSlice::Owned(bytes))),
+            None => Ok(None),
+        }
+    }
+}

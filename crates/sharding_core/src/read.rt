@@ -1,0 +1,78 @@
+// Some cells of a shard that stands in an interval of an object.
+ghost use Rattle.std.specs.Prelude.{◌≡◌, IsTrue, IfOk, IfErr, length};
+ghost use Rattle.std.specs.List.{All};
+ghost use Rattle.zarr_parts.specs.Order.{RefusedBy};
+ghost use Rattle.zarr_parts.specs.Numbering.{IsInside};
+ghost use Rattle.zarr_parts.specs.Selections.{IsSelectionOf};
+ghost use Rattle.object_handles.specs.Handles.{IsRead, IsCounted};
+ghost use Rattle.codec_laws.specs.Reads.{IsAnswer, IsReadOf};
+ghost use Rattle.object_handles.specs.Objects.{ObjectTests, IntervalTests};
+ghost use Rattle.shard_index.specs.Indexes.{index_meaning};
+ghost use Rattle.sharding_core.specs.Plans.{asked_geo, IsPlan};
+
+use crate::asked::Asked;
+use crate::check::Plan;
+use crate::codec::ShardingCodec;
+use codec_laws::ArrayToBytesCodecTraits;
+use object_handles::{BytesPartialDecoderTraits, Interval, check_interval};
+use shard_index::IndexCodec;
+use shard_subchunks::Subchunks;
+use std::alloc::Global;
+use zarr_parts::{ArrayBytes, CodecError, CodecOptions, Indexer, point_numbers};
+
+impl<I: ArrayToBytesCodecTraits, X: ArrayToBytesCodecTraits> ShardingCodec<I, X> {
+    // The cells that an indexer asks of a shard that stands in an interval of an object, after the tests of the shard and of
+    // what is asked.
+    pub(crate) fn read_planned<H: BytesPartialDecoderTraits, N: Indexer>(
+        &self,
+        alloc: Global,
+        handle: &mut H,
+        interval: Interval,
+        asked: &Asked,
+        plan: &Plan,
+        count: u64,
+        indexer: &N,
+        options: &CodecOptions,
+    ) -> Result<ArrayBytes<'static>, CodecError>
+        requires serves { (⟦<Self as ArrayToBytesCodecTraits>⟧.meaning self.now (asked_geo asked.now)).serves }
+        requires plan { IsPlan (index_meaning X.meaning self.now.index_codec) asked.now.shape.now self.now.subchunk_shape plan.now }
+        requires selection { IsSelectionOf asked.now.shape.now (N.selection indexer.now) }
+        requires count { count ≡ length (N.selection indexer.now).points }
+        requires points { All (λ point. IsInside point asked.now.shape.now) (N.selection indexer.now).points }
+        ensures read { IsRead (H.state handle.old) (H.state handle.new) }
+        ensures answer { IfOk result (IsAnswer (asked_geo asked.now) (N.selection indexer.now)) }
+        ensures cells { let codec = ⟦<Self as ArrayToBytesCodecTraits>⟧ in let g = asked_geo asked.now in
+            IfOk result (λ array. IsTrue (H.state handle.old).tells
+            → IsReadOf (codec.meaning self.now g).cells interval (H.state handle.old).contents asked.now.shape.now (N.selection indexer.now).points array.elements) }
+        ensures fault { IfErr result (IsCounted (H.state handle.old) (H.state handle.new)) }
+        ensures refused { let codec = ⟦<Self as ArrayToBytesCodecTraits>⟧ in let g = asked_geo asked.now in
+            IfErr result (RefusedBy (ObjectTests (H.state handle.old) (H.state handle.new) (
+            IntervalTests interval (H.state handle.old).contents (λ b. (codec.meaning self.now g).read_tests b (N.selection indexer.now).points)))) }
+    {
+        check_interval(handle, interval)?;
+        let numbers = point_numbers(alloc, indexer, count, asked.shape)?;
+        let index_codec = IndexCodec {
+            codec: &self.index_codec,
+            location: self.location,
+        };
+        let index = index_codec.read(alloc, handle, interval, &plan.index, options)?;
+        let subchunks = Subchunks {
+            codec: &self.inner,
+            shape: &self.subchunk_shape,
+            data_type: asked.data_type,
+            fill_value: asked.fill_value,
+            options,
+        };
+        let array = subchunks.read_cells(
+            alloc,
+            handle,
+            interval,
+            &index,
+            &numbers,
+            asked.shape,
+            plan.cells,
+            plan.subchunks,
+        )?;
+        Ok(array)
+    }
+}

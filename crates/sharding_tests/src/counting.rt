@@ -1,0 +1,135 @@
+// A read asks its handle for the index and for the slices in which cells are asked, and for no other bytes.
+use crate::shards::{around, decoder_of, encoded, plain, sixteen, subset_of};
+use std::alloc::Global;
+use std::test::Fail;
+use zarr_codecs::{ArrayToBytesCodecTraits, ByteRange, LendsSlice};
+use zarr_parts::{ArraySubset, CodecError, CodecOptions};
+use zarrs_sharding::{ShardingCodec, ShardingIndexLocation, ShardingPartialDecoder};
+
+// Counts the bytes that are read of an object, by ranges that have a size.
+#[derive(Drop)]
+struct CountingHandle {
+    object: Vec<u8>,
+    bytes_read: u64,
+}
+
+impl LendsSlice for CountingHandle {
+    ghost use Rattle.std.specs.Prelude.{true, false, Some, length};
+
+    ghost state = { λ handle. record {
+      tells = true;
+      contents = Some handle.object.items;
+      faults = 0;
+      held = length handle.object.items;
+      supports = record { decode = true; encode = false };
+    } };
+
+    fn find(&mut self) -> Result<bool, CodecError> {
+        Ok(true)
+    }
+
+    fn measure(&mut self) -> Result<Option<u64>, CodecError> {
+        Ok(Some(self.object.len() as u64))
+    }
+
+    fn held_bytes(&self) -> usize {
+        self.object.len()
+    }
+
+    fn lend(&mut self, _alloc: Global, range: ByteRange) -> Result<Option<&[u8]>, CodecError> {
+        let ByteRange::FromStart(offset, Some(size)) = range else {
+            return Err(CodecError::OutOfMemory);
+        };
+        let length = self.object.len() as u64;
+        if offset > length || size > length - offset {
+            return Err(CodecError::OutOfBounds);
+        }
+        self.bytes_read = self.bytes_read.saturating_add(size);
+        let rest = &self.object[offset as usize..];
+        Ok(Some(&rest[..size as usize]))
+    }
+
+    fn lends_parts(&self) -> bool {
+        true
+    }
+}
+
+// How many bytes are read of an object where it is opened.
+fn read_to_open<I: ArrayToBytesCodecTraits, X: ArrayToBytesCodecTraits>(
+    alloc: Global,
+    codec: &ShardingCodec<I, X>,
+    object: Vec<u8>,
+    shape: &[u64],
+) -> Result<u64, CodecError> {
+    let handle = CountingHandle {
+        object,
+        bytes_read: 0,
+    };
+    let decoder = decoder_of(alloc, codec, handle, shape)?;
+    Ok(decoder.close().bytes_read)
+}
+
+// Reads cells twice.
+fn read_twice<I: ArrayToBytesCodecTraits, X: ArrayToBytesCodecTraits>(
+    alloc: Global,
+    decoder: &mut ShardingPartialDecoder<'_, I, X, CountingHandle>,
+    cells: &ArraySubset,
+) -> Result<(), CodecError> {
+    let options = CodecOptions::default();
+    for _ in 0..2 {
+        let _ = decoder.partial_decode(alloc, cells, &options)?;
+    }
+    Ok(())
+}
+
+// How many bytes are read of an object where it is opened and cells are read twice.
+fn read_in_all<I: ArrayToBytesCodecTraits, X: ArrayToBytesCodecTraits>(
+    alloc: Global,
+    codec: &ShardingCodec<I, X>,
+    object: Vec<u8>,
+    shape: &[u64],
+    cells: &ArraySubset,
+) -> Result<u64, CodecError> {
+    let handle = CountingHandle {
+        object,
+        bytes_read: 0,
+    };
+    let mut decoder = decoder_of(alloc, codec, handle, shape)?;
+    read_twice(alloc, &mut decoder, cells)?;
+    Ok(decoder.close().bytes_read)
+}
+
+// Where a shard of four subchunks is opened, and where its last cell is read twice.
+fn counts(alloc: Global) -> Result<(u64, u64), CodecError> {
+    let codec = plain(alloc, &[2, 2], ShardingIndexLocation::Start)?;
+    let corner = subset_of(alloc, &[3..4, 3..4])?;
+    let opening = read_to_open(alloc, &codec, sixteen(alloc, &codec)?, &[4, 4])?;
+    let all = read_in_all(alloc, &codec, sixteen(alloc, &codec)?, &[4, 4], &corner)?;
+    Ok((opening, all))
+}
+
+// An index of 64 bytes and four slices of 4 bytes.
+#[test]
+fn only_the_slice_of_a_cell_is_read(rt: HostRuntime) {
+    assert_eq!(rt; counts(rt.alloc()), Ok((64, 64 + 2 * 4)));
+}
+
+// Where a shard of two shards is opened, and where a cell of the second is read twice; and how long it is.
+fn nested_counts(alloc: Global) -> Result<(u64, u64, usize), CodecError> {
+    let inner = plain(alloc, &[1], ShardingIndexLocation::Start)?;
+    let codec = around(alloc, &[4], inner, ShardingIndexLocation::End)?;
+    let object = encoded(alloc, &codec, &[8], &[1, 2, 3, 4, 5, 6, 7, 8])?;
+    let len = object.len();
+    let cell = subset_of(alloc, &[6..7])?;
+    let opening = read_to_open(alloc, &codec, object.as_slice().to_vec(alloc)?, &[8])?;
+    let all = read_in_all(alloc, &codec, object, &[8], &cell)?;
+    Ok((opening, all, len))
+}
+
+// Two shards of four subchunks of one byte behind an index of 64 bytes each, in a shard with an index of 32 bytes: no inner
+// shard is read whole.
+#[test]
+fn no_inner_shard_is_read_whole(rt: HostRuntime) {
+    let want = (32, 32 + 2 * (64 + 1), 2 * 68 + 32);
+    assert_eq!(rt; nested_counts(rt.alloc()), Ok(want));
+}

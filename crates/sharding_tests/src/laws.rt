@@ -1,0 +1,157 @@
+// What callers learn from the codec's laws, each called once.
+use crate::shards::{Plain, elements_of, encoded, fill_of, plain, shape_of, shard_of};
+use std::alloc::Global;
+use std::borrow::CowSlice;
+use std::test::Fail;
+use zarr_codecs::{ArrayToBytesCodecTraits, BytesCodec};
+use zarr_parts::{ArrayBytes, CodecError, CodecOptions, DataType};
+use zarrs_sharding::{
+    ShardingCodec, ShardingIndexLocation, SubchunkWriteOrder, compact_again, compact_encoded,
+    decode_served, decode_sound, encode_functional,
+};
+
+// Two subchunks of two cells, of which the first is all fill.
+const CELLS: [u8; 4] = [0, 0, 7, 9];
+
+fn array(alloc: Global) -> Result<ArrayBytes<'static>, CodecError> {
+    let cells = CELLS.as_slice().to_vec(alloc)?;
+    ArrayBytes::new_flen(CowSlice::Owned(cells), 1).ok_or(CodecError::WrongElementKind)
+}
+
+// The encoding of the cells behind their index, which is big endian.
+fn one_encoding(alloc: Global) -> Result<Vec<u8>, CodecError> {
+    let codec = ShardingCodec::new(
+        shape_of(alloc, &[2])?,
+        BytesCodec::big(),
+        BytesCodec::big(),
+        ShardingIndexLocation::Start,
+    )
+    .with_subchunk_write_order(SubchunkWriteOrder::C);
+    encode_functional(
+        &codec,
+        alloc,
+        &array(alloc)?,
+        &shape_of(alloc, &[4])?,
+        &DataType::UInt8,
+        &fill_of(alloc, &[0])?,
+        &CodecOptions::default(),
+    )
+}
+
+#[test]
+fn a_shard_has_one_encoding(rt: HostRuntime) -> Result<(), Fail> {
+    let shard = one_encoding(rt.alloc())?;
+    assert_eq!(rt; shard.len(), 34);
+    assert_eq!(rt; &shard[..16], [255; 16].as_slice());
+    assert_eq!(rt;
+        &shard[16..],
+        [0, 0, 0, 0, 0, 0, 0, 32, 0, 0, 0, 0, 0, 0, 0, 2, 7, 9].as_slice()
+    );
+    Ok(())
+}
+
+// What the encoding of the cells before their index, in any order, is compacted to.
+fn compacted_encoding(alloc: Global) -> Result<Option<Vec<u8>>, CodecError> {
+    let codec = ShardingCodec::new(
+        shape_of(alloc, &[2])?,
+        BytesCodec::big(),
+        BytesCodec::big(),
+        ShardingIndexLocation::End,
+    );
+    let shape = shape_of(alloc, &[4])?;
+    let zero = fill_of(alloc, &[0])?;
+    let array = array(alloc)?;
+    let options = CodecOptions::default();
+    let shard = codec.encode(alloc, &array, &shape, &DataType::UInt8, &zero, &options)?;
+    compact_encoded(
+        &codec,
+        alloc,
+        &shard,
+        &array,
+        &shape,
+        &DataType::UInt8,
+        &zero,
+        &options,
+    )
+}
+
+// Nothing stands in an encoding that a compaction leaves out.
+#[test]
+fn an_encoding_is_compact(rt: HostRuntime) {
+    assert_eq!(rt; compacted_encoding(rt.alloc()), Ok(None));
+}
+
+// The cells of a shard that the codec serves.
+fn served_cells(alloc: Global, codec: &Plain, shard: &[u8]) -> Result<Vec<u8>, CodecError> {
+    let shape = shape_of(alloc, &[4])?;
+    let zero = fill_of(alloc, &[0])?;
+    codec.check(alloc, &shape, &DataType::UInt8, &zero)?;
+    let options = CodecOptions::default();
+    elements_of(
+        alloc,
+        decode_served(
+            codec,
+            alloc,
+            shard,
+            &shape,
+            &DataType::UInt8,
+            &zero,
+            &options,
+        ),
+    )
+}
+
+// The cells of a shard, decoded a second time.
+fn sound_cells(alloc: Global, codec: &Plain, shard: &[u8]) -> Result<Vec<u8>, CodecError> {
+    let shape = shape_of(alloc, &[4])?;
+    let zero = fill_of(alloc, &[0])?;
+    let options = CodecOptions::default();
+    let first = codec.decode(alloc, shard, &shape, &DataType::UInt8, &zero, &options)?;
+    elements_of(
+        alloc,
+        decode_sound(
+            codec,
+            alloc,
+            shard,
+            &shape,
+            &DataType::UInt8,
+            &zero,
+            &options,
+        ),
+    )
+}
+
+#[test]
+fn an_encoding_is_decoded(rt: HostRuntime) -> Result<(), Fail> {
+    let codec = plain(rt.alloc(), &[2], ShardingIndexLocation::Start)?;
+    let shard = encoded(rt.alloc(), &codec, &[4], &CELLS)?;
+    let served = served_cells(rt.alloc(), &codec, &shard)?;
+    assert_eq!(rt; served.as_slice(), CELLS.as_slice());
+    let sound = sound_cells(rt.alloc(), &codec, &shard)?;
+    assert_eq!(rt; sound.as_slice(), CELLS.as_slice());
+    Ok(())
+}
+
+// Whether a shard with dead bytes is settled once it was compacted.
+fn settled(alloc: Global) -> Result<bool, CodecError> {
+    let codec = plain(alloc, &[2], ShardingIndexLocation::End)?;
+    let shape = shape_of(alloc, &[4])?;
+    let zero = fill_of(alloc, &[0])?;
+    codec.check(alloc, &shape, &DataType::UInt8, &zero)?;
+    let bytes = shard_of(alloc, &[9, 9, 1, 2, 3, 4], &[2, 2, 4, 2])?;
+    let options = CodecOptions::default();
+    compact_again(
+        &codec,
+        alloc,
+        &bytes,
+        &shape,
+        &DataType::UInt8,
+        &zero,
+        &options,
+    )
+}
+
+#[test]
+fn a_compacted_shard_is_settled(rt: HostRuntime) {
+    assert_eq!(rt; settled(rt.alloc()), Ok(true));
+}

@@ -1,0 +1,120 @@
+// Shards whose subchunks are shards.
+use crate::shards::{
+    ABSENT, Plain, around, decoded, encoded, plain, read, said, shard_of, subset_of,
+};
+use std::alloc::Global;
+use std::ops::Range;
+use std::test::Fail;
+use zarr_codecs::{BytesCodec, MemoryHandle};
+use zarr_parts::CodecError;
+use zarrs_sharding::{ShardingCodec, ShardingIndexLocation};
+
+// Four cells in two shards of two subchunks each.
+fn nested(alloc: Global) -> Result<ShardingCodec<Plain, BytesCodec>, CodecError> {
+    let inner = plain(alloc, &[1], ShardingIndexLocation::End)?;
+    around(alloc, &[2], inner, ShardingIndexLocation::End)
+}
+
+// The shard of 1, 0, 0, 0, of which the first inner shard alone is stored; its indices may name another number of bytes.
+fn object_of(alloc: Global, inner_size: u64, outer_size: u64) -> Result<Vec<u8>, CodecError> {
+    let inner = shard_of(alloc, &[1], &[0, inner_size, ABSENT, ABSENT])?;
+    shard_of(alloc, &inner, &[0, outer_size, ABSENT, ABSENT])
+}
+
+fn decoded_nested(alloc: Global, inner_size: u64, outer_size: u64) -> Result<Vec<u8>, CodecError> {
+    let object = object_of(alloc, inner_size, outer_size)?;
+    decoded(alloc, &nested(alloc)?, &[4], &object)
+}
+
+fn read_nested(
+    alloc: Global,
+    inner_size: u64,
+    outer_size: u64,
+    cells: Range<u64>,
+) -> Result<Vec<u8>, CodecError> {
+    let handle = MemoryHandle::new(Some(object_of(alloc, inner_size, outer_size)?));
+    read(
+        alloc,
+        &nested(alloc)?,
+        handle,
+        &[4],
+        &subset_of(alloc, &[cells])?,
+    )
+}
+
+#[test]
+fn nested_shards_are_decoded(rt: HostRuntime) {
+    for (inner_size, outer_size, want) in [
+        (1, 33, Ok([1u8, 0, 0, 0].as_slice())),
+        (1, 31, Err(CodecError::Damaged)),
+        (34, 33, Err(CodecError::Damaged)),
+    ] {
+        let cells = decoded_nested(rt.alloc(), inner_size, outer_size);
+        assert_eq!(rt; said(&cells), want, "{inner_size} of {outer_size} bytes");
+    }
+}
+
+// A read looks no further than the inner subchunks in which cells are asked.
+#[test]
+fn nested_shards_are_read(rt: HostRuntime) {
+    let damaged = Err(CodecError::Damaged);
+    let zeros = Ok([0u8, 0].as_slice());
+    for (inner_size, outer_size, cells, want) in [
+        (1, 33, 0..1, Ok([1u8].as_slice())),
+        (1, 33, 1..2, Ok(&[0])),
+        (1, 33, 2..4, zeros),
+        (1, 31, 0..1, damaged),
+        (1, 31, 1..2, damaged),
+        (1, 31, 2..4, zeros),
+        (34, 33, 0..1, damaged),
+        (34, 33, 1..2, Ok(&[0])),
+        (34, 33, 2..4, zeros),
+    ] {
+        let answer = read_nested(rt.alloc(), inner_size, outer_size, cells);
+        assert_eq!(rt; said(&answer), want, "{inner_size} of {outer_size} bytes");
+    }
+}
+
+// Whether the encoding of 1, 0, 0, 0 is that object, of 65 bytes.
+fn is_encoded_so(alloc: Global) -> Result<bool, CodecError> {
+    let object = encoded(alloc, &nested(alloc)?, &[4], &[1, 0, 0, 0])?;
+    Ok(object.len() == 65 && object == object_of(alloc, 1, 33)?)
+}
+
+#[test]
+fn nested_shards_are_encoded(rt: HostRuntime) {
+    assert_eq!(rt; is_encoded_so(rt.alloc()), Ok(true));
+}
+
+// The codec of eight cells in shards in shards in a shard.
+fn thrice(
+    alloc: Global,
+) -> Result<ShardingCodec<ShardingCodec<Plain, BytesCodec>, BytesCodec>, CodecError> {
+    let innermost = plain(alloc, &[1], ShardingIndexLocation::Start)?;
+    let inner = around(alloc, &[2], innermost, ShardingIndexLocation::End)?;
+    around(alloc, &[4], inner, ShardingIndexLocation::End)
+}
+
+const EIGHT: [u8; 8] = [1, 2, 0, 4, 0, 0, 7, 8];
+
+fn decoded_thrice(alloc: Global) -> Result<Vec<u8>, CodecError> {
+    let codec = thrice(alloc)?;
+    let object = encoded(alloc, &codec, &[8], &EIGHT)?;
+    decoded(alloc, &codec, &[8], &object)
+}
+
+fn read_thrice(alloc: Global, cells: Range<u64>) -> Result<Vec<u8>, CodecError> {
+    let codec = thrice(alloc)?;
+    let handle = MemoryHandle::new(Some(encoded(alloc, &codec, &[8], &EIGHT)?));
+    read(alloc, &codec, handle, &[8], &subset_of(alloc, &[cells])?)
+}
+
+#[test]
+fn three_nested_shards_are_read_back(rt: HostRuntime) -> Result<(), Fail> {
+    assert_eq!(rt; decoded_thrice(rt.alloc())?.as_slice(), EIGHT.as_slice());
+    for (cells, want) in [(0..8, EIGHT.as_slice()), (3..7, &[4, 0, 0, 7])] {
+        let answer = read_thrice(rt.alloc(), cells)?;
+        assert_eq!(rt; answer.as_slice(), want);
+    }
+    Ok(())
+}

@@ -1,0 +1,167 @@
+// Shards for the tests, of cells of one byte with the fill value 0.
+use std::alloc::Global;
+use std::borrow::CowSlice;
+use std::ops::Range;
+use zarr_codecs::{ArrayToBytesCodecTraits, BytesCodec, BytesPartialDecoderTraits};
+use zarr_parts::{
+    ArrayBytes, ArraySubset, ChunkShape, CodecError, CodecOptions, Coordinates, DataType,
+    FillValue, Indexer,
+};
+use zarrs_sharding::{
+    ShardingCodec, ShardingIndexLocation, ShardingPartialDecoder, SubchunkWriteOrder,
+};
+
+pub(crate) type Plain = ShardingCodec<BytesCodec, BytesCodec>;
+
+pub(crate) const ABSENT: u64 = u64::MAX;
+
+pub(crate) fn shape_of(alloc: Global, axes: &[u64]) -> Result<ChunkShape, CodecError> {
+    ChunkShape::new(alloc, axes)?.ok_or(CodecError::OutOfBounds)
+}
+
+pub(crate) fn fill_of(alloc: Global, bytes: &[u8]) -> Result<FillValue, CodecError> {
+    Ok(FillValue::new(bytes.to_vec(alloc)?))
+}
+
+// A sharding codec around another codec, which writes subchunks in ascending number.
+pub(crate) fn around<I: Drop>(
+    alloc: Global,
+    sub: &[u64],
+    inner: I,
+    location: ShardingIndexLocation,
+) -> Result<ShardingCodec<I, BytesCodec>, CodecError> {
+    let codec = ShardingCodec::new(shape_of(alloc, sub)?, inner, BytesCodec::little(), location);
+    Ok(codec.with_subchunk_write_order(SubchunkWriteOrder::C))
+}
+
+pub(crate) fn plain(
+    alloc: Global,
+    sub: &[u64],
+    location: ShardingIndexLocation,
+) -> Result<Plain, CodecError> {
+    around(alloc, sub, BytesCodec::little(), location)
+}
+
+fn array_of(alloc: Global, bytes: &[u8]) -> Result<ArrayBytes<'static>, CodecError> {
+    let copy = bytes.to_vec(alloc)?;
+    ArrayBytes::new_flen(CowSlice::Owned(copy), 1).ok_or(CodecError::WrongElementKind)
+}
+
+// The elements of an array, each of which has one size, or the refusal.
+pub(crate) fn elements_of(
+    alloc: Global,
+    answer: Result<ArrayBytes, CodecError>,
+) -> Result<Vec<u8>, CodecError> {
+    let array = answer?;
+    let elements = array.fixed_bytes().ok_or(CodecError::WrongElementKind)?;
+    Ok(elements.to_vec(alloc)?)
+}
+
+// What an answer says, for a comparison.
+pub(crate) fn said(answer: &Result<Vec<u8>, CodecError>) -> Result<&[u8], CodecError> {
+    match answer {
+        Ok(bytes) => Ok(bytes.as_slice()),
+        Err(error) => Err(*error),
+    }
+}
+
+pub(crate) fn encoded<C: ArrayToBytesCodecTraits>(
+    alloc: Global,
+    codec: &C,
+    shape: &[u64],
+    elements: &[u8],
+) -> Result<Vec<u8>, CodecError> {
+    codec.encode(
+        alloc,
+        &array_of(alloc, elements)?,
+        &shape_of(alloc, shape)?,
+        &DataType::UInt8,
+        &fill_of(alloc, &[0])?,
+        &CodecOptions::default(),
+    )
+}
+
+pub(crate) fn decoded<C: ArrayToBytesCodecTraits>(
+    alloc: Global,
+    codec: &C,
+    shape: &[u64],
+    bytes: &[u8],
+) -> Result<Vec<u8>, CodecError> {
+    let array = codec.decode(
+        alloc,
+        bytes,
+        &shape_of(alloc, shape)?,
+        &DataType::UInt8,
+        &fill_of(alloc, &[0])?,
+        &CodecOptions::default(),
+    );
+    elements_of(alloc, array)
+}
+
+// A shard of these slices before their index.
+pub(crate) fn shard_of(alloc: Global, slices: &[u8], index: &[u64]) -> Result<Vec<u8>, CodecError> {
+    let mut bytes = slices.to_vec(alloc)?;
+    for number in index {
+        bytes.extend_from_slice(&number.to_le_bytes())?;
+    }
+    Ok(bytes)
+}
+
+// The cells 0 to 15 of a shape of 4 by 4, in four subchunks.
+pub(crate) fn sixteen(alloc: Global, codec: &Plain) -> Result<Vec<u8>, CodecError> {
+    encoded(
+        alloc,
+        codec,
+        &[4, 4],
+        &[0, 1, 2, 3, 4, 5, 6, 7, 8, 9, 10, 11, 12, 13, 14, 15],
+    )
+}
+
+pub(crate) fn subset_of(alloc: Global, ranges: &[Range<u64>]) -> Result<ArraySubset, CodecError> {
+    ArraySubset::new_with_ranges(alloc, ranges)?.ok_or(CodecError::OutOfBounds)
+}
+
+// Coordinates of so many numbers each.
+pub(crate) fn listed(alloc: Global, axes: usize, flat: &[u64]) -> Result<Coordinates, CodecError> {
+    let count = flat.len() as u64 / axes.max(1) as u64;
+    Coordinates::new(axes, count, flat.to_vec(alloc)?).ok_or(CodecError::OutOfBounds)
+}
+
+// A decoder of a handle's object.
+pub(crate) fn decoder_of<
+    'a,
+    I: ArrayToBytesCodecTraits,
+    X: ArrayToBytesCodecTraits,
+    H: BytesPartialDecoderTraits + Drop,
+>(
+    alloc: Global,
+    codec: &'a ShardingCodec<I, X>,
+    handle: H,
+    shape: &[u64],
+) -> Result<ShardingPartialDecoder<'a, I, X, H>, CodecError> {
+    let shape = shape_of(alloc, shape)?;
+    let fill = fill_of(alloc, &[0])?;
+    let options = CodecOptions::default();
+    match codec.partial_decoder(alloc, handle, &shape, &DataType::UInt8, &fill, &options) {
+        Ok(decoder) => Ok(decoder),
+        Err((_, error)) => Err(error),
+    }
+}
+
+// The cells that a decoder of a handle's object reads.
+pub(crate) fn read<
+    I: ArrayToBytesCodecTraits,
+    X: ArrayToBytesCodecTraits,
+    H: BytesPartialDecoderTraits + Drop,
+    N: Indexer,
+>(
+    alloc: Global,
+    codec: &ShardingCodec<I, X>,
+    handle: H,
+    shape: &[u64],
+    indexer: &N,
+) -> Result<Vec<u8>, CodecError> {
+    let mut decoder = decoder_of(alloc, codec, handle, shape)?;
+    let cells = decoder.partial_decode(alloc, indexer, &CodecOptions::default());
+    elements_of(alloc, cells)
+}

@@ -1,0 +1,53 @@
+use Rattle.std.proofs.Common.{◌∙◌, refl, sym, inl, inr}
+use Rattle.zarr_parts.specs.Geo.{geo}
+use Rattle.small_codecs.specs.BytesCodecLaws.{bytes_damaged}
+use Rattle.small_codecs.proofs.BytesCodecSteps.{whole_elements, decoded, asked_past}
+use Rattle.codec_laws.proofs.ReadLemmas.{length-interval_part, asked_answer, elements_at, interval_read}
+use Rattle.small_codecs.proofs.bytes_codec.BytesCodecArrayToBytesCodecTraits.partial_decode.Goals as goal
+
+pub returns-then-interval-total-clause-lawful : goal.returns-then-interval-total-clause-lawful
+returns-then-interval-total-clause-lawful g c s tells axes within has =
+    let m = c.in_ok-size.ensures.measured in
+    let long = length-interval_part _ _ has in
+    inr (bytes_damaged c.args.self.now (geo c.args.shape.now c.args.data_type.now c.args.fill_value.now) _ m.some (λ h. c.if-interval-total.true (sym long ∙ (h ∙ sym m.total_is))))
+
+pub returns-in_default-clause-lawful : goal.returns-in_default-clause-lawful
+returns-in_default-clause-lawful g c s tells axes within has =
+    let m = c.in_ok-size.ensures.measured in
+    let long = length-interval_part _ _ has in
+    let past = rw c.in_default.is at c.checked_mul.ensures in
+    inr (inr (inl (asked_past c.args.self.now (geo c.args.shape.now c.args.data_type.now c.args.fill_value.now) c.in_ok-size.field-0.size c.in_ok-size.field-0.count c.in_ok-size.field-0.total c.in_ok-size.field-0.reversed
+    c.in_ok-count.count _ _ m (long ∙ c.if-interval-total.false) c.in_ok-count.ensures.inside c.in_ok-count.ensures.count past)))
+
+pub array_of_bytes-requires : goal.array_of_bytes-requires
+array_of_bytes-requires g c =
+    whole_elements c.args.self.now (geo c.args.shape.now c.args.data_type.now c.args.fill_value.now) _ _ _ _ c.in-Some-2.bytes.now c.in_ok-size.ensures.measured
+    (rw c.in-Some-2.is at c.in_ok-bytes.ensures.told).asked
+
+pub extract_numbers-requires : goal.extract_numbers-requires
+extract_numbers-requires g c =
+    let d = decoded c.args.self.now (geo c.args.shape.now c.args.data_type.now c.args.fill_value.now) _ _ _ _ c.in-Some-2.bytes.now _ c.in_ok-array.array
+    c.in_ok-size.ensures.measured (rw c.in-Some-2.is at c.in_ok-bytes.ensures.told).asked refl c.in_ok-array.ensures in
+    record { below = rw (c.deref.ensures.value, d.is_array.counted) c.in_ok-numbers.ensures.below }
+
+pub returns-clause-answer : goal.returns-clause-answer
+returns-clause-answer g c =
+    let d = decoded c.args.self.now (geo c.args.shape.now c.args.data_type.now c.args.fill_value.now) _ _ _ _ c.in-Some-2.bytes.now _ c.in_ok-array.array
+    c.in_ok-size.ensures.measured (rw c.in-Some-2.is at c.in_ok-bytes.ensures.told).asked refl c.in_ok-array.ensures in
+    asked_answer (geo c.args.shape.now c.args.data_type.now c.args.fill_value.now) (g.N.Indexer.selection c.args.indexer.now) c.in_ok-numbers.numbers.items c.in_ok-array.array c.in_ok-asked.asked
+    c.in_ok-count.ensures.selection d.kind d.is_array c.in_ok-numbers.ensures.numbers c.in_ok-numbers.ensures.below (rw c.deref.ensures.value at c.in_ok-asked.ensures)
+
+pub returns-clause-cells : goal.returns-clause-cells
+returns-clause-cells g c tells =
+    let d = decoded c.args.self.now (geo c.args.shape.now c.args.data_type.now c.args.fill_value.now) _ _ _ _ c.in-Some-2.bytes.now _ c.in_ok-array.array
+    c.in_ok-size.ensures.measured (rw c.in-Some-2.is at c.in_ok-bytes.ensures.told).asked refl c.in_ok-array.ensures in
+    let a = c.args in
+    let has = c.in_ok-check_interval.ensures.inside tells in
+    let read = c.in_ok-check_interval.ensures.read in
+    let told = rw read.contents_same at ((rw c.in-Some-2.is at c.in_ok-bytes.ensures.told).told (rw read.tells_same tells)) in
+    let bytes_are = interval_read a.interval c.in_ok-size.field-0.total (g.H.BytesPartialDecoderTraits.state a.handle.now).contents c.in-Some-2.bytes.now c.if-interval-total.false told in
+    let asked = rw (c.deref.ensures.value, c.in_ok-numbers.ensures.numbers) at c.in_ok-asked.ensures in
+    record {
+      inside = has;
+      read = rw (← bytes_are, asked) (elements_at _ c.in_ok-array.array.elements a.shape.now _ d.cells d.is_array.counted c.in_ok-count.ensures.inside);
+    }

@@ -1,0 +1,2 @@
+pub mod BytesCodec
+pub mod BytesCodecLaws

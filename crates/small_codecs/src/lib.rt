@@ -1,0 +1,6 @@
+// The small codecs that keep the laws of codecs.
+#![tactic(auto)]
+
+mod bytes_codec;
+
+pub use bytes_codec::{BytesCodec, Endianness};

@@ -1,0 +1,13 @@
+pub mod NumberingLaws
+pub mod BoxLaws
+pub mod PieceLaws
+pub mod RunLaws
+pub mod RowLaws
+pub mod MissLaws
+pub mod GridLaws
+pub mod LocateLaws
+pub mod RangeLaws
+pub mod CoordinateLaws
+pub mod SelectionLemmas
+pub mod OverlapLaws
+pub mod CountLaws

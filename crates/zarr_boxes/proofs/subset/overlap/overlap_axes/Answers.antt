@@ -1,0 +1,19 @@
+use Rattle.std.proofs.Common.{arith, refl}
+use Rattle.zarr_boxes.specs.Boxes.{Region}
+use Rattle.zarr_boxes.proofs.OverlapLaws.{HaveSameAxes, overlap_more, overlap_whole}
+use Rattle.zarr_boxes.proofs.subset.overlap.overlap_axes.Goals as goal
+
+pub loop-axis-preserved : goal.loop-axis-preserved
+loop-axis-preserved c =
+    let box : Region = record { start = c.args.start.now; shape = c.args.shape.now } in
+    let other : Region = record { start = c.args.other_start.now; shape = c.args.other_shape.now } in
+    let alike : HaveSameAxes box other = record { well_formed = c.requires.well_formed; other_well_formed = c.requires.other_well_formed; same_axes = c.requires.same_axes } in
+    overlap_more box other c.loop-axis.axis _ _ _ _ _ _ _ _ _ _ _ alike (omega arith) refl refl refl refl c.max-first.ensures c.min-end.ensures c.saturating_sub.ensures
+    c.loop-axis.invariant c.in_ok-push.ensures.items c.in_ok-push-2.ensures.items
+
+pub returns : goal.returns
+returns c =
+    let box : Region = record { start = c.args.start.now; shape = c.args.shape.now } in
+    let other : Region = record { start = c.args.other_start.now; shape = c.args.other_shape.now } in
+    let alike : HaveSameAxes box other = record { well_formed = c.requires.well_formed; other_well_formed = c.requires.other_well_formed; same_axes = c.requires.same_axes } in
+    overlap_whole box other c.loop-axis.axis _ _ alike (omega arith) c.loop-axis.invariant

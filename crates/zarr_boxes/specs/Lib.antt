@@ -1,0 +1,9 @@
+pub mod Numbering
+pub mod Boxes
+pub mod Overlaps
+pub mod Grid
+pub mod Pieces
+pub mod Runs
+pub mod Selections
+pub mod Laws
+pub mod BoxRefusals

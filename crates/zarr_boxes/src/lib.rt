@@ -1,0 +1,18 @@
+// Shapes, numbering, boxes, what is asked of an array, and the grid of subchunks.
+#![tactic(auto)]
+
+mod grid;
+mod indexer;
+mod numbering;
+mod runs;
+mod selection;
+mod shape;
+mod subset;
+
+pub use grid::{Located, locate};
+pub use indexer::{Coordinates, Indexer};
+pub use numbering::{count, number_along, ravel_indices, unravel_index};
+pub use runs::ContiguousRuns;
+pub use selection::{check_selection, point_numbers};
+pub use shape::ChunkShape;
+pub use subset::{ArraySubset, check_box, points_in};

@@ -1,0 +1,235 @@
+// Boxes of coordinates: what they are made of, and where their points lie in an array.
+ghost use Rattle.std.specs.Prelude.{◌≡◌, ℕ, ◌+◌, ◌*◌, ◌^◌, ◌<◌, ◌≤◌, List, SomeIff, IfOk, IfErr, OnOk, OnErr, IsTrue, ◌↔◌, length, replicate, All};
+ghost use Rattle.zarr_words.specs.Order.{done};
+ghost use Rattle.zarr_boxes.specs.Numbering.{count_of};
+ghost use Rattle.zarr_boxes.specs.Boxes.{Region, region_of_ranges, IsBox, end_of, LiesIn, number_in, IsServed};
+ghost use Rattle.zarr_boxes.specs.BoxRefusals.{BoxTests};
+
+mod overlap;
+
+use crate::numbering::count;
+use std::alloc::{AllocError, Global};
+use std::marker::Model;
+use std::ops::Range;
+use zarr_words::CodecError;
+
+/// A box of coordinates: a start and a length along each axis, whose sum fits 64 bits.
+#[derive(Debug, Drop)]
+pub struct ArraySubset {
+    start: Vec<u64>,
+    shape: Vec<u64>,
+}
+
+impl Model for ArraySubset {
+    ghost use Rattle.zarr_boxes.specs.Boxes.{Region, IsBox};
+
+    ghost Value = { Region };
+
+    ghost view = { λ subset. record { start = subset.start.items; shape = subset.shape.items } };
+
+    ghost invariant = { λ subset. IsBox subset.start.items subset.shape.items };
+}
+
+impl PartialEq for ArraySubset {
+    ghost use Rattle.std.specs.Prelude.{nat_eq};
+    ghost use Rattle.std.specs.Ordering.{on, eq_of_both};
+    ghost use Rattle.std.specs.Cmp.{on_equiv, and_equiv, partial_equiv_from_equiv};
+    ghost use Rattle.std.specs.Cmp.Lexicographic.{pointwise, nat_list_eq_equiv};
+
+    ghost eq = { eq_of_both (on (λ box. box.start) (pointwise nat_eq)) (on (λ box. box.shape) (pointwise nat_eq)) };
+
+    ghost laws = { partial_equiv_from_equiv (and_equiv (on_equiv (λ box. box.start) nat_list_eq_equiv) (on_equiv (λ box. box.shape) nat_list_eq_equiv)) };
+
+    /// Whether both boxes have the same start and the same shape.
+    fn eq(&self, other: &Self) -> bool {
+        self.start == other.start && self.shape == other.shape
+    }
+}
+
+impl Eq for ArraySubset {
+    ghost use Rattle.std.specs.Cmp.{on_equiv, and_equiv};
+    ghost use Rattle.std.specs.Cmp.Lexicographic.{nat_list_eq_equiv};
+
+    ghost laws = { and_equiv (on_equiv (λ box. box.start) nat_list_eq_equiv) (on_equiv (λ box. box.shape) nat_list_eq_equiv) };
+}
+
+// Whether a start and a length stand for each axis, whose sum fits 64 bits.
+fn is_box(start: &[u64], shape: &[u64]) -> bool
+    ensures { IsTrue result ↔ IsBox start.now shape.now }
+{
+    if start.len() != shape.len() {
+        return false;
+    }
+    for axis in 0..start.len() {
+        if start[axis].checked_add(shape[axis]).is_none() {
+            return false;
+        }
+    }
+    true
+}
+
+impl ArraySubset {
+    /// The box of one range of coordinates along each axis. `None` where a start passes its end; refused only as
+    /// out of memory.
+    pub fn new_with_ranges(alloc: Global, ranges: &[Range<u64>]) -> Result<Option<Self>, AllocError>
+        ensures { IfOk result (λ made. SomeIff made (All (λ range. range.start ≤ range.end) ranges.now) (region_of_ranges ranges.now)) }
+    {
+        let mut start = Vec::new(alloc);
+        let mut shape = Vec::new(alloc);
+        for range in ranges {
+            let Some(len) = range.end.checked_sub(range.start) else {
+                return Ok(None);
+            };
+            start.push(range.start)?;
+            shape.push(len)?;
+        }
+        Ok(Some(ArraySubset { start, shape }))
+    }
+
+    /// The box with this start and this length along each axis. `None` where their numbers of axes differ, or an
+    /// end passes `u64::MAX`. Takes no memory.
+    pub fn new_with_start_shape(start: Vec<u64>, shape: Vec<u64>) -> Option<Self>
+        ensures { SomeIff result (IsBox start.items shape.items) (record { start = start.items; shape = shape.items }) }
+    {
+        if is_box(&start, &shape) {
+            Some(ArraySubset { start, shape })
+        } else {
+            None
+        }
+    }
+
+    /// The box of all coordinates of a shape, which starts at 0 on every axis. Refused only as out of memory.
+    pub fn new_with_shape(alloc: Global, shape: Vec<u64>) -> Result<Self, AllocError>
+        ensures { IfOk result (λ made. made ≡ record { start = replicate (length shape.items) 0; shape = shape.items }) }
+    {
+        let start = vec![in alloc; 0; shape.len()]?;
+        Ok(ArraySubset { start, shape })
+    }
+
+    /// The first coordinate of the box along each axis.
+    pub fn start(&self) -> &[u64]
+        ensures value { result.now ≡ self.now.start }
+        ensures well_formed { IsBox self.now.start self.now.shape }
+    {
+        &self.start
+    }
+
+    /// How many coordinates the box has along each axis.
+    pub fn shape(&self) -> &[u64]
+        ensures value { result.now ≡ self.now.shape }
+        ensures well_formed { IsBox self.now.start self.now.shape }
+    {
+        &self.shape
+    }
+
+    /// Where the box ends along each axis, the end excluded. Refused only as out of memory.
+    pub fn end_exc(&self, alloc: Global) -> Result<Vec<u64>, AllocError>
+        ensures { IfOk result (λ end. end.items ≡ end_of self.now) }
+    {
+        let mut end = Vec::new(alloc);
+        for axis in 0..self.start.len() {
+            end.push(self.start[axis] + self.shape[axis])?;
+        }
+        Ok(end)
+    }
+
+    /// How many points the box has: the product of its shape, 1 for no axes. `None` past `u64::MAX`.
+    pub fn num_elements(&self) -> Option<u64>
+        ensures value { SomeIff result (count_of self.now.shape < 2 ^ 64) (count_of self.now.shape) }
+        ensures well_formed { IsBox self.now.start self.now.shape }
+    {
+        count(&self.shape)
+    }
+
+    /// An equal box. Refused only as out of memory.
+    pub fn try_clone(&self, alloc: Global) -> Result<Self, AllocError>
+        ensures { IfOk result (λ copy. copy ≡ self.now) }
+    {
+        Ok(ArraySubset {
+            start: self.start.as_slice().to_vec(alloc)?,
+            shape: self.shape.as_slice().to_vec(alloc)?,
+        })
+    }
+}
+
+// Whether a box ends within a shape on every axis.
+fn ends_within(start: &[u64], len: &[u64], shape: &[u64]) -> bool
+    requires { IsBox start.now len.now }
+    ensures { IsTrue result ↔ LiesIn (record { start = start.now; shape = len.now }) shape.now }
+{
+    if start.len() != shape.len() {
+        return false;
+    }
+    for axis in 0..shape.len() {
+        if start[axis] + len[axis] > shape[axis] {
+            return false;
+        }
+    }
+    true
+}
+
+// The number in an array of a shape of a box's point with the number `i`.
+fn number_of_point(start: &[u64], len: &[u64], i: u64, shape: &[u64]) -> u64
+    requires well_formed { IsBox start.now len.now }
+    requires inside { LiesIn (record { start = start.now; shape = len.now }) shape.now }
+    requires below { i < count_of len.now }
+    requires fits { count_of shape.now < 2 ^ 64 }
+    ensures value { result ≡ number_in (record { start = start.now; shape = len.now }) shape.now i }
+    ensures below { result < count_of shape.now }
+{
+    let mut rest = i;
+    let mut stride = 1;
+    let mut number = 0;
+    for axis in (0..shape.len()).rev() {
+        let index = start[axis] + rest % len[axis];
+        number += index * stride;
+        rest /= len[axis];
+        stride *= shape[axis];
+    }
+    number
+}
+
+impl ArraySubset {
+    /// Whether the box ends within a shape on every axis.
+    pub fn lies_in(&self, shape: &[u64]) -> bool
+        ensures { IsTrue result ↔ LiesIn self.now shape.now }
+    {
+        ends_within(&self.start, &self.shape, shape)
+    }
+
+    /// The number in an array of a shape of one of the box's points.
+    pub fn number_at(&self, i: u64, shape: &[u64]) -> u64
+        requires inside { LiesIn self.now shape.now }
+        requires below { i < count_of self.now.shape }
+        requires fits { count_of shape.now < 2 ^ 64 }
+        ensures value { result ≡ number_in self.now shape.now i }
+        ensures below { result < count_of shape.now }
+        ensures well_formed { IsBox self.now.start self.now.shape }
+    {
+        number_of_point(&self.start, &self.shape, i, shape)
+    }
+}
+
+/// The count of a shape that a box lies in, or the first reason to refuse the box.
+pub fn check_box(subset: &ArraySubset, shape: &[u64]) -> Result<u64, CodecError>
+    ensures served { OnOk result (IsServed subset.now shape.now) }
+    ensures total { IfOk result (λ total. total ≡ count_of shape.now) }
+    ensures unserved { OnErr result (¬ IsServed subset.now shape.now) }
+    ensures refused { IfErr result (BoxTests subset.now shape.now done) }
+{
+    if subset.start().len() != shape.len() {
+        return Err(CodecError::IncompatibleDimensionality);
+    }
+    if !subset.lies_in(shape) {
+        return Err(CodecError::OutOfBounds);
+    }
+    count(shape).ok_or(CodecError::TooLarge)
+}
+
+// How many points a box has that lies in a shape whose count fits.
+pub fn points_in(subset: &ArraySubset, shape: &[u64]) -> u64
+    requires { IsServed subset.now shape.now }
+    ensures { result ≡ count_of subset.now.shape }
+{
+    subset.num_elements().unwrap()
+}

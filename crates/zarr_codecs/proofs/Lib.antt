@@ -1,6 +1,0 @@
-pub mod BytesCodecSteps
-pub mod CodecLaws
-pub mod HandleRows
-pub mod HandleLaws
-pub mod ReadLemmas
-pub mod WriteLaws

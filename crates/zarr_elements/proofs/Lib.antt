@@ -1,0 +1,5 @@
+pub mod ArrayLaws
+pub mod PartLaws
+pub mod SameLaws
+pub mod FillLaws
+pub mod GridArrays

@@ -1,0 +1,28 @@
+-- What is written into a box of lent bytes.
+use Rattle.std.specs.Prelude.{◌≡◌, ℕ, length}
+use Rattle.zarr_words.specs.Words.{Bytes, Refusals}
+use Rattle.zarr_words.specs.Order.{◌or◌then◌}
+use Rattle.zarr_boxes.specs.Numbering.{count_of}
+use Rattle.zarr_boxes.specs.Boxes.{number_in}
+use Rattle.zarr_boxes.specs.Pieces.{piece, IsUpdated}
+use Rattle.zarr_elements.specs.declared.data_type.DataTypeSize.{DataTypeSize}
+use Rattle.zarr_elements.specs.declared.data_type.DataTypeSize.TheVariants.{Fixed}
+use Rattle.zarr_words.specs.declared.error.CodecError.TheVariants.{InvalidNumberOfElements, WrongElementKind}
+use Rattle.zarr_elements.specs.declared.target.FixedTarget.{FixedTarget}
+
+-- a target's box was overwritten by elements in row-major order of the box; all other elements of the same lent bytes stay
+pub record IsWritten (old new : FixedTarget) (element : ℕ → Bytes) : Type 0 where
+  pub reference : new.bytes.ghost_name ≡ old.bytes.ghost_name
+  pub element_size : new.element_size ≡ old.element_size
+  pub shape : new.shape.now ≡ old.shape.now
+  pub subset : new.subset.now ≡ old.subset.now
+  pub length : length new.bytes.now ≡ length old.bytes.now
+  pub elements : IsUpdated (count_of old.subset.now.shape) (number_in old.subset.now old.shape.now)
+      (piece old.element_size old.bytes.now) element (piece old.element_size new.bytes.now)
+
+-- the tests of elements that are to be written into a target's box
+abbrev pub TargetTests : DataTypeSize → ℕ → FixedTarget → Refusals → Refusals
+TargetTests kind count target later =
+    kind ≡ Fixed target.element_size or WrongElementKind then
+    count_of target.subset.now.shape ≡ count or InvalidNumberOfElements then
+    later

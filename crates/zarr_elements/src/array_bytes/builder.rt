@@ -1,0 +1,86 @@
+// Arrays that are made one element after the other.
+ghost use Rattle.std.specs.Prelude.{◌≡◌, ◌≢◌, ◌++◌, ◌∷◌, [], IfOk, OnOk, OnErr, length};
+ghost use Rattle.zarr_elements.specs.Types.{FitsKind};
+ghost use Rattle.zarr_elements.specs.Arrays.{AreOffsets, parts};
+ghost use Rattle.zarr_elements.specs.declared.data_type.DataTypeSize.TheVariants.{Fixed};
+
+use super::{ArrayBytes, Held};
+use crate::data_type::DataTypeSize;
+use std::alloc::{AllocError, Global};
+use std::borrow::CowSlice;
+use std::marker::Model;
+
+/// Elements that are gathered one after the other into an array.
+#[derive(Debug, Drop)]
+pub struct ArrayBuilder {
+    bytes: Vec<u8>,
+    held: Held,
+}
+
+impl Model for ArrayBuilder {
+    ghost use Rattle.zarr_elements.specs.Arrays.{Array, array_of, IsHeld};
+
+    ghost Value = { Array };
+
+    ghost view = { λ builder. array_of builder.held builder.bytes.items };
+
+    ghost invariant = { λ builder. IsHeld builder.held builder.bytes.items };
+}
+
+// Adds a part behind the others, and the offset where it ends. Where that is refused the parts are as they were.
+fn push_part(
+    bytes: &mut Vec<u8>,
+    offsets: &mut Vec<usize>,
+    element: &[u8],
+) -> Result<(), AllocError>
+    requires { AreOffsets offsets.old.items (length bytes.old.items) }
+    ensures offsets { AreOffsets offsets.new.items (length bytes.new.items) }
+    ensures ok { OnOk result (parts offsets.new.items bytes.new.items ≡ parts offsets.old.items bytes.old.items ++ element.now ∷ []) }
+    ensures err { OnErr result (parts offsets.new.items bytes.new.items ≡ parts offsets.old.items bytes.old.items) }
+{
+    offsets.reserve(1)?;
+    bytes.extend_from_slice(element)?;
+    offsets.push_reserved(bytes.len());
+    Ok(())
+}
+
+impl ArrayBuilder {
+    /// An array of no elements, of which each is to have this many bytes. Refused only as out of memory.
+    pub fn new(alloc: Global, kind: DataTypeSize) -> Result<Self, AllocError>
+        requires { kind ≢ Fixed 0 }
+        ensures { IfOk result (λ builder. builder ≡ record { kind = kind; elements = [] }) }
+    {
+        let held = match kind {
+            DataTypeSize::Fixed(size) => Held::Fixed(size),
+            DataTypeSize::Variable => Held::Variable(vec![in alloc; 0]?),
+        };
+        Ok(ArrayBuilder {
+            bytes: Vec::new(alloc),
+            held,
+        })
+    }
+
+    /// Adds an element behind the others. Refused only as out of memory; the elements are then as they were.
+    pub fn push(&mut self, element: &[u8]) -> Result<(), AllocError>
+        requires { FitsKind self.old.kind element.now }
+        ensures kind { self.new.kind ≡ self.old.kind }
+        ensures ok { OnOk result (self.new.elements ≡ self.old.elements ++ element.now ∷ []) }
+        ensures err { OnErr result (self.new.elements ≡ self.old.elements) }
+    {
+        match &mut self.held {
+            Held::Fixed(_) => Ok(self.bytes.extend_from_slice(element)?),
+            Held::Variable(offsets) => push_part(&mut self.bytes, offsets, element),
+        }
+    }
+
+    /// The array of the elements.
+    pub fn finish(self) -> ArrayBytes<'static>
+        ensures { result ≡ self }
+    {
+        let ArrayBuilder { bytes, held } = self;
+        ArrayBytes {
+            bytes: CowSlice::Owned(bytes),
+            held,
+        }
+    }
+}

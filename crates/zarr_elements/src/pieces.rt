@@ -1,0 +1,209 @@
+// Elements of one size, taken from and written to the boxes of an array.
+ghost use Rattle.std.specs.Prelude.{◌≡◌, ℕ, ◌+◌, ◌*◌, ◌^◌, ◌<◌, ◌≤◌, ◌≢◌, All, IfOk, OnOk, ◌++◌, length};
+ghost use Rattle.std.specs.List.{flat_map, range_with_len};
+ghost use Rattle.zarr_boxes.specs.Numbering.{count_of};
+ghost use Rattle.zarr_boxes.specs.Boxes.{number_in, numbers_in, IsServed};
+ghost use Rattle.zarr_boxes.specs.Pieces.{piece, IsUpdated};
+ghost use Rattle.zarr_boxes.specs.Runs.{laid_end_to_end};
+
+use std::alloc::{AllocError, Global};
+use zarr_boxes::{ArraySubset, ContiguousRuns, points_in};
+
+// The piece at a place.
+pub(crate) fn piece_at(bytes: &[u8], size: usize, i: usize) -> &[u8]
+    requires { i * size + size ≤ length bytes.now }
+    ensures { result.now ≡ piece size bytes.now i }
+{
+    let from = i * size;
+    &bytes[from..from + size]
+}
+
+// Writes over the piece at a place.
+pub(crate) fn write_piece(bytes: &mut [u8], size: usize, i: usize, with: &[u8])
+    requires inside { i * size + size ≤ length bytes.old }
+    requires whole { length with.now ≡ size }
+    ensures written { piece size bytes.new i ≡ with.now }
+    ensures others { (k : ℕ) → k ≢ i → piece size bytes.new k ≡ piece size bytes.old k }
+{
+    let from = i * size;
+    bytes[from..from + size].copy_from_slice(with);
+}
+
+// The elements at the points of a box, one after the other.
+pub(crate) fn gather(
+    alloc: Global,
+    bytes: &[u8],
+    size: usize,
+    subset: &ArraySubset,
+    shape: &[u64],
+) -> Result<Vec<u8>, AllocError>
+    requires served { IsServed subset.now shape.now }
+    requires whole { length bytes.now ≡ count_of shape.now * size }
+    ensures { IfOk result (λ part. part.items ≡ flat_map (piece size bytes.now) (numbers_in subset.now shape.now)) }
+{
+    let runs = subset.runs_in(shape);
+    let room = points_in(subset, shape) as usize * size;
+    gather_runs(alloc, bytes, size, runs, room)
+}
+
+// Writes the update's elements at the points of a box.
+pub(crate) fn scatter(
+    output: &mut [u8],
+    size: usize,
+    subset: &ArraySubset,
+    shape: &[u64],
+    update: &[u8],
+)
+    requires served { IsServed subset.now shape.now }
+    requires whole { length output.old ≡ count_of shape.now * size }
+    requires whole_update { length update.now ≡ count_of subset.now.shape * size }
+    ensures { IsUpdated (count_of subset.now.shape) (number_in subset.now shape.now) (piece size output.old) (piece size update.now) (piece size output.new) }
+{
+    let mut done = 0;
+    for (first, len) in subset.runs_in(shape) {
+        copy_run(output, size, first as usize, update, done, len as usize);
+        done += len as usize;
+    }
+}
+
+// Writes bytes over as many others, of a number that is known when it is compiled.
+#[inline(always)]
+fn copy_exactly<const N: usize>(to: &mut [u8], from: &[u8])
+    requires taken { length from.now ≡ N }
+    requires whole { length to.old ≡ N }
+    ensures { to.new ≡ from.now }
+{
+    to[..N].copy_from_slice(&from[..N]);
+}
+
+// Writes bytes over as many others. A length that stands here takes no call.
+#[inline(always)]
+fn copy_bytes(to: &mut [u8], from: &[u8])
+    requires { length from.now ≡ length to.old }
+    ensures { to.new ≡ from.now }
+{
+    match from.len() {
+        8 => copy_exactly::<8>(to, from),
+        16 => copy_exactly::<16>(to, from),
+        32 => copy_exactly::<32>(to, from),
+        64 => copy_exactly::<64>(to, from),
+        _ => to.copy_from_slice(from),
+    }
+}
+
+// Appends bytes, of a number that is known when it is compiled.
+#[inline(always)]
+fn append_exactly<const N: usize>(part: &mut Vec<u8>, bytes: &[u8]) -> Result<(), AllocError>
+    requires { length bytes.now ≡ N }
+    ensures { OnOk result (part.new.items ≡ part.old.items ++ bytes.now) }
+{
+    part.extend_from_slice(&bytes[..N])
+}
+
+// Appends bytes. A length that stands here takes no call.
+#[inline(always)]
+fn append_bytes(part: &mut Vec<u8>, bytes: &[u8]) -> Result<(), AllocError>
+    ensures { OnOk result (part.new.items ≡ part.old.items ++ bytes.now) }
+{
+    match bytes.len() {
+        8 => append_exactly::<8>(part, bytes),
+        16 => append_exactly::<16>(part, bytes),
+        32 => append_exactly::<32>(part, bytes),
+        64 => append_exactly::<64>(part, bytes),
+        _ => part.extend_from_slice(bytes),
+    }
+}
+
+// Copies a run of elements over another.
+fn copy_run(output: &mut [u8], size: usize, first: usize, update: &[u8], from: usize, len: usize)
+    requires inside { (first + len) * size ≤ length output.old }
+    requires inside_update { (from + len) * size ≤ length update.now }
+    ensures written { (r : ℕ) → r < len → piece size output.new (first + r) ≡ piece size update.now (from + r) }
+    ensures before { (i : ℕ) → i < first → piece size output.new i ≡ piece size output.old i }
+    ensures after { (i : ℕ) → first + len ≤ i → piece size output.new i ≡ piece size output.old i }
+{
+    let bytes = len * size;
+    let to = first * size;
+    let taken = from * size;
+    copy_bytes(&mut output[to..to + bytes], &update[taken..taken + bytes]);
+}
+
+// Writes one element at each point of a box.
+pub(crate) fn fill_box(
+    output: &mut [u8],
+    size: usize,
+    subset: &ArraySubset,
+    shape: &[u64],
+    element: &[u8],
+)
+    requires served { IsServed subset.now shape.now }
+    requires whole { length output.old ≡ count_of shape.now * size }
+    requires whole_element { length element.now ≡ size }
+    ensures { IsUpdated (count_of subset.now.shape) (number_in subset.now shape.now) (piece size output.old) (λ k. element.now) (piece size output.new) }
+{
+    for (first, len) in subset.runs_in(shape) {
+        fill_run(output, size, first as usize, len as usize, element);
+    }
+}
+
+// Writes one element at each place of a run: once, and then what is written so far behind itself.
+pub(crate) fn fill_run(output: &mut [u8], size: usize, first: usize, len: usize, element: &[u8])
+    requires inside { (first + len) * size ≤ length output.old }
+    requires fits { first + len < 2 ^ 64 }
+    requires whole { length element.now ≡ size }
+    ensures written { (r : ℕ) → r < len → piece size output.new (first + r) ≡ element.now }
+    ensures before { (i : ℕ) → i < first → piece size output.new i ≡ piece size output.old i }
+    ensures after { (i : ℕ) → first + len ≤ i → piece size output.new i ≡ piece size output.old i }
+{
+    if len == 0 {
+        return;
+    }
+    write_piece(output, size, first, element);
+    let mut done = 1;
+    while done < len {
+        let more = done.min(len - done);
+        repeat_run(output, size, first, first + done, more);
+        done += more;
+    }
+}
+
+// Copies a run of elements over a later one.
+fn repeat_run(output: &mut [u8], size: usize, from: usize, to: usize, len: usize)
+    requires later { from + len ≤ to }
+    requires inside { (to + len) * size ≤ length output.old }
+    ensures written { (r : ℕ) → r < len → piece size output.new (to + r) ≡ piece size output.old (from + r) }
+    ensures before { (i : ℕ) → i < to → piece size output.new i ≡ piece size output.old i }
+    ensures after { (i : ℕ) → to + len ≤ i → piece size output.new i ≡ piece size output.old i }
+{
+    let bytes = len * size;
+    let taken = from * size;
+    let (front, back) = output.split_at_mut(to * size);
+    back[..bytes].copy_from_slice(&front[taken..taken + bytes]);
+}
+
+// The elements of runs, one after the other.
+pub(crate) fn gather_runs<'a>(
+    alloc: Global,
+    bytes: &[u8],
+    size: usize,
+    runs: ContiguousRuns<'a>,
+    room: usize,
+) -> Result<Vec<u8>, AllocError>
+    requires { All (λ run. (run.0 + run.1) * size ≤ length bytes.now) runs }
+    ensures { IfOk result (λ part. part.items ≡ flat_map (piece size bytes.now) (laid_end_to_end runs.entry)) }
+{
+    let mut part = Vec::with_capacity(alloc, room)?;
+    for (first, len) in runs {
+        append_bytes(&mut part, run_at(bytes, size, first as usize, len as usize))?;
+    }
+    Ok(part)
+}
+
+// The elements of one run.
+fn run_at(bytes: &[u8], size: usize, first: usize, len: usize) -> &[u8]
+    requires { (first + len) * size ≤ length bytes.now }
+    ensures { result.now ≡ flat_map (piece size bytes.now) (range_with_len first len) }
+{
+    let from = first * size;
+    &bytes[from..from + len * size]
+}

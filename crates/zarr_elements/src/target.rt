@@ -1,0 +1,175 @@
+// A box of lent bytes to write elements into.
+ghost use Rattle.std.specs.Prelude.{◌≡◌, ℕ, ◌*◌, ◌<◌, IsTrue, IfOk, IfErr, OnOk, OnErr, IsSome, IfSome, ◌↔◌, length};
+ghost use Rattle.zarr_words.specs.Order.{◌or◌then◌, done};
+ghost use Rattle.zarr_boxes.specs.Numbering.{count_of};
+ghost use Rattle.zarr_boxes.specs.Boxes.{IsTarget};
+ghost use Rattle.zarr_elements.specs.TargetLaws.{target-prop};
+ghost use Rattle.zarr_boxes.specs.Pieces.{piece};
+ghost use Rattle.zarr_elements.specs.Arrays.{element_of};
+ghost use Rattle.zarr_elements.specs.declared.data_type.DataTypeSize.TheVariants.{Fixed};
+ghost use Rattle.zarr_words.specs.declared.error.CodecError.TheVariants.{InvalidNumberOfElements, WrongElementKind};
+
+use crate::array_bytes::ArrayBytes;
+use crate::data_type::DataTypeSize;
+use crate::fill_value::FillValue;
+use crate::pieces::{fill_box, scatter};
+use zarr_boxes::{ArraySubset, check_box, points_in};
+use zarr_words::CodecError;
+
+/// A box of lent bytes to write elements into: the bytes are an array of a shape in row-major order, whose elements
+/// have one size, and the subset is a box of that shape. Bytes outside the subset stay as they are.
+#[derive(Drop)]
+pub struct FixedTarget<'a> {
+    bytes: &'a mut [u8],
+    element_size: usize,
+    shape: &'a [u64],
+    subset: &'a ArraySubset,
+    pub ghost is_target: { IsTarget (length bytes.now) element_size shape.now subset.now } by { target-prop (length bytes.now) element_size shape.now subset.now },
+}
+
+// The bytes of an array that has so many elements of a size, or the first reason to refuse it.
+fn elements_of_size<'a>(
+    array: &'a ArrayBytes,
+    size: usize,
+    count: u64,
+) -> Result<&'a [u8], CodecError>
+    ensures kind { OnOk result (array.now.kind ≡ Fixed size) }
+    ensures counted { OnOk result (count ≡ length array.now.elements) }
+    ensures whole { IfOk result (λ bytes. length bytes.now ≡ count * size) }
+    ensures elements { IfOk result (λ bytes. (k : ℕ) → k < count → piece size bytes.now k ≡ element_of array.now k) }
+    ensures refused { IfErr result (
+        array.now.kind ≡ Fixed size or WrongElementKind then
+        count ≡ length array.now.elements or InvalidNumberOfElements then
+        done) }
+{
+    if array.kind() != DataTypeSize::Fixed(size) {
+        return Err(CodecError::WrongElementKind);
+    }
+    if array.len() as u64 != count {
+        return Err(CodecError::InvalidNumberOfElements);
+    }
+    Ok(array.fixed_bytes().unwrap())
+}
+
+impl<'a> FixedTarget<'a> {
+    ghost use Rattle.zarr_elements.specs.Targets.{IsWritten, TargetTests};
+
+    /// Whether so many bytes are an array of a shape with elements of a size that isn't 0, in which the subset lies.
+    /// Takes no memory.
+    pub fn fits(len: usize, element_size: usize, shape: &[u64], subset: &ArraySubset) -> bool
+        ensures { IsTrue result ↔ IsTarget len element_size shape.now subset.now }
+    {
+        let Ok(total) = check_box(subset, shape) else {
+            return false;
+        };
+        let Some(wanted) = total.checked_mul(element_size as u64) else {
+            return false;
+        };
+        element_size != 0 && len as u64 == wanted
+    }
+
+    /// The target over bytes that fit it. Takes no memory.
+    pub fn over(
+        bytes: &'a mut [u8],
+        element_size: usize,
+        shape: &'a [u64],
+        subset: &'a ArraySubset,
+    ) -> Self
+        requires { IsTarget (length bytes.old) element_size shape.now subset.now }
+        ensures bytes { result.bytes ≡ bytes.entry }
+        ensures element_size { result.element_size ≡ element_size }
+        ensures shape { result.shape.now ≡ shape.now }
+        ensures subset { result.subset.now ≡ subset.now }
+    {
+        FixedTarget {
+            bytes,
+            element_size,
+            shape,
+            subset,
+        }
+    }
+
+    /// The target over bytes. `None` unless the size isn't 0, the length is the shape's count times it and the
+    /// subset lies in the shape. Takes no memory.
+    pub fn new(
+        bytes: &'a mut [u8],
+        element_size: usize,
+        shape: &'a [u64],
+        subset: &'a ArraySubset,
+    ) -> Option<Self>
+        ensures made { IsSome result ↔ IsTarget (length bytes.old) element_size shape.now subset.now }
+        ensures bytes { IfSome result (λ target. target.bytes ≡ bytes.entry) }
+        ensures element_size { IfSome result (λ target. target.element_size ≡ element_size) }
+        ensures shape { IfSome result (λ target. target.shape.now ≡ shape.now) }
+        ensures subset { IfSome result (λ target. target.subset.now ≡ subset.now) }
+    {
+        if !FixedTarget::fits(bytes.len(), element_size, shape, subset) {
+            return None;
+        }
+        Some(FixedTarget::over(bytes, element_size, shape, subset))
+    }
+
+    /// How many elements the subset has.
+    pub fn num_elements(&self) -> u64
+        ensures { result ≡ count_of self.now.subset.now.shape }
+    {
+        points_in(self.subset, self.shape)
+    }
+
+    /// How many bytes each element has, which is never 0.
+    pub fn element_size(&self) -> usize
+        ensures { result ≡ self.now.element_size }
+    {
+        self.element_size
+    }
+
+    /// The box that elements are written into.
+    pub fn subset(&self) -> &ArraySubset
+        ensures { result.now ≡ self.now.subset.now }
+    {
+        self.subset
+    }
+
+    /// Writes the fill value at each point of the subset. Refused only as `WrongElementKind`, where its length isn't
+    /// the element size; the bytes are then as they were. Takes no memory.
+    pub fn fill(&mut self, fill_value: &FillValue) -> Result<(), CodecError>
+        ensures written { OnOk result (IsWritten self.old self.new (λ k. fill_value.now)) }
+        ensures fits { OnOk result (length fill_value.now ≡ self.old.element_size) }
+        ensures kept { OnErr result (self.new ≡ self.old) }
+        ensures refused { IfErr result (length fill_value.now ≡ self.old.element_size or WrongElementKind then done) }
+    {
+        let element = fill_value.as_ne_bytes();
+        if element.len() != self.element_size {
+            return Err(CodecError::WrongElementKind);
+        }
+        fill_box(
+            self.bytes,
+            self.element_size,
+            self.subset,
+            self.shape,
+            element,
+        );
+        Ok(())
+    }
+
+    /// Writes the elements of an array at the points of the subset, in row-major order of the subset. Refused, in
+    /// this order, as `WrongElementKind` (variable elements, or another element size), `InvalidNumberOfElements`;
+    /// the bytes are then as they were. Takes no memory.
+    pub fn copy_from(&mut self, array: &ArrayBytes) -> Result<(), CodecError>
+        ensures written { OnOk result (IsWritten self.old self.new (element_of array.now)) }
+        ensures kind { OnOk result (array.now.kind ≡ Fixed self.old.element_size) }
+        ensures counted { OnOk result (count_of self.old.subset.now.shape ≡ length array.now.elements) }
+        ensures kept { OnErr result (self.new ≡ self.old) }
+        ensures refused { IfErr result (TargetTests array.now.kind (length array.now.elements) self.old done) }
+    {
+        let update = elements_of_size(array, self.element_size, self.num_elements())?;
+        scatter(
+            self.bytes,
+            self.element_size,
+            self.subset,
+            self.shape,
+            update,
+        );
+        Ok(())
+    }
+}
