@@ -3,7 +3,9 @@ use Rattle.std.specs.Prelude.{List}
 use Rattle.zarr_parts.specs.Order.{done}
 use Rattle.zarr_parts.specs.Geo.{Geo}
 use Rattle.zarr_words.specs.declared.error.CodecError.{CodecError}
-use Rattle.zarr_words.specs.declared.error.CodecError.TheVariants.{UnsupportedDataType, BadFillValue, IncompatibleDimensionality, InvalidSubchunkShape, TooLarge, VariableIndexSize}
+use Rattle.zarr_words.specs.declared.error.CodecError.TheVariants.{UnsupportedDataType, BadFillValue}
+use Rattle.zarr_words.specs.declared.error.CodecError.TheVariants.{IncompatibleDimensionality, InvalidSubchunkShape}
+use Rattle.zarr_words.specs.declared.error.CodecError.TheVariants.{TooLarge, VariableIndexSize}
 use Rattle.codec_laws.specs.Refusals.{IsNoFault, RefusesUnserved}
 use Rattle.codec_laws.specs.RefusalLaws.{test_faultless, test_as_faultless}
 use Rattle.codec_laws.specs.Meanings.{Meaning}

@@ -1,7 +1,8 @@
 -- An encoding of an array stands for its cells.
 use Rattle.std.proofs.Common.{IfSome}
 use Rattle.zarr_elements.specs.declared.data_type.DataTypeSize.{DataTypeSize}
-use Rattle.std.proofs.Common.{◌≡◌, ℕ, ◌+◌, ◌*◌, ◌^◌, ◌<◌, ◌≤◌, List, [], ◌∷◌, Option, Some, None, length, map, get_or, take, drop, refl, sym, ap, ◌∙◌, arith, true}
+use Rattle.std.proofs.Common.{◌≡◌, ℕ, ◌+◌, ◌*◌, ◌^◌, ◌<◌, ◌≤◌, List, [], ◌∷◌, Option, Some, None, length, map, get_or}
+use Rattle.std.proofs.Common.{take, drop, refl, sym, ap, ◌∙◌, arith, true}
 use Rattle.std.proofs.lemmas.List.{ext_get_or, length-map, get_or-map}
 use Rattle.std.proofs.lemmas.List.Elements.{All-get_or, All-from_get_or, All-map}
 use Rattle.std.proofs.lemmas.List.FromFn.{get_or-map-range_with_len, length-map-range_with_len}
@@ -14,7 +15,8 @@ use Rattle.zarr_parts.specs.Numbering.{count_of}
 use Rattle.codec_laws.specs.Cells.{all_there}
 use Rattle.zarr_parts.specs.Grid.{grid_of, Divides, subchunk_number, place_number, cell_number, subchunk}
 use Rattle.codec_laws.specs.Meanings.{Meaning}
-use Rattle.shard_format.specs.Index.{slot_at, index_part, data_end, index_geo, index_shape, number_of_element, element_of_number, numbers_in_index}
+use Rattle.shard_format.specs.Index.{slot_at, index_part, data_end, index_geo, index_shape, number_of_element}
+use Rattle.shard_format.specs.Index.{element_of_number, numbers_in_index}
 use Rattle.shard_format.specs.declared.slot.Slot.{Slot}
 use Rattle.shard_format.specs.declared.slot.Slot.TheVariants.{Absent, InRange, Bad}
 use Rattle.shard_format.specs.Cells.{Layout, cell_in, cell_by, shard_cells}
@@ -31,7 +33,8 @@ use Rattle.std.proofs.lemmas.List.Sums.{sum_by-le}
 use Rattle.std.proofs.lemmas.List.FromFn.{length-range_with_len, get_or-range_with_len}
 use Rattle.zarr_words.specs.Words.{CellsOf, Written}
 use Rattle.shard_format.specs.declared.location.ShardingIndexLocation.{ShardingIndexLocation}
-use Rattle.zarr_boxes.proofs.GridLaws.{subchunk_number-below, place_number-below, cell_number-below, cell_number-located, length-subchunk, get_or-subchunk}
+use Rattle.zarr_boxes.proofs.GridLaws.{subchunk_number-below, place_number-below, cell_number-below}
+use Rattle.zarr_boxes.proofs.GridLaws.{cell_number-located, length-subchunk, get_or-subchunk}
 
 pub all_there-map_some : (es : List (List ℕ)) → all_there (map Some es) ≡ Some es
 all_there-map_some [] = refl

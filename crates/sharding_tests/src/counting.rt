@@ -2,57 +2,9 @@
 use crate::shards::{around, decoder_of, encoded, plain, sixteen, subset_of};
 use std::alloc::Global;
 use std::test::Fail;
-use zarr_codecs::{ArrayToBytesCodecTraits, ByteRange, LendsSlice};
+use zarr_codecs::{ArrayToBytesCodecTraits, CountingHandle};
 use zarr_parts::{ArraySubset, CodecError, CodecOptions};
 use zarrs_sharding::{ShardingCodec, ShardingIndexLocation, ShardingPartialDecoder};
-
-// Counts the bytes that are read of an object, by ranges that have a size.
-#[derive(Drop)]
-struct CountingHandle {
-    object: Vec<u8>,
-    bytes_read: u64,
-}
-
-impl LendsSlice for CountingHandle {
-    ghost use Rattle.std.specs.Prelude.{true, false, Some, length};
-
-    ghost state = { λ handle. record {
-      tells = true;
-      contents = Some handle.object.items;
-      faults = 0;
-      held = length handle.object.items;
-      supports = record { decode = true; encode = false };
-    } };
-
-    fn find(&mut self) -> Result<bool, CodecError> {
-        Ok(true)
-    }
-
-    fn measure(&mut self) -> Result<Option<u64>, CodecError> {
-        Ok(Some(self.object.len() as u64))
-    }
-
-    fn held_bytes(&self) -> usize {
-        self.object.len()
-    }
-
-    fn lend(&mut self, _alloc: Global, range: ByteRange) -> Result<Option<&[u8]>, CodecError> {
-        let ByteRange::FromStart(offset, Some(size)) = range else {
-            return Err(CodecError::OutOfMemory);
-        };
-        let length = self.object.len() as u64;
-        if offset > length || size > length - offset {
-            return Err(CodecError::OutOfBounds);
-        }
-        self.bytes_read = self.bytes_read.saturating_add(size);
-        let rest = &self.object[offset as usize..];
-        Ok(Some(&rest[..size as usize]))
-    }
-
-    fn lends_parts(&self) -> bool {
-        true
-    }
-}
 
 // How many bytes are read of an object where it is opened.
 fn read_to_open<I: ArrayToBytesCodecTraits, X: ArrayToBytesCodecTraits>(
@@ -61,12 +13,8 @@ fn read_to_open<I: ArrayToBytesCodecTraits, X: ArrayToBytesCodecTraits>(
     object: Vec<u8>,
     shape: &[u64],
 ) -> Result<u64, CodecError> {
-    let handle = CountingHandle {
-        object,
-        bytes_read: 0,
-    };
-    let decoder = decoder_of(alloc, codec, handle, shape)?;
-    Ok(decoder.close().bytes_read)
+    let decoder = decoder_of(alloc, codec, CountingHandle::new(object), shape)?;
+    Ok(decoder.close().bytes_read())
 }
 
 // Reads cells twice.
@@ -90,13 +38,9 @@ fn read_in_all<I: ArrayToBytesCodecTraits, X: ArrayToBytesCodecTraits>(
     shape: &[u64],
     cells: &ArraySubset,
 ) -> Result<u64, CodecError> {
-    let handle = CountingHandle {
-        object,
-        bytes_read: 0,
-    };
-    let mut decoder = decoder_of(alloc, codec, handle, shape)?;
+    let mut decoder = decoder_of(alloc, codec, CountingHandle::new(object), shape)?;
     read_twice(alloc, &mut decoder, cells)?;
-    Ok(decoder.close().bytes_read)
+    Ok(decoder.close().bytes_read())
 }
 
 // Where a shard of four subchunks is opened, and where its last cell is read twice.

@@ -20,7 +20,8 @@ use Rattle.zarr_words.specs.declared.error.CodecError.TheVariants.{UnsupportedDa
 use Rattle.codec_laws.specs.Laws.{IsLawful}
 use Rattle.codec_laws.specs.Refusals.{IsNoFault}
 use Rattle.codec_laws.specs.RefusalLaws.{test_faultless}
-use Rattle.small_codecs.specs.BytesCodec.{is_reversed, swapped, element_size, BytesServes, bytes_of, bytes_cells, BytesCheckTests, bytes_meaning}
+use Rattle.small_codecs.specs.BytesCodec.{is_reversed, swapped, element_size, BytesServes, bytes_of, bytes_cells}
+use Rattle.small_codecs.specs.BytesCodec.{BytesCheckTests, bytes_meaning}
 
 -- swapping twice gives the element back, and keeps its length
 pub swapped-swapped : (reversed : Bool) (e : List ℕ) → swapped reversed (swapped reversed e) ≡ e
