@@ -1,10 +1,9 @@
 -- What follows from the laws of codecs.
-use Rattle.std.proofs.Common.{◌≡◌, inl, inr, ℕ, List, [], ◌∷◌, Option, Some, None, map, refl, sym, ap, ◌∙◌}
+use Rattle.std.proofs.Common.{◌≡◌, inl, inr, ℕ, List, [], ◌∷◌, Option, Some, None, Result, Ok, Err, IfOk, IfErr, map, refl, sym, ap, ◌∙◌}
 use Rattle.zarr_parts.specs.Arrays.{Array}
 use Rattle.zarr_elements.specs.declared.data_type.DataTypeSize.{DataTypeSize}
 use Rattle.zarr_words.specs.declared.error.CodecError.{CodecError}
 use Rattle.zarr_words.specs.declared.error.CodecError.TheVariants.{OutOfMemory, TooLarge, Fault}
-use Rattle.codec_laws.specs.Meanings.{Meaning}
 use Rattle.codec_laws.specs.Cells.{all_there}
 use Rattle.codec_laws.specs.Refusals.{AreDamaged, MayRefuseDecode}
 use Rattle.codec_laws.specs.RoundTrip.{MayRefuseRoundTrip}
@@ -37,10 +36,20 @@ undamaged cells xs is damaged =
     cc
 
 -- what `decode` may refuse of an array that was encoded
-pub refused_by_decode : (codec : Meaning) (xs : List (List ℕ)) (cells : List (Option (List ℕ))) (e : CodecError) → cells ≡ map Some xs → MayRefuseDecode cells e
-    → MayRefuseRoundTrip codec xs e
-refused_by_decode codec xs cells OutOfMemory is h = tt
-refused_by_decode codec xs cells TooLarge is (inl long) = inr (rw is at long)
-refused_by_decode codec xs cells TooLarge is (inr damaged) = absurd (undamaged cells xs is damaged)
-refused_by_decode codec xs cells Fault is h = absurd h
-refused_by_decode codec xs cells _ is h = absurd (undamaged cells xs is h)
+pub refused_by_decode : (xs : List (List ℕ)) (cells : List (Option (List ℕ))) (e : CodecError) → cells ≡ map Some xs → MayRefuseDecode cells e
+    → MayRefuseRoundTrip xs e
+refused_by_decode xs cells OutOfMemory is h = tt
+refused_by_decode xs cells TooLarge is (inl long) = rw is at long
+refused_by_decode xs cells TooLarge is (inr damaged) = absurd (undamaged cells xs is damaged)
+refused_by_decode xs cells Fault is h = absurd h
+refused_by_decode xs cells _ is h = absurd (undamaged cells xs is h)
+
+-- what a refusal's facts say of it
+pub refused_so : {V E : Type 0} (P Q : E → Type 0) (r : Result V E) → IfErr r P → ((e : E) → P e → Q e) → IfErr r Q
+refused_so P Q (Ok v) h told = tt
+refused_so P Q (Err e) h told = told e h
+
+-- what two facts of an answer say of it
+pub answered_so : {V E : Type 0} (P P' Q : V → Type 0) (r : Result V E) → IfOk r P → IfOk r P' → ((v : V) → P v → P' v → Q v) → IfOk r Q
+answered_so P P' Q (Ok v) h h' told = told v h h'
+answered_so P P' Q (Err e) h h' told = tt

@@ -3,6 +3,7 @@ use Rattle.std.specs.Prelude.{◌≡◌, ◌<◌, ℕ, List, Some, None, IfSome,
 use Rattle.zarr_parts.specs.Numbering.{count_of}
 use Rattle.zarr_parts.specs.Geo.{Geo, IsArrayOf}
 use Rattle.zarr_parts.specs.Types.{size_of, FitsKind}
+use Rattle.zarr_parts.specs.Arrays.{Array}
 use Rattle.zarr_words.specs.declared.error.CodecError.{CodecError}
 use Rattle.codec_laws.specs.Meanings.{Meaning}
 use Rattle.codec_laws.specs.Refusals.{IsNoFault}
@@ -10,8 +11,10 @@ use Rattle.codec_laws.specs.Representations.{IsWithin}
 
 -- the meaning of a codec for the arrays of a shape, a type and a fill value is lawful
 pub record IsLawful (g : Geo) (m : Meaning) : Type 0 where
-  -- `check` refuses no array as a fault
+  -- neither `check` nor `encode` nor `compact` refuses as a fault
   pub check_faultless : (e : CodecError) → m.check_tests e → IsNoFault e
+  pub encode_faultless : (array : Array) (e : CodecError) → m.encode_tests array e → IsNoFault e
+  pub compact_faultless : (b : List ℕ) (e : CodecError) → m.compact_tests b e → IsNoFault e
   -- bytes stand for as many cells as the shape has
   pub cells_counted : (b : List ℕ) → m.serves → length (m.cells b) ≡ count_of g.shape
   -- a cell that is there fits the type

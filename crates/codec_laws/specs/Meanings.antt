@@ -4,6 +4,15 @@ use Rattle.zarr_parts.specs.Arrays.{Array}
 use Rattle.zarr_words.specs.declared.error.CodecError.{CodecError}
 use Rattle.codec_laws.specs.declared.representation.BytesRepresentation.{BytesRepresentation}
 
+-- how the work on the arrays of one shape is shared
+pub record Concurrency : Type 1 where
+  -- the codec tells it of such arrays
+  pub served : Type 0
+  -- how many workers can share the work
+  pub workers : ℕ
+  -- how `recommended_concurrency` refuses: its tests in their order
+  pub tests : CodecError → Type 0
+
 pub record Meaning : Type 1 where
   -- the codec serves these arrays
   pub serves : Type 0

@@ -13,9 +13,9 @@ ghost use Rattle.zarr_words.specs.declared.error.CodecError.TheVariants.{TooLarg
 ghost use Rattle.object_handles.specs.Handles.{IsRead, IsCounted, MayFault};
 ghost use Rattle.codec_laws.specs.Reads.{IsDecodedInto, cells_at, IsAnswer, IsReadOf, MayRefuseRead, AskedTests};
 ghost use Rattle.object_handles.specs.Objects.{interval_part, HasInterval, ObjectTests, IntervalTests};
-ghost use Rattle.codec_laws.specs.Meanings.{Meaning};
+ghost use Rattle.codec_laws.specs.Meanings.{Meaning, Concurrency};
 ghost use Rattle.codec_laws.specs.Laws.{IsLawful};
-ghost use Rattle.codec_laws.specs.Refusals.{RefusesUnserved, MayRefuseEncode, MayRefuseDecode, MayRefuseCompact};
+ghost use Rattle.codec_laws.specs.Refusals.{IsNoFault, RefusesUnserved, MayRefuseEncode, MayRefuseDecode, MayRefuseCompact};
 ghost use Rattle.codec_laws.specs.declared.representation.BytesRepresentation.{BytesRepresentation};
 
 use crate::concurrency::RecommendedConcurrency;
@@ -53,11 +53,8 @@ pub trait ArrayToBytesCodecTraits {
     // what the codec means for the arrays of a shape, a type and a fill value
     ghost meaning: { Self → Geo → Meaning };
 
-    // how many workers can share the work on an array of a shape
-    ghost concurrency: { Self → List ℕ → ℕ };
-
-    // how `recommended_concurrency` refuses: its tests in their order
-    ghost concurrency_tests: { Self → List ℕ → CodecError → Type 0 };
+    // how the work on the arrays of a shape is shared
+    ghost concurrency: { Self → List ℕ → Concurrency };
 
     /// Tests whether the codec serves these arrays. Each codec states its refusals and their order.
     fn check(
@@ -178,8 +175,9 @@ pub trait ArrayToBytesCodecTraits {
         shape: &ChunkShape,
         data_type: &DataType,
     ) -> Result<RecommendedConcurrency, CodecError>
-        ensures recommended { IfOk result (λ told. told ≡ concurrency self.now shape.now) }
-        ensures refused { IfErr result (concurrency_tests self.now shape.now) };
+        ensures served { OnOk result (concurrency self.now shape.now).served }
+        ensures recommended { IfOk result (λ told. told ≡ (concurrency self.now shape.now).workers) }
+        ensures refused { IfErr result (concurrency self.now shape.now).tests };
 
     /// How long the encodings of such an array are. Refused as `check` refuses, then as `TooLarge` where no
     /// 64-bit number can say it.
@@ -217,6 +215,8 @@ pub trait ArrayToBytesCodecTraits {
         ensures serves { OnOk result (meaning self.now (geo shape.now data_type.now fill_value.now)).serves }
         ensures read { IsRead (H.state handle.old) (H.state handle.new) }
         ensures answer { IfOk result (IsAnswer (geo shape.now data_type.now fill_value.now) (N.selection indexer.now)) }
+        ensures answerable { let m = meaning self.now (geo shape.now data_type.now fill_value.now) in
+            OnOk result (m.answerable (length (N.selection indexer.now).points)) }
         ensures cells { let m = meaning self.now (geo shape.now data_type.now fill_value.now) in
             IfOk result (λ array. IsTrue (H.state handle.old).tells
             → IsReadOf m.cells interval (H.state handle.old).contents shape.now (N.selection indexer.now).points array.elements) }
@@ -236,4 +236,7 @@ pub trait ArrayToBytesCodecTraits {
 
     // what the codec means for the arrays of a shape, a type and a fill value keeps the laws
     ghost lawful: { (x : Self) (g : Geo) → IsLawful g (meaning x g) };
+
+    // `recommended_concurrency` refuses nothing as a fault
+    ghost concurrency_faultless: { (x : Self) (shape : List ℕ) (e : CodecError) → (concurrency x shape).tests e → IsNoFault e };
 }

@@ -1,58 +1,72 @@
 // What the laws of codecs give to callers that are generic in the codec.
-ghost use Rattle.std.specs.Prelude.{◌≡◌, IfOk, IfErr, map};
+ghost use Rattle.std.specs.Prelude.{◌≡◌, Some, IfOk, IfErr, map, length};
+ghost use Rattle.zarr_parts.specs.Order.{RefusedBy};
 ghost use Rattle.zarr_parts.specs.Numbering.{number_of};
 ghost use Rattle.zarr_parts.specs.Arrays.{element_of};
 ghost use Rattle.zarr_parts.specs.Geo.{geo, IsArrayOf};
 ghost use Rattle.zarr_parts.specs.Types.{size_of};
 ghost use Rattle.codec_laws.specs.RoundTrip.{MayRefuseRoundTrip};
+ghost use Rattle.codec_laws.specs.Reads.{IsAnswer, AskedTests};
 
 use crate::codec::ArrayToBytesCodecTraits;
 use object_handles::{Interval, SliceHandle};
 use std::alloc::Global;
 use zarr_parts::{ArrayBytes, ChunkShape, CodecError, CodecOptions, DataType, FillValue, Indexer};
 
-/// Encodes an array by any codec and decodes the encoding: the answer is equal to the array. Refused as `encode`
-/// refuses; then only as `OutOfMemory`, or as `TooLarge` where the elements' bytes pass what can be addressed.
-pub fn decode_after_encode<C: ArrayToBytesCodecTraits>(
+/// Decodes bytes that any codec's `encode` made of an array, which it serves: the bytes stand for the array's elements, and
+/// the answer is equal to the array. Refused as `decode` refuses after the tests of `check`: only as `OutOfMemory`, or as
+/// `TooLarge` where the elements' bytes pass what can be addressed.
+pub fn decode_after_encode<'a, C: ArrayToBytesCodecTraits>(
     codec: &C,
     alloc: Global,
-    array: &ArrayBytes,
+    _array: &ArrayBytes,
+    encoded: &'a [u8],
     shape: &ChunkShape,
     data_type: &DataType,
     fill_value: &FillValue,
     options: &CodecOptions,
-) -> Result<ArrayBytes<'static>, CodecError>
-    ensures same { IfOk result (λ decoded. decoded ≡ array.now) }
-    ensures lawful { let g = geo shape.now data_type.now fill_value.now in
-        IfErr result (λ e. (C.meaning codec.now g).serves → array.now.kind ≡ size_of data_type.now → IsArrayOf g array.now.elements
-        → MayRefuseRoundTrip (C.meaning codec.now g) array.now.elements e) }
+) -> Result<ArrayBytes<'a>, CodecError>
+    requires serves { (C.meaning codec.now (geo shape.now data_type.now fill_value.now)).serves }
+    requires kind { _array.now.kind ≡ size_of data_type.now }
+    requires array { IsArrayOf (geo shape.now data_type.now fill_value.now) _array.now.elements }
+    requires written { (C.meaning codec.now (geo shape.now data_type.now fill_value.now)).written _array.now.elements encoded.now }
+    ensures cells { (C.meaning codec.now (geo shape.now data_type.now fill_value.now)).cells encoded.now ≡ map Some _array.now.elements }
+    ensures same { IfOk result (λ decoded. decoded ≡ _array.now) }
+    ensures lawful { IfErr result (MayRefuseRoundTrip _array.now.elements) }
+    ensures refused { IfErr result (RefusedBy ((C.meaning codec.now (geo shape.now data_type.now fill_value.now)).decode_tests encoded.now)) }
 {
-    let encoded = codec.encode(alloc, array, shape, data_type, fill_value, options)?;
-    let decoded = codec.decode(alloc, &encoded, shape, data_type, fill_value, options)?;
-    let owned = decoded.into_owned(alloc)?;
-    Ok(owned)
+    codec.decode(alloc, encoded, shape, data_type, fill_value, options)
 }
 
-/// Reads some cells of an array that bytes are by any codec, and decodes the array: the cells are the array's elements at
-/// the asked coordinates, in their order. Refused as `partial_decode` refuses, and then as `decode` does.
-pub fn read_and_decode<'a, C: ArrayToBytesCodecTraits, N: Indexer>(
+/// Reads some cells of bytes that any codec's `decode` made an array of, which it serves: the cells are the array's elements
+/// at the asked coordinates, in their order. Refused as `partial_decode` refuses, after the tests of `check`, what is asked
+/// and what it finds in bytes that are all there.
+pub fn read_after_decode<C: ArrayToBytesCodecTraits, N: Indexer>(
     codec: &C,
     alloc: Global,
-    bytes: &'a [u8],
+    bytes: &[u8],
+    _decoded: &ArrayBytes,
     shape: &ChunkShape,
     data_type: &DataType,
     fill_value: &FillValue,
     indexer: &N,
-    options: &CodecOptions,
-) -> Result<(ArrayBytes<'static>, ArrayBytes<'a>), CodecError>
-    ensures agree { IfOk result (λ both. both.0.elements ≡ map (λ point. element_of both.1 (number_of point shape.now)) (N.selection indexer.now).points) }
+) -> Result<ArrayBytes<'static>, CodecError>
+    requires serves { (C.meaning codec.now (geo shape.now data_type.now fill_value.now)).serves }
+    requires array { IsArrayOf (geo shape.now data_type.now fill_value.now) _decoded.now.elements }
+    requires cells { (C.meaning codec.now (geo shape.now data_type.now fill_value.now)).cells bytes.now ≡ map Some _decoded.now.elements }
+    ensures answer { IfOk result (IsAnswer (geo shape.now data_type.now fill_value.now) (N.selection indexer.now)) }
+    ensures agree { IfOk result (λ cells. cells.elements ≡ map (λ point. element_of _decoded.now (number_of point shape.now)) (N.selection indexer.now).points) }
+    ensures refused { let g = geo shape.now data_type.now fill_value.now in let m = C.meaning codec.now g in
+        IfErr result (RefusedBy (
+        AskedTests g (N.selection indexer.now) m.answerable (
+        m.read_tests bytes.now (N.selection indexer.now).points))) }
 {
     let mut handle = SliceHandle::new(bytes);
     let interval = Interval {
         offset: 0,
         size: bytes.len() as u64,
     };
-    let cells = codec.partial_decode(
+    codec.partial_decode(
         alloc,
         &mut handle,
         interval,
@@ -60,8 +74,6 @@ pub fn read_and_decode<'a, C: ArrayToBytesCodecTraits, N: Indexer>(
         data_type,
         fill_value,
         indexer,
-        options,
-    )?;
-    let array = codec.decode(alloc, bytes, shape, data_type, fill_value, options)?;
-    Ok((cells, array))
+        &CodecOptions::default(),
+    )
 }

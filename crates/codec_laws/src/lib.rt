@@ -10,5 +10,5 @@ mod representation;
 pub use codec::{ArrayToBytesCodecTraits, check_target};
 pub use concurrency::RecommendedConcurrency;
 pub use functional::FunctionalCodec;
-pub use laws::{decode_after_encode, read_and_decode};
+pub use laws::{decode_after_encode, read_after_decode};
 pub use representation::BytesRepresentation;

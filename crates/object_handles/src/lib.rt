@@ -9,7 +9,7 @@ mod interval;
 mod memory_handle;
 mod writing;
 
-pub use bytes::{ByteRange, Interval};
+pub use bytes::{ByteRange, Interval, part_of};
 pub use counting_handle::CountingHandle;
 pub use faulting_handle::FaultingHandle;
 pub use handle::{BytesPartialDecoderTraits, LendsSlice, copied, lent};

@@ -11,11 +11,11 @@ use Rattle.codec_laws.specs.Cells.{cell_length}
 use Rattle.codec_laws.specs.Refusals.{AreTooLong}
 use Rattle.shard_format.specs.Laws.{all_there-map_some}
 use Rattle.shard_format.specs.Index.{slot_at}
-use Rattle.shard_format.specs.Cells.{cell_in}
-use Rattle.shard_format.specs.Decoding.{IsChunkOf, element_at}
+use Rattle.shard_format.specs.Cells.{cell_in, indexed_cell}
+use Rattle.shard_format.specs.Decoding.{IsChunkOf, element_at, IsPartOf}
 use Rattle.shard_format.specs.ReadTests.{places_in, HasPlaces}
 use Rattle.shard_cells.specs.Grouping.{AreGrouped, lists_of, standing_at}
-use Rattle.shard_format.specs.Reading.{IsPartOf, IsReadAt, read_by}
+use Rattle.shard_format.specs.Reading.{IsReadAt}
 use Rattle.shard_cells.specs.Gathering.{AreRead, element_read, bytes_read}
 use Rattle.shard_cells.specs.declared.grouping.Grouping.{Grouping}
 use Rattle.shard_format.specs.declared.slot.Slot.{Slot}
@@ -97,7 +97,7 @@ module _ (inner_cells : List ℕ → List (Option (List ℕ))) (shape sub fill b
     (sized : length b ≡ size) (grouped : AreGrouped shape sub numbers groups) (many : length parts ≡ length groups.subchunks.items)
     (read : (j : ℕ) → j < length parts → IsReadAt inner_cells b (slot_at size index (get_or groups.subchunks.items j 0)) (get_or (lists_of groups) j []) (get_or parts j None)) where
   -- the element that was read of an asked cell is the cell's
-  cell_read : (i : ℕ) → i < length numbers → read_by inner_cells shape sub fill b index (get_or numbers i 0) ≡ Some (element_read groups parts fill i)
+  cell_read : (i : ℕ) → i < length numbers → indexed_cell inner_cells shape sub fill b index (get_or numbers i 0) ≡ Some (element_read groups parts fill i)
   cell_read i below =
       let at = standing_at groups i in
       let stands = grouped.each i below in
@@ -105,9 +105,9 @@ module _ (inner_cells : List ℕ → List (Option (List ℕ))) (shape sub fill b
       (cell_of_part inner_cells fill b (slot_at size index (get_or groups.subchunks.items at.group 0)) (get_or (lists_of groups) at.group []) (get_or parts at.group None) at.rank
       (read at.group (omega (arith, stands.group_below))) stands.rank_below)
 
-  pub cells_read : (elements : List (List ℕ)) → elements ≡ map (element_read groups parts fill) (range_with_len 0 (length groups.standings.items)) → map (read_by inner_cells shape sub fill b index) numbers ≡ map Some elements
+  pub cells_read : (elements : List (List ℕ)) → elements ≡ map (element_read groups parts fill) (range_with_len 0 (length groups.standings.items)) → map (indexed_cell inner_cells shape sub fill b index) numbers ≡ map Some elements
   cells_read elements is =
-      let cell : ℕ → Option (List ℕ) = read_by inner_cells shape sub fill b index in
+      let cell : ℕ → Option (List ℕ) = indexed_cell inner_cells shape sub fill b index in
       let counted = elements_counted groups parts fill elements is in
       ext_get_or None _ _ (length-map numbers cell ∙ sym grouped.counted ∙ sym counted ∙ sym (length-map elements Some))
       (λ i below.
@@ -118,9 +118,9 @@ module _ (inner_cells : List ℕ → List (Option (List ℕ))) (shape sub fill b
       ∙ sym (get_or-map Some elements i [] None (omega (arith, counted, grouped.counted))))
 
   -- elements that are too long together
-  pub too_long_read : 2 ^ 64 ≤ bytes_read groups parts fill (length groups.standings.items) → AreTooLong (map (read_by inner_cells shape sub fill b index) numbers)
+  pub too_long_read : 2 ^ 64 ≤ bytes_read groups parts fill (length groups.standings.items) → AreTooLong (map (indexed_cell inner_cells shape sub fill b index) numbers)
   too_long_read long =
-      let cell : ℕ → Option (List ℕ) = read_by inner_cells shape sub fill b index in
+      let cell : ℕ → Option (List ℕ) = indexed_cell inner_cells shape sub fill b index in
       let cells : List (Option (List ℕ)) = map cell numbers in
       let n : ℕ = length numbers in
       let counted = length-map numbers cell in

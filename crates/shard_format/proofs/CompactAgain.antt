@@ -79,7 +79,7 @@ module _ (inner index : Meaning)
             | inr after_axes ↦ elim after_axes.1 [
               | inl uneven ↦ absurd (uneven.0 serves.divides)
               | inr after_divides ↦ elim after_divides.1 [
-                | inl large ↦ absurd (large.0 (serves.cells_fit, serves.index_fits))
+                | inl large ↦ absurd (large.0 (serves.cells_fit, omega arith, serves.index_fits))
                 | inr after_fits ↦ elim after_fits.1 [
                   | inl unserved ↦ absurd (unserved.0 serves.index_served.served)
                   | inr after_served ↦ elim after_served.1 [

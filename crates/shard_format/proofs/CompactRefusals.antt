@@ -10,11 +10,10 @@ use Rattle.codec_laws.specs.Meanings.{Meaning}
 use Rattle.codec_laws.specs.Refusals.{MayRefuseCompact}
 use Rattle.shard_format.specs.Index.{slot_at, index_part, numbers_in_index}
 use Rattle.shard_format.specs.Cells.{Layout, cell_in, shard_cells}
-use Rattle.shard_format.specs.Serves.{fixed_size, layout, ShardServes}
+use Rattle.shard_format.specs.Serves.{fixed_size, layout, ShardServes, PlanTests, HasPlan}
 use Rattle.shard_format.specs.DecodeTests.{IndexTests, slot_by}
 use Rattle.shard_format.specs.EncodeTests.{RefusesIndex}
 use Rattle.shard_format.specs.Compacting.{IsGood, compact_size, PresentTests, CompactTests}
-use Rattle.shard_format.specs.Packing.{PlanTests, HasPlan}
 use Rattle.shard_format.specs.declared.location.ShardingIndexLocation.{ShardingIndexLocation}
 use Rattle.shard_format.specs.declared.order.SubchunkWriteOrder.{SubchunkWriteOrder}
 use Rattle.shard_format.specs.declared.slot.Slot.{Slot}
@@ -28,8 +27,8 @@ module _ (index : Meaning) (l : Layout) (b : List ℕ) where
       IndexTests index.decode_tests index.cells l.location l.index_size b
       (PresentTests index l (length b) (slot_by (length b) (numbers_in_index index.cells l.location l.index_size b)))
 
-  module _ (plan : HasPlan index l.shape l.sub) where
-    planned : (e : CodecError) → byte_tests e → PlanTests index l.shape l.sub byte_tests e
+  module _ (plan : HasPlan index l.shape l.sub 0) where
+    planned : (e : CodecError) → byte_tests e → PlanTests index l.shape l.sub 0 byte_tests e
     planned e h =
         inr (plan.same_axes, inr (plan.divides, inr (plan.fits, inr (plan.index_served.served, inr (rw plan.index_served.fixed refl, inr (plan.index_served.fixed, h))))))
 
@@ -109,7 +108,7 @@ may_refuse_compact inner index sub location order g b e serves some pos h =
         | inr after_axes ↦ elim after_axes.1 [
           | inl uneven ↦ absurd (uneven.0 serves.divides)
           | inr after_divides ↦ elim after_divides.1 [
-            | inl large ↦ absurd (large.0 (serves.cells_fit, serves.index_fits))
+            | inl large ↦ absurd (large.0 (serves.cells_fit, omega arith, serves.index_fits))
             | inr after_fits ↦ elim after_fits.1 [
               | inl unserved ↦ absurd (unserved.0 serves.index_served.served)
               | inr after_served ↦ elim after_served.1 [

@@ -53,7 +53,7 @@ size_moved old new Bad t place h = absurd h
 apart_begun : (p q : ℕ) (s t : Slot) → BeginsAt p s → BeginsAt q t → p + slot_size s ≤ q → AreApart s t
 apart_begun p q Absent t h k below = tt
 apart_begun p q (InRange o n) Absent h k below = tt
-apart_begun p q (InRange o n) (InRange r m) h k below = inl (omega (arith, h, k, below))
+apart_begun p q (InRange o n) (InRange r m) h k below = λ i from before after inside. omega (arith, h, k, below, from, before, after, inside)
 apart_begun p q (InRange o n) Bad h k below = tt
 apart_begun p q Bad t h k below = tt
 

@@ -22,19 +22,19 @@ use Rattle.shard_format.specs.Index.{slot_at, numbers_in_index}
 use Rattle.shard_format.specs.Cells.{Layout, cell_in, cell_by, shard_cells}
 use Rattle.shard_format.specs.Serves.{sub_geo, layout_of}
 use Rattle.zarr_boxes.proofs.GridLaws.{subchunk_number-below, place_number-below}
-use Rattle.shard_format.specs.Decoding.{IsDecoded, IsChunk, IsChunkOf, element_at, element_in}
+use Rattle.shard_format.specs.Decoding.{IsDecoded, IsPartOf, IsChunkOf, element_at, element_in}
 
-pub IsChunkOf-chunk : (kind : DataTypeSize) (sub : List ℕ) (p : ℕ) (o : Option Array) → p < count_of sub → IsChunk kind sub o → IsChunkOf kind p o
+pub IsChunkOf-chunk : (kind : DataTypeSize) (sub : List ℕ) (p : ℕ) (o : Option Array) → p < count_of sub → IsPartOf kind (count_of sub) o → IsChunkOf kind p o
 IsChunkOf-chunk kind sub p None below h = tt
 IsChunkOf-chunk kind sub p (Some a) below h =
     let inside : p < length a.elements = omega (arith, h.0) in
     (inside, All-get_or (FitsKind kind) a.elements p [] inside h.1)
 
-pub IsChunk-decoded : (inner_cells : List ℕ → List (Option (List ℕ))) (sub_g : Geo) (b : List ℕ) (s : Slot) (o : Option Array) → IsDecoded inner_cells sub_g b s o → IsChunk (size_of sub_g.data_type) sub_g.shape o
-IsChunk-decoded inner_cells sub_g b s None h = tt
-IsChunk-decoded inner_cells sub_g b Absent (Some a) h = absurd h
-IsChunk-decoded inner_cells sub_g b (InRange offset size) (Some a) h = (h.0.counted, h.0.fitting)
-IsChunk-decoded inner_cells sub_g b Bad (Some a) h = absurd h
+pub IsPartOf-decoded : (inner_cells : List ℕ → List (Option (List ℕ))) (sub_g : Geo) (b : List ℕ) (s : Slot) (o : Option Array) → IsDecoded inner_cells sub_g b s o → IsPartOf (size_of sub_g.data_type) (count_of sub_g.shape) o
+IsPartOf-decoded inner_cells sub_g b s None h = tt
+IsPartOf-decoded inner_cells sub_g b Absent (Some a) h = absurd h
+IsPartOf-decoded inner_cells sub_g b (InRange offset size) (Some a) h = (h.0.counted, h.0.fitting)
+IsPartOf-decoded inner_cells sub_g b Bad (Some a) h = absurd h
 
 pub gathered_more : (f : ℕ → List ℕ) (xs ys : List (List ℕ)) (e : List ℕ) (i : ℕ) → xs ≡ map f (range_with_len 0 i) → ys ≡ xs ++ e ∷ [] → e ≡ f i
     → ys ≡ map f (range_with_len 0 (i + 1))

@@ -21,7 +21,7 @@ use Rattle.shard_format.specs.Index.{index_geo, element_of_number}
 use Rattle.shard_format.specs.Encoding.{slot_size}
 use Rattle.shard_format.specs.Laying.{IsLaidOut, IsIndexOf}
 use Rattle.shard_format.specs.Laws.{count-append_two}
-use Rattle.shard_format.specs.Serves.{fixed_size, ShardEncodable, ShardFits, IsPart}
+use Rattle.shard_format.specs.Serves.{fixed_size, ShardEncodable, ShardFits, IsStoredPart}
 use Rattle.shard_format.specs.EncodeTests.{RefusesToEncode, StoreTests, SomeTotal, RefusesIndex, EncodeTests}
 use Rattle.shard_format.specs.Packing.{slice_of}
 use Rattle.shard_format.proofs.LayingLemmas.{sum_same, encoding_laid, length_laid}
@@ -82,7 +82,7 @@ module _ (inner index : Meaning) (l : Layout) (kind : DataTypeSize) (array : Arr
     abbrev part_at : ℕ → List ℕ
     part_at k = slice_of bytes (get_or slots k Bad)
 
-    encoding_at : (k : ℕ) → k < count_of (grid_of l.shape l.sub) → IsPart inner.written l.fill (subchunk l.shape l.sub array.elements k) (part_at k)
+    encoding_at : (k : ℕ) → k < count_of (grid_of l.shape l.sub) → IsStoredPart inner.written l.fill (subchunk l.shape l.sub array.elements k) (part_at k)
     encoding_at k below = encoding_laid inner.written l.fill (subchunk l.shape l.sub array.elements k) (get_or slots k Bad) bytes (laid.laid k below)
 
     total_at : sum_by (λ k. length (part_at k)) (range_with_len 0 (count_of (grid_of l.shape l.sub))) ≡ length bytes

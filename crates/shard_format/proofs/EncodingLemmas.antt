@@ -81,7 +81,7 @@ stands_shifted inner_written l e index bytes all Bad w h = absurd h
 apart_shifted : (start p q : ℕ) (s t : Slot) → BeginsAt p s → BeginsAt q t → p + slot_size s ≤ q → AreApart (shifted start s) (shifted start t)
 apart_shifted start p q Absent t h k below = tt
 apart_shifted start p q (InRange o n) Absent h k below = tt
-apart_shifted start p q (InRange o n) (InRange r m) h k below = inl (omega (arith, h, k, below))
+apart_shifted start p q (InRange o n) (InRange r m) h k below = λ i from before after inside. omega (arith, h, k, below, from, before, after, inside)
 apart_shifted start p q (InRange o n) Bad h k below = tt
 apart_shifted start p q Bad t h k below = tt
 

@@ -10,7 +10,7 @@ use Rattle.zarr_parts.specs.Order.{done, RefusedBy}
 use Rattle.zarr_words.specs.declared.error.CodecError.{CodecError}
 use Rattle.zarr_parts.specs.Grid.{subchunk}
 use Rattle.codec_laws.specs.Meanings.{Meaning}
-use Rattle.shard_format.specs.Serves.{IsPart}
+use Rattle.shard_format.specs.Serves.{IsStoredPart}
 use Rattle.shard_format.specs.EncodeTests.{RefusesToStore, StoreTests}
 use Rattle.shard_format.specs.Encoding.{slot_size, BeginsAt}
 use Rattle.shard_format.specs.Packing.{slice_of}
@@ -105,7 +105,7 @@ one_more_laid inner_written fill shape sub a bytes more all slots grown k presen
     }
 
 pub encoding_laid : (inner_written : List (List ℕ) → List ℕ → Type 0) (fill : List ℕ) (e : List (List ℕ)) (s : Slot) (bytes : List ℕ)
-    → IsLaid inner_written fill e bytes s → IsPart inner_written fill e (slice_of bytes s)
+    → IsLaid inner_written fill e bytes s → IsStoredPart inner_written fill e (slice_of bytes s)
 encoding_laid inner_written fill e Absent bytes h = inl (h, refl)
 encoding_laid inner_written fill e (InRange offset size) bytes h = inr (h.0, h.1)
 encoding_laid inner_written fill e Bad bytes h = absurd h

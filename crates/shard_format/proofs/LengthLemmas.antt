@@ -23,11 +23,11 @@ use Rattle.codec_laws.specs.Refusals.{AreTooLong}
 use Rattle.shard_format.specs.Index.{slot_at, numbers_in_index}
 use Rattle.shard_format.specs.Cells.{cell_in, shard_cells}
 use Rattle.shard_format.specs.Serves.{sub_geo, layout_of}
-use Rattle.shard_format.specs.Decoding.{IsDecoded, IsChunk, element_at, bytes_in, bytes_gathered}
+use Rattle.shard_format.specs.Decoding.{IsDecoded, IsPartOf, element_at, bytes_in, bytes_gathered}
 use Rattle.shard_format.specs.DecodeTests.{slot_by, DecodeTests}
 use Rattle.shard_format.specs.declared.location.ShardingIndexLocation.{ShardingIndexLocation}
 use Rattle.shard_format.specs.declared.order.SubchunkWriteOrder.{SubchunkWriteOrder}
-use Rattle.shard_format.proofs.DecodingLemmas.{IsChunk-decoded, cell_of_decoded}
+use Rattle.shard_format.proofs.DecodingLemmas.{IsPartOf-decoded, cell_of_decoded}
 use Rattle.codec_laws.proofs.ReadLemmas.{sum_alike}
 use Rattle.shard_format.proofs.LayingLemmas.{sum_more, sum_same}
 use Rattle.shard_format.proofs.CellLemmas.{same_sum}
@@ -75,7 +75,7 @@ pub same_number : (i j n : ℕ) → i / n ≡ j / n → i % n ≡ j % n → i �
 same_number i j n row place = sym (div-add-mod i n) ∙ ap (λ q. n * q + i % n) row ∙ ap (λ r. n * (j / n) + r) place ∙ div-add-mod j n
 
 -- the bytes of a decoded subchunk are those of the elements at its places
-bytes_in_places : (kind : DataTypeSize) (sub fill : List ℕ) (o : Option Array) → IsChunk kind sub o → sum_by (λ p. length (element_at fill o p)) (range_with_len 0 (count_of sub)) ≡ bytes_in fill (count_of sub) o
+bytes_in_places : (kind : DataTypeSize) (sub fill : List ℕ) (o : Option Array) → IsPartOf kind (count_of sub) o → sum_by (λ p. length (element_at fill o p)) (range_with_len 0 (count_of sub)) ≡ bytes_in fill (count_of sub) o
 bytes_in_places kind sub fill None h = sum_alike (λ i. length fill) (length fill) 0 (count_of sub) (λ i le below. refl)
 bytes_in_places kind sub fill (Some a) h = sum_by_places length [] a.elements (count_of sub) h.0
 
@@ -90,7 +90,7 @@ module _ (inner index : Meaning) (sub : List ℕ) (location : ShardingIndexLocat
       let many : ℕ = count_of (grid_of g.shape sub) in
       sum_by_rows element_length (count_of sub) many
       ∙ sum_same (λ k. sum_by (element_length k) (range_with_len 0 (count_of sub))) (λ k. bytes_in g.fill (count_of sub) (get_or subchunks k None)) many
-      (λ k below. bytes_in_places (size_of g.data_type) sub g.fill (get_or subchunks k None) (IsChunk-decoded inner.cells (sub_geo sub g) b (slot_at (length b) ns k) (get_or subchunks k None) (each k below)))
+      (λ k below. bytes_in_places (size_of g.data_type) sub g.fill (get_or subchunks k None) (IsPartOf-decoded inner.cells (sub_geo sub g) b (slot_at (length b) ns k) (get_or subchunks k None) (each k below)))
       ∙ sum_by_places (bytes_in g.fill (count_of sub)) None subchunks many counted
 
   -- the shard's cell at a place of a subchunk has the length of the element there

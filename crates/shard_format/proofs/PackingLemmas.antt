@@ -15,22 +15,22 @@ use Rattle.shard_format.specs.Cells.{Layout}
 use Rattle.shard_format.specs.Index.{absent_number, slot_of_pair, slot_at, data_start, element_of_number, numbers_in_index}
 use Rattle.shard_format.specs.Encoding.{slot_size}
 use Rattle.shard_format.specs.Laying.{taken, offset_number, size_number, EndsBelow, IsIndexOf, whole_shard}
-use Rattle.shard_format.specs.Compacting.{IsMoved, IsGood, IsRead, IsCompact, IsCompacted, present_size, compact_size}
-use Rattle.shard_format.specs.Packing.{IsInside, AreSlots, slice_of, moved_slot, IsPacked, IsRewritten}
+use Rattle.shard_format.specs.Compacting.{IsMoved, IsGood, IsWellIndexed, IsCompact, IsCompacted, present_size, compact_size}
+use Rattle.shard_format.specs.Packing.{LiesInShard, AreSlots, slice_of, moved_slot, IsPacked, IsRewritten}
 use Rattle.shard_format.specs.declared.slot.Slot.{Slot}
 use Rattle.shard_format.specs.declared.slot.Slot.TheVariants.{Absent, InRange, Bad}
 use Rattle.shard_format.specs.declared.location.ShardingIndexLocation.{ShardingIndexLocation}
 use Rattle.shard_format.proofs.LayingLemmas.{sum_more, sum_same, sum_grows_to}
 use Rattle.shard_format.proofs.EncodingLemmas.{Whole, whole_of, shifted, other_number, start_small}
 
-good_inside : (len : ℕ) (s : Slot) → IsInside len s → IsGood s
+good_inside : (len : ℕ) (s : Slot) → LiesInShard len s → IsGood s
 good_inside len Absent h = tt
 good_inside len (InRange offset size) h = tt
 good_inside len Bad h = absurd h
 
 -- one slot more, which isn't bad
 pub one_more_slot : (len : ℕ) (numbers : List ℕ) (slots grown : List Slot) (s : Slot) (k : ℕ)
-    → AreSlots len numbers slots k → grown ≡ slots ++ s ∷ [] → s ≡ slot_at len numbers k → IsInside len s → AreSlots len numbers grown (k + 1)
+    → AreSlots len numbers slots k → grown ≡ slots ++ s ∷ [] → s ≡ slot_at len numbers k → LiesInShard len s → AreSlots len numbers grown (k + 1)
 one_more_slot len numbers slots grown s k h grows is in_shard =
     let here : get_or grown k Bad ≡ s = ap (λ (xs : List Slot). get_or xs k Bad) grows ∙ get_or_push slots s Bad k h.counted in
     let before : (j : ℕ) → j < k → get_or grown j Bad ≡ get_or slots j Bad =
@@ -38,7 +38,7 @@ one_more_slot len numbers slots grown s k h grows is in_shard =
     record {
       counted = ap length grows ∙ length_push slots s ∙ ap (λ n. n + 1) h.counted;
       are = below_more (λ j. get_or grown j Bad ≡ slot_at len numbers j) k (λ j below. before j below ∙ h.are j below) (here ∙ is);
-      inside = below_more (λ j. IsInside len (get_or grown j Bad)) k (λ j below. rw (before j below) (h.inside j below)) (rw here in_shard);
+      inside = below_more (λ j. LiesInShard len (get_or grown j Bad)) k (λ j below. rw (before j below) (h.inside j below)) (rw here in_shard);
     }
 
 pub good_slots : (len : ℕ) (numbers : List ℕ) (slots : List Slot) (n : ℕ) → AreSlots len numbers slots n → (k : ℕ) → k < n → IsGood (slot_at len numbers k)
@@ -49,13 +49,13 @@ pub one_bad : (len : ℕ) (numbers : List ℕ) (slots : List Slot) (n k : ℕ) (
     → (¬ (IsGood (slot_at len numbers k))) × (e ≡ BadIndexEntry k) → RefusedBy (Each n (λ k. IsGood (slot_at len numbers k)) (λ k. BadIndexEntry k) done) e
 one_bad len numbers slots n k e below h bad = inr (inl (k, (below, good_slots len numbers slots k h, bad.0, bad.1)))
 
-length_slice : (old : List ℕ) (s : Slot) → IsInside (length old) s → length (slice_of old s) ≡ slot_size s
+length_slice : (old : List ℕ) (s : Slot) → LiesInShard (length old) s → length (slice_of old s) ≡ slot_size s
 length_slice old Absent h = refl
 length_slice old (InRange offset size) h = omega (arith, h, length-take size (drop offset old), length-drop offset old)
 length_slice old Bad h = absurd h
 
 -- a slice that is appended
-moved_here : (old bytes : List ℕ) (s : Slot) → IsInside (length old) s → IsMoved old s (length bytes) (bytes ++ slice_of old s) (moved_slot s (length bytes))
+moved_here : (old bytes : List ℕ) (s : Slot) → LiesInShard (length old) s → IsMoved old s (length bytes) (bytes ++ slice_of old s) (moved_slot s (length bytes))
 moved_here old bytes Absent h = refl
 moved_here old bytes (InRange offset size) h =
     let slice : List ℕ = take size (drop offset old) in
@@ -76,7 +76,7 @@ ends_within slots j k below =
 
 -- one slice more
 pub one_more_packed : (old bytes all : List ℕ) (slots places grown : List Slot) (k : ℕ)
-    → IsPacked old slots bytes places k → IsInside (length old) (get_or slots k Bad)
+    → IsPacked old slots bytes places k → LiesInShard (length old) (get_or slots k Bad)
     → all ≡ bytes ++ slice_of old (get_or slots k Bad) → grown ≡ places ++ moved_slot (get_or slots k Bad) (length bytes) ∷ []
     → IsPacked old slots all grown (k + 1)
 one_more_packed old bytes all slots places grown k h in_shard is grows =
@@ -165,7 +165,7 @@ module _ (index : Meaning) (l : Layout) (old old_numbers : List ℕ) (slots : Li
   pub size_present : l.index_size + taken slots (length slots) ≡ compact_size l (slot_at (length old) old_numbers)
   size_present = ap (λ m. l.index_size + m) (ap (taken slots) h.counted ∙ taken_present (count_of (grid_of l.shape l.sub)) (omega arith))
 
-  read_present : IsRead index.cells l old old_numbers
+  read_present : IsWellIndexed index.cells l old old_numbers
   read_present = record { told = told; good = good_slots (length old) old_numbers slots (count_of (grid_of l.shape l.sub)) h }
 
   -- a shard of the same size is compact

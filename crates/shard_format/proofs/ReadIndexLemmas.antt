@@ -8,10 +8,9 @@ use Rattle.codec_laws.specs.Meanings.{Meaning}
 use Rattle.codec_laws.specs.Refusals.{RefusesUnserved, MayRefuseDecode}
 use Rattle.object_handles.specs.Handles.{HandleState}
 use Rattle.object_handles.specs.Objects.{ObjectTests}
-use Rattle.shard_format.specs.Index.{index_part, number_of_element, numbers_in_index}
+use Rattle.shard_format.specs.Index.{index_part, number_of_element, numbers_in_index, numbers_of_cells}
 use Rattle.shard_format.specs.Laws.{all_there-map_some}
 use Rattle.shard_format.specs.DecodeTests.{stored_refusal, RefusesStored, IndexTests}
-use Rattle.shard_format.specs.Reading.{numbers_of_cells}
 use Rattle.shard_format.specs.declared.location.ShardingIndexLocation.{ShardingIndexLocation}
 
 -- the numbers of cells that are there

@@ -15,10 +15,9 @@ use Rattle.object_handles.specs.declared.bytes.Interval.{Interval}
 use Rattle.codec_laws.specs.Refusals.{AreTooLong}
 use Rattle.zarr_boxes.proofs.NumberingLaws.{number_below}
 use Rattle.shard_format.specs.Index.{numbers_in_index}
-use Rattle.shard_format.specs.Cells.{Layout, cell_by, shard_cells}
+use Rattle.shard_format.specs.Cells.{Layout, cell_by, shard_cells, indexed_cell}
 use Rattle.shard_format.specs.DecodeTests.{RefusesLengths}
 use Rattle.shard_format.specs.ReadTests.{AnswerTests, numbers_of, PlacesTests, ReadTests}
-use Rattle.shard_format.specs.Reading.{read_by}
 use Rattle.shard_format.proofs.RefusalLemmas.{long_enough}
 
 -- cells whose lengths add up past what memory can address
@@ -64,16 +63,16 @@ module _ (inner_cells index_cells : List ℕ → List (Option (List ℕ))) (l : 
 
 module _ (inner index : Meaning) (l : Layout) (b ns : List ℕ) (points : List (List ℕ))
     (told : numbers_in_index index.cells l.location l.index_size b ≡ Some ns) (inside : All (λ point. IsInside point l.shape) points) where
-  pub asked_cells : cells_at (shard_cells inner.cells index.cells l b) l.shape points ≡ map (read_by inner.cells l.shape l.sub l.fill b ns) (numbers_of l.shape points)
+  pub asked_cells : cells_at (shard_cells inner.cells index.cells l b) l.shape points ≡ map (indexed_cell inner.cells l.shape l.sub l.fill b ns) (numbers_of l.shape points)
   asked_cells = asked_by inner.cells index.cells l b points inside ∙ ap (λ o. map (cell_by inner.cells l b o) (numbers_of l.shape points)) told
 
   -- the tests of the index are passed, and those of the asked cells come after them
   pub cells_next : (numbers : List ℕ) (e : CodecError) → numbers ≡ numbers_of l.shape points
-      → PlacesTests (AnswerTests inner.answerable inner.read_tests) inner.cells l.shape l.sub b (Some ns) numbers (RefusesLengths (map (read_by inner.cells l.shape l.sub l.fill b ns) numbers)) e
+      → PlacesTests (AnswerTests inner.answerable inner.read_tests) inner.cells l.shape l.sub b (Some ns) numbers (RefusesLengths (map (indexed_cell inner.cells l.shape l.sub l.fill b ns) numbers)) e
       → ReadTests inner index l b points e
   cells_next numbers e same h =
       let there : IsSome (numbers_in_index index.cells l.location l.index_size b) = rw told refl in
-      let lengths : AreTooLong (map (read_by inner.cells l.shape l.sub l.fill b ns) (numbers_of l.shape points)) → AreTooLong (cells_at (shard_cells inner.cells index.cells l b) l.shape points) =
+      let lengths : AreTooLong (map (indexed_cell inner.cells l.shape l.sub l.fill b ns) (numbers_of l.shape points)) → AreTooLong (cells_at (shard_cells inner.cells index.cells l b) l.shape points) =
       subst AreTooLong (sym asked_cells) in
       inr (
         long_enough index.cells l.location l.index_size b ns told,
@@ -92,7 +91,7 @@ pub cells_refused : (first old new : HandleState) (interval : Interval) (inner i
     → (IsTrue first.tells → HasInterval interval first.contents) → (IsTrue first.tells → numbers_in_index index.cells l.location l.index_size (interval_part interval first.contents) ≡ Some ns)
     → All (λ point. IsInside point l.shape) points → numbers ≡ numbers_of l.shape points
     → RefusedBy (ObjectTests old new (PlacesTests (AnswerTests inner.answerable inner.read_tests) inner.cells l.shape l.sub (interval_part interval first.contents) (Some ns) numbers
-    (RefusesLengths (map (read_by inner.cells l.shape l.sub l.fill (interval_part interval first.contents) ns) numbers)))) e
+    (RefusesLengths (map (indexed_cell inner.cells l.shape l.sub l.fill (interval_part interval first.contents) ns) numbers)))) e
     → RefusedBy (ObjectTests first new (IntervalTests interval first.contents (λ b. ReadTests inner index l b points))) e
 cells_refused first old new interval inner index l ns numbers points e read there told inside numbered h =
     let b : List ℕ = interval_part interval first.contents in

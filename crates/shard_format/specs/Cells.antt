@@ -28,11 +28,15 @@ cell_in inner_cells fill bytes Absent place = Some fill
 cell_in inner_cells fill bytes (InRange offset size) place = slice_index_or (inner_cells (slice_at offset size bytes)) place None
 cell_in inner_cells fill bytes Bad place = None
 
--- cell i of the shard, by the numbers of its index; no cell where there is no index
+-- cell i of the shard that bytes are, by the numbers of its index
+abbrev pub indexed_cell : CellsOf → (shape sub fill bytes numbers : List ℕ) → ℕ → Option (List ℕ)
+indexed_cell inner_cells shape sub fill bytes numbers i =
+    cell_in inner_cells fill bytes (slot_at (length bytes) numbers (subchunk_number shape sub i)) (place_number shape sub i)
+
+-- the same; no cell where there is no index
 abbrev pub cell_by : CellsOf → Layout → List ℕ → Option (List ℕ) → ℕ → Option (List ℕ)
 cell_by inner_cells l bytes None i = None
-cell_by inner_cells l bytes (Some numbers) i =
-    cell_in inner_cells l.fill bytes (slot_at (length bytes) numbers (subchunk_number l.shape l.sub i)) (place_number l.shape l.sub i)
+cell_by inner_cells l bytes (Some numbers) i = indexed_cell inner_cells l.shape l.sub l.fill bytes numbers i
 
 -- the cells of the shard, in row-major order
 unfoldable pub shard_cells : CellsOf → CellsOf → Layout → List ℕ → CellList

@@ -12,7 +12,7 @@ use Rattle.codec_laws.specs.Meanings.{Meaning}
 use Rattle.shard_format.specs.Index.{slot_at, slice_at, index_part, data_start, element_of_number, numbers_in_index}
 use Rattle.shard_format.specs.Cells.{Layout}
 use Rattle.shard_format.specs.Encoding.{slot_size}
-use Rattle.shard_format.specs.Serves.{IndexCodecTests}
+use Rattle.shard_format.specs.Serves.{PlanTests}
 use Rattle.shard_format.specs.DecodeTests.{IndexTests, slot_by}
 use Rattle.shard_format.specs.EncodeTests.{RefusesIndex}
 use Rattle.shard_format.specs.declared.slot.Slot.{Slot}
@@ -51,20 +51,20 @@ IsGood (InRange offset size) = Unit {0}
 IsGood Bad = ⊥
 
 -- an old shard has an index of these numbers, none of whose pairs is bad
-pub record IsRead (index_cells : CellsOf) (l : Layout) (old old_numbers : List ℕ) : Type 0 where
+pub record IsWellIndexed (index_cells : CellsOf) (l : Layout) (old old_numbers : List ℕ) : Type 0 where
   pub told : numbers_in_index index_cells l.location l.index_size old ≡ Some old_numbers
   pub good : (k : ℕ) → k < count_of (grid_of l.shape l.sub) → IsGood (slot_at (length old) old_numbers k)
 
 -- there is nothing to gain: the index and the present slices have as many bytes as the shard, whatever their order
 pub record IsCompact (index_cells : CellsOf) (l : Layout) (old : List ℕ) : Type 0 where
   pub numbers : List ℕ
-  pub read : IsRead index_cells l old numbers
+  pub read : IsWellIndexed index_cells l old numbers
   pub same_size : compact_size l (slot_at (length old) numbers) ≡ length old
 
 -- the new shard is a compaction of the old one, which has another size than its index and its present slices
 pub record IsCompacted (index : Meaning) (l : Layout) (old new : List ℕ) : Type 0 where
   pub old_numbers : List ℕ
-  pub read : IsRead index.cells l old old_numbers
+  pub read : IsWellIndexed index.cells l old old_numbers
   pub other_size : compact_size l (slot_at (length old) old_numbers) ≢ length old
   pub rewritten : IsCompaction index.written l old old_numbers new
 
@@ -76,12 +76,9 @@ PresentTests index l len slots =
     compact_size l slots + 1 < 2 ^ 64 or TooLarge then
     (λ e. (compact_size l slots ≢ len) × RefusesIndex index (count_of (grid_of l.shape l.sub)) e))
 
--- the tests of `compact`, in their order; the data type and the fill value aren't looked at
+-- the tests of `compact`, in their order; the data type isn't looked at, so elements count as of no bytes, and nor is the fill value
 abbrev pub CompactTests : (index : Meaning) → Layout → List ℕ → CodecError → Type 0
 CompactTests index l bytes =
-    length l.shape ≡ length l.sub or IncompatibleDimensionality then
-    Divides l.sub l.shape or InvalidSubchunkShape then
-    (count_of l.shape < 2 ^ 64 × 16 * count_of (grid_of l.shape l.sub) < 2 ^ 64) or TooLarge then
-    IndexCodecTests index (
+    PlanTests index l.shape l.sub 0 (
     IndexTests index.decode_tests index.cells l.location l.index_size bytes (
     PresentTests index l (length bytes) (slot_by (length bytes) (numbers_in_index index.cells l.location l.index_size bytes))))

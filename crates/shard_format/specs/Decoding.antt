@@ -27,15 +27,15 @@ FitsSlot len Absent = Unit {0}
 FitsSlot len (InRange offset size) = offset + size ≤ len
 FitsSlot len Bad = Unit {0}
 
--- a decoded subchunk has an element of this kind at each place, if it is there
-abbrev pub IsChunk : DataTypeSize → List ℕ → Option Array → Type 0
-IsChunk kind sub None = Unit {0}
-IsChunk kind sub (Some a) = (length a.elements ≡ count_of sub) × All (FitsKind kind) a.elements
+-- what was decoded or read of so many places of a subchunk: nothing where it is absent, and else an element of this kind for each
+abbrev pub IsPartOf : DataTypeSize → ℕ → Option Array → Type 0
+IsPartOf kind n None = Unit {0}
+IsPartOf kind n (Some a) = (length a.elements ≡ n) × All (FitsKind kind) a.elements
 
 -- so many subchunks
 pub record AreChunks (kind : DataTypeSize) (sub : List ℕ) (n : ℕ) (chunks : List (Option Array)) : Type 0 where
   pub counted : length chunks ≡ n
-  pub each : (k : ℕ) → k < n → IsChunk kind sub (slice_index_or chunks k None)
+  pub each : (k : ℕ) → k < n → IsPartOf kind (count_of sub) (slice_index_or chunks k None)
 
 -- the element at a place of a decoded subchunk
 abbrev pub element_at : List ℕ → Option Array → ℕ → List ℕ

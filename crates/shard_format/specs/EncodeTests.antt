@@ -13,7 +13,7 @@ use Rattle.codec_laws.specs.Meanings.{Meaning}
 use Rattle.shard_format.specs.Index.{element_of_number}
 use Rattle.shard_format.specs.Cells.{Layout}
 use Rattle.shard_format.specs.Encoding.{IsAllFill}
-use Rattle.shard_format.specs.Serves.{IsPart, total_size}
+use Rattle.shard_format.specs.Serves.{IsStoredPart, total_size}
 
 -- how another codec may refuse to encode, save for memory
 abbrev pub RefusesToEncode : Type 0 → Type 0 → CodecError → Type 0
@@ -26,7 +26,7 @@ RefusesToStore inner_encodable inner_fits fill elements e = (¬ (IsAllFill fill 
 
 -- a subchunk can be stored
 abbrev pub HasPart : Written → List ℕ → List (List ℕ) → Type 0
-HasPart inner_written fill elements = (part : List ℕ) × IsPart inner_written fill elements part
+HasPart inner_written fill elements = (part : List ℕ) × IsStoredPart inner_written fill elements part
 
 -- the tests of the first n subchunks, ascending: the first that is refused gives the refusal
 abbrev pub StoreTests : (inner : Meaning) → List ℕ → (ℕ → List (List ℕ)) → ℕ → Refusals → CodecError → Type 0
@@ -37,7 +37,7 @@ StoreTests inner fill subchunks n later =
 -- some parts of the subchunks have, with the index, a size with P
 pub record SomeTotal (inner_written : Written) (l : Layout) (a : List (List ℕ)) (P : ℕ → Type 0) : Type 0 where
   pub parts : ℕ → List ℕ
-  pub each : (k : ℕ) → k < count_of (grid_of l.shape l.sub) → IsPart inner_written l.fill (subchunk l.shape l.sub a k) (parts k)
+  pub each : (k : ℕ) → k < count_of (grid_of l.shape l.sub) → IsStoredPart inner_written l.fill (subchunk l.shape l.sub a k) (parts k)
   pub total : P (total_size l parts)
 
 -- how the index of so many subchunks may be refused

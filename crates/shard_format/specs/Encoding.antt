@@ -1,5 +1,5 @@
 -- When bytes are an encoding of a shard.
-use Rattle.std.specs.Prelude.{◌≡◌, ◌≤◌, ◌<◌, ◌^◌, ◌⊎◌, ℕ, ◌+◌, ◌*◌, List, map, length}
+use Rattle.std.specs.Prelude.{◌≡◌, ◌≤◌, ◌<◌, ◌^◌, ℕ, ◌+◌, ◌*◌, List, map, length}
 use Rattle.std.specs.List.{All, range_with_len, sum_by}
 use Rattle.zarr_words.specs.Words.{Written}
 use Rattle.zarr_parts.specs.Numbering.{count_of}
@@ -24,9 +24,9 @@ StandsAt inner_written l bytes elements (InRange offset size) =
     × (offset + size ≤ data_end l.location l.index_size (length bytes))
 StandsAt inner_written l bytes elements Bad = ⊥
 
--- two slots share no byte
+-- two slots share no byte, as where one of them has none
 abbrev pub AreApart : Slot → Slot → Type 0
-AreApart (InRange o n) (InRange p m) = (o + n ≤ p) ⊎ (p + m ≤ o)
+AreApart (InRange o n) (InRange p m) = (i : ℕ) → o ≤ i → i < o + n → p ≤ i → ¬ (i < p + m)
 AreApart _ _ = Unit {0}
 
 abbrev pub slot_size : Slot → ℕ

@@ -1,17 +1,27 @@
--- The tests of `check` refuse nothing as a fault, where those of the inner and the index codec do not.
-use Rattle.std.specs.Prelude.{List}
-use Rattle.zarr_parts.specs.Order.{done}
+-- The tests of `check`, `encode`, `compact` and `recommended_concurrency` refuse nothing as a fault, where those of the inner and the
+-- index codec do not.
+use Rattle.std.specs.Prelude.{◌≡◌, ◌<◌, ℕ, List}
+use Rattle.std.proofs.Common.{inl, inr, sym, subst}
+use Rattle.zarr_words.specs.Words.{CellList, Refusals}
+use Rattle.zarr_parts.specs.Order.{done, Each, EachAs}
 use Rattle.zarr_parts.specs.Geo.{Geo}
 use Rattle.zarr_words.specs.declared.error.CodecError.{CodecError}
 use Rattle.zarr_words.specs.declared.error.CodecError.TheVariants.{UnsupportedDataType, BadFillValue}
 use Rattle.zarr_words.specs.declared.error.CodecError.TheVariants.{IncompatibleDimensionality, InvalidSubchunkShape}
 use Rattle.zarr_words.specs.declared.error.CodecError.TheVariants.{TooLarge, VariableIndexSize}
-use Rattle.codec_laws.specs.Refusals.{IsNoFault, RefusesUnserved}
+use Rattle.zarr_words.specs.declared.error.CodecError.TheVariants.{OutOfMemory, BadIndexEntry, ShardTooShort, Fault}
+use Rattle.zarr_words.specs.declared.error.CodecError.TheVariants.{CannotEncode, WrongElementKind, InvalidNumberOfElements}
+use Rattle.zarr_parts.specs.Arrays.{Array}
+use Rattle.zarr_elements.specs.declared.data_type.DataTypeSize.{DataTypeSize}
+use Rattle.codec_laws.specs.Refusals.{IsNoFault, RefusesUnserved, MayRefuseDecode}
 use Rattle.codec_laws.specs.RefusalLaws.{test_faultless, test_as_faultless}
 use Rattle.codec_laws.specs.Meanings.{Meaning}
 use Rattle.shard_format.specs.Serves.{IndexCodecTests, CheckTests}
-use Rattle.std.specs.Prelude.{ℕ}
-use Rattle.zarr_words.specs.Words.{Refusals}
+use Rattle.shard_format.specs.Cells.{Layout}
+use Rattle.shard_format.specs.Grids.{ConcurrencyTests}
+use Rattle.shard_format.specs.EncodeTests.{RefusesToEncode, EncodeTests}
+use Rattle.shard_format.specs.DecodeTests.{stored_refusal, RefusesStored}
+use Rattle.shard_format.specs.Compacting.{CompactTests}
 
 unserved_faultless : (codec : Meaning) → ((e : CodecError) → codec.check_tests e → IsNoFault e) → (e : CodecError)
     → RefusesUnserved codec e → IsNoFault e
@@ -32,3 +42,47 @@ check_tests_faultless inner index sub g inner_law index_law =
     (test_faultless _ BadFillValue _ tt (test_faultless _ IncompatibleDimensionality _ tt (test_faultless _ InvalidSubchunkShape _ tt
     (test_faultless _ TooLarge _ tt (index_codec_faultless index _ index_law
     (test_as_faultless _ _ done (unserved_faultless inner inner_law) (λ e h. absurd h)))))))
+
+each_faultless : (n : ℕ) (P : ℕ → Type 0) (r : ℕ → CodecError) (later : Refusals)
+    → ((k : ℕ) → IsNoFault (r k)) → ((e : CodecError) → later e → IsNoFault e) → (e : CodecError) → Each n P r later e → IsNoFault e
+each_faultless n P r later h rest e (inl refused) = subst IsNoFault (sym refused.1.3) (h refused.0)
+each_faultless n P r later h rest e (inr passed) = rest e passed.1
+
+each_as_faultless : (n : ℕ) (P : ℕ → Type 0) (R : ℕ → Refusals) (later : Refusals)
+    → ((k : ℕ) (e : CodecError) → R k e → IsNoFault e) → ((e : CodecError) → later e → IsNoFault e) → (e : CodecError)
+    → EachAs n P R later e → IsNoFault e
+each_as_faultless n P R later h rest e (inl refused) = h refused.0 e refused.1.2
+each_as_faultless n P R later h rest e (inr passed) = rest e passed.1
+
+to_encode_faultless : (Encodable Fits : Type 0) (e : CodecError) → RefusesToEncode Encodable Fits e → IsNoFault e
+to_encode_faultless Encodable Fits e (inl refused) = subst IsNoFault (sym refused.0) tt
+to_encode_faultless Encodable Fits e (inr refused) = subst IsNoFault (sym refused.0) tt
+
+passed_on_faultless : (cells : CellList) (e : CodecError) → MayRefuseDecode cells e → IsNoFault (stored_refusal e)
+passed_on_faultless cells OutOfMemory h = tt
+passed_on_faultless cells TooLarge h = tt
+passed_on_faultless cells Fault h = absurd h
+passed_on_faultless cells _ h = tt
+
+stored_faultless : (tests : Refusals) (cells : CellList) (e : CodecError) → RefusesStored tests cells e → IsNoFault e
+stored_faultless tests cells e refused = subst IsNoFault (sym refused.passed_on) (passed_on_faultless cells refused.inner refused.lawful)
+
+pub encode_tests_faultless : (inner index : Meaning) (l : Layout) (kind : DataTypeSize) (array : Array) (e : CodecError)
+    → EncodeTests inner index l kind array e → IsNoFault e
+encode_tests_faultless inner index l kind array =
+    test_faultless _ WrongElementKind _ tt
+    (test_faultless _ InvalidNumberOfElements _ tt (each_as_faultless _ _ _ _ (λ k e refused. to_encode_faultless _ _ e refused.1)
+    (test_as_faultless _ _ _ (λ e refused. subst IsNoFault (sym refused.0) tt) (λ e refused. to_encode_faultless _ _ e refused.refuses))))
+
+pub compact_tests_faultless : (index : Meaning) (l : Layout) (b : List ℕ)
+    → ((e : CodecError) → index.check_tests e → IsNoFault e) → (e : CodecError) → CompactTests index l b e → IsNoFault e
+compact_tests_faultless index l b index_law =
+    test_faultless _ IncompatibleDimensionality _ tt
+    (test_faultless _ InvalidSubchunkShape _ tt (test_faultless _ TooLarge _ tt (index_codec_faultless index _ index_law
+    (test_faultless _ ShardTooShort _ tt (test_as_faultless _ _ _ (λ e refused. stored_faultless _ _ e refused)
+    (each_faultless _ _ _ _ (λ k. tt) (test_faultless _ TooLarge _ tt (λ e refused. to_encode_faultless _ _ e refused.1.refuses))))))))
+
+pub concurrency_tests_faultless : (shape sub : List ℕ) (e : CodecError) → ConcurrencyTests shape sub e → IsNoFault e
+concurrency_tests_faultless shape sub =
+    test_faultless _ IncompatibleDimensionality _ tt
+    (test_faultless _ InvalidSubchunkShape _ tt (test_faultless _ TooLarge _ tt (λ e h. absurd h)))

@@ -26,6 +26,12 @@ SubsetTests grid sub k =
     EndsFit grid sub k or TooLarge then
     done
 
+-- what the tests of the number of subchunks find
+pub record IsCut (shape sub : List ℕ) : Type 0 where
+  pub same_axes : length shape ≡ length sub
+  pub divides : Divides sub shape
+  pub counted : count_of (grid_of shape sub) < 2 ^ 64
+
 -- the tests of the number of subchunks
 abbrev pub ConcurrencyTests : List ℕ → List ℕ → CodecError → Type 0
 ConcurrencyTests shape sub =

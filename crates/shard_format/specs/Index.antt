@@ -4,7 +4,7 @@ use Rattle.std.specs.Prelude.{ℕ, ◌+◌, ◌-◌, ◌*◌, ◌^◌, ◌&&◌,
 use Rattle.std.specs.Prelude.{Option, None, length, map, take, drop, replicate, slice_index}
 use Rattle.std.specs.Option.{option_map}
 use Rattle.std.specs.Int.{from_le_bytes, to_le_bytes, w64}
-use Rattle.zarr_words.specs.Words.{CellsOf}
+use Rattle.zarr_words.specs.Words.{CellList, CellsOf}
 use Rattle.zarr_parts.specs.Geo.{Geo, geo}
 use Rattle.zarr_elements.specs.declared.data_type.DataType.TheVariants.{UInt64}
 use Rattle.codec_laws.specs.Cells.{all_there}
@@ -62,9 +62,13 @@ number_of_element e = from_le_bytes w64 e
 abbrev pub element_of_number : ℕ → List ℕ
 element_of_number n = to_le_bytes w64 n
 
+-- the numbers that the cells of an index are, where all are there
+abbrev pub numbers_of_cells : CellList → Option (List ℕ)
+numbers_of_cells cells = option_map (map number_of_element) (all_there cells)
+
 -- the numbers of the index, where there is one; `index_cells` says what bytes stand for in the index codec
 unfoldable pub numbers_in_index : CellsOf → ShardingIndexLocation → ℕ → List ℕ → Option (List ℕ)
 numbers_in_index index_cells location size bytes =
     if nat_le size (length bytes)
-    then option_map (map number_of_element) (all_there (index_cells (index_part location size bytes)))
+    then numbers_of_cells (index_cells (index_part location size bytes))
     else None

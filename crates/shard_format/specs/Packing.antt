@@ -1,47 +1,27 @@
 -- The steps of compacting: the slots of a shard, none of them bad, and their slices packed end to end.
 use Rattle.std.specs.Prelude.{◌≡◌, ◌≤◌, ◌<◌, ◌^◌, ℕ, ◌+◌, ◌*◌, List, [], map, length, slice_index_or}
 use Rattle.std.specs.List.{All}
-use Rattle.zarr_words.specs.Words.{Refusals, Written}
-use Rattle.zarr_parts.specs.Order.{◌or◌then◌}
+use Rattle.zarr_words.specs.Words.{Written}
 use Rattle.zarr_parts.specs.Numbering.{count_of}
 use Rattle.zarr_parts.specs.Grid.{Divides, grid_of}
-use Rattle.zarr_words.specs.declared.error.CodecError.{CodecError}
-use Rattle.zarr_words.specs.declared.error.CodecError.TheVariants.{IncompatibleDimensionality, InvalidSubchunkShape, TooLarge}
-use Rattle.codec_laws.specs.Meanings.{Meaning}
 use Rattle.shard_format.specs.Index.{slot_at, slice_at, index_part, data_start, element_of_number}
 use Rattle.shard_format.specs.Compacting.{IsMoved}
 use Rattle.shard_format.specs.Laying.{taken}
-use Rattle.shard_format.specs.Serves.{IndexServes, IndexCodecTests}
 use Rattle.shard_format.specs.declared.location.ShardingIndexLocation.{ShardingIndexLocation}
 use Rattle.shard_format.specs.declared.slot.Slot.{Slot}
 use Rattle.shard_format.specs.declared.slot.Slot.TheVariants.{Absent, InRange, Bad}
 
--- the tests of `compact` that look at no byte
-abbrev pub PlanTests : (index : Meaning) → (shape sub : List ℕ) → Refusals → CodecError → Type 0
-PlanTests index shape sub later =
-    length shape ≡ length sub or IncompatibleDimensionality then
-    Divides sub shape or InvalidSubchunkShape then
-    (count_of shape < 2 ^ 64 × 16 * count_of (grid_of shape sub) < 2 ^ 64) or TooLarge then
-    IndexCodecTests index later
-
--- what they find
-pub record HasPlan (index : Meaning) (shape sub : List ℕ) : Type 0 where
-  pub same_axes : length shape ≡ length sub
-  pub divides : Divides sub shape
-  pub fits : count_of shape < 2 ^ 64 × 16 * count_of (grid_of shape sub) < 2 ^ 64
-  pub index_served : IndexServes index
-
 -- a slot names no byte outside a shard of so many bytes, and isn't bad
-abbrev pub IsInside : ℕ → Slot → Type 0
-IsInside len Absent = Unit {0}
-IsInside len (InRange offset size) = offset + size ≤ len
-IsInside len Bad = ⊥
+abbrev pub LiesInShard : ℕ → Slot → Type 0
+LiesInShard len Absent = Unit {0}
+LiesInShard len (InRange offset size) = offset + size ≤ len
+LiesInShard len Bad = ⊥
 
 -- the first k slots of an index of these numbers
 pub record AreSlots (len : ℕ) (numbers : List ℕ) (slots : List Slot) (k : ℕ) : Type 0 where
   pub counted : length slots ≡ k
   pub are : (j : ℕ) → j < k → slice_index_or slots j Bad ≡ slot_at len numbers j
-  pub inside : (j : ℕ) → j < k → IsInside len (slice_index_or slots j Bad)
+  pub inside : (j : ℕ) → j < k → LiesInShard len (slice_index_or slots j Bad)
 
 -- the bytes that a slot names
 abbrev pub slice_of : List ℕ → Slot → List ℕ

@@ -52,7 +52,7 @@ AnswerTests CanAnswer read_tests bytes points =
 
 -- a refusal of a read of stored bytes comes from the codec that reads them, by its own tests, and as its law allows for the cells that they
 -- stand for and those that are asked
-pub record RefusesRead (tests : Refusals) (cells asked : CellList) (e : CodecError) : Type 0 where
+pub record RefusesStoredRead (tests : Refusals) (cells asked : CellList) (e : CodecError) : Type 0 where
   pub inner : CodecError
   pub tested : tests inner
   pub lawful : MayRefuseRead cells asked inner
@@ -64,7 +64,7 @@ abbrev pub RefusesPlaces : (List ℕ → List (List ℕ) → CodecError → Type
     → Type 0
 RefusesPlaces inner_read inner_cells sub bytes Absent places k e = ⊥
 RefusesPlaces inner_read inner_cells sub bytes (InRange offset size) places k e =
-    (places ≢ []) × RefusesRead (inner_read (slice_at offset size bytes) (place_points sub places))
+    (places ≢ []) × RefusesStoredRead (inner_read (slice_at offset size bytes) (place_points sub places))
     (inner_cells (slice_at offset size bytes)) (cells_of_places (inner_cells (slice_at offset size bytes)) places) e
 RefusesPlaces inner_read inner_cells sub bytes Bad places k e = (places ≢ []) × (e ≡ BadIndexEntry k)
 

@@ -1,17 +1,11 @@
 -- The steps of a read of some cells of a shard: its index, the places of each subchunk in which some are asked, and the cells put together.
 use Rattle.std.specs.Prelude.{◌≡◌, ℕ, ◌-◌, List, Option, Some, None, map, length}
-use Rattle.std.specs.List.{All}
-use Rattle.std.specs.Option.{option_map}
-use Rattle.zarr_words.specs.Words.{CellList, CellsOf}
-use Rattle.zarr_parts.specs.Types.{FitsKind}
+use Rattle.zarr_words.specs.Words.{CellsOf}
 use Rattle.zarr_parts.specs.Arrays.{Array}
-use Rattle.zarr_elements.specs.declared.data_type.DataTypeSize.{DataTypeSize}
 use Rattle.zarr_words.specs.declared.error.CodecError.{CodecError}
-use Rattle.codec_laws.specs.Cells.{all_there}
-use Rattle.zarr_parts.specs.Grid.{subchunk_number, place_number}
 use Rattle.codec_laws.specs.Meanings.{Meaning}
-use Rattle.shard_format.specs.Index.{slot_at, slice_at, number_of_element}
-use Rattle.shard_format.specs.Cells.{cell_in}
+use Rattle.shard_format.specs.Index.{slice_at}
+use Rattle.shard_format.specs.Cells.{indexed_cell}
 use Rattle.shard_format.specs.DecodeTests.{RefusesLengths}
 use Rattle.shard_format.specs.ReadTests.{cells_of_places, AnswerTests, PlacesTests}
 use Rattle.shard_format.specs.declared.location.ShardingIndexLocation.{ShardingIndexLocation}
@@ -24,15 +18,6 @@ abbrev pub index_start : ShardingIndexLocation → ℕ → ℕ → ℕ
 index_start Start size len = 0
 index_start End size len = len - size
 
--- the numbers that the cells of an index are, where all are there
-abbrev pub numbers_of_cells : CellList → Option (List ℕ)
-numbers_of_cells cells = option_map (map number_of_element) (all_there cells)
-
--- what was read of so many places of a subchunk: nothing where it is absent, and else an element of this kind for each
-abbrev pub IsPartOf : DataTypeSize → ℕ → Option Array → Type 0
-IsPartOf kind n None = Unit {0}
-IsPartOf kind n (Some a) = (length a.elements ≡ n) × All (FitsKind kind) a.elements
-
 -- these are the cells at some places of the subchunk that a slot names
 abbrev pub IsReadAt : CellsOf → List ℕ → Slot → List ℕ → Option Array → Type 0
 IsReadAt inner_cells bytes Absent places None = Unit {0}
@@ -42,13 +27,8 @@ IsReadAt inner_cells bytes (InRange offset size) places (Some a) = cells_of_plac
     places ≡ map Some a.elements
 IsReadAt inner_cells bytes Bad places o = ⊥
 
--- the cell with a row-major number of the shard that bytes are, by the numbers of its index
-abbrev pub read_by : CellsOf → (shape sub fill bytes index : List ℕ) → ℕ → Option (List ℕ)
-read_by inner_cells shape sub fill bytes index i =
-    cell_in inner_cells fill bytes (slot_at (length bytes) index (subchunk_number shape sub i)) (place_number shape sub i)
-
 -- the tests of a read of the cells with these row-major numbers of the shard that bytes are, by the numbers of its index
 abbrev pub ReadByTests : (inner : Meaning) → (shape sub fill bytes index numbers : List ℕ) → CodecError → Type 0
 ReadByTests inner shape sub fill bytes index numbers =
     PlacesTests (AnswerTests inner.answerable inner.read_tests) inner.cells shape sub bytes (Some index) numbers
-    (RefusesLengths (map (read_by inner.cells shape sub fill bytes index) numbers))
+    (RefusesLengths (map (indexed_cell inner.cells shape sub fill bytes index) numbers))

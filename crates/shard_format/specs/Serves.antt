@@ -65,16 +65,27 @@ IndexCodecTests index later =
     index.representation ≡ Some (FixedSize (fixed_size index.representation)) or VariableIndexSize then
     later
 
+-- the tests of a shard's shape, for elements of so many bytes, and of the index codec
+abbrev pub PlanTests : (index : Meaning) → (shape sub : List ℕ) → ℕ → Refusals → CodecError → Type 0
+PlanTests index shape sub element_size later =
+    length shape ≡ length sub or IncompatibleDimensionality then
+    Divides sub shape or InvalidSubchunkShape then
+    (count_of shape < 2 ^ 64 × count_of shape * element_size < 2 ^ 64 × 16 * count_of (grid_of shape sub) < 2 ^ 64) or TooLarge then
+    IndexCodecTests index later
+
+-- what they find
+pub record HasPlan (index : Meaning) (shape sub : List ℕ) (element_size : ℕ) : Type 0 where
+  pub same_axes : length shape ≡ length sub
+  pub divides : Divides sub shape
+  pub fits : count_of shape < 2 ^ 64 × count_of shape * element_size < 2 ^ 64 × 16 * count_of (grid_of shape sub) < 2 ^ 64
+  pub index_served : IndexServes index
+
 -- the tests of `check`, in their order
 abbrev pub CheckTests : (inner index : Meaning) → List ℕ → Geo → CodecError → Type 0
 CheckTests inner index sub g =
     HasElements g.data_type or UnsupportedDataType then
     FitsKind (size_of g.data_type) g.fill or BadFillValue then
-    length g.shape ≡ length sub or IncompatibleDimensionality then
-    Divides sub g.shape or InvalidSubchunkShape then
-    (count_of g.shape < 2 ^ 64 × count_of g.shape * byte_size (size_of g.data_type) < 2 ^ 64
-    × 16 * count_of (grid_of g.shape sub) < 2 ^ 64) or TooLarge then
-    IndexCodecTests index (
+    PlanTests index g.shape sub (byte_size (size_of g.data_type)) (
     inner.serves or_as RefusesUnserved inner then
     done)
 
@@ -87,8 +98,8 @@ pub record ShardEncodable (inner outer : Meaning) (l : Layout) (a : List (List �
       → outer.encodable (map element_of_number numbers)
 
 -- what is stored of a subchunk: nothing where it is all fill, and else an encoding
-abbrev pub IsPart : Written → List ℕ → List (List ℕ) → List ℕ → Type 0
-IsPart inner_written fill elements part = (IsAllFill fill elements × (part ≡ []))
+abbrev pub IsStoredPart : Written → List ℕ → List (List ℕ) → List ℕ → Type 0
+IsStoredPart inner_written fill elements part = (IsAllFill fill elements × (part ≡ []))
     ⊎ ((¬ (IsAllFill fill elements)) × inner_written elements part)
 
 -- the index's size and the lengths of all parts
@@ -103,7 +114,7 @@ pub record ShardFits (inner outer : Meaning) (l : Layout) (a : List (List ℕ)) 
   pub index : (numbers : List ℕ) → length numbers ≡ 2 * count_of (grid_of l.shape l.sub) → All (λ n. n < 2 ^ 64) numbers
       → outer.fits (map element_of_number numbers)
   pub total : (parts : ℕ → List ℕ) → ((k : ℕ) → k < count_of (grid_of l.shape l.sub)
-      → IsPart inner.written l.fill (subchunk l.shape l.sub a k) (parts k))
+      → IsStoredPart inner.written l.fill (subchunk l.shape l.sub a k) (parts k))
       → total_size l parts + 1 < 2 ^ 64
 
 -- a bound, where a 64-bit number can say it

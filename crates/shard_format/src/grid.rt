@@ -5,7 +5,7 @@ ghost use Rattle.zarr_parts.specs.Numbering.{AllPositive, count_of, zip_with};
 ghost use Rattle.zarr_parts.specs.Boxes.{IsBox};
 ghost use Rattle.zarr_parts.specs.Grid.{Divides, grid_of, grid_box};
 ghost use Rattle.shard_format.specs.Index.{index_shape};
-ghost use Rattle.shard_format.specs.Grids.{GridTests, SubsetTests, EndsFit, ConcurrencyTests};
+ghost use Rattle.shard_format.specs.Grids.{GridTests, SubsetTests, EndsFit, IsCut, ConcurrencyTests};
 
 use std::alloc::{AllocError, Global};
 use zarr_parts::{ArraySubset, ChunkShape, CodecError, unravel_index};
@@ -82,6 +82,7 @@ pub fn count_subchunks(shape: &[u64], sub: &[u64]) -> Result<u64, CodecError>
     requires shape { AllPositive shape.now }
     requires sub { AllPositive sub.now }
     ensures count { IfOk result (λ count. count ≡ count_of (grid_of shape.now sub.now)) }
+    ensures served { OnOk result (IsCut shape.now sub.now) }
     ensures refused { IfErr result (ConcurrencyTests shape.now sub.now) }
 {
     if shape.len() != sub.len() {

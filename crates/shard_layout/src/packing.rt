@@ -6,7 +6,7 @@ ghost use Rattle.shard_format.specs.Index.{slot_at};
 ghost use Rattle.shard_format.specs.Encoding.{slot_size};
 ghost use Rattle.shard_format.specs.Laying.{taken};
 ghost use Rattle.shard_format.specs.Compacting.{IsGood};
-ghost use Rattle.shard_format.specs.Packing.{IsInside, AreSlots, slice_of, moved_slot, IsPacked};
+ghost use Rattle.shard_format.specs.Packing.{LiesInShard, AreSlots, slice_of, moved_slot, IsPacked};
 ghost use Rattle.shard_format.specs.declared.slot.Slot.TheVariants.{Bad};
 
 use crate::laying::LaidOut;
@@ -18,7 +18,7 @@ use zarr_parts::CodecError;
 fn good_slot(index: &ShardIndex, subchunk: usize) -> Result<Slot, CodecError>
     requires { 2 * subchunk + 1 < length index.now.numbers.items }
     ensures slot { IfOk result (λ slot. slot ≡ slot_at index.now.len index.now.numbers.items subchunk) }
-    ensures inside { IfOk result (IsInside index.now.len) }
+    ensures inside { IfOk result (LiesInShard index.now.len) }
     ensures refused { IfErr result (λ e. (¬ (IsGood (slot_at index.now.len index.now.numbers.items subchunk))) × (e ≡ BadIndexEntry subchunk)) }
 {
     match index.slot(subchunk) {
@@ -66,7 +66,7 @@ pub fn compact_size(slots: &[Slot], index_size: u64) -> Option<u64>
 
 // The bytes that a slot names.
 fn slice_of(bytes: &[u8], slot: Slot) -> &[u8]
-    requires { IsInside (length bytes.now) slot }
+    requires { LiesInShard (length bytes.now) slot }
     ensures { result.now ≡ slice_of bytes.now slot }
 {
     match slot {
@@ -95,7 +95,7 @@ pub fn packed(
     slots: &[Slot],
     room: usize,
 ) -> Result<LaidOut, CodecError>
-    requires { (k : ℕ) → k < length slots.now → IsInside (length bytes.now) (slice_index_or slots.now k Bad) }
+    requires { (k : ℕ) → k < length slots.now → LiesInShard (length bytes.now) (slice_index_or slots.now k Bad) }
     ensures packed { IfOk result (λ laid. IsPacked bytes.now slots.now laid.bytes.items laid.slots.items (length slots.now)) }
     ensures refused { IfErr result (λ e. e ≡ OutOfMemory) }
 {

@@ -7,7 +7,8 @@ ghost use Rattle.zarr_parts.specs.Grid.{Divides, grid_of};
 ghost use Rattle.zarr_parts.specs.Types.{size_of, HasElements, FitsKind};
 ghost use Rattle.object_handles.specs.Handles.{IsRead, IsCounted};
 ghost use Rattle.object_handles.specs.Objects.{interval_part, HasInterval, ObjectTests};
-ghost use Rattle.shard_format.specs.Reading.{read_by, ReadByTests};
+ghost use Rattle.shard_format.specs.Cells.{indexed_cell};
+ghost use Rattle.shard_format.specs.Reading.{ReadByTests};
 ghost use Rattle.shard_subchunks.specs.Inner.{inner_meaning};
 
 use crate::subchunks::Subchunks;
@@ -51,7 +52,7 @@ impl<I: ArrayToBytesCodecTraits> Subchunks<'_, I> {
         ensures fitting { IfOk result (λ array. All (FitsKind (size_of self.now.data_type.now)) array.elements) }
         ensures cells { let inner = inner_meaning I.meaning self.now in let bytes = interval_part outer (H.state handle.old).contents in
             IfOk result (λ array. IsTrue (H.state handle.old).tells
-            → map (read_by inner.cells shape.now self.now.shape.now self.now.fill_value.now bytes index.now.numbers.items) numbers.now ≡ map Some array.elements) }
+            → map (indexed_cell inner.cells shape.now self.now.shape.now self.now.fill_value.now bytes index.now.numbers.items) numbers.now ≡ map Some array.elements) }
         ensures fault { IfErr result (IsCounted (H.state handle.old) (H.state handle.new)) }
         ensures refused { let inner = inner_meaning I.meaning self.now in let bytes = interval_part outer (H.state handle.old).contents in
             IfErr result (RefusedBy (ObjectTests (H.state handle.old) (H.state handle.new) (

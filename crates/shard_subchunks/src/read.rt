@@ -8,9 +8,9 @@ ghost use Rattle.zarr_parts.specs.Types.{size_of};
 ghost use Rattle.object_handles.specs.Handles.{IsRead, IsCounted};
 ghost use Rattle.object_handles.specs.Objects.{interval_part, HasInterval, ObjectTests};
 ghost use Rattle.shard_format.specs.Index.{slot_at};
-ghost use Rattle.shard_format.specs.Decoding.{FitsSlot};
+ghost use Rattle.shard_format.specs.Decoding.{FitsSlot, IsPartOf};
 ghost use Rattle.shard_format.specs.ReadTests.{AnswerTests, RefusesPlaces, PlacesTests};
-ghost use Rattle.shard_format.specs.Reading.{IsPartOf, IsReadAt};
+ghost use Rattle.shard_format.specs.Reading.{IsReadAt};
 ghost use Rattle.shard_cells.specs.Grouping.{lists_of, AreGrouped};
 ghost use Rattle.shard_subchunks.specs.Inner.{inner_meaning};
 

@@ -28,10 +28,10 @@ use Rattle.sharding_core.specs.declared.codec.ShardingCodec.{ShardingCodec}
 use Rattle.shard_format.specs.Decoding.{FitsSlot}
 use Rattle.shard_format.specs.declared.slot.Slot.{Slot}
 use Rattle.shard_format.specs.declared.slot.Slot.TheVariants.{Absent, InRange, Bad}
-use Rattle.shard_format.specs.Cells.{Layout, shard_cells}
+use Rattle.shard_format.specs.Cells.{Layout, shard_cells, indexed_cell}
 use Rattle.shard_format.specs.DecodeTests.{IndexTests}
 use Rattle.shard_format.specs.ReadTests.{numbers_of}
-use Rattle.shard_format.specs.Reading.{read_by, ReadByTests}
+use Rattle.shard_format.specs.Reading.{ReadByTests}
 use Rattle.sharding_core.specs.Decoders.{HoldsIndex, index_in, object_cells, held_slot, IsRangeOf, SlotTests, OpenTests, ObjectCellsTests}
 use Rattle.shard_format.proofs.ReadLemmas.{asked_cells}
 
@@ -85,7 +85,7 @@ held_interval index_in (Some b) len ns held = omega (arith, held.0)
 -- the cells that were read by the held index are those of the object
 pub stored_cells : (inner index : Meaning) (l : Layout) (g : Geo) (contents : Option (List ℕ)) (len : ℕ) (ns numbers : List ℕ) (points elements : List (List ℕ))
     → HoldsIndex (numbers_in_index index.cells l.location l.index_size) contents len (Some ns) → All (λ point. IsInside point l.shape) points → numbers ≡ numbers_of l.shape points
-    → map (read_by inner.cells l.shape l.sub l.fill (interval_part (record { offset = 0; size = len }) contents) ns) numbers ≡ map Some elements
+    → map (indexed_cell inner.cells l.shape l.sub l.fill (interval_part (record { offset = 0; size = len }) contents) ns) numbers ≡ map Some elements
     → cells_at (object_cells (shard_cells inner.cells index.cells l) g contents) l.shape points ≡ map Some elements
 stored_cells inner index l g None len ns numbers points elements held inside same read = absurd (no_numbers ns held)
 stored_cells inner index l g (Some b) len ns numbers points elements held inside same read =
@@ -106,7 +106,7 @@ stored_tests inner index codec g (Some b) len ns numbers points e held inside sa
     let index_m = index codec.index_codec index_g in
     let l = layout sub codec.location codec.order index_m.representation g in
     let told : numbers_in_index index_m.cells l.location l.index_size b ≡ Some ns = held.1 in
-    let lengths : AreTooLong (map (read_by inner_m.cells g.shape sub g.fill b ns) (numbers_of g.shape points)) → AreTooLong (cells_at (shard_cells inner_m.cells index_m.cells l b) g.shape points) =
+    let lengths : AreTooLong (map (indexed_cell inner_m.cells g.shape sub g.fill b ns) (numbers_of g.shape points)) → AreTooLong (cells_at (shard_cells inner_m.cells index_m.cells l b) g.shape points) =
     subst AreTooLong (sym (asked_cells inner_m index_m l b ns points told inside)) in
     elim (rw (whole_part len b held.0, same) at h) [
       | inl one ↦ inl (rw told one)

@@ -2,13 +2,14 @@
 use Rattle.std.specs.Prelude.{ℕ, List}
 use Rattle.zarr_parts.specs.Grid.{grid_of}
 use Rattle.zarr_parts.specs.Geo.{Geo}
+use Rattle.zarr_parts.specs.Types.{size_of}
 use Rattle.codec_laws.specs.Meanings.{Meaning}
 use Rattle.codec_laws.specs.Laws.{IsLawful}
 use Rattle.shard_format.specs.Index.{index_geo}
 use Rattle.shard_format.specs.Serves.{sub_geo}
-use Rattle.shard_format.specs.Faultless.{check_tests_faultless}
+use Rattle.shard_format.specs.Faultless.{check_tests_faultless, encode_tests_faultless, compact_tests_faultless}
 use Rattle.shard_format.specs.Laws.{length-shard_cells, shard_cells_fitting, cells_of_encoding, cells_of_compacted, shard_bounded}
-use Rattle.sharding_core.specs.Meanings.{shard_meaning}
+use Rattle.sharding_core.specs.Meanings.{layout_in, shard_meaning}
 use Rattle.sharding_core.specs.declared.codec.ShardingCodec.{ShardingCodec}
 
 pub shard_lawful : {I X : Type 0} (codec : ShardingCodec I X) (inner index : Meaning) (g : Geo)
@@ -21,6 +22,8 @@ shard_lawful codec inner index g inner_law index_law =
     let order = codec.order in
     record {
       check_faultless = λ e h. check_tests_faultless inner index sub g inner_law.check_faultless index_law.check_faultless e h;
+      encode_faultless = λ array e h. encode_tests_faultless inner index (layout_in codec index g) (size_of g.data_type) array e h;
+      compact_faultless = λ b e h. compact_tests_faultless index (layout_in codec index g) b index_law.check_faultless e h;
       cells_counted = λ b h. length-shard_cells _ _ _ b;
       cells_fitting = λ b i h below. shard_cells_fitting _ _ sub location order _ g b i h.fill_fits h.divides below
           (λ x j inside. inner_law.cells_fitting x j h.inner_served inside);

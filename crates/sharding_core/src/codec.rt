@@ -8,12 +8,12 @@ ghost use Rattle.shard_format.specs.Index.{index_geo};
 ghost use Rattle.sharding_core.specs.Meanings.{shard_meaning};
 ghost use Rattle.shard_format.specs.Cells.{shard_cells};
 ghost use Rattle.shard_format.specs.Encoding.{IsEncoding};
-ghost use Rattle.shard_format.specs.Serves.{sub_geo, fixed_size, layout, ShardServes, ShardEncodable, ShardFits, shard_representation, CheckTests};
+ghost use Rattle.shard_format.specs.Serves.{HasPlan, sub_geo, fixed_size, layout, ShardServes, ShardEncodable, ShardFits, shard_representation, CheckTests};
 ghost use Rattle.sharding_core.specs.Meanings.{layout_in};
 ghost use Rattle.shard_format.specs.DecodeTests.{DecodeTests};
 ghost use Rattle.shard_format.specs.EncodeTests.{EncodeTests};
 ghost use Rattle.shard_format.specs.ReadTests.{AnswerTests, ReadTests};
-ghost use Rattle.shard_format.specs.Grids.{SubsetTests, EndsFit, ConcurrencyTests};
+ghost use Rattle.shard_format.specs.Grids.{SubsetTests, EndsFit, IsCut, ConcurrencyTests};
 ghost use Rattle.shard_format.specs.Compacting.{IsCompacted, IsCompact, CompactTests};
 ghost use Rattle.codec_laws.specs.Refusals.{MayRefuseCompact};
 ghost use Rattle.zarr_parts.specs.Geo.{geo};
@@ -33,14 +33,20 @@ use zarr_parts::{
 };
 
 /// The codec `sharding_indexed` (Zarr V3): cuts an array into equal subchunks, encodes each that is not wholly the
-/// fill value by the inner codec `I`, and lays them beside an index, which the index codec `X` encodes.
+/// fill value by the inner codec `I`, and lays them beside an index, which the index codec `X` encodes. Any values of its
+/// fields make a codec: what it does not serve is refused by `check`.
 #[derive(Debug, Drop)]
 pub struct ShardingCodec<I, X> {
-    pub(crate) subchunk_shape: ChunkShape,
-    pub(crate) inner: I,
-    pub(crate) index_codec: X,
-    pub(crate) location: ShardingIndexLocation,
-    pub(crate) order: SubchunkWriteOrder,
+    /// The shape of each subchunk ("chunk_shape").
+    pub subchunk_shape: ChunkShape,
+    /// The codec that encodes each subchunk ("codecs").
+    pub inner: I,
+    /// The codec that encodes the index ("index_codecs").
+    pub index_codec: X,
+    /// Where the index stands ("index_location").
+    pub location: ShardingIndexLocation,
+    /// In which order subchunks are written; the standard leaves it open.
+    pub order: SubchunkWriteOrder,
 }
 
 impl<I, X> ShardingCodec<I, X> {
@@ -105,15 +111,21 @@ impl<I: ArrayToBytesCodecTraits, X: ArrayToBytesCodecTraits> ArrayToBytesCodecTr
     for ShardingCodec<I, X> {
     ghost meaning = { λ s g. shard_meaning s (I.meaning s.inner (sub_geo s.subchunk_shape g)) (X.meaning s.index_codec (index_geo (grid_of g.shape s.subchunk_shape))) g };
 
-    ghost concurrency = { λ s shape. count_of (grid_of shape s.subchunk_shape) };
-
-    ghost concurrency_tests = { λ s shape. ConcurrencyTests shape s.subchunk_shape };
+    ghost concurrency = { λ s shape. record {
+      served = IsCut shape s.subchunk_shape;
+      workers = count_of (grid_of shape s.subchunk_shape);
+      tests = ConcurrencyTests shape s.subchunk_shape;
+    } };
 
     ghost use Rattle.sharding_core.specs.ShardLaws.{shard_lawful};
 
     ghost lawful = { λ s g. let index_g = index_geo (grid_of g.shape s.subchunk_shape) in
         shard_lawful s (I.meaning s.inner (sub_geo s.subchunk_shape g)) (X.meaning s.index_codec index_g) g
         (I.lawful s.inner (sub_geo s.subchunk_shape g)) (X.lawful s.index_codec index_g) };
+
+    ghost use Rattle.shard_format.specs.Faultless.{concurrency_tests_faultless};
+
+    ghost concurrency_faultless = { λ s shape e h. concurrency_tests_faultless shape s.subchunk_shape e h };
 
     /// Refused, in this order, as `UnsupportedDataType` (`Optional`, `Raw(0)`), `BadFillValue` (a fill value of another
     /// length than the fixed type), `IncompatibleDimensionality` (shape and subchunk shape), `InvalidSubchunkShape` (an
@@ -221,12 +233,14 @@ impl<I: ArrayToBytesCodecTraits, X: ArrayToBytesCodecTraits> ArrayToBytesCodecTr
         ensures kept { let g = geo shape.now data_type.now fill_value.now in let s = self.now in
             let index_cells = (X.meaning s.index_codec (index_geo (grid_of g.shape s.subchunk_shape))).cells in
             IfOk result (λ answer. IfNone answer (IsCompact index_cells (layout_in s (X.meaning s.index_codec (index_geo (grid_of g.shape s.subchunk_shape))) g) bytes.now)) }
+        ensures served { let s = self.now in
+            OnOk result (HasPlan (X.meaning s.index_codec (index_geo (grid_of shape.now s.subchunk_shape))) shape.now s.subchunk_shape 0) }
         ensures lawful { let codec = ⟦<Self as ArrayToBytesCodecTraits>⟧ in let g = geo shape.now data_type.now fill_value.now in
             IfErr result (λ e. (codec.meaning self.now g).serves → MayRefuseCompact ((codec.meaning self.now g).cells bytes.now) e) }
         ensures refused { let g = geo shape.now data_type.now fill_value.now in
             IfErr result (RefusedBy ((⟦<Self as ArrayToBytesCodecTraits>⟧.meaning self.now g).compact_tests bytes.now)) }
     {
-        let plan = self.compact_plan(alloc, shape)?;
+        let plan = self.planned(alloc, shape, 0)?;
         let index_codec = IndexCodec {
             codec: &self.index_codec,
             location: self.location,

@@ -1,57 +1,23 @@
 // A shard without what is not needed.
-ghost use Rattle.std.specs.Prelude.{◌≡◌, ◌<◌, ◌^◌, ◌+◌, ◌*◌, ℕ, IfOk, IfErr, OnOk, length, slice_index_or};
-ghost use Rattle.zarr_parts.specs.Order.{done, RefusedBy};
+ghost use Rattle.std.specs.Prelude.{◌≡◌, ◌<◌, ◌^◌, ◌+◌, ◌*◌, ℕ, IfOk, IfErr, length, slice_index_or};
+ghost use Rattle.zarr_parts.specs.Order.{RefusedBy};
 ghost use Rattle.zarr_parts.specs.Numbering.{count_of};
-ghost use Rattle.zarr_parts.specs.Grid.{grid_of};
 ghost use Rattle.shard_format.specs.Index.{index_geo};
 ghost use Rattle.shard_format.specs.Laying.{taken};
-ghost use Rattle.shard_format.specs.Packing.{PlanTests, HasPlan, IsInside, IsRewritten};
+ghost use Rattle.shard_format.specs.Packing.{LiesInShard, IsRewritten};
 ghost use Rattle.shard_format.specs.EncodeTests.{RefusesIndex};
 ghost use Rattle.shard_format.specs.declared.slot.Slot.TheVariants.{Bad};
 ghost use Rattle.shard_index.specs.Indexes.{index_meaning, IsIndexPlan};
-ghost use Rattle.sharding_core.specs.Plans.{IsPlan};
 
-use crate::check::Plan;
 use crate::codec::ShardingCodec;
 use codec_laws::ArrayToBytesCodecTraits;
-use shard_format::{Slot, calculate_chunks_per_shard};
+use shard_format::Slot;
 use shard_index::{IndexCodec, IndexPlan};
 use shard_layout::{joined_shard, packed};
 use std::alloc::Global;
-use zarr_parts::{ChunkShape, CodecError, CodecOptions};
+use zarr_parts::{CodecError, CodecOptions};
 
 impl<I, X: ArrayToBytesCodecTraits> ShardingCodec<I, X> {
-    // Makes the tests of `compact` that look at no byte.
-    pub(crate) fn compact_plan(&self, alloc: Global, shape: &ChunkShape) -> Result<Plan, CodecError>
-        ensures served { let s = self.now in let index_g = index_geo (grid_of shape.now s.subchunk_shape) in
-            OnOk result (HasPlan (X.meaning s.index_codec index_g) shape.now s.subchunk_shape) }
-        ensures plan { IfOk result (IsPlan (index_meaning X.meaning self.now.index_codec) shape.now self.now.subchunk_shape) }
-        ensures refused { let s = self.now in let index_g = index_geo (grid_of shape.now s.subchunk_shape) in
-            IfErr result (RefusedBy (PlanTests (X.meaning s.index_codec index_g)
-            shape.now s.subchunk_shape done)) }
-    {
-        let grid = calculate_chunks_per_shard(alloc, shape, &self.subchunk_shape)?;
-        let Some(cells) = shape.num_elements() else {
-            return Err(CodecError::TooLarge);
-        };
-        let Some(subchunks) = grid.num_elements() else {
-            return Err(CodecError::TooLarge);
-        };
-        let Some(_) = subchunks.checked_mul(16) else {
-            return Err(CodecError::TooLarge);
-        };
-        let index_codec = IndexCodec {
-            codec: &self.index_codec,
-            location: self.location,
-        };
-        let index = index_codec.plan(alloc, grid)?;
-        Ok(Plan {
-            cells,
-            subchunks,
-            index,
-        })
-    }
-
     // The index and the slices of these slots, which come to `total` bytes, as a shard.
     pub(crate) fn rewritten(
         &self,
@@ -64,7 +30,7 @@ impl<I, X: ArrayToBytesCodecTraits> ShardingCodec<I, X> {
     ) -> Result<Vec<u8>, CodecError>
         requires plan { IsIndexPlan (index_meaning X.meaning self.now.index_codec) plan.now }
         requires counted { length slots.now ≡ count_of plan.now.grid }
-        requires inside { (k : ℕ) → k < length slots.now → IsInside (length bytes.now) (slice_index_or slots.now k Bad) }
+        requires inside { (k : ℕ) → k < length slots.now → LiesInShard (length bytes.now) (slice_index_or slots.now k Bad) }
         requires total { total ≡ plan.now.size + taken slots.now (length slots.now) }
         requires small { total + 1 < 2 ^ 64 }
         ensures rewritten { let g = index_geo plan.now.grid in

@@ -9,6 +9,7 @@ use Rattle.std.specs.List.{All, concat}
 use Rattle.zarr_parts.specs.Numbering.{count_of}
 use Rattle.zarr_parts.specs.Geo.{Geo, IsArrayOf}
 use Rattle.zarr_parts.specs.Types.{size_of, FitsKind}
+use Rattle.zarr_parts.specs.Arrays.{Array}
 use Rattle.zarr_parts.specs.Pieces.{pieces}
 use Rattle.zarr_elements.specs.declared.data_type.DataTypeSize.{DataTypeSize}
 use Rattle.zarr_elements.specs.declared.data_type.DataTypeSize.TheVariants.{Fixed}
@@ -17,11 +18,12 @@ use Rattle.small_codecs.specs.declared.bytes_codec.Endianness.{Endianness}
 use Rattle.codec_laws.specs.Cells.{all_there}
 use Rattle.zarr_words.specs.declared.error.CodecError.{CodecError}
 use Rattle.zarr_words.specs.declared.error.CodecError.TheVariants.{UnsupportedDataType, BadFillValue, TooLarge}
+use Rattle.zarr_words.specs.declared.error.CodecError.TheVariants.{WrongElementKind, InvalidNumberOfElements}
 use Rattle.codec_laws.specs.Laws.{IsLawful}
 use Rattle.codec_laws.specs.Refusals.{IsNoFault}
 use Rattle.codec_laws.specs.RefusalLaws.{test_faultless}
 use Rattle.small_codecs.specs.BytesCodec.{is_reversed, swapped, element_size, BytesServes, bytes_of, bytes_cells}
-use Rattle.small_codecs.specs.BytesCodec.{BytesCheckTests, bytes_meaning}
+use Rattle.small_codecs.specs.BytesCodec.{BytesCheckTests, BytesEncodeTests, bytes_meaning}
 
 -- swapping twice gives the element back, and keeps its length
 pub swapped-swapped : (reversed : Bool) (e : List ℕ) → swapped reversed (swapped reversed e) ≡ e
@@ -139,10 +141,17 @@ pub bytes_check_faultless : (endianness : Option Endianness) (g : Geo) (e : Code
 bytes_check_faultless endianness g e =
     test_faultless _ UnsupportedDataType _ tt (test_faultless _ BadFillValue _ tt (test_faultless _ TooLarge _ tt (λ x h. absurd h))) e
 
+-- nor does `encode`
+pub bytes_encode_faultless : (g : Geo) (array : Array) (e : CodecError) → BytesEncodeTests g array e → IsNoFault e
+bytes_encode_faultless g array e =
+    test_faultless _ WrongElementKind _ tt (test_faultless _ InvalidNumberOfElements _ tt (λ x h. absurd h)) e
+
 -- what the codec means keeps the laws
 pub bytes_lawful : (endianness : Option Endianness) (g : Geo) → IsLawful g (bytes_meaning endianness g)
 bytes_lawful endianness g = record {
   check_faultless = λ e h. bytes_check_faultless endianness g e h;
+  encode_faultless = λ array e h. bytes_encode_faultless g array e h;
+  compact_faultless = λ b e h. absurd h;
   cells_counted = λ b s. bytes_cells_counted endianness g b;
   cells_fitting = λ b i s below. bytes_cells_fitting endianness g b i s below;
   written_cells = λ a b s h e. bytes_written_cells endianness g a b s h e;

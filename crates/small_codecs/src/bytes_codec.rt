@@ -218,17 +218,18 @@ fn array_of_bytes<'a>(
 }
 
 impl ArrayToBytesCodecTraits for BytesCodec {
+    ghost use Rattle.std.specs.Prelude.{⊤};
     ghost use Rattle.zarr_parts.specs.Order.{done};
     ghost use Rattle.small_codecs.specs.BytesCodec.{bytes_meaning};
     ghost use Rattle.small_codecs.specs.BytesCodecLaws.{bytes_lawful};
 
     ghost meaning = { bytes_meaning };
 
-    ghost concurrency = { λ _ _. 1 };
-
-    ghost concurrency_tests = { λ _ _. done };
+    ghost concurrency = { λ _ _. record { served = ⊤; workers = 1; tests = done } };
 
     ghost lawful = { bytes_lawful };
+
+    ghost concurrency_faultless = { λ _ _ e h. absurd h };
 
     /// Tests whether the codec serves these arrays. Refused, in this order, as `UnsupportedDataType`
     /// (`Optional`, `Raw(0)`, `Bytes`, or without an endianness a whole number longer than one byte),

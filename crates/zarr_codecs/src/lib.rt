@@ -3,10 +3,11 @@
 
 pub use codec_laws::{
     ArrayToBytesCodecTraits, BytesRepresentation, FunctionalCodec, RecommendedConcurrency,
-    check_target, decode_after_encode, read_and_decode,
+    check_target, decode_after_encode, read_after_decode,
 };
 pub use object_handles::{
     ByteRange, BytesPartialDecoderTraits, BytesPartialEncoderTraits, CountingHandle,
     FaultingHandle, Interval, LendsSlice, MemoryHandle, SliceHandle, check_interval, copied, lent,
+    part_of,
 };
 pub use small_codecs::{BytesCodec, Endianness};

@@ -11,7 +11,7 @@ use Rattle.zarr_elements.specs.declared.data_type.DataTypeSize.{DataTypeSize}
 use Rattle.zarr_elements.specs.declared.data_type.DataTypeSize.TheVariants.{Fixed, Variable}
 use Rattle.zarr_elements.specs.declared.array_bytes.Held.{Held}
 use Rattle.zarr_elements.specs.declared.array_bytes.Held.TheVariants as held
-use Rattle.zarr_elements.specs.Arrays.{Array, AreOffsets, IsHeld, array_of, variable_array, part, parts, layout_of, size_list, same_array}
+use Rattle.zarr_elements.specs.Arrays.{Array, AreOffsets, IsHeld, array_of, variable_array, part, parts, held_layout, size_list, same_array}
 use Rattle.zarr_boxes.proofs.PieceLaws.{concat-map}
 use Rattle.zarr_elements.proofs.ArrayLaws.{offset_within, length-variable_array, concat-fixed_array}
 
@@ -65,7 +65,7 @@ concat-variable_array x o h =
     concat-map (part x o) (range_with_len 0 (length o - 1)) ∙ (joined ∙ take_all (length x) x (omega arith))
 
 pub record IsSameHeld (h k : Held) (x y : List ℕ) : Type 0 where
-  pub layout : layout_of h ≡ layout_of k
+  pub layout : held_layout h ≡ held_layout k
   pub bytes : x ≡ y
 
 -- arrays that are one are held alike
@@ -93,7 +93,7 @@ same_held (held.Variable o) (held.Variable p) x y h g e =
     }
 
 -- arrays that are held alike are one
-pub same_from_held : (h k : Held) (x y : List ℕ) → layout_of h ≡ layout_of k → x ≡ y → array_of h x ≡ array_of k y
+pub same_from_held : (h k : Held) (x y : List ℕ) → held_layout h ≡ held_layout k → x ≡ y → array_of h x ≡ array_of k y
 same_from_held (held.Fixed n) (held.Fixed m) x y l b =
     let kinds : Fixed n ≡ Fixed m = ap (λ (s : DataTypeSize × List ℕ). s.0) l in
     let size : n ≡ m = cc in

@@ -80,9 +80,9 @@ chosen bytes offsets update update_offsets None i = part bytes offsets i
 chosen bytes offsets update update_offsets (Some k) i = part update update_offsets k
 
 -- how elements lie among their bytes: the size of each, or the offsets between them
-abbrev pub layout_of : Held → DataTypeSize × List ℕ
-layout_of (held.Fixed n) = (size.Fixed n, [])
-layout_of (held.Variable offsets) = (size.Variable, offsets.items)
+abbrev pub held_layout : Held → DataTypeSize × List ℕ
+held_layout (held.Fixed n) = (size.Fixed n, [])
+held_layout (held.Variable offsets) = (size.Variable, offsets.items)
 
 -- the size of a kind's elements, where it has one
 abbrev pub size_list : DataTypeSize → List ℕ

@@ -9,41 +9,41 @@ use Rattle.zarr_words.specs.declared.error.CodecError.TheVariants.{BadFillValue,
 use Rattle.zarr_words.specs.declared.error.CodecError.TheVariants.{Damaged, Fault, SessionFailed}
 
 -- the number of a refusal: its place among them, from 1 on
-abbrev pub number_of : CodecError → ℕ
-number_of OutOfMemory = 1
-number_of TooLarge = 2
-number_of IncompatibleDimensionality = 3
-number_of OutOfBounds = 4
-number_of InvalidNumberOfElements = 5
-number_of InvalidSubchunkShape = 6
-number_of ShardTooShort = 7
-number_of VariableIndexSize = 8
-number_of (BadIndexEntry _) = 9
-number_of UnsupportedDataType = 10
-number_of BadFillValue = 11
-number_of WrongElementKind = 12
-number_of UnsupportedIndexer = 13
-number_of CannotEncode = 14
-number_of Damaged = 15
-number_of Fault = 16
-number_of SessionFailed = 17
+abbrev pub error_number : CodecError → ℕ
+error_number OutOfMemory = 1
+error_number TooLarge = 2
+error_number IncompatibleDimensionality = 3
+error_number OutOfBounds = 4
+error_number InvalidNumberOfElements = 5
+error_number InvalidSubchunkShape = 6
+error_number ShardTooShort = 7
+error_number VariableIndexSize = 8
+error_number (BadIndexEntry _) = 9
+error_number UnsupportedDataType = 10
+error_number BadFillValue = 11
+error_number WrongElementKind = 12
+error_number UnsupportedIndexer = 13
+error_number CannotEncode = 14
+error_number Damaged = 15
+error_number Fault = 16
+error_number SessionFailed = 17
 
 -- the name of a refusal
-abbrev pub name_of : CodecError → Bytes
-name_of OutOfMemory = codes "OutOfMemory"
-name_of TooLarge = codes "TooLarge"
-name_of IncompatibleDimensionality = codes "IncompatibleDimensionality"
-name_of OutOfBounds = codes "OutOfBounds"
-name_of InvalidNumberOfElements = codes "InvalidNumberOfElements"
-name_of InvalidSubchunkShape = codes "InvalidSubchunkShape"
-name_of ShardTooShort = codes "ShardTooShort"
-name_of VariableIndexSize = codes "VariableIndexSize"
-name_of (BadIndexEntry _) = codes "BadIndexEntry"
-name_of UnsupportedDataType = codes "UnsupportedDataType"
-name_of BadFillValue = codes "BadFillValue"
-name_of WrongElementKind = codes "WrongElementKind"
-name_of UnsupportedIndexer = codes "UnsupportedIndexer"
-name_of CannotEncode = codes "CannotEncode"
-name_of Damaged = codes "Damaged"
-name_of Fault = codes "Fault"
-name_of SessionFailed = codes "SessionFailed"
+abbrev pub error_name : CodecError → Bytes
+error_name OutOfMemory = codes "OutOfMemory"
+error_name TooLarge = codes "TooLarge"
+error_name IncompatibleDimensionality = codes "IncompatibleDimensionality"
+error_name OutOfBounds = codes "OutOfBounds"
+error_name InvalidNumberOfElements = codes "InvalidNumberOfElements"
+error_name InvalidSubchunkShape = codes "InvalidSubchunkShape"
+error_name ShardTooShort = codes "ShardTooShort"
+error_name VariableIndexSize = codes "VariableIndexSize"
+error_name (BadIndexEntry _) = codes "BadIndexEntry"
+error_name UnsupportedDataType = codes "UnsupportedDataType"
+error_name BadFillValue = codes "BadFillValue"
+error_name WrongElementKind = codes "WrongElementKind"
+error_name UnsupportedIndexer = codes "UnsupportedIndexer"
+error_name CannotEncode = codes "CannotEncode"
+error_name Damaged = codes "Damaged"
+error_name Fault = codes "Fault"
+error_name SessionFailed = codes "SessionFailed"

@@ -1,6 +1,6 @@
 // The reasons to refuse a call.
 ghost use Rattle.std.specs.Prelude.{◌≡◌};
-ghost use Rattle.zarr_words.specs.Errors.{number_of, name_of};
+ghost use Rattle.zarr_words.specs.Errors.{error_number, error_name};
 
 use std::alloc::{AllocError, AllocFailed};
 use thiserror::Error;
@@ -64,7 +64,7 @@ pub enum CodecError {
 impl CodecError {
     /// The number of a refusal, 1 to 17.
     pub fn number(&self) -> u8
-        ensures { result ≡ number_of self.now }
+        ensures { result ≡ error_number self.now }
     {
         match self {
             CodecError::OutOfMemory => 1,
@@ -89,7 +89,7 @@ impl CodecError {
 
     /// The name of a refusal; that of a bad pair of the index does not say which.
     pub fn name(&self) -> &'static str
-        ensures { result.now ≡ name_of self.now }
+        ensures { result.now ≡ error_name self.now }
     {
         match self {
             CodecError::OutOfMemory => "OutOfMemory",

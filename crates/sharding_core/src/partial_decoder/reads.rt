@@ -2,11 +2,12 @@
 ghost use Rattle.std.specs.Prelude.{◌≡◌, ◌*◌, ◌^◌, ◌≤◌, ℕ, List, [], IsTrue, Some, IfOk, IfErr, OnOk, OnErr, map, length, replicate, slice_index_or};
 ghost use Rattle.std.specs.List.{All};
 ghost use Rattle.zarr_parts.specs.Order.{RefusedBy};
-ghost use Rattle.zarr_parts.specs.Numbering.{IsInside};
+ghost use Rattle.zarr_parts.specs.Numbering.{count_of, IsInside};
 ghost use Rattle.zarr_parts.specs.Geo.{geo};
 ghost use Rattle.zarr_parts.specs.Types.{size_of, HasElements, FitsKind};
 ghost use Rattle.zarr_parts.specs.Selections.{IsSelectionOf};
 ghost use Rattle.zarr_parts.specs.Targets.{IsWritten, TargetTests};
+ghost use Rattle.zarr_elements.specs.declared.data_type.DataTypeSize.TheVariants.{Fixed};
 ghost use Rattle.zarr_words.specs.declared.error.CodecError.TheVariants.{TooLarge};
 ghost use Rattle.object_handles.specs.Handles.{IsRead, IsCounted};
 ghost use Rattle.codec_laws.specs.Reads.{cells_at, IsAnswer, IsDecodedInto, AskedTests};
@@ -26,7 +27,7 @@ use zarr_parts::{
 };
 
 // So many fill values of a type. Only where no number says how many bytes they have is this too large; `u64::MAX` elements
-// are more than any memory has.
+// are more than any memory has, which refuses so great a growth.
 fn filled(
     alloc: Global,
     data_type: &DataType,
@@ -43,6 +44,7 @@ fn filled(
         return Err(CodecError::TooLarge);
     }
     if count == u64::MAX {
+        let _: Vec<u8> = Vec::with_capacity(alloc, usize::MAX)?;
         return Err(CodecError::OutOfMemory);
     }
     ArrayBytes::new_fill_value(alloc, data_type, count, fill_value)
@@ -153,6 +155,7 @@ impl<
         ensures unmoved { Unmoved H.state self.old self.new }
         ensures is_open { IsOpen ⟦<ShardingCodec<I, X> as ArrayToBytesCodecTraits>⟧.meaning (index_in X.meaning) H.state self.new }
         ensures answer { IfOk result (IsAnswer self.old.geo (N.selection indexer.now)) }
+        ensures answerable { OnOk result ((⟦<ShardingCodec<I, X> as ArrayToBytesCodecTraits>⟧.meaning self.old.codec self.old.geo).answerable (length (N.selection indexer.now).points)) }
         ensures cells { let codec = ⟦<ShardingCodec<I, X> as ArrayToBytesCodecTraits>⟧ in let s = self.old.codec in let g = self.old.geo in
             IfOk result (λ array. IsTrue (H.state self.old.handle).tells
             → cells_at (object_cells (codec.meaning s g).cells g (H.state self.old.handle).contents) g.shape (N.selection indexer.now).points ≡ map Some array.elements) }
@@ -187,7 +190,10 @@ impl<
     ) -> Result<(), CodecError>
         ensures unmoved { Unmoved H.state self.old self.new }
         ensures is_open { IsOpen ⟦<ShardingCodec<I, X> as ArrayToBytesCodecTraits>⟧.meaning (index_in X.meaning) H.state self.new }
+        ensures kind { OnOk result (size_of self.old.geo.data_type ≡ Fixed target.old.element_size) }
+        ensures counted { OnOk result (count_of target.old.subset.now.shape ≡ length (N.selection indexer.now).points) }
         ensures selected { OnOk result (IsSelectionOf self.old.geo.shape (N.selection indexer.now)) }
+        ensures answerable { OnOk result ((⟦<ShardingCodec<I, X> as ArrayToBytesCodecTraits>⟧.meaning self.old.codec self.old.geo).answerable (length (N.selection indexer.now).points)) }
         ensures written { OnOk result ((elements : List (List ℕ)) × IsWritten target.old target.new (λ k. slice_index_or elements k [])) }
         ensures cells { let codec = ⟦<ShardingCodec<I, X> as ArrayToBytesCodecTraits>⟧ in let s = self.old.codec in let g = self.old.geo in
             OnOk result (IsTrue (H.state self.old.handle).tells

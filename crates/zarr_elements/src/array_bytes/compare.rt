@@ -2,13 +2,13 @@
 ghost use Rattle.std.specs.Prelude.{◌≡◌, IsTrue, ◌↔◌};
 ghost use Rattle.std.proofs.Common.{rules};
 ghost use Rattle.std.specs.Cmp.Rules.{comparing};
-ghost use Rattle.zarr_elements.specs.Arrays.{layout_of, same_array};
+ghost use Rattle.zarr_elements.specs.Arrays.{held_layout, same_array};
 
 use super::{ArrayBytes, Held};
 
 // Whether elements lie among their bytes in one way.
 fn same_layout(a: &Held, b: &Held) -> bool
-    ensures { IsTrue result ↔ (layout_of a.now ≡ layout_of b.now) }
+    ensures { IsTrue result ↔ (held_layout a.now ≡ held_layout b.now) }
 {
     match (a, b) {
         (Held::Fixed(a), Held::Fixed(b)) => a == b,

@@ -6,7 +6,8 @@ use Rattle.zarr_parts.specs.Types.{size_of}
 use Rattle.object_handles.specs.Objects.{interval_part}
 use Rattle.shard_format.specs.Index.{slot_at}
 use Rattle.shard_format.specs.ReadTests.{AnswerTests}
-use Rattle.shard_format.specs.Reading.{IsPartOf, IsReadAt}
+use Rattle.shard_format.specs.Decoding.{IsPartOf}
+use Rattle.shard_format.specs.Reading.{IsReadAt}
 use Rattle.shard_format.proofs.DecodingLemmas.{counted_more, each_more}
 use Rattle.shard_format.proofs.RefusalLemmas.{passed_on}
 use Rattle.shard_cells.specs.Grouping.{lists_of}

@@ -6,7 +6,8 @@ use Rattle.object_handles.specs.Handles.{IsRead}
 use Rattle.object_handles.specs.Objects.{interval_part}
 use Rattle.shard_format.specs.Index.{slot_at}
 use Rattle.shard_cells.specs.Grouping.{lists_of}
-use Rattle.shard_format.specs.Reading.{IsPartOf, IsReadAt}
+use Rattle.shard_format.specs.Decoding.{IsPartOf}
+use Rattle.shard_format.specs.Reading.{IsReadAt}
 use Rattle.shard_subchunks.proofs.subchunks.Subchunks.read_groups.Given as goal
 
 abbrev pub invariant-loop-j : goal.invariant-loop-j

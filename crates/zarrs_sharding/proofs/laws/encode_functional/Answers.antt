@@ -7,7 +7,7 @@ use Rattle.shard_format.specs.Encoding.{IsEncoding}
 use Rattle.shard_format.specs.Scratch.{scratch}
 use Rattle.shard_format.specs.ScratchLaws.{scratch_of_encoding, IsFunctional, functional_parts}
 use Rattle.shard_format.specs.Serves.{sub_geo, layout, ShardServes}
-use Rattle.sharding_core.proofs.laws.encode_functional.Goals as goal
+use Rattle.zarrs_sharding.proofs.laws.encode_functional.Goals as goal
 
 -- what an answer's facts say of it
 answered : {V E : Type 0} (P Q : Type 0) (W Told : V → Type 0) (r : Result V E) → OnOk r P → OnOk r Q → IfOk r W → (P → Q → (v : V) → W v → Told v) → IfOk r Told

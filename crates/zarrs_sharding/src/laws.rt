@@ -1,6 +1,6 @@
 // What callers learn from the sharding codec's laws, each as the contract of a call.
-ghost use Rattle.std.specs.Prelude.{◌≡◌, ◌&&◌, ℕ, Some, IsTrue, IfOk, IfErr, IfSome, IfNone, IsSome, map, true};
-ghost use Rattle.zarr_parts.specs.Order.{RefusedBy};
+ghost use Rattle.std.specs.Prelude.{◌≡◌, ◌&&◌, ℕ, Some, None, IsTrue, IfOk, IfErr, IfSome, IfNone, IsSome, map};
+ghost use Rattle.zarr_parts.specs.Order.{◌or_as◌then◌, RefusedBy};
 ghost use Rattle.zarr_parts.specs.Numbering.{count_of};
 ghost use Rattle.zarr_parts.specs.Grid.{grid_of};
 ghost use Rattle.zarr_parts.specs.Geo.{geo, IsArrayOf};
@@ -8,7 +8,7 @@ ghost use Rattle.zarr_parts.specs.Types.{size_of, byte_size};
 ghost use Rattle.zarr_elements.specs.declared.data_type.DataTypeSize.TheVariants.{Fixed};
 ghost use Rattle.zarr_words.specs.declared.error.CodecError.TheVariants.{OutOfMemory, BadIndexEntry};
 ghost use Rattle.codec_laws.specs.Cells.{all_there};
-ghost use Rattle.codec_laws.specs.Refusals.{MayRefuseEncode, MayRefuseDecode, MayRefuseCompact};
+ghost use Rattle.codec_laws.specs.Refusals.{RefusesUnserved, MayRefuseEncode, MayRefuseDecode, MayRefuseCompact};
 ghost use Rattle.shard_format.specs.Index.{index_geo};
 ghost use Rattle.shard_format.specs.Holding.{Holds};
 ghost use Rattle.shard_format.specs.Compacting.{IsCompact};
@@ -17,13 +17,13 @@ ghost use Rattle.sharding_core.specs.Meanings.{layout_in};
 ghost use Rattle.shard_format.specs.DecodeTests.{IsLowestBad};
 ghost use Rattle.sharding_core.specs.Decoders.{index_in};
 
-use crate::codec::ShardingCodec;
 use codec_laws::{ArrayToBytesCodecTraits, FunctionalCodec};
+use sharding_core::ShardingCodec;
 use std::alloc::Global;
 use zarr_parts::{ArrayBytes, ChunkShape, CodecError, CodecOptions, DataType, FillValue};
 
-/// Decodes a shard that the codec serves and whose cells are all there, of elements of one length. Refused only as
-/// out of memory.
+/// Decodes a shard that the codec serves and whose cells are all there, of elements of one length: the answer has these
+/// cells. Refused only as out of memory.
 pub fn decode_sound<'a, I: ArrayToBytesCodecTraits, X: ArrayToBytesCodecTraits>(
     codec: &ShardingCodec<I, X>,
     alloc: Global,
@@ -37,14 +37,17 @@ pub fn decode_sound<'a, I: ArrayToBytesCodecTraits, X: ArrayToBytesCodecTraits>(
     requires fixed { size_of data_type.now ≡ Fixed (byte_size (size_of data_type.now)) }
     requires sound { let g = geo shape.now data_type.now fill_value.now in
         IsSome (all_there ((⟦<ShardingCodec<I, X> as ArrayToBytesCodecTraits>⟧.meaning codec.now g).cells bytes.now)) }
-    ensures { IfErr result (λ e. e ≡ OutOfMemory) }
+    ensures array { IfOk result (λ array. (array.kind ≡ size_of data_type.now) × IsArrayOf (geo shape.now data_type.now fill_value.now) array.elements) }
+    ensures cells { let g = geo shape.now data_type.now fill_value.now in
+        IfOk result (λ array. (⟦<ShardingCodec<I, X> as ArrayToBytesCodecTraits>⟧.meaning codec.now g).cells bytes.now ≡ map Some array.elements) }
+    ensures refused { IfErr result (λ e. e ≡ OutOfMemory) }
 {
     codec.decode(alloc, bytes, shape, data_type, fill_value, options)
 }
 
 /// Decodes a shard of an array that the codec serves. An array that is decoded has the cells that the shard stands for. A
 /// refusal as `BadIndexEntry` names the lowest subchunk that has no array, whose pair is bad; `Damaged` says that some cell
-/// is not there, and no shard is refused as `Fault`.
+/// is not there, and no shard is refused as `Fault`. Refused as `decode` refuses after the tests of `check`.
 pub fn decode_served<'a, I: ArrayToBytesCodecTraits, X: ArrayToBytesCodecTraits>(
     codec: &ShardingCodec<I, X>,
     alloc: Global,
@@ -64,6 +67,8 @@ pub fn decode_served<'a, I: ArrayToBytesCodecTraits, X: ArrayToBytesCodecTraits>
         let inner_cells = (I.meaning s.inner (sub_geo s.subchunk_shape g)).cells in let numbers = index_in X.meaning s g shard.now in
         IfErr result (λ e. (number : ℕ) → e ≡ BadIndexEntry number
         → IsLowestBad inner_cells shard.now numbers (count_of (grid_of g.shape s.subchunk_shape)) number) }
+    ensures refused { let g = geo shape.now data_type.now fill_value.now in
+        IfErr result (RefusedBy ((⟦<ShardingCodec<I, X> as ArrayToBytesCodecTraits>⟧.meaning codec.now g).decode_tests shard.now)) }
 {
     codec.decode(alloc, shard, shape, data_type, fill_value, options)
 }
@@ -86,13 +91,18 @@ pub fn encode_functional<I: FunctionalCodec, X: FunctionalCodec>(
     ensures lawful { let sharding = ⟦<ShardingCodec<I, X> as ArrayToBytesCodecTraits>⟧ in let g = geo shape.now data_type.now fill_value.now in
         IfErr result (λ e. (sharding.meaning codec.now g).serves → array.now.kind ≡ size_of data_type.now → IsArrayOf g array.now.elements
         → MayRefuseEncode (sharding.meaning codec.now g) array.now.elements e) }
+    ensures refused { let m = ⟦<ShardingCodec<I, X> as ArrayToBytesCodecTraits>⟧.meaning codec.now (geo shape.now data_type.now fill_value.now) in
+        IfErr result (RefusedBy (
+        m.serves or_as RefusesUnserved m then
+        m.encode_tests array.now)) }
 {
     codec.encode(alloc, array, shape, data_type, fill_value, options)
 }
 
 /// Compacts a shard that holds an array, in whatever order and with whatever gaps, by codecs of which each has one encoding
-/// of an array (`is_functional`): the answer is the shard that is made from scratch, as `encode_functional` makes it. `None`
-/// where nothing is to be gained, as for each encoding. Refused as `compact` refuses.
+/// of an array (`is_functional`): the answer is a compaction of the shard, and the shard that is made from scratch, as
+/// `encode_functional` makes it. `None` exactly where nothing is to be gained, as for each encoding. Refused as `compact`
+/// refuses.
 pub fn compact_encoded<I: FunctionalCodec, X: FunctionalCodec>(
     codec: &ShardingCodec<I, X>,
     alloc: Global,
@@ -111,6 +121,8 @@ pub fn compact_encoded<I: FunctionalCodec, X: FunctionalCodec>(
     requires functional { let s = codec.now in IsTrue (I.functional s.inner && X.functional s.index_codec) }
     ensures scratch { let g = geo shape.now data_type.now fill_value.now in
         IfOk result (λ answer. IfSome answer (λ new. new.items ≡ ⟦<ShardingCodec<I, X> as FunctionalCodec>⟧.encoding codec.now g array.now.elements)) }
+    ensures compacted { let g = geo shape.now data_type.now fill_value.now in
+        IfOk result (λ answer. IfSome answer (λ new. (⟦<ShardingCodec<I, X> as ArrayToBytesCodecTraits>⟧.meaning codec.now g).compacted encoded.now new.items)) }
     ensures kept { let g = geo shape.now data_type.now fill_value.now in let s = codec.now in
         let index_cells = (X.meaning s.index_codec (index_geo (grid_of g.shape s.subchunk_shape))).cells in
         IfOk result (λ answer. IfNone answer (IsCompact index_cells (layout_in s (X.meaning s.index_codec (index_geo (grid_of g.shape s.subchunk_shape))) g) encoded.now)) }
@@ -122,31 +134,26 @@ pub fn compact_encoded<I: FunctionalCodec, X: FunctionalCodec>(
     codec.compact(alloc, encoded, shape, data_type, fill_value, options)
 }
 
-/// Compacts a shard that the codec serves, and what it got again. Always `true`: the second answer is `None` where memory
-/// lasts. Refused as `compact` refuses the shard, and as `OutOfMemory`.
+/// Compacts what `compact` made of a shard that the codec serves: there is nothing to gain, so the answer is `None`. Refused
+/// only as out of memory.
 pub fn compact_again<I: ArrayToBytesCodecTraits, X: ArrayToBytesCodecTraits>(
     codec: &ShardingCodec<I, X>,
     alloc: Global,
-    bytes: &[u8],
+    _shard: &[u8],
+    compacted: &[u8],
     shape: &ChunkShape,
     data_type: &DataType,
     fill_value: &FillValue,
     options: &CodecOptions,
-) -> Result<bool, CodecError>
+) -> Result<Option<Vec<u8>>, CodecError>
     requires serves { (⟦<ShardingCodec<I, X> as ArrayToBytesCodecTraits>⟧.meaning codec.now (geo shape.now data_type.now fill_value.now)).serves }
-    ensures settled { IfOk result (λ settled. settled ≡ true) }
-    ensures refused { let g = geo shape.now data_type.now fill_value.now in
-        IfErr result (RefusedBy ((⟦<ShardingCodec<I, X> as ArrayToBytesCodecTraits>⟧.meaning codec.now g).compact_tests bytes.now)) }
+    requires compacted { let g = geo shape.now data_type.now fill_value.now in
+        (⟦<ShardingCodec<I, X> as ArrayToBytesCodecTraits>⟧.meaning codec.now g).compacted _shard.now compacted.now }
+    ensures compact { let g = geo shape.now data_type.now fill_value.now in let s = codec.now in
+        let index = X.meaning s.index_codec (index_geo (grid_of g.shape s.subchunk_shape)) in
+        IsCompact index.cells (layout_in s index g) compacted.now }
+    ensures nothing { IfOk result (λ answer. answer ≡ None) }
+    ensures refused { IfErr result (λ e. e ≡ OutOfMemory) }
 {
-    let Some(compacted) = codec.compact(alloc, bytes, shape, data_type, fill_value, options)? else {
-        return Ok(true);
-    };
-    match codec.compact(alloc, &compacted, shape, data_type, fill_value, options) {
-        Ok(None) => Ok(true),
-        Ok(Some(_)) => Ok(false),
-        Err(error) => match error {
-            CodecError::OutOfMemory => Err(error),
-            _ => Ok(false),
-        },
-    }
+    codec.compact(alloc, compacted, shape, data_type, fill_value, options)
 }

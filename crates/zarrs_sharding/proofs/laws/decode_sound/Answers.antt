@@ -8,10 +8,10 @@ use Rattle.shard_format.specs.Serves.{sub_geo, layout, fixed_size}
 use Rattle.shard_format.specs.Laws.{length-shard_cells, shard_cells_fitting}
 use Rattle.shard_format.proofs.CellLemmas.{not_too_long}
 use Rattle.shard_format.proofs.CallerLemmas.{sound_refused}
-use Rattle.sharding_core.proofs.laws.decode_sound.Goals as goal
+use Rattle.zarrs_sharding.proofs.laws.decode_sound.Goals as goal
 
-pub returns : goal.returns
-returns g c =
+pub returns-clause-refused : goal.returns-clause-refused
+returns-clause-refused g c =
     let s = c.args.codec.now in
     let b = c.args.bytes.now in
     let asked = geo c.args.shape.now c.args.data_type.now c.args.fill_value.now in

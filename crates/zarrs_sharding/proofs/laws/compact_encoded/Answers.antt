@@ -1,21 +1,18 @@
-use Rattle.std.proofs.Common.{Option, Some, None, Result, Ok, Err, IfOk, IfErr, IfSome}
+use Rattle.std.proofs.Common.{Option, Some, None, Result, Ok, Err, IfOk, IfSome}
 use Rattle.std.proofs.lemmas.Bool.{and_parts}
 use Rattle.zarr_parts.specs.Geo.{geo}
 use Rattle.zarr_parts.specs.Grid.{grid_of}
 use Rattle.shard_format.specs.Index.{index_geo}
 use Rattle.shard_format.specs.Serves.{sub_geo}
+use Rattle.codec_laws.proofs.CodecLaws.{refused_so}
 use Rattle.shard_format.proofs.CompactionLemmas.{scratch_of_compacted}
-use Rattle.sharding_core.proofs.laws.compact_encoded.Goals as goal
+use Rattle.zarrs_sharding.proofs.laws.compact_encoded.Goals as goal
 
--- what an answer's and a refusal's facts say of it
+-- what an answer's facts say of it
 rewritten : {V E : Type 0} (P Q : V → Type 0) (r : Result (Option V) E) → IfOk r (λ o. IfSome o P) → ((v : V) → P v → Q v) → IfOk r (λ o. IfSome o Q)
 rewritten P Q (Ok (Some v)) h told = told v h
 rewritten P Q (Ok None) h told = tt
 rewritten P Q (Err e) h told = tt
-
-refused : {V E : Type 0} (P Q : E → Type 0) (r : Result V E) → IfErr r P → ((e : E) → P e → Q e) → IfErr r Q
-refused P Q (Ok v) h told = tt
-refused P Q (Err e) h told = told e h
 
 pub returns-clause-scratch : goal.returns-clause-scratch
 returns-clause-scratch g c =
@@ -36,4 +33,4 @@ returns-clause-scratch g c =
     c.requires.holds compacted)
 
 pub returns-clause-lawful : goal.returns-clause-lawful
-returns-clause-lawful g c = refused _ _ c.compact.result c.compact.ensures.lawful (λ e may. may c.requires.serves)
+returns-clause-lawful g c = refused_so _ _ c.compact.result c.compact.ensures.lawful (λ e may. may c.requires.serves)

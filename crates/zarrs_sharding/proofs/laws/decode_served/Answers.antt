@@ -1,19 +1,14 @@
-use Rattle.std.proofs.Common.{Result, Ok, Err, IfErr}
 use Rattle.zarr_parts.specs.Geo.{geo}
 use Rattle.zarr_parts.specs.Grid.{grid_of}
 use Rattle.shard_format.specs.Index.{index_geo}
 use Rattle.shard_format.specs.Serves.{sub_geo, layout}
 use Rattle.sharding_core.specs.Meanings.{shard_meaning}
+use Rattle.codec_laws.proofs.CodecLaws.{refused_so}
 use Rattle.shard_format.proofs.CallerLemmas.{reported}
-use Rattle.sharding_core.proofs.laws.decode_served.Goals as goal
-
--- what a refusal's facts say of it
-refused : {V E : Type 0} (P Q : E → Type 0) (r : Result V E) → IfErr r P → ((e : E) → P e → Q e) → IfErr r Q
-refused P Q (Ok v) h told = tt
-refused P Q (Err e) h told = told e h
+use Rattle.zarrs_sharding.proofs.laws.decode_served.Goals as goal
 
 pub returns-clause-lawful : goal.returns-clause-lawful
-returns-clause-lawful g c = refused _ _ c.decode.result c.decode.ensures.lawful (λ e may. may c.requires.serves)
+returns-clause-lawful g c = refused_so _ _ c.decode.result c.decode.ensures.lawful (λ e may. may c.requires.serves)
 
 pub returns-clause-lowest : goal.returns-clause-lowest
 returns-clause-lowest g c =
@@ -24,7 +19,7 @@ returns-clause-lowest g c =
     let inner = g.I.ArrayToBytesCodecTraits in
     let index = g.X.ArrayToBytesCodecTraits in
     let representation = (index.meaning s.index_codec index_g).representation in
-    refused _ _ c.decode.result c.decode.ensures.refused
+    refused_so _ _ c.decode.result c.decode.ensures.refused
     (λ e tests number is.
     reported (shard_meaning s (inner.meaning s.inner inner_g) (index.meaning s.index_codec index_g) asked) (inner.meaning s.inner inner_g) (index.meaning s.index_codec index_g)
     (layout s.subchunk_shape s.location s.order representation asked) c.args.shard.now e number

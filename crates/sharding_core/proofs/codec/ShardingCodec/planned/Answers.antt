@@ -1,6 +1,6 @@
 use Rattle.std.proofs.Common.{◌∙◌, rules}
 use Rattle.shard_format.proofs.PlanLemmas.{some_subchunks, some_places}
-use Rattle.sharding_core.proofs.codec.ShardingCodec.compact_plan.Goals as goal
+use Rattle.sharding_core.proofs.codec.ShardingCodec.planned.Goals as goal
 
 pub returns-clause-plan : goal.returns-clause-plan
 returns-clause-plan g c =
