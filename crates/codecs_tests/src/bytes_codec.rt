@@ -1,21 +1,9 @@
 // The codec `bytes` on small arrays worked by hand.
+use crate::examples::{done, fill, fixed, shape};
 use std::alloc::Global;
 use std::borrow::CowSlice;
-use std::test::Fail;
 use zarr_codecs::{ArrayToBytesCodecTraits, BytesCodec, BytesRepresentation, FunctionalCodec};
 use zarr_parts::{ArrayBytes, ChunkShape, CodecError, CodecOptions, DataType, FillValue};
-
-fn shape(alloc: Global, axes: &[u64]) -> Result<ChunkShape, Fail> {
-    Ok(ChunkShape::new(alloc, axes)?.ok_or("no axis is 0")?)
-}
-
-fn fill(alloc: Global, bytes: &[u8]) -> Result<FillValue, Fail> {
-    Ok(FillValue::new(bytes.to_vec(alloc)?))
-}
-
-fn fixed(bytes: &[u8], size: usize) -> Result<ArrayBytes<'_>, Fail> {
-    Ok(ArrayBytes::new_flen(CowSlice::Borrowed(bytes), size).ok_or("whole elements")?)
-}
 
 fn encoded(
     alloc: Global,
@@ -41,87 +29,80 @@ fn decoded<'a>(
     codec.decode(alloc, bytes, axes, data_type, zero, &options)
 }
 
-// What elements of this size are stored as, and whether that is decoded to them again.
-fn stored_as(
+// Whether an array is stored as these bytes, and they are decoded to it again.
+fn turns_over(
     alloc: Global,
     codec: BytesCodec,
     data_type: &DataType,
+    zero: &FillValue,
+    array: &ArrayBytes,
+    want: &[u8],
+) -> Result<bool, CodecError> {
+    let axes = shape(alloc, &[array.len() as u64])?;
+    let stored = encoded(alloc, codec, data_type, &axes, zero, array)?;
+    let again = decoded(alloc, codec, data_type, &axes, zero, &stored)? == *array;
+    Ok(again && stored.as_slice() == want)
+}
+
+// The same of an array of elements of this size, whose fill value is zero.
+fn is_stored_as(
+    alloc: Global,
+    codec: BytesCodec,
+    data_type: DataType,
     size: usize,
     memory: &[u8],
-) -> Result<(Vec<u8>, bool), Fail> {
+    want: &[u8],
+) -> Result<bool, CodecError> {
     let array = fixed(memory, size)?;
-    let axes = shape(alloc, &[array.len() as u64])?;
     let zero = FillValue::new(Vec::from_elem(alloc, 0, size)?);
-    let stored = encoded(alloc, codec, data_type, &axes, &zero, &array)?;
-    let again = decoded(alloc, codec, data_type, &axes, &zero, &stored)? == array;
-    Ok((stored, again))
+    turns_over(alloc, codec, &data_type, &zero, &array, want)
 }
 
+// Whole numbers are stored in the codec's byte order, and elements without one as they are.
 #[test]
-fn whole_numbers_are_stored_in_their_order(rt: HostRuntime) -> Result<(), Fail> {
-    let alloc = rt.alloc();
+fn whole_numbers_are_stored_in_their_order(rt: HostRuntime) {
     let six = [1, 2, 3, 4, 5, 6].as_slice();
-    let unordered = BytesCodec::new(None);
-    for (codec, data_type, size, memory, stored) in [
-        (
-            BytesCodec::big(),
-            DataType::UInt16,
-            2,
-            [2, 1].as_slice(),
-            [1, 2].as_slice(),
-        ),
-        (BytesCodec::little(), DataType::UInt16, 2, &[2, 1], &[2, 1]),
-        (BytesCodec::default(), DataType::UInt16, 2, &[2, 1], &[2, 1]),
-        (
-            BytesCodec::big(),
-            DataType::Int16,
-            2,
-            six,
-            &[2, 1, 4, 3, 6, 5],
-        ),
-        (BytesCodec::big(), DataType::UInt8, 1, six, six),
-        (BytesCodec::big(), DataType::Bool, 1, &[1, 0], &[1, 0]),
-        (BytesCodec::big(), DataType::Raw(3), 3, six, six),
+    let (big, unordered) = (BytesCodec::big(), BytesCodec::new(None));
+    let (little, default) = (BytesCodec::little(), BytesCodec::default());
+    let rows: [(BytesCodec, DataType, usize, &[u8], &[u8]); 9] = [
+        (big, DataType::UInt16, 2, &[2, 1], &[1, 2]),
+        (little, DataType::UInt16, 2, &[2, 1], &[2, 1]),
+        (default, DataType::UInt16, 2, &[2, 1], &[2, 1]),
+        (big, DataType::Int16, 2, six, &[2, 1, 4, 3, 6, 5]),
+        (big, DataType::UInt8, 1, six, six),
+        (big, DataType::Bool, 1, &[1, 0], &[1, 0]),
+        (big, DataType::Raw(3), 3, six, six),
         (unordered, DataType::Raw(3), 3, six, six),
         (unordered, DataType::UInt8, 1, six, six),
-    ] {
-        let (bytes, again) = stored_as(alloc, codec, &data_type, size, memory)?;
-        assert_eq!(rt;
-            (bytes.as_slice(), again),
-            (stored, true),
-            "{data_type:?} by {codec:?}"
-        );
+    ];
+    for (codec, data_type, size, memory, want) in rows {
+        let found = is_stored_as(rt.alloc(), codec, data_type, size, memory, want);
+        assert_eq!(rt; found, Ok(true), "{data_type:?} by {codec:?}");
     }
-    Ok(())
 }
 
-// How the codec refuses arrays of these axes, of this type and with this fill value.
-fn check_refusal(
+// How the codec serves arrays of these axes, of this type and with this fill value.
+fn checked(
     alloc: Global,
     codec: BytesCodec,
-    data_type: &DataType,
+    data_type: DataType,
     value: &[u8],
     axes: &[u64],
-) -> Result<Option<CodecError>, Fail> {
+) -> Result<(), CodecError> {
     let axes = shape(alloc, axes)?;
     let value = fill(alloc, value)?;
-    Ok(codec.check(alloc, &axes, data_type, &value).err())
+    codec.check(alloc, &axes, &data_type, &value)
 }
 
+// The type is tested before the fill value, and this before the shape.
 #[test]
-fn types_fill_values_and_shapes_are_tested_in_order(rt: HostRuntime) -> Result<(), Fail> {
-    let alloc = rt.alloc();
+fn types_fill_values_and_shapes_are_tested_in_order(rt: HostRuntime) {
     let (little, unordered) = (BytesCodec::little(), BytesCodec::new(None));
-    let unsupported = Some(CodecError::UnsupportedDataType);
+    let unsupported = Err(CodecError::UnsupportedDataType);
+    let large = Err(CodecError::TooLarge);
     let wide = [1 << 63, 2].as_slice();
-    for (codec, data_type, bytes, axes, want) in [
-        (
-            unordered,
-            DataType::UInt16,
-            [0].as_slice(),
-            wide,
-            unsupported,
-        ),
+    let rows: [(BytesCodec, DataType, &[u8], &[u64], Result<(), CodecError>); 9] = [
+        (unordered, DataType::UInt16, &[0], wide, unsupported),
         (little, DataType::Optional, &[0], wide, unsupported),
         (little, DataType::Raw(0), &[0], wide, unsupported),
         (little, DataType::Bytes, &[0], wide, unsupported),
@@ -130,101 +111,107 @@ fn types_fill_values_and_shapes_are_tested_in_order(rt: HostRuntime) -> Result<(
             DataType::UInt16,
             &[0],
             wide,
-            Some(CodecError::BadFillValue),
+            Err(CodecError::BadFillValue),
         ),
-        (
-            little,
-            DataType::UInt8,
-            &[0],
-            wide,
-            Some(CodecError::TooLarge),
-        ),
-        (
-            little,
-            DataType::UInt16,
-            &[0, 0],
-            &[1 << 63],
-            Some(CodecError::TooLarge),
-        ),
-        (little, DataType::UInt8, &[0], &[u64::MAX], None),
-        (unordered, DataType::Bool, &[0], &[2], None),
-    ] {
-        let refusal = check_refusal(alloc, codec, &data_type, bytes, axes)?;
-        assert_eq!(rt; refusal, want, "{data_type:?} by {codec:?}");
+        (little, DataType::UInt8, &[0], wide, large),
+        (little, DataType::UInt16, &[0, 0], &[1 << 63], large),
+        (little, DataType::UInt8, &[0], &[u64::MAX], Ok(())),
+        (unordered, DataType::Bool, &[0], &[2], Ok(())),
+    ];
+    for (codec, data_type, value, axes, want) in rows {
+        let answer = checked(rt.alloc(), codec, data_type, value, axes);
+        assert_eq!(rt; answer, want, "{data_type:?} by {codec:?}");
     }
-    Ok(())
 }
 
-// How two big-endian numbers of 16 bits are refused that an array is.
-fn encode_refusal(alloc: Global, array: &ArrayBytes) -> Result<Option<CodecError>, Fail> {
+// How an array is encoded as two big-endian numbers of 16 bits.
+fn encode_two(alloc: Global, array: &ArrayBytes) -> Result<(), CodecError> {
     let axes = shape(alloc, &[2])?;
     let zero = fill(alloc, &[0, 0])?;
-    let codec = BytesCodec::big();
-    Ok(encoded(alloc, codec, &DataType::UInt16, &axes, &zero, array).err())
-}
-
-#[test]
-fn arrays_are_tested_in_order(rt: HostRuntime) -> Result<(), Fail> {
-    let alloc = rt.alloc();
-    let zeros = [0; 8].as_slice();
-    for (size, len, want) in [
-        (1, 3, Some(CodecError::WrongElementKind)),
-        (2, 6, Some(CodecError::InvalidNumberOfElements)),
-        (2, 4, None),
-    ] {
-        let refusal = encode_refusal(alloc, &fixed(&zeros[..len], size)?)?;
-        assert_eq!(rt; refusal, want, "{len} bytes of size {size}");
-    }
-    Ok(())
-}
-
-#[test]
-fn arrays_of_no_fixed_size_are_refused(rt: HostRuntime) -> Result<(), Fail> {
-    let alloc = rt.alloc();
-    let offsets = [0, 2, 4].to_vec(alloc)?;
-    let array = ArrayBytes::new_vlen(CowSlice::Borrowed(&[0; 4]), offsets).ok_or("offsets")?;
-    let refusal = encode_refusal(alloc, &array)?;
-    assert_eq!(rt; refusal, Some(CodecError::WrongElementKind));
-    Ok(())
-}
-
-// How two big-endian numbers of 16 bits are refused that bytes are.
-fn decode_refusal(alloc: Global, bytes: &[u8]) -> Result<Option<CodecError>, Fail> {
-    let axes = shape(alloc, &[2])?;
-    let zero = fill(alloc, &[0, 0])?;
-    let codec = BytesCodec::big();
-    Ok(decoded(alloc, codec, &DataType::UInt16, &axes, &zero, bytes).err())
-}
-
-#[test]
-fn bytes_of_another_length_are_refused(rt: HostRuntime) -> Result<(), Fail> {
-    let zeros = [0; 8].as_slice();
-    for (len, want) in [
-        (0, Some(CodecError::Damaged)),
-        (3, Some(CodecError::Damaged)),
-        (6, Some(CodecError::Damaged)),
-        (4, None),
-    ] {
-        let refusal = decode_refusal(rt.alloc(), &zeros[..len])?;
-        assert_eq!(rt; refusal, want, "{len} bytes");
-    }
-    Ok(())
-}
-
-#[test]
-fn encodings_have_one_length(rt: HostRuntime) -> Result<(), Fail> {
-    let axes = shape(rt.alloc(), &[4, 4])?;
-    let zero = fill(rt.alloc(), &[0, 0])?;
-    let told = BytesCodec::big().encoded_representation(
-        rt.alloc(),
-        &axes,
+    done(encoded(
+        alloc,
+        BytesCodec::big(),
         &DataType::UInt16,
+        &axes,
         &zero,
-    )?;
-    assert_eq!(rt; told, BytesRepresentation::FixedSize(32));
-    Ok(())
+        array,
+    ))
 }
 
+fn encode_fixed(alloc: Global, bytes: &[u8], size: usize) -> Result<(), CodecError> {
+    encode_two(alloc, &fixed(bytes, size)?)
+}
+
+// The size of an element is tested before the number of elements.
+#[test]
+fn arrays_are_tested_in_order(rt: HostRuntime) {
+    let rows: [(usize, &[u8], Result<(), CodecError>); 3] = [
+        (1, &[0; 3], Err(CodecError::WrongElementKind)),
+        (2, &[0; 6], Err(CodecError::InvalidNumberOfElements)),
+        (2, &[0; 4], Ok(())),
+    ];
+    for (size, bytes, want) in rows {
+        let answer = encode_fixed(rt.alloc(), bytes, size);
+        assert_eq!(rt; answer, want, "{} bytes of size {size}", bytes.len());
+    }
+}
+
+fn encode_variable(alloc: Global, bytes: &[u8], offsets: &[usize]) -> Result<(), CodecError> {
+    let bytes = CowSlice::Borrowed(bytes);
+    let array = ArrayBytes::new_vlen(bytes, offsets.to_vec(alloc)?).ok_or(CodecError::Fault)?;
+    encode_two(alloc, &array)
+}
+
+// Elements of any length are no numbers, also where each has the size of one.
+#[test]
+fn arrays_of_no_fixed_size_are_refused(rt: HostRuntime) {
+    let answer = encode_variable(rt.alloc(), &[0; 4], &[0, 2, 4]);
+    assert_eq!(rt; answer, Err(CodecError::WrongElementKind));
+}
+
+// How bytes are decoded to two big-endian numbers of 16 bits.
+fn decode_two(alloc: Global, bytes: &[u8]) -> Result<(), CodecError> {
+    let axes = shape(alloc, &[2])?;
+    let zero = fill(alloc, &[0, 0])?;
+    done(decoded(
+        alloc,
+        BytesCodec::big(),
+        &DataType::UInt16,
+        &axes,
+        &zero,
+        bytes,
+    ))
+}
+
+// Bytes are decoded where they are as many as the elements have.
+#[test]
+fn bytes_of_another_length_are_refused(rt: HostRuntime) {
+    let rows: [(&[u8], Result<(), CodecError>); 4] = [
+        (&[], Err(CodecError::Damaged)),
+        (&[0; 3], Err(CodecError::Damaged)),
+        (&[0; 6], Err(CodecError::Damaged)),
+        (&[0; 4], Ok(())),
+    ];
+    for (bytes, want) in rows {
+        let answer = decode_two(rt.alloc(), bytes);
+        assert_eq!(rt; answer, want, "{} bytes", bytes.len());
+    }
+}
+
+// What is told of the encodings of sixteen numbers of 16 bits.
+fn told(alloc: Global) -> Result<BytesRepresentation, CodecError> {
+    let axes = shape(alloc, &[4, 4])?;
+    let zero = fill(alloc, &[0, 0])?;
+    BytesCodec::big().encoded_representation(alloc, &axes, &DataType::UInt16, &zero)
+}
+
+// Each encoding has the length of the elements.
+#[test]
+fn encodings_have_one_length(rt: HostRuntime) {
+    assert_eq!(rt; told(rt.alloc()), Ok(BytesRepresentation::FixedSize(32)));
+}
+
+// Equal elements have one encoding, in each byte order.
 #[test]
 fn the_elements_have_one_encoding(rt: HostRuntime) {
     for codec in [

@@ -1,35 +1,52 @@
 // A handle that fails at a call.
+use crate::examples::{done, is_lent};
 use std::alloc::Global;
 use std::ops::Range;
-use std::test::Fail;
 use zarr_codecs::{
-    ByteRange, BytesPartialDecoderTraits, BytesPartialEncoderTraits, FaultingHandle, copied, lent,
+    ByteRange, BytesPartialDecoderTraits, BytesPartialEncoderTraits, FaultingHandle, copied,
 };
 use zarr_parts::CodecError;
 
 // How many calls a run makes, each of them by its number.
 const CALLS: u64 = 6;
 
-fn call<H: BytesPartialEncoderTraits>(
+// A call that asks.
+fn ask<H: BytesPartialEncoderTraits>(
     handle: &mut H,
     alloc: Global,
     number: u64,
 ) -> Result<(), CodecError> {
     match number {
-        0 => {
-            let _ = handle.exists()?;
-        }
-        1 => handle.partial_encode_many(alloc, &[(2, &[7, 8])])?,
-        2 => {
-            let _ = handle.len()?;
-        }
-        3 => handle.replace(alloc, &[5])?,
-        4 => {
-            let _ = copied(handle, alloc, ByteRange::Suffix(1))?;
-        }
-        _ => handle.erase()?,
+        0 => done(handle.exists()),
+        2 => done(handle.len()),
+        _ => done(copied(handle, alloc, ByteRange::Suffix(1))),
     }
-    Ok(())
+}
+
+// A call that writes.
+fn change<H: BytesPartialEncoderTraits>(
+    handle: &mut H,
+    alloc: Global,
+    number: u64,
+) -> Result<(), CodecError> {
+    match number {
+        1 => handle.partial_encode_many(alloc, &[(2, &[7, 8])]),
+        3 => handle.replace(alloc, &[5]),
+        _ => handle.erase(),
+    }
+}
+
+// The calls of even numbers ask, and the others write.
+fn call<H: BytesPartialEncoderTraits>(
+    handle: &mut H,
+    alloc: Global,
+    number: u64,
+) -> Result<(), CodecError> {
+    if number % 2 == 0 {
+        ask(handle, alloc, number)
+    } else {
+        change(handle, alloc, number)
+    }
 }
 
 // Makes the calls of these numbers, up to one that is refused.
@@ -44,66 +61,61 @@ fn calls<H: BytesPartialEncoderTraits>(
     Ok(())
 }
 
-// A handle at the call that fails, how often it failed before, and how the call is refused.
-fn at_the_fault(
-    alloc: Global,
-    fails_at: u64,
-) -> Result<(FaultingHandle, u64, Result<(), CodecError>), CodecError> {
-    let mut handle = FaultingHandle::new(Some([1, 2, 3].to_vec(alloc)?), fails_at);
-    calls(&mut handle, alloc, 0..fails_at)?;
-    let before = handle.faults();
-    let refused = call(&mut handle, alloc, fails_at);
-    Ok((handle, before, refused))
+// Whether a handle failed so often, and neither holds anything nor leaves an object.
+fn is_left(handle: FaultingHandle, faults: u64) -> bool {
+    let is_so = handle.faults() == faults && handle.size_held() == 0;
+    handle.into_inner().is_none() && is_so
 }
 
-// What comes of the calls from a number on, how often the handle failed then, what it holds, and whether no object is left.
-type Ended = (Result<(), CodecError>, u64, usize, bool);
-
-fn ended(mut handle: FaultingHandle, alloc: Global, from: u64) -> Ended {
+// Whether the calls from a number on are all made, and how the handle is left then.
+fn is_ended(mut handle: FaultingHandle, alloc: Global, from: u64, faults: u64) -> bool {
     let made = calls(&mut handle, alloc, from..CALLS);
-    let (faults, held) = (handle.faults(), handle.size_held());
-    (made, faults, held, handle.into_inner().is_none())
+    made == Ok(()) && is_left(handle, faults)
 }
 
-fn holds(handle: &mut FaultingHandle, alloc: Global, want: &[u8]) -> bool {
-    let mut room = Vec::new(alloc);
-    lent(handle, &mut room, alloc, ByteRange::FromStart(0, None)) == Ok(Some(want))
+// Whether a call is the first that fails, and the handle holds what is wanted then.
+fn is_refused(alloc: Global, handle: &mut FaultingHandle, number: u64, want: &[u8]) -> bool {
+    let before = handle.faults();
+    let answer = call(handle, alloc, number);
+    let is_first = before == 0 && answer == Err(CodecError::Fault);
+    is_first && is_lent(alloc, handle, ByteRange::FromStart(0, None), Ok(Some(want)))
 }
 
-// How often a handle failed before the call that fails, how that is refused, whether the handle holds what is wanted then,
-// and what comes of the same call and the later ones.
-type Failing = (u64, Result<(), CodecError>, bool, Ended);
-
-fn failing(alloc: Global, fails_at: u64, want: &[u8]) -> Result<Failing, CodecError> {
-    let (mut handle, before, refused) = at_the_fault(alloc, fails_at)?;
-    let kept = holds(&mut handle, alloc, want);
-    Ok((before, refused, kept, ended(handle, alloc, fails_at)))
+// Whether the call of a number fails, changes nothing, and is made as the later ones where it is tried again.
+fn fails_once(alloc: Global, number: u64, want: &[u8]) -> Result<bool, CodecError> {
+    let mut handle = FaultingHandle::new(Some([1, 2, 3].to_vec(alloc)?), number);
+    calls(&mut handle, alloc, 0..number)?;
+    let refused = is_refused(alloc, &mut handle, number, want);
+    Ok(is_ended(handle, alloc, number, 1) && refused)
 }
 
+// What each call finds.
+const FOUND: [&[u8]; 6] = [
+    &[1, 2, 3],
+    &[1, 2, 3],
+    &[1, 2, 7, 8],
+    &[1, 2, 7, 8],
+    &[5],
+    &[5],
+];
+
+// The call of the number is refused once, and changes nothing.
 #[test]
-fn the_call_of_the_number_fails_once(rt: HostRuntime) -> Result<(), Fail> {
-    let alloc = rt.alloc();
-    // what each call finds
-    let found: [&[u8]; 6] = [
-        &[1, 2, 3],
-        &[1, 2, 3],
-        &[1, 2, 7, 8],
-        &[1, 2, 7, 8],
-        &[5],
-        &[5],
-    ];
-    let failed = (0, Err(CodecError::Fault), true, (Ok(()), 1, 0, true));
-    for (fails_at, want) in (0..CALLS).zip(found) {
-        let got = failing(alloc, fails_at, want)?;
-        assert_eq!(rt; got, failed, "at {fails_at}");
+fn the_call_of_the_number_fails_once(rt: HostRuntime) {
+    for (number, want) in (0..CALLS).zip(FOUND) {
+        let found = fails_once(rt.alloc(), number, want);
+        assert_eq!(rt; found, Ok(true), "at {number}");
     }
-    Ok(())
 }
 
-#[test]
-fn no_call_fails_before_its_number(rt: HostRuntime) -> Result<(), Fail> {
-    let alloc = rt.alloc();
+// Whether all calls are made to a handle that fails at none of them.
+fn fails_never(alloc: Global) -> Result<bool, CodecError> {
     let handle = FaultingHandle::new(Some([1, 2, 3].to_vec(alloc)?), CALLS);
-    assert_eq!(rt; ended(handle, alloc, 0), (Ok(()), 0, 0, true));
-    Ok(())
+    Ok(is_ended(handle, alloc, 0, 0))
+}
+
+// No call fails before the number.
+#[test]
+fn no_call_fails_before_its_number(rt: HostRuntime) {
+    assert_eq!(rt; fails_never(rt.alloc()), Ok(true));
 }

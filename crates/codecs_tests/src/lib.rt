@@ -6,6 +6,8 @@ mod bytes_codec;
 #[cfg(test)]
 mod counting;
 #[cfg(test)]
+mod examples;
+#[cfg(test)]
 mod faults;
 #[cfg(test)]
 mod handles;

@@ -1,87 +1,85 @@
 // Reads of the codec `bytes`, on numbers worked by hand.
+use crate::examples::{done, fill, handle_over, shape, subset};
 use std::alloc::Global;
-use std::test::Fail;
 use zarr_codecs::{ArrayToBytesCodecTraits, BytesCodec, Interval, MemoryHandle};
-use zarr_parts::{
-    ArrayBytes, ArraySubset, ChunkShape, CodecError, CodecOptions, Coordinates, DataType,
-    FillValue, Indexer,
-};
+use zarr_parts::{ArrayBytes, CodecError, CodecOptions, Coordinates, DataType, Indexer};
 
 // One byte, and then 1 to 4 as big-endian 16-bit numbers.
 const OBJECT: [u8; 9] = [9, 0, 1, 0, 2, 0, 3, 0, 4];
 
 fn read<N: Indexer>(
     alloc: Global,
-    object: Option<Vec<u8>>,
-    offset: u64,
-    size: u64,
+    handle: &mut MemoryHandle,
+    interval: Interval,
     indexer: &N,
 ) -> Result<ArrayBytes<'static>, CodecError> {
-    let mut handle = MemoryHandle::new(object);
-    let interval = Interval { offset, size };
-    let Some(shape) = ChunkShape::new(alloc, &[2, 2])? else {
-        return Err(CodecError::Fault);
-    };
-    let zero = FillValue::new([0, 0].to_vec(alloc)?);
-    BytesCodec::big().partial_decode(
-        alloc,
-        &mut handle,
-        interval,
-        &shape,
-        &DataType::UInt16,
-        &zero,
-        indexer,
-        &CodecOptions::default(),
+    let shape = shape(alloc, &[2, 2])?;
+    let zero = fill(alloc, &[0, 0])?;
+    let options = CodecOptions::default();
+    let big = BytesCodec::big();
+    let numbers = &DataType::UInt16;
+    big.partial_decode(
+        alloc, handle, interval, &shape, numbers, &zero, indexer, &options,
     )
 }
 
-fn coordinates(alloc: Global, count: u64, flat: &[u64]) -> Result<Coordinates, Fail> {
-    let flat = flat.to_vec(alloc)?;
-    Ok(Coordinates::new(2, count, flat).ok_or("two numbers each")?)
+fn coordinates(alloc: Global, count: u64, flat: &[u64]) -> Result<Coordinates, CodecError> {
+    Coordinates::new(2, count, flat.to_vec(alloc)?).ok_or(CodecError::Fault)
 }
 
-#[test]
-fn asked_elements_are_read(rt: HostRuntime) -> Result<(), Fail> {
-    let alloc = rt.alloc();
+// Whether these elements are read behind the first byte.
+fn are_read<N: Indexer>(alloc: Global, indexer: &N, want: &[u8]) -> Result<bool, CodecError> {
+    let mut handle = handle_over(alloc, Some(&OBJECT))?;
+    let numbers = Interval { offset: 1, size: 8 };
+    let array = read(alloc, &mut handle, numbers, indexer)?;
+    Ok(array.fixed_bytes() == Some(want))
+}
+
+fn corners_are_read(alloc: Global) -> Result<bool, CodecError> {
     let twice = coordinates(alloc, 3, &[1, 1, 0, 0, 1, 1])?;
-    let array = read(alloc, Some(OBJECT.to_vec(alloc)?), 1, 8, &twice)?;
-    assert!(rt; array.fixed_bytes() == Some([4, 0, 1, 0, 4, 0].as_slice()));
-    let column = ArraySubset::new_with_ranges(alloc, &[0..2, 1..2])?.ok_or("a box")?;
-    let array = read(alloc, Some(OBJECT.to_vec(alloc)?), 1, 8, &column)?;
-    assert!(rt; array.fixed_bytes() == Some([2, 0, 4, 0].as_slice()));
-    Ok(())
+    are_read(alloc, &twice, &[4, 0, 1, 0, 4, 0])
 }
 
-// How a read of one cell is refused, of the object or of none.
-fn refusal(
+fn column_is_read(alloc: Global) -> Result<bool, CodecError> {
+    are_read(alloc, &subset(alloc, &[0..2, 1..2])?, &[2, 0, 4, 0])
+}
+
+// The elements that are asked are read, one of them twice, and those of a box in row-major order.
+#[test]
+fn asked_elements_are_read(rt: HostRuntime) {
+    assert!(rt; corners_are_read(rt.alloc()) == Ok(true));
+    assert!(rt; column_is_read(rt.alloc()) == Ok(true));
+}
+
+// How a read of one cell is answered, of an object or of none.
+fn read_cell(
     alloc: Global,
-    there: bool,
+    object: Option<&[u8]>,
     offset: u64,
     size: u64,
     cell: &[u64],
-) -> Result<Option<CodecError>, Fail> {
+) -> Result<(), CodecError> {
     let cell = coordinates(alloc, 1, cell)?;
-    let object = if there {
-        Some(OBJECT.to_vec(alloc)?)
-    } else {
-        None
-    };
-    Ok(read(alloc, object, offset, size, &cell).err())
+    let mut handle = handle_over(alloc, object)?;
+    done(read(alloc, &mut handle, Interval { offset, size }, &cell))
 }
 
+// The cell is tested before the size, and this before the place in the object.
 #[test]
-fn reads_are_refused_in_order(rt: HostRuntime) -> Result<(), Fail> {
+fn reads_are_refused_in_order(rt: HostRuntime) {
+    let object = Some(OBJECT.as_slice());
     let corner = [1, 1].as_slice();
-    for (there, offset, size, cell, want) in [
-        (true, 1, 8, corner, None),
-        (true, 2, 8, corner, Some(CodecError::OutOfBounds)),
-        (true, u64::MAX, 8, corner, Some(CodecError::OutOfBounds)),
-        (true, 1, 6, corner, Some(CodecError::Damaged)),
-        (false, 0, 8, corner, Some(CodecError::OutOfBounds)),
-        (true, 1, 6, &[1, 2], Some(CodecError::OutOfBounds)),
-    ] {
-        let got = refusal(rt.alloc(), there, offset, size, cell)?;
-        assert_eq!(rt; got, want, "{size} bytes at {offset}");
+    let outside = Err(CodecError::OutOfBounds);
+    let rows: [(Option<&[u8]>, u64, u64, &[u64], Result<(), CodecError>); 6] = [
+        (object, 1, 8, corner, Ok(())),
+        (object, 2, 8, corner, outside),
+        (object, u64::MAX, 8, corner, outside),
+        (object, 1, 6, corner, Err(CodecError::Damaged)),
+        (None, 0, 8, corner, outside),
+        (object, 1, 6, &[1, 2], outside),
+    ];
+    for (object, offset, size, cell, want) in rows {
+        let answer = read_cell(rt.alloc(), object, offset, size, cell);
+        assert_eq!(rt; answer, want, "{size} bytes at {offset}");
     }
-    Ok(())
 }

@@ -1,62 +1,81 @@
 // Arrays of the codec `bytes`, decoded into a target.
+use crate::examples::{fill, shape, subset};
 use std::alloc::Global;
 use std::ops::Range;
 use zarr_codecs::{ArrayToBytesCodecTraits, BytesCodec};
-use zarr_parts::{
-    ArraySubset, ChunkShape, CodecError, CodecOptions, DataType, FillValue, FixedTarget,
-};
+use zarr_parts::{CodecError, CodecOptions, DataType, FixedTarget};
 
-// What `decode_into` answers, into a range of so many elements.
-fn into(
-    alloc: Global,
-    bytes: &[u8],
-    size: usize,
-    count: u64,
-    ranges: &[Range<u64>],
-    output: &mut [u8],
-) -> Result<(), CodecError> {
-    let Some(shape) = ChunkShape::new(alloc, &[2])? else {
-        return Err(CodecError::Fault);
-    };
-    let Some(subset) = ArraySubset::new_with_ranges(alloc, ranges)? else {
-        return Err(CodecError::Fault);
-    };
-    let axes = [count];
-    let Some(mut target) = FixedTarget::new(output, size, &axes, &subset) else {
-        return Err(CodecError::Fault);
-    };
-    let zero = FillValue::new([0, 0].to_vec(alloc)?);
-    BytesCodec::big().decode_into(
+// Decodes two big-endian numbers of 16 bits into a target.
+fn decode(alloc: Global, bytes: &[u8], target: &mut FixedTarget) -> Result<(), CodecError> {
+    let shape = shape(alloc, &[2])?;
+    let zero = fill(alloc, &[0, 0])?;
+    let options = CodecOptions::default();
+    let big = BytesCodec::big();
+    big.decode_into(
         alloc,
         bytes,
         &shape,
         &DataType::UInt16,
         &zero,
-        &mut target,
-        &CodecOptions::default(),
+        target,
+        &options,
     )
 }
 
+// Decodes them into a range of so many elements.
+fn decode_into(
+    alloc: Global,
+    bytes: &[u8],
+    size: usize,
+    axes: &[u64],
+    range: Range<u64>,
+    output: &mut [u8],
+) -> Result<(), CodecError> {
+    let cells = subset(alloc, &[range])?;
+    let mut target = FixedTarget::new(output, size, axes, &cells).ok_or(CodecError::Fault)?;
+    decode(alloc, bytes, &mut target)
+}
+
+// What a decoding answers; a fault where the output, whose bytes were 77, has not these then.
+fn decoded(
+    alloc: Global,
+    bytes: &[u8],
+    size: usize,
+    axes: &[u64],
+    range: Range<u64>,
+    want: &[u8],
+) -> Result<(), CodecError> {
+    let mut output = Vec::from_elem(alloc, 77, 8)?;
+    let answer = decode_into(alloc, bytes, size, axes, range, &mut output);
+    if output.as_slice() == want {
+        answer
+    } else {
+        Err(CodecError::Fault)
+    }
+}
+
+// A target is written where as many elements of its size are decoded, and is left as it was otherwise.
 #[test]
 fn a_target_is_written_or_left(rt: HostRuntime) {
-    let kept = [77; 8];
-    let written = [77, 77, 1, 0, 2, 0, 77, 77];
-    for (bytes, size, count, range, want, left) in [
-        ([0, 1, 0, 2].as_slice(), 2, 4, 1..3, Ok(()), written),
-        (&[0, 1], 2, 4, 1..3, Err(CodecError::Damaged), kept),
-        (
-            &[0, 1],
-            2,
-            4,
-            1..2,
-            Err(CodecError::InvalidNumberOfElements),
-            kept,
-        ),
-        (&[0, 1], 1, 8, 1..2, Err(CodecError::WrongElementKind), kept),
-    ] {
-        let mut output = [77; 8];
-        let got = into(rt.alloc(), bytes, size, count, &[range], &mut output);
-        assert_eq!(rt; got, want);
-        assert_eq!(rt; output, left);
+    let kept = [77; 8].as_slice();
+    let written = [77, 77, 1, 0, 2, 0, 77, 77].as_slice();
+    let few = Err(CodecError::InvalidNumberOfElements);
+    let wrong = Err(CodecError::WrongElementKind);
+    let rows: [(
+        &[u8],
+        usize,
+        &[u64],
+        Range<u64>,
+        Result<(), CodecError>,
+        &[u8],
+    ); 4] = [
+        (&[0, 1, 0, 2], 2, &[4], 1..3, Ok(()), written),
+        (&[0, 1], 2, &[4], 1..3, Err(CodecError::Damaged), kept),
+        (&[0, 1], 2, &[4], 1..2, few, kept),
+        (&[0, 1], 1, &[8], 1..2, wrong, kept),
+    ];
+    for (bytes, size, axes, range, answer, want) in rows {
+        let found = decoded(rt.alloc(), bytes, size, axes, range, want);
+        assert_eq!(rt; found, answer);
     }
 }

@@ -1,94 +1,62 @@
 // Objects in memory, written in place.
-use std::alloc::{AllocError, Global};
+use crate::examples::{handle_over, is_copied};
+use std::alloc::Global;
 use std::process::Abort;
-use std::test::Fail;
-use zarr_codecs::{
-    ByteRange, BytesPartialDecoderTraits, BytesPartialEncoderTraits, MemoryHandle, copied,
-};
+use zarr_codecs::{ByteRange, BytesPartialDecoderTraits, BytesPartialEncoderTraits, MemoryHandle};
 use zarr_parts::CodecError;
 
-fn handle_over(alloc: Global, object: Option<&[u8]>) -> Result<MemoryHandle, AllocError> {
-    match object {
-        Some(bytes) => Ok(MemoryHandle::new(Some(bytes.to_vec(alloc)?))),
-        None => Ok(MemoryHandle::new(None)),
-    }
-}
+// Bytes that are written, and where.
+type Pieces<'a> = &'a [(u64, &'a [u8])];
 
-// What is written into an object, and the bytes that it has then.
-#[derive(Clone, Copy)]
-struct Case<'a> {
-    object: Option<&'a [u8]>,
-    pieces: &'a [(u64, &'a [u8])],
-    want: &'a [u8],
-}
-
-fn case_of<'a>(
-    object: Option<&'a [u8]>,
-    pieces: &'a [(u64, &'a [u8])],
-    want: &'a [u8],
-) -> Case<'a> {
-    Case {
-        object,
-        pieces,
-        want,
-    }
-}
-
-// Writes through the bound alone.
-fn written<H: BytesPartialEncoderTraits>(
-    handle: &mut H,
+// Whether an object has these bytes once pieces are written into it, through the bound alone.
+fn is_written<H: BytesPartialEncoderTraits>(
     alloc: Global,
-    pieces: &[(u64, &[u8])],
-) -> Result<Option<Vec<u8>>, CodecError> {
+    handle: &mut H,
+    pieces: Pieces,
+    want: &[u8],
+) -> Result<bool, CodecError> {
     handle.partial_encode_many(alloc, pieces)?;
-    copied(handle, alloc, ByteRange::FromStart(0, None))
+    let whole = ByteRange::FromStart(0, None);
+    Ok(is_copied(alloc, handle, whole, Ok(Some(want))))
 }
 
-#[test]
-fn pieces_are_written_in_their_order(rt: HostRuntime) -> Result<(), Fail> {
-    let alloc = rt.alloc();
-    let four = Some([1, 2, 3, 4].as_slice());
-    for case in [
-        case_of(four, &[(1, &[8, 9])], &[1, 8, 9, 4]),
-        case_of(
-            four,
-            &[(0, &[7, 7, 7]), (2, &[8, 8]), (1, &[9])],
-            &[7, 9, 8, 8],
-        ),
-        case_of(four, &[(3, &[5, 6])], &[1, 2, 3, 5, 6]),
-        case_of(four, &[(6, &[9]), (5, &[8])], &[1, 2, 3, 4, 0, 8, 9]),
-        case_of(four, &[(6, &[9]), (0, &[7])], &[7, 2, 3, 4, 0, 0, 9]),
-        case_of(four, &[], &[1, 2, 3, 4]),
-        case_of(four, &[(2, &[])], &[1, 2, 3, 4]),
-        case_of(four, &[(6, &[])], &[1, 2, 3, 4, 0, 0]),
-        case_of(None, &[], &[]),
-        case_of(None, &[(2, &[1]), (0, &[5])], &[5, 0, 1]),
-    ] {
-        let mut handle = handle_over(alloc, case.object)?;
-        let bytes = written(&mut handle, alloc, case.pieces)?.ok_or("an object")?;
-        assert_eq!(rt; bytes.as_slice(), case.want, "at {:?}", case.pieces);
-    }
-    Ok(())
-}
-
-// How a handle over an object refuses pieces and then others, and what it holds at last.
-fn refused(
+fn is_written_over(
     alloc: Global,
     object: Option<&[u8]>,
-    pieces: &[(u64, &[u8])],
-    later: &[(u64, &[u8])],
-) -> Result<
-    (
-        Result<(), CodecError>,
-        Result<(), CodecError>,
-        Option<Vec<u8>>,
-    ),
-    AllocError,
-> {
+    pieces: Pieces,
+    want: &[u8],
+) -> Result<bool, CodecError> {
     let mut handle = handle_over(alloc, object)?;
-    let first = handle.partial_encode_many(alloc, pieces);
-    let second = handle.partial_encode_many(alloc, later);
-    Ok((first, second, handle.into_inner()))
+    is_written(alloc, &mut handle, pieces, want)
+}
+
+const FOUR: Option<&[u8]> = Some(&[1, 2, 3, 4]);
+
+// What is written into an object, and the bytes that it has then.
+const WRITTEN: [(Option<&[u8]>, Pieces, &[u8]); 10] = [
+    (FOUR, &[(1, &[8, 9])], &[1, 8, 9, 4]),
+    (
+        FOUR,
+        &[(0, &[7, 7, 7]), (2, &[8, 8]), (1, &[9])],
+        &[7, 9, 8, 8],
+    ),
+    (FOUR, &[(3, &[5, 6])], &[1, 2, 3, 5, 6]),
+    (FOUR, &[(6, &[9]), (5, &[8])], &[1, 2, 3, 4, 0, 8, 9]),
+    (FOUR, &[(6, &[9]), (0, &[7])], &[7, 2, 3, 4, 0, 0, 9]),
+    (FOUR, &[], &[1, 2, 3, 4]),
+    (FOUR, &[(2, &[])], &[1, 2, 3, 4]),
+    (FOUR, &[(6, &[])], &[1, 2, 3, 4, 0, 0]),
+    (None, &[], &[]),
+    (None, &[(2, &[1]), (0, &[5])], &[5, 0, 1]),
+];
+
+// Later pieces are written over earlier ones, and a gap before a piece is filled with zeros.
+#[test]
+fn pieces_are_written_in_their_order(rt: HostRuntime) {
+    for (object, pieces, want) in WRITTEN {
+        let found = is_written_over(rt.alloc(), object, pieces, want);
+        assert_eq!(rt; found, Ok(true), "at {pieces:?}");
+    }
 }
 
 fn holds(object: &Option<Vec<u8>>, want: Option<&[u8]>) -> bool {
@@ -98,71 +66,77 @@ fn holds(object: &Option<Vec<u8>>, want: Option<&[u8]>) -> bool {
     }
 }
 
-// Pieces past `usize::MAX`, and then one that needs more memory than there is.
-fn refuses_the_largest(
-    rt: &impl Abort,
+// Whether a handle over an object refuses pieces as too large, and then others as too much for the memory, and holds the
+// object still.
+fn are_refused(
     alloc: Global,
     object: Option<&[u8]>,
-) -> Result<(), AllocError> {
-    let too_large: [&[(u64, &[u8])]; 4] = [
-        &[(u64::MAX, &[])],
-        &[(u64::MAX, &[1])],
-        &[(u64::MAX - 1, &[1])],
-        &[(0, &[7]), (u64::MAX, &[1, 2])],
-    ];
-    for pieces in too_large {
-        let (first, second, left) = refused(
-            alloc,
-            object,
-            pieces,
-            &[(0, &[7]), (u64::MAX - 1, &[])],
-        )?;
-        let got = (first, second, holds(&left, object));
-        let want = (
-            Err(CodecError::TooLarge),
-            Err(CodecError::OutOfMemory),
-            true,
-        );
-        assert_eq!(rt; got, want, "at {pieces:?}");
-    }
-    Ok(())
-}
-
-#[test]
-fn an_object_of_the_largest_size_is_refused(rt: HostRuntime) -> Result<(), Fail> {
-    for object in [Some([1, 2].as_slice()), None] {
-        refuses_the_largest(&rt, rt.alloc(), object)?;
-    }
-    Ok(())
-}
-
-// A handle over an object that was replaced, its length then, and its bytes.
-fn replaced(
-    alloc: Global,
-    object: Option<&[u8]>,
-) -> Result<(MemoryHandle, Option<u64>, Option<Vec<u8>>), CodecError> {
+    pieces: Pieces,
+    later: Pieces,
+) -> Result<bool, CodecError> {
     let mut handle = handle_over(alloc, object)?;
-    handle.replace(alloc, &[8, 9])?;
-    let length = handle.len()?;
-    let bytes = copied(&mut handle, alloc, ByteRange::FromStart(0, None))?;
-    Ok((handle, length, bytes))
+    let first = handle.partial_encode_many(alloc, pieces);
+    let second = handle.partial_encode_many(alloc, later);
+    let is_first = first == Err(CodecError::TooLarge);
+    let is_second = second == Err(CodecError::OutOfMemory);
+    Ok(is_first && is_second && holds(&handle.into_inner(), object))
 }
 
-// Whether there is an object once it was erased, and whether none is left where it is erased again.
-fn erased(mut handle: MemoryHandle) -> Result<(bool, bool), CodecError> {
+// Pieces past `usize::MAX`.
+const TOO_LARGE: [Pieces; 4] = [
+    &[(u64::MAX, &[])],
+    &[(u64::MAX, &[1])],
+    &[(u64::MAX - 1, &[1])],
+    &[(0, &[7]), (u64::MAX, &[1, 2])],
+];
+
+// Pieces that need more memory than there is.
+const NO_MEMORY: Pieces = &[(0, &[7]), (u64::MAX - 1, &[])];
+
+// Writes pieces that are too large, and then those that need too much memory.
+fn refuses_the_largest(rt: &impl Abort, alloc: Global, object: Option<&[u8]>) {
+    for pieces in TOO_LARGE {
+        let found = are_refused(alloc, object, pieces, NO_MEMORY);
+        assert_eq!(rt; found, Ok(true), "at {pieces:?}");
+    }
+}
+
+// An object past the largest size is refused, and what was there is left.
+#[test]
+fn an_object_of_the_largest_size_is_refused(rt: HostRuntime) {
+    for object in [Some([1, 2].as_slice()), None] {
+        refuses_the_largest(&rt, rt.alloc(), object);
+    }
+}
+
+// Whether an object has two bytes once it was replaced by them.
+fn is_replaced(alloc: Global, handle: &mut MemoryHandle) -> Result<bool, CodecError> {
+    handle.replace(alloc, &[8, 9])?;
+    let is_long = handle.len()? == Some(2);
+    let whole = ByteRange::FromStart(0, None);
+    Ok(is_long && is_copied(alloc, handle, whole, Ok(Some(&[8, 9]))))
+}
+
+// Whether there is no object once it was erased, and none is left where it is erased again.
+fn is_erased(mut handle: MemoryHandle) -> Result<bool, CodecError> {
     handle.erase()?;
     let there = handle.exists()?;
     handle.erase()?;
-    Ok((there, handle.into_inner().is_none()))
+    Ok(!there && handle.into_inner().is_none())
 }
 
+// Whether both hold, through a handle that can write parts.
+fn is_replaced_and_erased(alloc: Global, object: Option<&[u8]>) -> Result<bool, CodecError> {
+    let mut handle = handle_over(alloc, object)?;
+    let writes = handle.supports_partial_encode();
+    let replaced = is_replaced(alloc, &mut handle)?;
+    Ok(is_erased(handle)? && writes && replaced)
+}
+
+// An object is there once it was replaced, whether there was one or not, and is gone once it was erased.
 #[test]
-fn an_object_is_replaced_and_erased(rt: HostRuntime) -> Result<(), Fail> {
+fn an_object_is_replaced_and_erased(rt: HostRuntime) {
     for object in [Some([1, 2, 3].as_slice()), None] {
-        let (handle, length, bytes) = replaced(rt.alloc(), object)?;
-        assert!(rt; handle.supports_partial_encode());
-        let got = (length, holds(&bytes, Some(&[8, 9])), erased(handle));
-        assert_eq!(rt; got, (Some(2), true, Ok((false, true))));
+        assert_eq!(rt; is_replaced_and_erased(rt.alloc(), object), Ok(true));
     }
-    Ok(())
 }

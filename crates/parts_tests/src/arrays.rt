@@ -1,23 +1,17 @@
 // Arrays made, read and changed, on small arrays worked by hand.
-use crate::examples::{fill, fixed, subset, variable};
+use crate::examples::Elements::{Fixed, Variable};
+use crate::examples::{Elements, array_of, fill, has, subset};
 use std::alloc::Global;
 use std::ops::Range;
 use std::test::Fail;
-use zarr_parts::{ArrayBuilder, ArrayBytes, DataType, DataTypeSize, update_array_bytes};
+use zarr_parts::{
+    ArrayBuilder, ArrayBytes, CodecError, DataType, DataTypeSize, update_array_bytes,
+};
 
 const SQUARE: [u8; 16] = [0, 1, 2, 3, 4, 5, 6, 7, 8, 9, 10, 11, 12, 13, 14, 15];
 
-fn filled(
-    alloc: Global,
-    data_type: DataType,
-    count: u64,
-    bytes: &[u8],
-) -> Result<ArrayBytes<'static>, Fail> {
-    Ok(ArrayBytes::new_fill_value(alloc, &data_type, count, &fill(alloc, bytes)?)?)
-}
-
 // Elements of any length, added one after the other.
-fn built(alloc: Global) -> Result<ArrayBytes<'static>, Fail> {
+fn built(alloc: Global) -> Result<ArrayBytes<'static>, CodecError> {
     let mut builder = ArrayBuilder::new(alloc, DataTypeSize::Variable)?;
     builder.push(b"ab")?;
     builder.push(b"")?;
@@ -25,187 +19,205 @@ fn built(alloc: Global) -> Result<ArrayBytes<'static>, Fail> {
     Ok(builder.finish())
 }
 
-#[test]
-fn elements_are_pushed_and_read(rt: HostRuntime) -> Result<(), Fail> {
-    let array = built(rt.alloc())?;
-    assert_eq!(rt; array, variable(rt.alloc(), b"abc", &[0, 2, 2, 3])?);
-    Ok(())
+// Whether they are the elements between these offsets.
+fn is_built(alloc: Global) -> Result<bool, CodecError> {
+    has(alloc, &built(alloc)?, Variable(&[0, 2, 2, 3], b"abc"))
 }
 
+// An array has the elements that were pushed.
+#[test]
+fn elements_are_pushed_and_read(rt: HostRuntime) {
+    assert!(rt; is_built(rt.alloc()) == Ok(true));
+}
+
+// What an array tells: its kind, how many elements it has, the first, and its bytes where the elements have one size.
+type Told<'a> = (DataTypeSize, usize, Option<&'a [u8]>, Option<&'a [u8]>);
+
+fn told<'a>(array: &'a ArrayBytes) -> Told<'a> {
+    let first = if array.len() > 0 {
+        Some(array.element(0))
+    } else {
+        None
+    };
+    (array.kind(), array.len(), first, array.fixed_bytes())
+}
+
+// Elements of any length are read one by one.
 #[test]
 fn elements_between_offsets_are_read(rt: HostRuntime) -> Result<(), Fail> {
-    let array = variable(rt.alloc(), b"abc", &[0, 2, 2, 3])?;
-    assert_eq!(rt; array.kind(), DataTypeSize::Variable);
-    assert!(rt; array.len() == 3);
-    assert!(rt; array.element(0) == b"ab".as_slice());
-    assert!(rt; array.fixed_bytes().is_none());
+    let array = array_of(rt.alloc(), Variable(&[0, 2, 2, 3], b"abc"))?;
+    let want = (DataTypeSize::Variable, 3, Some(b"ab".as_slice()), None);
+    assert_eq!(rt; told(&array), want);
     Ok(())
 }
 
-#[test]
-fn bytes_are_counted(rt: HostRuntime) -> Result<(), Fail> {
-    assert_eq!(rt; fixed(&[1, 0, 2, 0], 2)?.byte_len(), 4);
-    let rows: [(&[u8], &[usize], usize); 2] = [(b"abc", &[0, 2, 2, 3], 3), (b"", &[0, 0], 0)];
-    for (bytes, offsets, len) in rows {
-        assert_eq!(rt; variable(rt.alloc(), bytes, offsets)?.byte_len(), len);
-    }
-    Ok(())
+fn byte_len(alloc: Global, elements: Elements) -> Result<u64, CodecError> {
+    Ok(array_of(alloc, elements)?.byte_len() as u64)
 }
 
+// The bytes of all elements are counted.
 #[test]
-fn fill_values_are_repeated(rt: HostRuntime) -> Result<(), Fail> {
-    assert_eq!(rt;
-        filled(rt.alloc(), DataType::UInt16, 2, &[1, 0])?,
-        fixed(&[1, 0, 1, 0], 2)?
-    );
-    Ok(())
-}
-
-#[test]
-fn fill_values_of_any_length_are_repeated(rt: HostRuntime) -> Result<(), Fail> {
-    let rows: [(u64, &[u8], &[u8], &[usize]); 2] = [
-        (3, b"ab", b"ababab", &[0, 2, 4, 6]),
-        (2, b"", b"", &[0, 0, 0]),
-    ];
-    for (count, value, bytes, offsets) in rows {
-        assert_eq!(rt;
-            filled(rt.alloc(), DataType::Bytes, count, value)?,
-            variable(rt.alloc(), bytes, offsets)?
-        );
-    }
-    Ok(())
-}
-
-#[test]
-fn fill_values_are_told(rt: HostRuntime) -> Result<(), Fail> {
-    let one = fill(rt.alloc(), &[1, 0])?;
-    for (bytes, told) in [
-        ([1, 0, 1, 0], true),
-        ([1, 0, 0, 1], false),
-        ([0, 0, 1, 0], false),
+fn bytes_are_counted(rt: HostRuntime) {
+    for (elements, len) in [
+        (Fixed(2, &[1, 0, 2, 0]), 4),
+        (Variable(&[0, 2, 2, 3], b"abc"), 3),
+        (Variable(&[0, 0], b""), 0),
     ] {
-        assert_eq!(rt; fixed(&bytes, 2)?.is_fill_value(&one), told);
+        assert_eq!(rt; byte_len(rt.alloc(), elements), Ok(len));
     }
-    Ok(())
 }
 
-#[test]
-fn fill_values_of_any_length_are_told(rt: HostRuntime) -> Result<(), Fail> {
-    let array = variable(rt.alloc(), b"abab", &[0, 2, 4])?;
-    let rows: [(&[u8], bool); 2] = [(b"ab", true), (b"a", false)];
-    for (value, told) in rows {
-        assert_eq!(rt; array.is_fill_value(&fill(rt.alloc(), value)?), told);
-    }
-    Ok(())
-}
-
-// The elements of a box of an array.
-fn extracted(
+// Whether a fill value, repeated, makes these elements.
+fn is_repeated(
     alloc: Global,
-    array: &ArrayBytes,
-    shape: &[u64],
-    ranges: &[Range<u64>],
     data_type: &DataType,
-) -> Result<ArrayBytes<'static>, Fail> {
-    let place = subset(alloc, ranges)?;
-    Ok(array.extract_array_subset(alloc, &place, shape, data_type)?)
+    count: u64,
+    value: &[u8],
+    want: Elements,
+) -> Result<bool, CodecError> {
+    let value = fill(alloc, value)?;
+    let array = ArrayBytes::new_fill_value(alloc, data_type, count, &value)?;
+    has(alloc, &array, want)
 }
 
-// An array with the elements of a box replaced.
+// An array of a fill value has it in each element.
+#[test]
+fn fill_values_are_repeated(rt: HostRuntime) {
+    let rows: [(DataType, u64, &[u8], Elements); 3] = [
+        (DataType::UInt16, 2, &[1, 0], Fixed(2, &[1, 0, 1, 0])),
+        (
+            DataType::Bytes,
+            3,
+            b"ab",
+            Variable(&[0, 2, 4, 6], b"ababab"),
+        ),
+        (DataType::Bytes, 2, b"", Variable(&[0, 0, 0], b"")),
+    ];
+    for (data_type, count, value, want) in rows {
+        let found = is_repeated(rt.alloc(), &data_type, count, value, want);
+        assert!(rt; found == Ok(true), "{count} of {data_type:?}");
+    }
+}
+
+// Whether an array tells that all its elements are the fill value.
+fn is_fill(alloc: Global, elements: Elements, value: &[u8]) -> Result<bool, CodecError> {
+    let value = fill(alloc, value)?;
+    Ok(array_of(alloc, elements)?.is_fill_value(&value))
+}
+
+// An array is told from one of the fill value by any element.
+#[test]
+fn fill_values_are_told(rt: HostRuntime) {
+    let rows: [(Elements, &[u8], bool); 5] = [
+        (Fixed(2, &[1, 0, 1, 0]), &[1, 0], true),
+        (Fixed(2, &[1, 0, 0, 1]), &[1, 0], false),
+        (Fixed(2, &[0, 0, 1, 0]), &[1, 0], false),
+        (Variable(&[0, 2, 4], b"abab"), b"ab", true),
+        (Variable(&[0, 2, 4], b"abab"), b"a", false),
+    ];
+    for (elements, value, told) in rows {
+        assert_eq!(rt; is_fill(rt.alloc(), elements, value), Ok(told));
+    }
+}
+
+// An array, its shape, its type and a box in it.
+type Place<'a> = (Elements<'a>, &'a [u64], DataType, &'a [Range<u64>]);
+
+fn extracted(alloc: Global, place: Place) -> Result<ArrayBytes<'static>, CodecError> {
+    let (elements, shape, data_type, ranges) = place;
+    let cells = subset(alloc, ranges)?;
+    array_of(alloc, elements)?.extract_array_subset(alloc, &cells, shape, &data_type)
+}
+
+// Whether a box of an array has these elements.
+fn is_extracted(alloc: Global, place: Place, want: Elements) -> Result<bool, CodecError> {
+    has(alloc, &extracted(alloc, place)?, want)
+}
+
+// The elements of a box are taken in row-major order.
+#[test]
+fn elements_of_a_box_are_extracted(rt: HostRuntime) {
+    let square: Place = (Fixed(1, &SQUARE), &[4, 4], DataType::UInt8, &[1..3, 0..1]);
+    assert!(rt; is_extracted(rt.alloc(), square, Fixed(1, &[4, 8])) == Ok(true));
+    let words = Variable(&[0, 1, 1, 3, 4], b"abcd");
+    let texts: Place = (words, &[2, 2], DataType::Bytes, &[0..2, 1..2]);
+    assert!(rt; is_extracted(rt.alloc(), texts, Variable(&[0, 0, 1], b"d")) == Ok(true));
+}
+
 fn updated(
     alloc: Global,
-    array: &ArrayBytes,
-    shape: &[u64],
-    ranges: &[Range<u64>],
+    place: Place,
     update: &ArrayBytes,
-    data_type: &DataType,
-) -> Result<ArrayBytes<'static>, Fail> {
-    let place = subset(alloc, ranges)?;
-    Ok(update_array_bytes(alloc, array, shape, &place, update, data_type)?)
+) -> Result<ArrayBytes<'static>, CodecError> {
+    let (elements, shape, data_type, ranges) = place;
+    let cells = subset(alloc, ranges)?;
+    let array = array_of(alloc, elements)?;
+    update_array_bytes(alloc, &array, shape, &cells, update, &data_type)
 }
 
-#[test]
-fn elements_of_a_box_are_extracted(rt: HostRuntime) -> Result<(), Fail> {
-    let array = fixed(&SQUARE, 1)?;
-    let part = extracted(rt.alloc(), &array, &[4, 4], &[1..3, 0..1], &DataType::UInt8)?;
-    assert_eq!(rt; part, fixed(&[4, 8], 1)?);
-    Ok(())
+// Whether an array has these elements once those of a box are replaced.
+fn is_updated(
+    alloc: Global,
+    place: Place,
+    update: Elements,
+    want: Elements,
+) -> Result<bool, CodecError> {
+    let update = array_of(alloc, update)?;
+    has(alloc, &updated(alloc, place, &update)?, want)
 }
 
+// Only the elements of the box are replaced.
 #[test]
-fn elements_with_given_numbers_are_extracted(rt: HostRuntime) -> Result<(), Fail> {
-    let array = fixed(&[10, 11, 12], 1)?;
-    assert!(rt; array.len() == 3);
-    assert_eq!(rt;
-        array.extract_numbers(rt.alloc(), &[2, 0, 2])?,
-        fixed(&[12, 10, 12], 1)?
-    );
-    Ok(())
+fn elements_of_a_box_are_updated(rt: HostRuntime) {
+    let square: Place = (Fixed(1, &SQUARE), &[4, 4], DataType::UInt8, &[1..3, 0..1]);
+    let wanted = [0, 1, 2, 3, 50, 5, 6, 7, 60, 9, 10, 11, 12, 13, 14, 15].as_slice();
+    let found = is_updated(rt.alloc(), square, Fixed(1, &[50, 60]), Fixed(1, wanted));
+    assert!(rt; found == Ok(true));
 }
 
+// An element may be replaced by one of another length.
 #[test]
-fn elements_of_a_box_are_updated(rt: HostRuntime) -> Result<(), Fail> {
-    let array = fixed(&SQUARE, 1)?;
-    let update = fixed(&[50, 60], 1)?;
-    let new = updated(
-        rt.alloc(),
-        &array,
-        &[4, 4],
-        &[1..3, 0..1],
-        &update,
-        &DataType::UInt8,
-    )?;
-    let wanted = [0, 1, 2, 3, 50, 5, 6, 7, 60, 9, 10, 11, 12, 13, 14, 15];
-    assert_eq!(rt; new, fixed(&wanted, 1)?);
-    Ok(())
+fn elements_of_any_length_are_updated(rt: HostRuntime) {
+    let words = Variable(&[0, 1, 1, 3, 4], b"abcd");
+    let texts: Place = (words, &[2, 2], DataType::Bytes, &[0..2, 1..2]);
+    let update = Variable(&[0, 2, 3], b"xyz");
+    let want = Variable(&[0, 1, 3, 5, 6], b"axybcz");
+    assert!(rt; is_updated(rt.alloc(), texts, update, want) == Ok(true));
 }
 
-#[test]
-fn elements_of_any_length_are_extracted(rt: HostRuntime) -> Result<(), Fail> {
-    let array = variable(rt.alloc(), b"abcd", &[0, 1, 1, 3, 4])?;
-    let part = extracted(rt.alloc(), &array, &[2, 2], &[0..2, 1..2], &DataType::Bytes)?;
-    assert_eq!(rt; part, variable(rt.alloc(), b"d", &[0, 0, 1])?);
-    Ok(())
+// Whether the numbers 2, 0 and 2 take 12, 10 and 12 of three elements.
+fn is_numbered(alloc: Global) -> Result<bool, CodecError> {
+    let array = array_of(alloc, Fixed(1, &[10, 11, 12]))?;
+    if array.len() != 3 {
+        return Ok(false);
+    }
+    let part = array.extract_numbers(alloc, &[2, 0, 2])?;
+    has(alloc, &part, Fixed(1, &[12, 10, 12]))
 }
 
+// Elements are taken by their numbers in the order of these.
 #[test]
-fn elements_of_any_length_are_updated(rt: HostRuntime) -> Result<(), Fail> {
-    let alloc = rt.alloc();
-    let array = variable(alloc, b"abcd", &[0, 1, 1, 3, 4])?;
-    let update = variable(alloc, b"xyz", &[0, 2, 3])?;
-    let new = updated(
-        alloc,
-        &array,
-        &[2, 2],
-        &[0..2, 1..2],
-        &update,
-        &DataType::Bytes,
-    )?;
-    assert_eq!(rt; new, variable(alloc, b"axybcz", &[0, 1, 3, 5, 6])?);
-    Ok(())
+fn elements_with_given_numbers_are_extracted(rt: HostRuntime) {
+    assert!(rt; is_numbered(rt.alloc()) == Ok(true));
 }
 
 // Whether a copy of an array is equal to it.
-fn is_copied(alloc: Global, array: &ArrayBytes) -> Result<bool, Fail> {
-    Ok(array.try_clone(alloc)? == *array)
+fn is_copied(alloc: Global, elements: Elements) -> Result<bool, CodecError> {
+    let array = array_of(alloc, elements)?;
+    Ok(array.try_clone(alloc)? == array)
 }
 
-#[test]
-fn copies_are_equal(rt: HostRuntime) -> Result<(), Fail> {
-    assert!(rt; is_copied(rt.alloc(), &fixed(&[1, 2], 2)?)?);
-    Ok(())
+// Whether an array is the same once it owns its bytes.
+fn is_owned(alloc: Global, elements: Elements) -> Result<bool, CodecError> {
+    let owned = array_of(alloc, elements)?.into_owned(alloc)?;
+    has(alloc, &owned, elements)
 }
 
+// A copy has the same elements, and so has what is owned.
 #[test]
-fn copies_of_elements_of_any_length_are_equal(rt: HostRuntime) -> Result<(), Fail> {
-    let texts = variable(rt.alloc(), &[1, 2], &[0, 1, 2])?;
-    assert!(rt; is_copied(rt.alloc(), &texts)?);
-    Ok(())
-}
-
-#[test]
-fn what_is_owned_is_equal(rt: HostRuntime) -> Result<(), Fail> {
-    let pair = fixed(&[1, 2], 2)?;
-    assert_eq!(rt; pair.try_clone(rt.alloc())?, pair.into_owned(rt.alloc())?);
-    Ok(())
+fn copies_are_equal(rt: HostRuntime) {
+    for elements in [Fixed(2, &[1, 2]), Variable(&[0, 1, 2], &[1, 2])] {
+        assert_eq!(rt; is_copied(rt.alloc(), elements), Ok(true));
+        assert_eq!(rt; is_owned(rt.alloc(), elements), Ok(true));
+    }
 }

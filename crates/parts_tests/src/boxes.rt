@@ -1,66 +1,102 @@
 // Boxes of coordinates, and their law.
-use crate::examples::subset;
+use crate::examples::{is_box, subset};
 use std::alloc::{AllocError, Global};
+use std::ops::Range;
 use std::test::Fail;
-use zarr_parts::{ArraySubset, box_law};
+use zarr_parts::{ArraySubset, CodecError, box_law};
 
-fn of(alloc: Global, start: &[u64], shape: &[u64]) -> Result<Option<ArraySubset>, AllocError> {
-    Ok(ArraySubset::new_with_start_shape(start.to_vec(alloc)?, shape.to_vec(alloc)?))
+// Whether a box has this start, this shape and this end.
+fn lies_at(
+    alloc: Global,
+    found: &ArraySubset,
+    start: &[u64],
+    shape: &[u64],
+    end: &[u64],
+) -> Result<bool, AllocError> {
+    let past = found.end_exc(alloc)?;
+    Ok(found.start() == start && found.shape() == shape && past.as_slice() == end)
 }
 
-#[test]
-fn a_box_is_made_of_ranges(rt: HostRuntime) -> Result<(), Fail> {
-    let column = subset(rt.alloc(), &[1..3, 0..1])?;
-    assert_eq!(rt; column.start(), [1, 0].as_slice());
-    assert_eq!(rt; column.shape(), [2, 1].as_slice());
-    assert_eq!(rt; column.end_exc(rt.alloc())?.as_slice(), [3, 1].as_slice());
-    Ok(())
+// Whether the column of the first axis lies where it should.
+fn is_column(alloc: Global) -> Result<bool, CodecError> {
+    let column = subset(alloc, &[1..3, 0..1])?;
+    Ok(lies_at(alloc, &column, &[1, 0], &[2, 1], &[3, 1])?)
 }
 
+// A range starts at its first number and ends before its last.
 #[test]
-fn no_range_falls(rt: HostRuntime) -> Result<(), Fail> {
-    assert_eq!(rt;
-        ArraySubset::new_with_ranges(rt.alloc(), &[1..3, 1..0])?,
-        None
-    );
-    Ok(())
+fn a_box_is_made_of_ranges(rt: HostRuntime) {
+    assert!(rt; is_column(rt.alloc()) == Ok(true));
 }
 
+fn of_ranges(alloc: Global, ranges: &[Range<u64>]) -> Result<bool, CodecError> {
+    Ok(ArraySubset::new_with_ranges(alloc, ranges)?.is_some())
+}
+
+// No range ends before its start.
 #[test]
-fn an_end_fits_64_bits(rt: HostRuntime) -> Result<(), Fail> {
+fn no_range_falls(rt: HostRuntime) {
+    assert!(rt; of_ranges(rt.alloc(), &[1..3, 1..0]) == Ok(false));
+}
+
+fn of(alloc: Global, start: &[u64], shape: &[u64]) -> Result<bool, CodecError> {
+    let made = ArraySubset::new_with_start_shape(start.to_vec(alloc)?, shape.to_vec(alloc)?);
+    Ok(made.is_some())
+}
+
+// A start and a shape are as long, and no end passes 64 bits.
+#[test]
+fn an_end_fits_64_bits(rt: HostRuntime) {
     let rows: [(&[u64], &[u64], bool); 3] = [
         (&[0, 1], &[4, u64::MAX - 1], true),
         (&[0, 2], &[4, u64::MAX - 1], false),
         (&[0], &[4, 4], false),
     ];
     for (start, shape, made) in rows {
-        assert_eq!(rt; of(rt.alloc(), start, shape)?.is_some(), made);
+        assert_eq!(rt; of(rt.alloc(), start, shape), Ok(made));
     }
-    Ok(())
 }
 
+// How many points a box of this shape has, which must start at the origin.
+fn points(alloc: Global, shape: &[u64], origin: &[u64]) -> Result<Option<u64>, CodecError> {
+    let whole = ArraySubset::new_with_shape(alloc, shape.to_vec(alloc)?)?;
+    if whole.start() != origin {
+        return Err(CodecError::Fault);
+    }
+    Ok(whole.num_elements())
+}
+
+// A box with an empty axis has no point, whatever the others are.
 #[test]
-fn an_empty_axis_leaves_no_point(rt: HostRuntime) -> Result<(), Fail> {
+fn an_empty_axis_leaves_no_point(rt: HostRuntime) {
     let rows: [(&[u64], &[u64], Option<u64>); 2] = [
         (&[1 << 32, 1 << 32, 0], &[0, 0, 0], Some(0)),
         (&[1 << 32, 1 << 32], &[0, 0], None),
     ];
-    for (shape, start, count) in rows {
-        let whole = ArraySubset::new_with_shape(rt.alloc(), shape.to_vec(rt.alloc())?)?;
-        assert_eq!(rt; (whole.start(), whole.num_elements()), (start, count));
+    for (shape, origin, count) in rows {
+        assert_eq!(rt; points(rt.alloc(), shape, origin), Ok(count));
     }
-    Ok(())
 }
 
+// Whether a copy of the column is equal to it.
+fn is_copied(alloc: Global) -> Result<bool, CodecError> {
+    let column = subset(alloc, &[1..3, 0..1])?;
+    is_box(alloc, &column.try_clone(alloc)?, &[1..3, 0..1])
+}
+
+// Whether the column is the box of these ranges.
+fn column_is(alloc: Global, ranges: &[Range<u64>]) -> Result<bool, CodecError> {
+    is_box(alloc, &subset(alloc, &[1..3, 0..1])?, ranges)
+}
+
+// A copy is equal, and a box with another start is not.
 #[test]
-fn a_copy_is_equal(rt: HostRuntime) -> Result<(), Fail> {
-    let column = subset(rt.alloc(), &[1..3, 0..1])?;
-    let copy = column.try_clone(rt.alloc())?;
-    assert_eq!(rt; copy, column);
-    assert_ne!(rt; subset(rt.alloc(), &[0..2, 0..1])?, column);
-    Ok(())
+fn a_copy_is_equal(rt: HostRuntime) {
+    assert_eq!(rt; is_copied(rt.alloc()), Ok(true));
+    assert_eq!(rt; column_is(rt.alloc(), &[0..2, 0..1]), Ok(false));
 }
 
+// The law of boxes can be called.
 #[test]
 fn the_law_of_boxes_can_be_called(rt: HostRuntime) -> Result<(), Fail> {
     let whole = ArraySubset::new_with_shape(rt.alloc(), [4, 4].to_vec(rt.alloc())?)?;

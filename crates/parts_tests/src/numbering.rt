@@ -1,25 +1,43 @@
 // Coordinates and their row-major numbers, and the laws of both.
-use std::test::Fail;
-use zarr_parts::{number_along, numbering_law, ravel_indices, unravel_index};
+use std::alloc::Global;
+use zarr_parts::{CodecError, number_along, numbering_law, ravel_indices, unravel_index};
 
-#[test]
-fn a_number_has_one_coordinate(rt: HostRuntime) -> Result<(), Fail> {
-    let point = unravel_index(rt.alloc(), 6, &[4, 4])?.ok_or("6 is below 16")?;
-    assert_eq!(rt; point.as_slice(), [1, 2].as_slice());
-    for axis in 0..2 {
-        assert_eq!(rt; number_along(6, &[4, 4], axis), point[axis]);
+// Whether a number has this coordinate in a shape, or none.
+fn is_at(
+    alloc: Global,
+    number: u64,
+    shape: &[u64],
+    want: Option<&[u64]>,
+) -> Result<bool, CodecError> {
+    match unravel_index(alloc, number, shape)? {
+        Some(point) => Ok(want == Some(point.as_slice())),
+        None => Ok(want.is_none()),
     }
-    Ok(())
 }
 
+// A number below the count has one coordinate, and no other number has any.
 #[test]
-fn other_numbers_have_no_coordinate(rt: HostRuntime) -> Result<(), Fail> {
-    for (number, shape) in [(16, [4, 4]), (0, [4, 0]), (0, [1 << 32, 1 << 32])] {
-        assert_eq!(rt; unravel_index(rt.alloc(), number, &shape)?, None);
+fn a_number_has_one_coordinate(rt: HostRuntime) {
+    let rows: [(u64, &[u64], Option<&[u64]>); 4] = [
+        (6, &[4, 4], Some(&[1, 2])),
+        (16, &[4, 4], None),
+        (0, &[4, 0], None),
+        (0, &[1 << 32, 1 << 32], None),
+    ];
+    for (number, shape, want) in rows {
+        let found = is_at(rt.alloc(), number, shape, want);
+        assert_eq!(rt; found, Ok(true), "{number} in {shape:?}");
     }
-    Ok(())
 }
 
+// The coordinate is told along one axis alone, too.
+#[test]
+fn a_number_is_told_along_an_axis(rt: HostRuntime) {
+    let along = (number_along(6, &[4, 4], 0), number_along(6, &[4, 4], 1));
+    assert_eq!(rt; along, (1, 2));
+}
+
+// A coordinate inside the shape has one number, where the count fits 64 bits.
 #[test]
 fn a_coordinate_has_one_number(rt: HostRuntime) {
     let rows: [(&[u64], &[u64], Option<u64>, &str); 7] = [
@@ -36,6 +54,7 @@ fn a_coordinate_has_one_number(rt: HostRuntime) {
     }
 }
 
+// The law of numbers can be called.
 #[test]
 fn the_law_of_numbers_can_be_called(_rt: HostRuntime) {
     numbering_law(&[4, 4]);

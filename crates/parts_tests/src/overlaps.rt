@@ -1,63 +1,56 @@
 // Where two boxes meet, boxes seen from another origin, and the law of overlaps.
-use crate::examples::subset;
+use crate::examples::{is_box, subset};
 use std::alloc::Global;
 use std::ops::Range;
 use std::test::Fail;
-use zarr_parts::{ArraySubset, CodecError, overlap_law};
+use zarr_parts::{CodecError, overlap_law};
 
-// Where the box of the coordinates 0 to 2 and 2 to 4 meets another.
-fn met(alloc: Global, other: &[Range<u64>]) -> Result<ArraySubset, Fail> {
+// Whether the box of the coordinates 0 to 2 and 2 to 4 meets another in a third.
+fn is_met(alloc: Global, other: &[Range<u64>], both: &[Range<u64>]) -> Result<bool, CodecError> {
     let one = subset(alloc, &[0..2, 2..4])?;
-    Ok(one.overlap(alloc, &subset(alloc, other)?)?)
+    let other = subset(alloc, other)?;
+    is_box(alloc, &one.overlap(alloc, &other)?, both)
 }
 
+// Two boxes of as many axes meet in a box, which may be empty.
 #[test]
-fn two_boxes_meet(rt: HostRuntime) -> Result<(), Fail> {
-    let rows: [(&[Range<u64>], &[Range<u64>], &str); 2] = [
-        (&[1..3, 0..3], &[1..2, 2..3], "in a corner"),
-        (&[5..6, 2..4], &[5..5, 2..4], "nowhere on the first axis"),
+fn two_boxes_meet(rt: HostRuntime) {
+    let unequal = Err(CodecError::IncompatibleDimensionality);
+    let rows: [(&[Range<u64>], &[Range<u64>], Result<bool, CodecError>, &str); 3] = [
+        (&[1..3, 0..3], &[1..2, 2..3], Ok(true), "in a corner"),
+        (
+            &[5..6, 2..4],
+            &[5..5, 2..4],
+            Ok(true),
+            "nowhere on the first axis",
+        ),
+        (&[0..2], &[], unequal, "not with one axis"),
     ];
-    for (other, both, what) in rows {
-        assert_eq!(rt;
-            met(rt.alloc(), other)?,
-            subset(rt.alloc(), both)?,
-            "{what}"
-        );
+    for (other, both, want, what) in rows {
+        assert_eq!(rt; is_met(rt.alloc(), other, both), want, "{what}");
     }
-    Ok(())
 }
 
-#[test]
-fn boxes_of_other_axes_do_not_meet(rt: HostRuntime) -> Result<(), Fail> {
-    let one = subset(rt.alloc(), &[0..2, 2..4])?;
-    let refusal = one.overlap(rt.alloc(), &subset(rt.alloc(), &[0..2])?);
-    assert_eq!(rt; refusal, Err(CodecError::IncompatibleDimensionality));
-    Ok(())
+// Whether a column, counted from an origin, is the box of these ranges.
+fn is_relative(alloc: Global, origin: &[u64], ranges: &[Range<u64>]) -> Result<bool, CodecError> {
+    let column = subset(alloc, &[1..3, 0..1])?;
+    is_box(alloc, &column.relative_to(alloc, origin)?, ranges)
 }
 
+// A box is counted from an origin of as many axes, none of them past its start.
 #[test]
-fn a_box_is_counted_from_an_origin(rt: HostRuntime) -> Result<(), Fail> {
-    let column = subset(rt.alloc(), &[1..3, 0..1])?;
-    assert_eq!(rt;
-        column.relative_to(rt.alloc(), &[1, 0])?,
-        subset(rt.alloc(), &[0..2, 0..1])?
-    );
-    Ok(())
-}
-
-#[test]
-fn other_origins_are_refused(rt: HostRuntime) -> Result<(), Fail> {
-    let column = subset(rt.alloc(), &[1..3, 0..1])?;
-    let rows: [(&[u64], CodecError); 2] = [
-        (&[1, 1], CodecError::OutOfBounds),
-        (&[2], CodecError::IncompatibleDimensionality),
+fn a_box_is_counted_from_an_origin(rt: HostRuntime) {
+    let rows: [(&[u64], Result<bool, CodecError>); 3] = [
+        (&[1, 0], Ok(true)),
+        (&[1, 1], Err(CodecError::OutOfBounds)),
+        (&[2], Err(CodecError::IncompatibleDimensionality)),
     ];
-    for (origin, refusal) in rows {
-        assert_eq!(rt; column.relative_to(rt.alloc(), origin), Err(refusal));
+    for (origin, want) in rows {
+        assert_eq!(rt; is_relative(rt.alloc(), origin, &[0..2, 0..1]), want);
     }
-    Ok(())
 }
 
+// The law of overlaps can be called.
 #[test]
 fn the_law_of_overlaps_can_be_called(rt: HostRuntime) -> Result<(), Fail> {
     let whole = subset(rt.alloc(), &[0..4, 0..4])?;

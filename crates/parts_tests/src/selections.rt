@@ -2,75 +2,97 @@
 use crate::examples::{listed, shape, subset};
 use std::alloc::Global;
 use std::ops::Range;
-use std::test::Fail;
 use zarr_parts::{CodecError, Indexer, check_selection, point_numbers};
 
-// The numbers in a shape of the coordinates that are asked of it.
-fn numbers<N: Indexer>(alloc: Global, indexer: &N, axes: &[u64]) -> Result<Vec<u64>, Fail> {
+// Whether the coordinates that are asked of a shape have these numbers in it.
+fn are_numbers<N: Indexer>(
+    alloc: Global,
+    indexer: &N,
+    axes: &[u64],
+    want: &[u64],
+) -> Result<bool, CodecError> {
     let shape = shape(alloc, axes)?;
-    let _cells = shape.num_elements().ok_or("a count that fits")?;
+    let _cells = shape.num_elements().ok_or(CodecError::TooLarge)?;
     let count = check_selection(indexer, &shape)?;
-    Ok(point_numbers(alloc, indexer, count, &shape)?)
+    Ok(point_numbers(alloc, indexer, count, &shape)?.as_slice() == want)
 }
 
-#[test]
-fn a_subset_is_numbered(rt: HostRuntime) -> Result<(), Fail> {
-    let column = subset(rt.alloc(), &[1..3, 0..1])?;
-    let found = numbers(rt.alloc(), &column, &[4, 4])?;
-    assert_eq!(rt; found.as_slice(), [4, 8].as_slice());
-    Ok(())
+fn is_numbered(alloc: Global) -> Result<bool, CodecError> {
+    let column = subset(alloc, &[1..3, 0..1])?;
+    are_numbers(alloc, &column, &[4, 4], &[4, 8])
 }
 
+// The points of a box are numbered in row-major order.
 #[test]
-fn coordinates_are_numbered(rt: HostRuntime) -> Result<(), Fail> {
+fn a_subset_is_numbered(rt: HostRuntime) {
+    assert!(rt; is_numbered(rt.alloc()) == Ok(true));
+}
+
+fn are_listed(
+    alloc: Global,
+    axes: &[u64],
+    count: u64,
+    flat: &[u64],
+    want: &[u64],
+) -> Result<bool, CodecError> {
+    let list = listed(alloc, axes.len(), count, flat)?;
+    are_numbers(alloc, &list, axes, want)
+}
+
+// Listed coordinates are numbered in their own order, one of them twice.
+#[test]
+fn coordinates_are_numbered(rt: HostRuntime) {
     let rows: [(&[u64], u64, &[u64], &[u64]); 2] = [
         (&[4, 4], 3, &[3, 3, 0, 0, 3, 3], &[15, 0, 15]),
         (&[], 2, &[], &[0, 0]),
     ];
-    for (axes, count, flat, wanted) in rows {
-        let list = listed(rt.alloc(), axes.len(), count, flat)?;
-        let found = numbers(rt.alloc(), &list, axes)?;
-        assert_eq!(rt; found.as_slice(), wanted);
+    for (axes, count, flat, want) in rows {
+        assert_eq!(rt; are_listed(rt.alloc(), axes, count, flat, want), Ok(true));
     }
-    Ok(())
 }
 
+fn list_count(
+    alloc: Global,
+    axes: &[u64],
+    dimensionality: usize,
+    count: u64,
+    flat: &[u64],
+) -> Result<u64, CodecError> {
+    let list = listed(alloc, dimensionality, count, flat)?;
+    check_selection(&list, &shape(alloc, axes)?)
+}
+
+// Listed coordinates are counted where each is inside the shape.
 #[test]
-fn coordinates_are_counted_where_they_are_inside(rt: HostRuntime) -> Result<(), Fail> {
+fn coordinates_are_counted_where_they_are_inside(rt: HostRuntime) {
+    let unequal = Err(CodecError::IncompatibleDimensionality);
     let rows: [(&[u64], usize, u64, &[u64], Result<u64, CodecError>); 4] = [
         (&[4, 4], 2, 3, &[3, 3, 0, 0, 3, 3], Ok(3)),
         (&[4, 4], 2, 2, &[0, 0, 3, 4], Err(CodecError::OutOfBounds)),
-        (
-            &[4, 4],
-            1,
-            1,
-            &[4],
-            Err(CodecError::IncompatibleDimensionality),
-        ),
+        (&[4, 4], 1, 1, &[4], unequal),
         (&[], 0, u64::MAX, &[], Ok(u64::MAX)),
     ];
-    for (axes, dimensionality, count, flat, wanted) in rows {
-        let list = listed(rt.alloc(), dimensionality, count, flat)?;
-        assert_eq!(rt; check_selection(&list, &shape(rt.alloc(), axes)?), wanted);
+    for (axes, dimensionality, count, flat, want) in rows {
+        let found = list_count(rt.alloc(), axes, dimensionality, count, flat);
+        assert_eq!(rt; found, want);
     }
-    Ok(())
 }
 
+fn box_count(alloc: Global, axes: &[u64], ranges: &[Range<u64>]) -> Result<u64, CodecError> {
+    check_selection(&subset(alloc, ranges)?, &shape(alloc, axes)?)
+}
+
+// The points of a box are counted where it ends inside the shape and the count fits 64 bits.
 #[test]
-fn a_subset_is_counted_where_it_ends_inside(rt: HostRuntime) -> Result<(), Fail> {
+fn a_subset_is_counted_where_it_ends_inside(rt: HostRuntime) {
+    let large = [0..1 << 32, 0..1 << 32];
     let rows: [(&[u64], &[Range<u64>], Result<u64, CodecError>); 4] = [
         (&[4, 4], &[1..3, 0..1], Ok(2)),
         (&[4], &[5..5], Err(CodecError::OutOfBounds)),
         (&[4], &[4..4], Ok(0)),
-        (
-            &[1 << 32, 1 << 32],
-            &[0..1 << 32, 0..1 << 32],
-            Err(CodecError::TooLarge),
-        ),
+        (&[1 << 32, 1 << 32], &large, Err(CodecError::TooLarge)),
     ];
-    for (axes, ranges, wanted) in rows {
-        let found = check_selection(&subset(rt.alloc(), ranges)?, &shape(rt.alloc(), axes)?);
-        assert_eq!(rt; found, wanted);
+    for (axes, ranges, want) in rows {
+        assert_eq!(rt; box_count(rt.alloc(), axes, ranges), want);
     }
-    Ok(())
 }

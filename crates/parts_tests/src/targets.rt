@@ -2,115 +2,141 @@
 use crate::examples::{fill, fixed, subset};
 use std::alloc::Global;
 use std::ops::Range;
-use std::test::Fail;
-use zarr_parts::{ArrayBytes, ArraySubset, CodecError, FillValue, FixedTarget};
+use zarr_parts::{ArraySubset, CodecError, FixedTarget};
 
 // So many bytes, each 77.
-fn bytes_of(alloc: Global, len: usize) -> Result<Vec<u8>, Fail> {
+fn bytes_of(alloc: Global, len: usize) -> Result<Vec<u8>, CodecError> {
     Ok(Vec::from_elem(alloc, 77, len)?)
 }
 
-// What a copy into a box of 3 rows of 3 elements answers.
-fn copied(
-    bytes: &mut [u8],
+// A target over a box of 3 rows of 3 elements.
+fn target_of<'a>(
+    bytes: &'a mut [u8],
     element_size: usize,
-    subset: &ArraySubset,
-    update: &ArrayBytes,
-) -> Result<Result<(), CodecError>, Fail> {
-    let mut target = FixedTarget::new(bytes, element_size, &[3, 3], subset).ok_or("a target")?;
-    Ok(target.copy_from(update))
+    cells: &'a ArraySubset,
+) -> Result<FixedTarget<'a>, CodecError> {
+    FixedTarget::new(bytes, element_size, &[3, 3], cells).ok_or(CodecError::Fault)
 }
 
-// What filling a box of 3 rows of 3 single bytes answers.
-fn filled(
-    bytes: &mut [u8],
-    subset: &ArraySubset,
-    value: &FillValue,
-) -> Result<Result<(), CodecError>, Fail> {
-    let mut target = FixedTarget::new(bytes, 1, &[3, 3], subset).ok_or("a target")?;
-    Ok(target.fill(value))
+// What a copy of two single bytes into a box answers.
+fn copy_into(bytes: &mut [u8], element_size: usize, cells: &ArraySubset) -> Result<(), CodecError> {
+    let update = fixed(1, &[4, 8])?;
+    target_of(bytes, element_size, cells)?.copy_from(&update)
 }
 
-#[test]
-fn elements_are_copied_into_a_box(rt: HostRuntime) -> Result<(), Fail> {
-    let column = subset(rt.alloc(), &[1..3, 1..2])?;
-    let mut bytes = bytes_of(rt.alloc(), 9)?;
-    assert!(rt; FixedTarget::fits(bytes.len(), 1, &[3, 3], &column));
-    let answer = copied(&mut bytes, 1, &column, &fixed(&[4, 8], 1)?)?;
-    assert_eq!(rt; answer, Ok(()));
-    assert_eq!(rt;
-        bytes.as_slice(),
-        [77, 77, 77, 77, 4, 77, 77, 8, 77].as_slice()
-    );
-    Ok(())
-}
-
-#[test]
-fn other_elements_are_refused(rt: HostRuntime) -> Result<(), Fail> {
-    let rows: [(usize, usize, &[Range<u64>], CodecError); 2] = [
-        (9, 1, &[1..2, 1..2], CodecError::InvalidNumberOfElements),
-        (18, 2, &[1..3, 1..2], CodecError::WrongElementKind),
-    ];
-    for (len, element_size, ranges, refusal) in rows {
-        let mut bytes = bytes_of(rt.alloc(), len)?;
-        let place = subset(rt.alloc(), ranges)?;
-        let answer = copied(&mut bytes, element_size, &place, &fixed(&[4, 8], 1)?)?;
-        assert_eq!(rt; answer, Err(refusal));
-        assert_eq!(rt; bytes, bytes_of(rt.alloc(), len)?);
+// What such a copy answers; damage where the bytes, which were 77, are not these then.
+fn copied(
+    alloc: Global,
+    element_size: usize,
+    ranges: &[Range<u64>],
+    want: &[u8],
+) -> Result<(), CodecError> {
+    let cells = subset(alloc, ranges)?;
+    let mut bytes = bytes_of(alloc, want.len())?;
+    let answer = copy_into(&mut bytes, element_size, &cells);
+    if bytes.as_slice() == want {
+        answer
+    } else {
+        Err(CodecError::Damaged)
     }
-    Ok(())
 }
 
-// How many elements a box of 3 rows of 3 single bytes has, their size, and whether the target tells the box.
-fn told(bytes: &mut [u8], subset: &ArraySubset) -> Result<(u64, usize, bool), Fail> {
-    let target = FixedTarget::new(bytes, 1, &[3, 3], subset).ok_or("a target")?;
-    Ok((
-        target.num_elements(),
-        target.element_size(),
-        target.subset() == subset,
-    ))
-}
-
+// As many elements of the target's size are copied into the box; others are refused and change nothing.
 #[test]
-fn a_target_tells_its_box(rt: HostRuntime) -> Result<(), Fail> {
-    let column = subset(rt.alloc(), &[1..3, 1..2])?;
-    let mut bytes = bytes_of(rt.alloc(), 9)?;
-    assert_eq!(rt; told(&mut bytes, &column)?, (2, 1, true));
-    Ok(())
-}
-
-#[test]
-fn a_box_is_filled(rt: HostRuntime) -> Result<(), Fail> {
-    let column = subset(rt.alloc(), &[1..3, 1..2])?;
-    let mut bytes = bytes_of(rt.alloc(), 9)?;
-    let rows: [(&[u8], Result<(), CodecError>, &[u8]); 2] = [
+fn elements_are_copied_into_a_box(rt: HostRuntime) {
+    let few = Err(CodecError::InvalidNumberOfElements);
+    let wrong = Err(CodecError::WrongElementKind);
+    let rows: [(usize, &[Range<u64>], Result<(), CodecError>, &[u8]); 3] = [
         (
-            &[5, 5],
-            Err(CodecError::WrongElementKind),
-            &[77, 77, 77, 77, 77, 77, 77, 77, 77],
+            1,
+            &[1..3, 1..2],
+            Ok(()),
+            &[77, 77, 77, 77, 4, 77, 77, 8, 77],
         ),
+        (1, &[1..2, 1..2], few, &[77; 9]),
+        (2, &[1..3, 1..2], wrong, &[77; 18]),
+    ];
+    for (element_size, ranges, answer, want) in rows {
+        assert_eq!(rt; copied(rt.alloc(), element_size, ranges, want), answer);
+    }
+}
+
+// What filling a box of single bytes answers.
+fn fill_into(
+    alloc: Global,
+    bytes: &mut [u8],
+    cells: &ArraySubset,
+    value: &[u8],
+) -> Result<(), CodecError> {
+    let value = fill(alloc, value)?;
+    target_of(bytes, 1, cells)?.fill(&value)
+}
+
+// What filling a column answers; damage where the bytes, which were 77, are not these then.
+fn filled(alloc: Global, value: &[u8], want: &[u8]) -> Result<(), CodecError> {
+    let column = subset(alloc, &[1..3, 1..2])?;
+    let mut bytes = bytes_of(alloc, 9)?;
+    let answer = fill_into(alloc, &mut bytes, &column, value);
+    if bytes.as_slice() == want {
+        answer
+    } else {
+        Err(CodecError::Damaged)
+    }
+}
+
+// A value of the target's size fills the box; another is refused and changes nothing.
+#[test]
+fn a_box_is_filled(rt: HostRuntime) {
+    let rows: [(&[u8], Result<(), CodecError>, &[u8]); 2] = [
+        (&[5, 5], Err(CodecError::WrongElementKind), &[77; 9]),
         (&[5], Ok(()), &[77, 77, 77, 77, 5, 77, 77, 5, 77]),
     ];
-    for (value, wanted, written) in rows {
-        let answer = filled(&mut bytes, &column, &fill(rt.alloc(), value)?)?;
-        assert_eq!(rt; answer, wanted);
-        assert_eq!(rt; bytes.as_slice(), written);
+    for (value, answer, want) in rows {
+        assert_eq!(rt; filled(rt.alloc(), value, want), answer);
     }
-    Ok(())
 }
 
+// Whether a target over a box of single bytes has so many elements, each of one byte, and tells the box.
+fn tells(bytes: &mut [u8], cells: &ArraySubset, count: u64) -> Result<bool, CodecError> {
+    let target = target_of(bytes, 1, cells)?;
+    let counted = target.num_elements() == count && target.element_size() == 1;
+    Ok(counted && target.subset() == cells)
+}
+
+fn tells_its_column(alloc: Global) -> Result<bool, CodecError> {
+    let column = subset(alloc, &[1..3, 1..2])?;
+    let mut bytes = bytes_of(alloc, 9)?;
+    tells(&mut bytes, &column, 2)
+}
+
+// A target tells its elements and its box.
 #[test]
-fn bytes_that_do_not_fit_are_no_target(rt: HostRuntime) -> Result<(), Fail> {
-    let rows: [(usize, &[Range<u64>], &str); 3] = [
-        (0, &[1..3, 1..2], "size 0"),
-        (2, &[1..3, 1..2], "another length"),
-        (1, &[1..4, 1..2], "a box outside"),
-    ];
-    for (element_size, ranges, what) in rows {
-        let mut bytes = bytes_of(rt.alloc(), 9)?;
-        let place = subset(rt.alloc(), ranges)?;
-        let target = FixedTarget::new(&mut bytes, element_size, &[3, 3], &place);
-        assert!(rt; target.is_none(), "{what}");
+fn a_target_tells_its_box(rt: HostRuntime) {
+    assert_eq!(rt; tells_its_column(rt.alloc()), Ok(true));
+}
+
+// Whether nine bytes fit a box; a fault unless they are a target over it just then.
+fn fits(alloc: Global, element_size: usize, ranges: &[Range<u64>]) -> Result<bool, CodecError> {
+    let cells = subset(alloc, ranges)?;
+    let mut bytes = bytes_of(alloc, 9)?;
+    let fits = FixedTarget::fits(bytes.len(), element_size, &[3, 3], &cells);
+    if target_of(&mut bytes, element_size, &cells).is_ok() == fits {
+        Ok(fits)
+    } else {
+        Err(CodecError::Fault)
     }
-    Ok(())
+}
+
+// Bytes are a target over a box where they fit it.
+#[test]
+fn bytes_that_do_not_fit_are_no_target(rt: HostRuntime) {
+    let rows: [(usize, &[Range<u64>], bool, &str); 4] = [
+        (1, &[1..3, 1..2], true, "a column"),
+        (0, &[1..3, 1..2], false, "size 0"),
+        (2, &[1..3, 1..2], false, "another length"),
+        (1, &[1..4, 1..2], false, "a box outside"),
+    ];
+    for (element_size, ranges, want, what) in rows {
+        assert_eq!(rt; fits(rt.alloc(), element_size, ranges), Ok(want), "{what}");
+    }
 }

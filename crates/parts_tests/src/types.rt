@@ -1,38 +1,39 @@
 // Data types and fill values.
 use crate::examples::fill;
-use std::test::Fail;
-use zarr_parts::{DataType, DataTypeSize};
+use std::alloc::Global;
+use zarr_parts::{CodecError, DataType, DataTypeSize};
 
+// Each type has the size of its elements, or none.
 #[test]
 fn a_type_tells_its_size(rt: HostRuntime) {
-    let sizes = [
-        (DataType::Bool, 1),
-        (DataType::UInt8, 1),
-        (DataType::Int16, 2),
-        (DataType::UInt32, 4),
-        (DataType::Int64, 8),
-        (DataType::Raw(3), 3),
-        (DataType::Optional, 0),
-    ];
-    for (data_type, size) in sizes {
-        assert_eq!(rt;
-            data_type.size(),
-            DataTypeSize::Fixed(size),
-            "{data_type:?}"
-        );
+    for (data_type, size) in [
+        (DataType::Bool, DataTypeSize::Fixed(1)),
+        (DataType::UInt8, DataTypeSize::Fixed(1)),
+        (DataType::Int16, DataTypeSize::Fixed(2)),
+        (DataType::UInt32, DataTypeSize::Fixed(4)),
+        (DataType::Int64, DataTypeSize::Fixed(8)),
+        (DataType::Raw(3), DataTypeSize::Fixed(3)),
+        (DataType::Optional, DataTypeSize::Fixed(0)),
+        (DataType::Bytes, DataTypeSize::Variable),
+    ] {
+        assert_eq!(rt; data_type.size(), size, "{data_type:?}");
     }
-    assert_eq!(rt; DataType::Bytes.size(), DataTypeSize::Variable);
 }
 
+// The mark of an optional type is told from a type of no bytes.
 #[test]
 fn only_the_mark_is_optional(rt: HostRuntime) {
     assert!(rt; DataType::Optional.is_optional());
     assert!(rt; !DataType::Raw(0).is_optional());
 }
 
+fn is_copied(alloc: Global) -> Result<bool, CodecError> {
+    let pair = fill(alloc, &[1, 2])?;
+    Ok(pair.try_clone(alloc)? == pair)
+}
+
+// A copy of a fill value is equal.
 #[test]
-fn a_copy_of_a_fill_value_is_equal(rt: HostRuntime) -> Result<(), Fail> {
-    let pair = fill(rt.alloc(), &[1, 2])?;
-    assert_eq!(rt; pair.try_clone(rt.alloc())?, pair);
-    Ok(())
+fn a_copy_of_a_fill_value_is_equal(rt: HostRuntime) {
+    assert!(rt; is_copied(rt.alloc()) == Ok(true));
 }

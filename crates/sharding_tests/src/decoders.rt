@@ -1,6 +1,6 @@
 // Decoders: what they tell besides cells, subchunks as they are stored, reads into a target, and objects that are not opened.
 use crate::shards::{
-    ABSENT, Plain, decoder_of, fill_of, listed, plain, read, shape_of, shard_of, sixteen, subset_of,
+    ABSENT, Plain, cells_of, decoder_of, listed, plain, read, said, shard_of, sixteen, subset_of,
 };
 use std::alloc::Global;
 use std::ops::Range;
@@ -9,29 +9,36 @@ use zarr_codecs::{ByteRange, BytesCodec, BytesPartialDecoderTraits, MemoryHandle
 use zarr_parts::{CodecError, CodecOptions, DataType, FixedTarget};
 use zarrs_sharding::{ShardingIndexLocation, ShardingPartialDecoder};
 
-// What a decoder tells of a handle's object: whether it is there, what is held of it, its cells' type, and whether it is
-// read in part.
+// What a decoder tells of an object: whether it is there, what is held of it, its cells' type, and whether it is read in part.
+type Told = (bool, usize, DataType, bool);
+
 fn told<H: BytesPartialDecoderTraits + Drop>(
-    alloc: Global,
-    handle: H,
-) -> Result<(bool, usize, DataType, bool), CodecError> {
-    let codec = plain(alloc, &[2, 2], ShardingIndexLocation::Start)?;
-    let mut decoder = decoder_of(alloc, &codec, handle, &[4, 4])?;
+    decoder: &mut ShardingPartialDecoder<'_, BytesCodec, BytesCodec, H>,
+) -> Result<Told, CodecError> {
     let exists = decoder.exists()?;
-    Ok((
-        exists,
-        decoder.size_held(),
-        *decoder.data_type(),
-        decoder.supports_partial_decode(),
-    ))
+    let (held, data_type) = (decoder.size_held(), *decoder.data_type());
+    Ok((exists, held, data_type, decoder.supports_partial_decode()))
 }
 
+// Whether a decoder of a handle's object tells this.
+fn tells<H: BytesPartialDecoderTraits + Drop>(
+    alloc: Global,
+    handle: H,
+    want: Told,
+) -> Result<bool, CodecError> {
+    let codec = plain(alloc, &[2, 2], ShardingIndexLocation::Start)?;
+    let mut decoder = decoder_of(alloc, &codec, handle, &[4, 4])?;
+    Ok(told(&mut decoder)? == want)
+}
+
+// A decoder holds its index besides what its handle holds, and none where there is no object.
 #[test]
 fn an_object_is_told(rt: HostRuntime) {
-    let stored = told(rt.alloc(), SliceHandle::new(&[255; 80]));
-    assert_eq!(rt; stored, Ok((true, 80 + 64, DataType::UInt8, true)));
-    let none = told(rt.alloc(), MemoryHandle::new(None));
-    assert_eq!(rt; none, Ok((false, 0, DataType::UInt8, true)));
+    let stored = (true, 80 + 64, DataType::UInt8, true);
+    let lent = SliceHandle::new(&[255; 80]);
+    assert_eq!(rt; tells(rt.alloc(), lent, stored), Ok(true));
+    let none = (false, 0, DataType::UInt8, true);
+    assert_eq!(rt; tells(rt.alloc(), MemoryHandle::new(None), none), Ok(true));
 }
 
 // The cells at coordinates of a shape of 4 by 4.
@@ -42,11 +49,11 @@ fn read_at(alloc: Global, flat: &[u64]) -> Result<Vec<u8>, CodecError> {
     read(alloc, &codec, SliceHandle::new(&object), &[4, 4], &asked)
 }
 
+// Cells are read in the order in which they are asked, one of them twice.
 #[test]
-fn coordinates_are_read(rt: HostRuntime) -> Result<(), Fail> {
-    let cells = read_at(rt.alloc(), &[3, 3, 0, 0, 3, 3])?;
-    assert_eq!(rt; cells.as_slice(), [15u8, 0, 15].as_slice());
-    Ok(())
+fn coordinates_are_read(rt: HostRuntime) {
+    let cells = read_at(rt.alloc(), &[3, 3, 0, 0, 3, 3]);
+    assert_eq!(rt; said(&cells), Ok([15u8, 0, 15].as_slice()));
 }
 
 // Reads two cells into a box of a target of 3 by 3.
@@ -65,7 +72,7 @@ fn read_into<H: BytesPartialDecoderTraits>(
     decoder.partial_decode_into(alloc, &asked, &mut target, &CodecOptions::default())
 }
 
-// The bytes of such a target, or why it stays.
+// The same by a decoder of sixteen cells.
 fn target_of(
     alloc: Global,
     bytes: &mut [u8],
@@ -78,23 +85,35 @@ fn target_of(
     read_into(alloc, &mut decoder, bytes, element_size, rows)
 }
 
-#[test]
-fn cells_are_read_into_a_target(rt: HostRuntime) -> Result<(), Fail> {
-    for (element_size, rows, answer, want) in [
-        (
-            1,
-            1..3,
-            Ok(()),
-            [77u8, 77, 77, 77, 4, 77, 77, 8, 77].as_slice(),
-        ),
-        (1, 1..2, Err(CodecError::InvalidNumberOfElements), &[77; 9]),
-        (2, 1..3, Err(CodecError::WrongElementKind), &[77; 18]),
-    ] {
-        let mut bytes = vec![in rt.alloc(); 77u8; want.len()]?;
-        let copied = target_of(rt.alloc(), &mut bytes, element_size, rows);
-        assert_eq!(rt; (copied, bytes.as_slice()), (answer, want));
+// What such a read answers; a fault where the target, whose bytes were 77, has not these then.
+fn is_target(
+    alloc: Global,
+    element_size: usize,
+    rows: Range<u64>,
+    want: &[u8],
+) -> Result<(), CodecError> {
+    let mut bytes = vec![in alloc; 77u8; want.len()]?;
+    let answer = target_of(alloc, &mut bytes, element_size, rows);
+    if bytes.as_slice() == want {
+        answer
+    } else {
+        Err(CodecError::Fault)
     }
-    Ok(())
+}
+
+// Cells are read into a target of as many of their size, and another stays as it was.
+#[test]
+fn cells_are_read_into_a_target(rt: HostRuntime) {
+    let few = Err(CodecError::InvalidNumberOfElements);
+    let wrong = Err(CodecError::WrongElementKind);
+    let rows: [(usize, Range<u64>, Result<(), CodecError>, &[u8]); 3] = [
+        (1, 1..3, Ok(()), &[77, 77, 77, 77, 4, 77, 77, 8, 77]),
+        (1, 1..2, few, &[77; 9]),
+        (2, 1..3, wrong, &[77; 18]),
+    ];
+    for (element_size, rows, answer, want) in rows {
+        assert_eq!(rt; is_target(rt.alloc(), element_size, rows, want), answer);
+    }
 }
 
 // Four cells in two subchunks: an object of two bytes and this index, or none.
@@ -116,6 +135,7 @@ fn range_of(
     decoder.subchunk_byte_range(subchunk)
 }
 
+// A subchunk that is stored has a range, where the index is sound for it.
 #[test]
 fn a_subchunk_has_a_range(rt: HostRuntime) {
     let half_stored = Some([0, 2, ABSENT, ABSENT]);
@@ -143,51 +163,58 @@ fn a_subchunk_has_a_range(rt: HostRuntime) {
     }
 }
 
-// A copy of the bytes that are stored of a subchunk.
-fn copied<H: BytesPartialDecoderTraits>(
+// Whether a subchunk is stored as these bytes, or is not stored.
+fn is_retrieved<H: BytesPartialDecoderTraits>(
     alloc: Global,
     decoder: &mut ShardingPartialDecoder<'_, BytesCodec, BytesCodec, H>,
     subchunk: &[u64],
-) -> Result<Option<Vec<u8>>, CodecError> {
+    want: Option<&[u8]>,
+) -> Result<bool, CodecError> {
     match decoder.retrieve_subchunk_encoded(alloc, subchunk)? {
-        Some(bytes) => Ok(Some(bytes.to_vec(alloc)?)),
-        None => Ok(None),
+        Some(bytes) => Ok(want == Some(bytes.as_slice())),
+        None => Ok(want.is_none()),
     }
 }
 
-fn stored(alloc: Global, subchunk: &[u64]) -> Result<Option<Vec<u8>>, CodecError> {
+fn is_stored(alloc: Global, subchunk: &[u64], want: Option<&[u8]>) -> Result<bool, CodecError> {
     let codec = plain(alloc, &[2], ShardingIndexLocation::End)?;
     let handle = object_of(alloc, Some([0, 2, ABSENT, ABSENT]))?;
     let mut decoder = decoder_of(alloc, &codec, handle, &[4])?;
-    copied(alloc, &mut decoder, subchunk)
+    is_retrieved(alloc, &mut decoder, subchunk, want)
 }
 
+// The bytes of a subchunk are retrieved as they are stored.
 #[test]
-fn a_subchunk_is_retrieved_as_it_is_stored(rt: HostRuntime) -> Result<(), Fail> {
-    for (subchunk, want) in [(0, Some([0u8, 7].as_slice())), (1, None)] {
-        let bytes = stored(rt.alloc(), &[subchunk])?;
-        assert_eq!(rt; bytes.as_ref().map(|found| found.as_slice()), want);
-    }
-    Ok(())
+fn a_subchunk_is_retrieved_as_it_is_stored(rt: HostRuntime) {
+    let stored = Some([0u8, 7].as_slice());
+    assert_eq!(rt; is_stored(rt.alloc(), &[0], stored), Ok(true));
+    assert_eq!(rt; is_stored(rt.alloc(), &[1], None), Ok(true));
 }
 
-// Why a handle is not opened, and how many bytes the handle holds that comes back; nothing where it is.
-fn refused(
+// Whether a handle is not opened for this reason, and holds so many bytes where it comes back; or whether it is opened.
+fn is_refused(
     alloc: Global,
     codec: &Plain,
     len: usize,
-) -> Result<Option<(usize, CodecError)>, CodecError> {
-    let shape = shape_of(alloc, &[4])?;
-    let zero = fill_of(alloc, &[0])?;
+    want: Option<(usize, CodecError)>,
+) -> Result<bool, CodecError> {
+    let cells = cells_of(alloc, &[4])?;
     let handle = MemoryHandle::new(Some(vec![in alloc; 255u8; len]?));
     let options = CodecOptions::default();
-    match codec.partial_decoder(alloc, handle, &shape, &DataType::UInt8, &zero, &options) {
-        Ok(_) => Ok(None),
-        Err((handle, error)) => Ok(Some((handle.size_held(), error))),
+    match codec.partial_decoder(
+        alloc,
+        handle,
+        &cells.shape,
+        &DataType::UInt8,
+        &cells.fill,
+        &options,
+    ) {
+        Ok(_) => Ok(want.is_none()),
+        Err((handle, error)) => Ok(want == Some((handle.size_held(), error))),
     }
 }
 
-// The index has 32 bytes.
+// An object shorter than the index, of 32 bytes, is not opened.
 #[test]
 fn a_short_object_is_given_back(rt: HostRuntime) -> Result<(), Fail> {
     let codec = plain(rt.alloc(), &[2], ShardingIndexLocation::End)?;
@@ -196,7 +223,8 @@ fn a_short_object_is_given_back(rt: HostRuntime) -> Result<(), Fail> {
         (31, Some((31, CodecError::ShardTooShort))),
         (32, None),
     ] {
-        assert_eq!(rt; refused(rt.alloc(), &codec, len), Ok(want), "{len} bytes");
+        let found = is_refused(rt.alloc(), &codec, len, want);
+        assert_eq!(rt; found, Ok(true), "{len} bytes");
     }
     Ok(())
 }

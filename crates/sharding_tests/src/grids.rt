@@ -1,23 +1,32 @@
 // The grid of subchunks, the box of each, and the sizes of what is stored.
-use crate::shards::{fill_of, plain, shape_of};
+use crate::shards::{done, fill_of, plain, shape_of};
 use std::alloc::Global;
-use std::test::Fail;
 use zarr_codecs::{ArrayToBytesCodecTraits, BytesRepresentation};
-use zarr_parts::{ArraySubset, CodecError, DataType};
+use zarr_parts::{ArraySubset, ChunkShape, CodecError, DataType};
 use zarrs_sharding::{ShardingIndexLocation, calculate_chunks_per_shard, sharding_index_shape};
 
-// The shape of the index of a shard.
-fn index_shape_of(alloc: Global, shape: &[u64], sub: &[u64]) -> Result<Vec<u64>, CodecError> {
-    let grid = calculate_chunks_per_shard(alloc, &shape_of(alloc, shape)?, &shape_of(alloc, sub)?)?;
-    let index_shape = sharding_index_shape(alloc, &grid)?;
-    Ok(index_shape.as_slice().to_vec(alloc)?)
+// The grid of the subchunks of a shard.
+fn grid_of(alloc: Global, shape: &[u64], sub: &[u64]) -> Result<ChunkShape, CodecError> {
+    let shape = shape_of(alloc, shape)?;
+    calculate_chunks_per_shard(alloc, &shape, &shape_of(alloc, sub)?)
 }
 
+// Whether the index of a shard has this shape.
+fn is_index_shape(
+    alloc: Global,
+    shape: &[u64],
+    sub: &[u64],
+    want: &[u64],
+) -> Result<bool, CodecError> {
+    let grid = grid_of(alloc, shape, sub)?;
+    Ok(sharding_index_shape(alloc, &grid)?.as_slice() == want)
+}
+
+// An index has two numbers for each subchunk of the grid.
 #[test]
-fn a_shard_has_a_grid_and_an_index(rt: HostRuntime) -> Result<(), Fail> {
-    let shape = index_shape_of(rt.alloc(), &[4, 4], &[2, 2])?;
-    assert_eq!(rt; shape.as_slice(), [2u64, 2, 2].as_slice());
-    Ok(())
+fn a_shard_has_a_grid_and_an_index(rt: HostRuntime) {
+    let found = is_index_shape(rt.alloc(), &[4, 4], &[2, 2], &[2, 2, 2]);
+    assert_eq!(rt; found, Ok(true));
 }
 
 // The box of a subchunk of a grid.
@@ -31,48 +40,56 @@ fn box_of(
     codec.chunk_index_to_subset(alloc, number, &shape_of(alloc, grid)?)
 }
 
-#[test]
-fn a_subchunk_has_a_box(rt: HostRuntime) -> Result<(), Fail> {
-    for (number, grid, sub, start) in [
-        (0, [2u64, 3], [4u64, 5], Some([0u64, 0])),
-        (1, [2, 3], [4, 5], Some([0, 5])),
-        (2, [2, 3], [4, 5], Some([0, 10])),
-        (3, [2, 3], [4, 5], Some([4, 0])),
-        (5, [2, 3], [4, 5], Some([4, 10])),
-        (6, [2, 3], [4, 5], None),
-        (1, [2, 2], [2, 2], Some([0, 2])),
-        (4, [2, 2], [2, 2], None),
-    ] {
-        let found = box_of(rt.alloc(), number, &grid, &sub)?;
-        let place = found
-            .as_ref()
-            .map(|subset| (subset.start(), subset.shape()));
-        let want = start
-            .as_ref()
-            .map(|start| (start.as_slice(), sub.as_slice()));
-        assert_eq!(rt; place, want, "subchunk {number}");
+// Whether a subchunk starts at this cell and has the subchunks' shape, or there is none of the number.
+fn is_box(
+    alloc: Global,
+    number: u64,
+    grid: &[u64],
+    sub: &[u64],
+    start: Option<&[u64]>,
+) -> Result<bool, CodecError> {
+    match box_of(alloc, number, grid, sub)? {
+        Some(found) => Ok(start == Some(found.start()) && found.shape() == sub),
+        None => Ok(start.is_none()),
     }
-    Ok(())
 }
 
+// Subchunks are numbered in row-major order.
+#[test]
+fn a_subchunk_has_a_box(rt: HostRuntime) {
+    let rows: [(u64, &[u64], &[u64], Option<&[u64]>); 8] = [
+        (0, &[2, 3], &[4, 5], Some(&[0, 0])),
+        (1, &[2, 3], &[4, 5], Some(&[0, 5])),
+        (2, &[2, 3], &[4, 5], Some(&[0, 10])),
+        (3, &[2, 3], &[4, 5], Some(&[4, 0])),
+        (5, &[2, 3], &[4, 5], Some(&[4, 10])),
+        (6, &[2, 3], &[4, 5], None),
+        (1, &[2, 2], &[2, 2], Some(&[0, 2])),
+        (4, &[2, 2], &[2, 2], None),
+    ];
+    for (number, grid, sub, start) in rows {
+        let found = is_box(rt.alloc(), number, grid, sub, start);
+        assert_eq!(rt; found, Ok(true), "subchunk {number}");
+    }
+}
+
+// The number of axes is tested before the sizes of the boxes.
 #[test]
 fn a_box_is_refused_in_order(rt: HostRuntime) {
     let many = [1u64 << 32, 1 << 32].as_slice();
-    for (number, grid, sub, want) in [
-        (
-            0,
-            many,
-            [1u64].as_slice(),
-            Some(CodecError::IncompatibleDimensionality),
-        ),
-        (0, many, &[1, 1], Some(CodecError::TooLarge)),
-        (1, &[2], &[1 << 63], Some(CodecError::TooLarge)),
-        (3, &[4], &[1 << 63], Some(CodecError::TooLarge)),
-        (0, &[2], &[1 << 63], None),
-        (2, &[2], &[1 << 63], None),
-    ] {
-        let refusal = box_of(rt.alloc(), number, grid, sub).err();
-        assert_eq!(rt; refusal, want, "subchunk {number} of {grid:?} by {sub:?}");
+    let unequal = Err(CodecError::IncompatibleDimensionality);
+    let large = Err(CodecError::TooLarge);
+    let rows: [(u64, &[u64], &[u64], Result<(), CodecError>); 6] = [
+        (0, many, &[1], unequal),
+        (0, many, &[1, 1], large),
+        (1, &[2], &[1 << 63], large),
+        (3, &[4], &[1 << 63], large),
+        (0, &[2], &[1 << 63], Ok(())),
+        (2, &[2], &[1 << 63], Ok(())),
+    ];
+    for (number, grid, sub, want) in rows {
+        let answer = done(box_of(rt.alloc(), number, grid, sub));
+        assert_eq!(rt; answer, want, "subchunk {number} of {grid:?} by {sub:?}");
     }
 }
 
@@ -83,6 +100,7 @@ fn workers_of(alloc: Global, shape: &[u64], sub: &[u64]) -> Result<(usize, usize
     Ok((told.min(), told.max()))
 }
 
+// A worker can take each subchunk, where all can be counted.
 #[test]
 fn workers_can_share_as_many_subchunks(rt: HostRuntime) {
     let many = [1u64 << 32, 1 << 32].as_slice();
@@ -106,6 +124,7 @@ fn told(alloc: Global) -> Result<BytesRepresentation, CodecError> {
     codec.encoded_representation(alloc, &shape, &DataType::UInt16, &fill_of(alloc, &[0, 0])?)
 }
 
+// An encoding is no longer than all subchunks and the index.
 #[test]
 fn an_encoding_has_a_greatest_length(rt: HostRuntime) {
     assert_eq!(rt; told(rt.alloc()), Ok(BytesRepresentation::BoundedSize(96)));

@@ -132,26 +132,33 @@ fn an_encoding_is_decoded(rt: HostRuntime) -> Result<(), Fail> {
     Ok(())
 }
 
-// Whether a shard with dead bytes is settled once it was compacted.
-fn settled(alloc: Global) -> Result<bool, CodecError> {
+// What a shard with dead bytes is compacted to, and how long what it is compacted to is.
+fn compacted_twice(alloc: Global) -> Result<(Option<Vec<u8>>, usize), CodecError> {
     let codec = plain(alloc, &[2], ShardingIndexLocation::End)?;
     let shape = shape_of(alloc, &[4])?;
     let zero = fill_of(alloc, &[0])?;
     codec.check(alloc, &shape, &DataType::UInt8, &zero)?;
     let bytes = shard_of(alloc, &[9, 9, 1, 2, 3, 4], &[2, 2, 4, 2])?;
     let options = CodecOptions::default();
-    compact_again(
+    let compacted = codec.compact(alloc, &bytes, &shape, &DataType::UInt8, &zero, &options)?;
+    let Some(compacted) = compacted else {
+        return Err(CodecError::Damaged);
+    };
+    let again = compact_again(
         &codec,
         alloc,
         &bytes,
+        &compacted,
         &shape,
         &DataType::UInt8,
         &zero,
         &options,
-    )
+    )?;
+    Ok((again, compacted.len()))
 }
 
+// Two dead bytes of six go, beside an index of 32 bytes, and then nothing.
 #[test]
-fn a_compacted_shard_is_settled(rt: HostRuntime) {
-    assert_eq!(rt; settled(rt.alloc()), Ok(true));
+fn a_compacted_shard_is_compact(rt: HostRuntime) {
+    assert_eq!(rt; compacted_twice(rt.alloc()), Ok((None, 36)));
 }

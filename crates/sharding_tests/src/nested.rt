@@ -42,6 +42,7 @@ fn read_nested(
     )
 }
 
+// An inner shard is damaged where an index names another number of bytes.
 #[test]
 fn nested_shards_are_decoded(rt: HostRuntime) {
     for (inner_size, outer_size, want) in [
@@ -81,6 +82,7 @@ fn is_encoded_so(alloc: Global) -> Result<bool, CodecError> {
     Ok(object.len() == 65 && object == object_of(alloc, 1, 33)?)
 }
 
+// An inner shard of the fill value alone is not stored.
 #[test]
 fn nested_shards_are_encoded(rt: HostRuntime) {
     assert_eq!(rt; is_encoded_so(rt.alloc()), Ok(true));
@@ -109,6 +111,7 @@ fn read_thrice(alloc: Global, cells: Range<u64>) -> Result<Vec<u8>, CodecError> 
     read(alloc, &codec, handle, &[8], &subset_of(alloc, &[cells])?)
 }
 
+// What is stored three shards deep is decoded and read.
 #[test]
 fn three_nested_shards_are_read_back(rt: HostRuntime) -> Result<(), Fail> {
     assert_eq!(rt; decoded_thrice(rt.alloc())?.as_slice(), EIGHT.as_slice());

@@ -1,7 +1,6 @@
 // Reads of a shard that stands in an interval of an object, and decoding into a target.
-use crate::shards::{Plain, elements_of, fill_of, plain, said, shape_of, sixteen, subset_of};
+use crate::shards::{Plain, cells_of, elements_of, plain, said, sixteen, subset_of};
 use std::alloc::Global;
-use std::test::Fail;
 use zarr_codecs::{ArrayToBytesCodecTraits, Interval, MemoryHandle};
 use zarr_parts::{CodecError, CodecOptions, DataType, FixedTarget};
 use zarrs_sharding::ShardingIndexLocation;
@@ -29,23 +28,14 @@ fn read_column(
     interval: Interval,
     row: u64,
 ) -> Result<Vec<u8>, CodecError> {
-    let shape = shape_of(alloc, &[4, 4])?;
-    let fill = fill_of(alloc, &[0])?;
+    let cells = cells_of(alloc, &[4, 4])?;
     let asked = subset_of(alloc, &[row..row.saturating_add(2), 0..1])?;
-    let options = CodecOptions::default();
-    elements_of(
-        alloc,
-        codec.partial_decode(
-            alloc,
-            handle,
-            interval,
-            &shape,
-            &DataType::UInt8,
-            &fill,
-            &asked,
-            &options,
-        ),
-    )
+    let (bytes, options) = (&DataType::UInt8, CodecOptions::default());
+    let (shape, fill) = (&cells.shape, &cells.fill);
+    let read = codec.partial_decode(
+        alloc, handle, interval, shape, bytes, fill, &asked, &options,
+    );
+    elements_of(alloc, read)
 }
 
 fn column_of(
@@ -59,6 +49,7 @@ fn column_of(
     read_column(alloc, &codec, &mut handle, interval, row)
 }
 
+// The cells are tested before the shard, and only the bytes of the interval are read.
 #[test]
 fn a_shard_inside_an_object_is_read(rt: HostRuntime) {
     for (is_there, offset, size, row, want) in [
@@ -86,15 +77,14 @@ fn decode_into(
     object: &[u8],
     target: &mut FixedTarget,
 ) -> Result<(), CodecError> {
-    let shape = shape_of(alloc, &[4, 4])?;
-    let fill = fill_of(alloc, &[0])?;
+    let cells = cells_of(alloc, &[4, 4])?;
     let options = CodecOptions::default();
     codec.decode_into(
         alloc,
         object,
-        &shape,
+        &cells.shape,
         &DataType::UInt8,
-        &fill,
+        &cells.fill,
         target,
         &options,
     )
@@ -109,11 +99,16 @@ fn sixteen_into(alloc: Global, bytes: &mut [u8]) -> Result<(), CodecError> {
     decode_into(alloc, &codec, &object, &mut target)
 }
 
+// Whether the bytes of a target are these once sixteen cells are decoded into it.
+fn is_decoded_into(alloc: Global, want: &[u8]) -> Result<bool, CodecError> {
+    let mut bytes = vec![in alloc; 77u8; 16]?;
+    sixteen_into(alloc, &mut bytes)?;
+    Ok(bytes.as_slice() == want)
+}
+
+// Each cell of the target is written.
 #[test]
-fn a_shard_is_decoded_into_a_target(rt: HostRuntime) -> Result<(), Fail> {
-    let mut bytes = vec![in rt.alloc(); 77u8; 16]?;
-    sixteen_into(rt.alloc(), &mut bytes)?;
-    let wanted = [0u8, 1, 2, 3, 4, 5, 6, 7, 8, 9, 10, 11, 12, 13, 14, 15];
-    assert_eq!(rt; bytes.as_slice(), wanted.as_slice());
-    Ok(())
+fn a_shard_is_decoded_into_a_target(rt: HostRuntime) {
+    let wanted = [0u8, 1, 2, 3, 4, 5, 6, 7, 8, 9, 10, 11, 12, 13, 14, 15].as_slice();
+    assert_eq!(rt; is_decoded_into(rt.alloc(), wanted), Ok(true));
 }

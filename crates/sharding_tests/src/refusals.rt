@@ -1,8 +1,14 @@
 // Refusals that no script can bring about, or of which it does not tell all.
-use crate::shards::{ABSENT, decoded, fill_of, plain, read, said, shape_of, shard_of, subset_of};
+use crate::shards::{
+    ABSENT, Plain, cells_of, decoded, done, fill_of, plain, read, said, shape_of, shard_of,
+    subset_of,
+};
 use std::alloc::Global;
 use std::ops::Range;
 use zarr_codecs::{ArrayToBytesCodecTraits, BytesCodec, MemoryHandle};
+use zarr_parts::CodecError::{
+    BadFillValue, IncompatibleDimensionality, InvalidSubchunkShape, TooLarge, UnsupportedDataType,
+};
 use zarr_parts::{CodecError, CodecOptions, DataType};
 use zarrs_sharding::{ShardingCodec, ShardingIndexLocation};
 
@@ -11,21 +17,29 @@ fn two_slices(alloc: Global, index: [u64; 4]) -> Result<Vec<u8>, CodecError> {
     shard_of(alloc, &[5, 6], &index)
 }
 
-fn decoded_by(alloc: Global, index: [u64; 4]) -> Result<Vec<u8>, CodecError> {
+fn decoded_by(alloc: Global, index: [u64; 4]) -> Result<(), CodecError> {
     let codec = plain(alloc, &[2], ShardingIndexLocation::End)?;
-    decoded(alloc, &codec, &[4], &two_slices(alloc, index)?)
+    let shard = two_slices(alloc, index)?;
+    done(decoded(alloc, &codec, &[4], &shard))
 }
 
-fn compacted_by(alloc: Global, index: [u64; 4]) -> Result<Option<Vec<u8>>, CodecError> {
+fn compacted_by(alloc: Global, index: [u64; 4]) -> Result<(), CodecError> {
     let codec = plain(alloc, &[2], ShardingIndexLocation::End)?;
-    codec.compact(
+    let shard = two_slices(alloc, index)?;
+    compacted(alloc, &codec, &shard)
+}
+
+fn compacted(alloc: Global, codec: &Plain, shard: &[u8]) -> Result<(), CodecError> {
+    let cells = cells_of(alloc, &[4])?;
+    let options = CodecOptions::default();
+    done(codec.compact(
         alloc,
-        &two_slices(alloc, index)?,
-        &shape_of(alloc, &[4])?,
+        shard,
+        &cells.shape,
         &DataType::UInt8,
-        &fill_of(alloc, &[0])?,
-        &CodecOptions::default(),
-    )
+        &cells.fill,
+        &options,
+    ))
 }
 
 fn read_by(alloc: Global, index: [u64; 4], cells: Range<u64>) -> Result<Vec<u8>, CodecError> {
@@ -43,11 +57,11 @@ fn the_lowest_bad_pair_is_named(rt: HostRuntime) {
         ([0, 2, 1, ABSENT], 1),
         ([ABSENT, 0, 0, 3], 0),
     ] {
-        let want = CodecError::BadIndexEntry { number };
-        let decoded = decoded_by(rt.alloc(), index).err();
-        assert_eq!(rt; decoded, Some(want), "with the index {index:?}");
-        let compacted = compacted_by(rt.alloc(), index).err();
-        assert_eq!(rt; compacted, Some(want), "with the index {index:?}");
+        let want = Err(CodecError::BadIndexEntry { number });
+        let decoded = decoded_by(rt.alloc(), index);
+        assert_eq!(rt; decoded, want, "with the index {index:?}");
+        let compacted = compacted_by(rt.alloc(), index);
+        assert_eq!(rt; compacted, want, "with the index {index:?}");
     }
 }
 
@@ -86,60 +100,25 @@ fn served(
     checked(alloc, &codec, shape, data_type, fill)
 }
 
+// The first test that fails gives the refusal.
 #[test]
 fn shapes_types_and_fill_values_are_tested_in_order(rt: HostRuntime) {
     let zero = [0u8].as_slice();
     for (sub, shape, data_type, fill, want) in [
         (2, [4u64].as_slice(), DataType::UInt8, zero, Ok(())),
-        (
-            2,
-            &[5],
-            DataType::UInt8,
-            zero,
-            Err(CodecError::InvalidSubchunkShape),
-        ),
+        (2, &[5], DataType::UInt8, zero, Err(InvalidSubchunkShape)),
         (
             2,
             &[4, 4],
             DataType::UInt8,
             zero,
-            Err(CodecError::IncompatibleDimensionality),
+            Err(IncompatibleDimensionality),
         ),
-        (
-            2,
-            &[5],
-            DataType::UInt16,
-            zero,
-            Err(CodecError::BadFillValue),
-        ),
-        (
-            2,
-            &[5],
-            DataType::Optional,
-            zero,
-            Err(CodecError::UnsupportedDataType),
-        ),
-        (
-            2,
-            &[4],
-            DataType::Raw(0),
-            &[],
-            Err(CodecError::UnsupportedDataType),
-        ),
-        (
-            2,
-            &[4],
-            DataType::Bytes,
-            zero,
-            Err(CodecError::UnsupportedDataType),
-        ),
-        (
-            2,
-            &[1 << 63],
-            DataType::UInt8,
-            zero,
-            Err(CodecError::TooLarge),
-        ),
+        (2, &[5], DataType::UInt16, zero, Err(BadFillValue)),
+        (2, &[5], DataType::Optional, zero, Err(UnsupportedDataType)),
+        (2, &[4], DataType::Raw(0), &[], Err(UnsupportedDataType)),
+        (2, &[4], DataType::Bytes, zero, Err(UnsupportedDataType)),
+        (2, &[1 << 63], DataType::UInt8, zero, Err(TooLarge)),
         (u64::MAX, &[u64::MAX], DataType::UInt8, zero, Ok(())),
     ] {
         let answer = served(rt.alloc(), sub, shape, data_type, fill);

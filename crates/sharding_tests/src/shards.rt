@@ -23,6 +23,28 @@ pub(crate) fn fill_of(alloc: Global, bytes: &[u8]) -> Result<FillValue, CodecErr
     Ok(FillValue::new(bytes.to_vec(alloc)?))
 }
 
+// The shape of an array of cells, and their fill value.
+#[derive(Drop)]
+pub(crate) struct Cells {
+    pub(crate) shape: ChunkShape,
+    pub(crate) fill: FillValue,
+}
+
+// Cells of one byte with the fill value 0.
+pub(crate) fn cells_of(alloc: Global, axes: &[u64]) -> Result<Cells, CodecError> {
+    let shape = shape_of(alloc, axes)?;
+    let fill = fill_of(alloc, &[0])?;
+    Ok(Cells { shape, fill })
+}
+
+// What a call answers, without its value.
+pub(crate) fn done<T: Drop>(answer: Result<T, CodecError>) -> Result<(), CodecError> {
+    match answer {
+        Ok(_) => Ok(()),
+        Err(error) => Err(error),
+    }
+}
+
 // A sharding codec around another codec, which writes subchunks in ascending number.
 pub(crate) fn around<I: Drop>(
     alloc: Global,
@@ -71,13 +93,16 @@ pub(crate) fn encoded<C: ArrayToBytesCodecTraits>(
     shape: &[u64],
     elements: &[u8],
 ) -> Result<Vec<u8>, CodecError> {
+    let array = array_of(alloc, elements)?;
+    let cells = cells_of(alloc, shape)?;
+    let options = CodecOptions::default();
     codec.encode(
         alloc,
-        &array_of(alloc, elements)?,
-        &shape_of(alloc, shape)?,
+        &array,
+        &cells.shape,
         &DataType::UInt8,
-        &fill_of(alloc, &[0])?,
-        &CodecOptions::default(),
+        &cells.fill,
+        &options,
     )
 }
 
@@ -87,13 +112,15 @@ pub(crate) fn decoded<C: ArrayToBytesCodecTraits>(
     shape: &[u64],
     bytes: &[u8],
 ) -> Result<Vec<u8>, CodecError> {
+    let cells = cells_of(alloc, shape)?;
+    let options = CodecOptions::default();
     let array = codec.decode(
         alloc,
         bytes,
-        &shape_of(alloc, shape)?,
+        &cells.shape,
         &DataType::UInt8,
-        &fill_of(alloc, &[0])?,
-        &CodecOptions::default(),
+        &cells.fill,
+        &options,
     );
     elements_of(alloc, array)
 }
@@ -139,10 +166,16 @@ pub(crate) fn decoder_of<
     handle: H,
     shape: &[u64],
 ) -> Result<ShardingPartialDecoder<'a, I, X, H>, CodecError> {
-    let shape = shape_of(alloc, shape)?;
-    let fill = fill_of(alloc, &[0])?;
+    let cells = cells_of(alloc, shape)?;
     let options = CodecOptions::default();
-    match codec.partial_decoder(alloc, handle, &shape, &DataType::UInt8, &fill, &options) {
+    match codec.partial_decoder(
+        alloc,
+        handle,
+        &cells.shape,
+        &DataType::UInt8,
+        &cells.fill,
+        &options,
+    ) {
         Ok(decoder) => Ok(decoder),
         Err((_, error)) => Err(error),
     }
