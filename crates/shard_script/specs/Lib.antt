@@ -3,3 +3,4 @@ pub mod Elements
 pub mod Script
 pub mod Shards
 pub mod Hex
+pub mod Answers

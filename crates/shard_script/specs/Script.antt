@@ -5,5 +5,5 @@ use Rattle.shard_script.specs.declared.stop.Stop.TheVariants.{Malformed, Failed}
 
 -- the status that the program ends with
 abbrev pub status_of : Stop → ℕ
-status_of Malformed = 2
+status_of (Malformed reason) = 2
 status_of Failed = 1

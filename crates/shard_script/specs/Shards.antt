@@ -1,5 +1,6 @@
 -- What a script's shard is asked to serve.
-use Rattle.std.specs.Prelude.{Option, Some}
+use Rattle.std.specs.Prelude.{◌<◌, ◌^◌, ◌+◌, ⊤, ℕ, List, Option, Some, None, IsSome, length}
+use Rattle.zarr_codecs.specs.Handles.{seen}
 use Rattle.zarr_parts.specs.Geo.{Geo, geo}
 use Rattle.small_codecs.specs.declared.bytes_codec.Endianness.{Endianness}
 use Rattle.small_codecs.specs.declared.bytes_codec.Endianness.TheVariants.{Little}
@@ -8,6 +9,7 @@ use Rattle.shard_format.specs.declared.order.SubchunkWriteOrder.TheVariants.{C}
 use Rattle.shard_script.specs.Elements.{type_of}
 use Rattle.shard_script.specs.declared.command.Settings.{Settings}
 use Rattle.shard_script.specs.declared.tool.Shard.{Shard}
+use Rattle.shard_script.specs.declared.tool.Tool.{Tool}
 
 -- the codec that settings ask for: whole numbers with their least significant byte first, inside and in the index; subchunks in order
 abbrev pub codec_of : Settings → ShardingCodec (Option Endianness) (Option Endianness)
@@ -20,3 +22,22 @@ asked_by s = geo s.shape (type_of s.element_type) s.fill_value
 -- the arrays of a shard
 abbrev pub geo_of : Shard → Geo
 geo_of s = geo s.shape (type_of s.element_type) s.fill_value
+
+-- what a shard is: its codec, the arrays that it is asked for, its grid of subchunks, and the bytes of its object
+pub record ShardState : Type 0 where
+  pub codec : ShardingCodec (Option Endianness) (Option Endianness)
+  pub geo : Geo
+  pub grid : List ℕ
+  pub object : Option (List ℕ)
+
+abbrev pub state_of : Shard → ShardState
+state_of s = record { codec = s.codec; geo = geo_of s; grid = s.chunks_per_shard; object = seen (λ bytes. bytes.items) s.object }
+
+-- an object that can be opened: none, or bytes that can be counted and that have an index
+abbrev pub Opens : (List ℕ → Option (List ℕ)) → Option (List ℕ) → Type 0
+Opens index_in None = ⊤
+Opens index_in (Some bytes) = (length bytes + 1 < 2 ^ 64) × IsSome (index_in bytes)
+
+-- what a tool works on, where there is a shard
+abbrev pub tool_state : Tool → Option ShardState
+tool_state tool = seen state_of tool.shard

@@ -1,9 +1,10 @@
 // The commands of a script, and how a line is read as one.
 use crate::element_type::ElementType;
 use crate::elements::{array_of, fill_value_of};
-use crate::parse::{parse_bytes, parse_number, parse_numbers};
+use crate::parse::{number_mistake, parse_bytes, parse_number, parse_numbers};
 use crate::pieces::Pieces;
-use crate::selections::{parse_coordinates, parse_subset};
+use crate::reason::Mistake;
+use crate::selections::{next_word, parse_coordinates, parse_subset};
 use crate::stop::Stop;
 use std::alloc::Global;
 use zarr_parts::{ArrayBytes, ArraySubset, ChunkShape, Coordinates, FillValue};
@@ -19,19 +20,11 @@ pub struct Settings {
     pub location: ShardingIndexLocation,
 }
 
-/// A command of a script.
+/// What is done with the object of a shard.
 #[derive(Debug, Drop)]
-pub enum Command {
-    /// Takes another codec; there is no object then.
-    Shard(Settings),
+pub enum Work {
     /// Encodes elements; the encoding is the object then.
     Encode(ArrayBytes<'static>),
-    /// Tells the numbers of the object's index.
-    Index,
-    /// Decodes the object.
-    Decode,
-    /// Tells the object's bytes.
-    Object,
     /// Takes these bytes as the object.
     Store(Vec<u8>),
     /// Compacts the object.
@@ -42,32 +35,63 @@ pub enum Command {
     Cells(Coordinates),
 }
 
-// The next word of a line.
-fn next_word<'a>(words: &mut Pieces<'a>) -> Result<&'a [u8], Stop> {
-    words.next().ok_or(Stop::Malformed)
+/// What is told of the object of a shard.
+#[derive(Debug, Clone, Copy)]
+pub enum Look {
+    /// The numbers of its index.
+    Index,
+    /// The elements that it decodes to.
+    Decode,
+    /// Its bytes.
+    Object,
+}
+
+/// A command of a script.
+#[derive(Debug, Drop)]
+pub enum Command {
+    /// Takes another codec; there is no object then.
+    Shard(Settings),
+    /// Works on the object; only this can change it.
+    Work(Work),
+    /// Tells of the object.
+    Look(Look),
 }
 
 // A shape, whose numbers are positive.
-fn parse_shape(alloc: Global, word: &[u8]) -> Result<ChunkShape, Stop> {
+fn parse_shape<'a>(alloc: Global, word: &'a [u8]) -> Result<ChunkShape, Stop<'a>> {
     let axes = parse_numbers(alloc, word, u64::MAX)?;
-    ChunkShape::new(alloc, &axes)?.ok_or(Stop::Malformed)
+    ChunkShape::new(alloc, &axes)?.ok_or(Stop::malformed(Mistake::NoShape, word))
+}
+
+// A type of elements.
+fn parse_element_type<'a>(word: &'a [u8]) -> Result<ElementType, Stop<'a>> {
+    ElementType::parse(word).ok_or(Stop::malformed(Mistake::NoElementType, word))
+}
+
+// A number of a type.
+fn parse_element<'a>(word: &'a [u8], element_type: ElementType) -> Result<u64, Stop<'a>> {
+    let greatest = element_type.greatest();
+    match parse_number(word, greatest) {
+        Some(number) => Ok(number),
+        None => Err(Stop::malformed(number_mistake(word, greatest), word)),
+    }
 }
 
 // Where the index stands.
-fn parse_location(word: &[u8]) -> Result<ShardingIndexLocation, Stop> {
+fn parse_location<'a>(word: &'a [u8]) -> Result<ShardingIndexLocation, Stop<'a>> {
     match word {
         b"start" => Ok(ShardingIndexLocation::Start),
         b"end" => Ok(ShardingIndexLocation::End),
-        _ => Err(Stop::Malformed),
+        _ => Err(Stop::malformed(Mistake::NoLocation, word)),
     }
 }
 
 // The words behind `shard`.
-fn parse_settings(alloc: Global, words: &mut Pieces<'_>) -> Result<Settings, Stop> {
+fn parse_settings<'a>(alloc: Global, words: &mut Pieces<'a>) -> Result<Settings, Stop<'a>> {
     let shape = parse_shape(alloc, next_word(words)?)?;
     let subchunk_shape = parse_shape(alloc, next_word(words)?)?;
-    let element_type = ElementType::parse(next_word(words)?).ok_or(Stop::Malformed)?;
-    let fill = parse_number(next_word(words)?, element_type.greatest()).ok_or(Stop::Malformed)?;
+    let element_type = parse_element_type(next_word(words)?)?;
+    let fill = parse_element(next_word(words)?, element_type)?;
     let location = parse_location(next_word(words)?)?;
     Ok(Settings {
         shape,
@@ -79,48 +103,90 @@ fn parse_settings(alloc: Global, words: &mut Pieces<'_>) -> Result<Settings, Sto
 }
 
 // The elements of a type that a word lists.
-fn parse_elements(
+fn parse_elements<'a>(
     alloc: Global,
-    word: &[u8],
+    word: &'a [u8],
     element_type: ElementType,
-) -> Result<ArrayBytes<'static>, Stop> {
+) -> Result<ArrayBytes<'static>, Stop<'a>> {
     let numbers = parse_numbers(alloc, word, element_type.greatest())?;
     let elements = array_of(alloc, &numbers, element_type)?;
     Ok(elements)
 }
 
 // The words behind `object`: none, or the bytes of another object.
-fn parse_object(alloc: Global, words: &mut Pieces<'_>) -> Result<Command, Stop> {
+fn parse_object<'a>(alloc: Global, words: &mut Pieces<'a>) -> Result<Command, Stop<'a>> {
     match words.next() {
-        Some(word) => Ok(Command::Store(parse_bytes(alloc, word)?)),
-        None => Ok(Command::Object),
+        Some(word) => Ok(Command::Work(Work::Store(parse_bytes(alloc, word)?))),
+        None => Ok(Command::Look(Look::Object)),
+    }
+}
+
+// The command of this name, whose words are left, for a shard with elements of a type.
+fn parse_for_shard<'a>(
+    alloc: Global,
+    name: &'a [u8],
+    words: &mut Pieces<'a>,
+    element_type: ElementType,
+) -> Result<Command, Stop<'a>> {
+    match name {
+        b"encode" => {
+            let elements = parse_elements(alloc, next_word(words)?, element_type)?;
+            Ok(Command::Work(Work::Encode(elements)))
+        }
+        b"index" => Ok(Command::Look(Look::Index)),
+        b"decode" => Ok(Command::Look(Look::Decode)),
+        b"object" => parse_object(alloc, words),
+        b"compact" => Ok(Command::Work(Work::Compact)),
+        b"read" => {
+            let subset = parse_subset(alloc, next_word(words)?)?;
+            Ok(Command::Work(Work::Read(subset)))
+        }
+        b"cells" => {
+            let coordinates = parse_coordinates(alloc, words)?;
+            Ok(Command::Work(Work::Cells(coordinates)))
+        }
+        _ => Err(Stop::malformed(Mistake::NoCommand, name)),
+    }
+}
+
+// Whether a command that asks for a shard has this name.
+fn asks_for_shard(name: &[u8]) -> bool {
+    matches!(
+        name,
+        b"encode" | b"index" | b"decode" | b"object" | b"compact" | b"read" | b"cells"
+    )
+}
+
+// Why a line with this first word is no command's where there is no shard.
+fn mistake_without_shard(name: &[u8]) -> Mistake {
+    if asks_for_shard(name) {
+        Mistake::NoShard
+    } else {
+        Mistake::NoCommand
     }
 }
 
 impl Command {
     /// The command that a line is, where the elements of the shard, if there is one, have a type. `Malformed` where
-    /// the line is no command's; all commands but `shard` ask for a shard.
-    pub fn parse(
+    /// the line is no command's, by its first mistake from the left; all commands but `shard` ask for a shard.
+    pub fn parse<'a>(
         alloc: Global,
-        line: &[u8],
+        line: &'a [u8],
         element_type: Option<ElementType>,
-    ) -> Result<Command, Stop> {
+    ) -> Result<Command, Stop<'a>> {
         let mut words = Pieces::new(line, b' ');
-        let command = match (next_word(&mut words)?, element_type) {
-            (b"shard", _) => Command::Shard(parse_settings(alloc, &mut words)?),
-            (b"encode", Some(element_type)) => {
-                Command::Encode(parse_elements(alloc, next_word(&mut words)?, element_type)?)
-            }
-            (b"index", Some(_)) => Command::Index,
-            (b"decode", Some(_)) => Command::Decode,
-            (b"object", Some(_)) => parse_object(alloc, &mut words)?,
-            (b"compact", Some(_)) => Command::Compact,
-            (b"read", Some(_)) => Command::Read(parse_subset(alloc, next_word(&mut words)?)?),
-            (b"cells", Some(_)) => Command::Cells(parse_coordinates(alloc, &mut words)?),
-            _ => return Err(Stop::Malformed),
+        let name = next_word(&mut words)?;
+        let command = if name == b"shard".as_slice() {
+            Command::Shard(parse_settings(alloc, &mut words)?)
+        } else {
+            let Some(element_type) = element_type else {
+                return Err(Stop::malformed(mistake_without_shard(name), name));
+            };
+            parse_for_shard(alloc, name, &mut words, element_type)?
         };
         match words.next() {
-            Some(_) => Err(Stop::Malformed),
+            Some(b"") => Err(Stop::malformed(Mistake::SpaceTooMany, b"")),
+            Some(word) => Err(Stop::malformed(Mistake::WordTooMany, word)),
             None => Ok(command),
         }
     }

@@ -5,9 +5,11 @@ ghost use Rattle.std.specs.List.{All};
 ghost use Rattle.hex.specs.Hex.{encode_lower};
 ghost use Rattle.shard_script.specs.Hex.{IsHexWord};
 ghost use Rattle.shard_script.specs.Text.{decimal_value, IsDecimal, IsNumber, members_of, IsNumberList};
+ghost use Rattle.shard_script.specs.declared.reason.Reason.{Reason};
 ghost use Rattle.shard_script.specs.declared.stop.Stop.TheVariants.{Malformed};
 
 use crate::pieces::Pieces;
+use crate::reason::Mistake;
 use crate::stop::Stop;
 use std::alloc::Global;
 
@@ -38,17 +40,28 @@ pub fn parse_number(word: &[u8], greatest: u64) -> Option<u64>
     decimal(word).filter(|number| *number <= greatest)
 }
 
+/// Why a text is no number up to the greatest.
+pub fn number_mistake(text: &[u8], greatest: u64) -> Mistake {
+    if text.is_empty() {
+        Mistake::NumberMissing
+    } else if text.iter().all(|byte| byte.is_ascii_digit()) {
+        Mistake::PastGreatest(greatest)
+    } else {
+        Mistake::NoNumber
+    }
+}
+
 // The numbers between the commas of a text, each at most the greatest. `Malformed` for any other text.
-fn parse_members(alloc: Global, text: &[u8], greatest: u64) -> Result<Vec<u64>, Stop>
+fn parse_members<'a>(alloc: Global, text: &'a [u8], greatest: u64) -> Result<Vec<u64>, Stop<'a>>
     ensures list { IfOk result (λ _. IsNumberList greatest text.now) }
     ensures numbers { IfOk result (λ numbers. numbers.items ≡ map decimal_value (members_of text.now)) }
-    ensures malformed { result ≡ Err Malformed → ¬ IsNumberList greatest text.now }
+    ensures malformed { (reason : Reason) → result ≡ Err (Malformed reason) → ¬ IsNumberList greatest text.now }
 {
     let mut numbers = Vec::new(alloc);
     for member in Pieces::new(text, b',') {
         match parse_number(member, greatest) {
             Some(number) => numbers.push(number)?,
-            None => return Err(Stop::Malformed),
+            None => return Err(Stop::malformed(number_mistake(member, greatest), member)),
         }
     }
     Ok(numbers)
@@ -56,11 +69,11 @@ fn parse_members(alloc: Global, text: &[u8], greatest: u64) -> Result<Vec<u64>, 
 
 /// The numbers of a list: none for `-`, else those between the commas, each at most the greatest. `Malformed` for
 /// any other word.
-pub fn parse_numbers(alloc: Global, word: &[u8], greatest: u64) -> Result<Vec<u64>, Stop>
+pub fn parse_numbers<'a>(alloc: Global, word: &'a [u8], greatest: u64) -> Result<Vec<u64>, Stop<'a>>
     ensures empty { word.now ≡ codes "-" → IfOk result (λ numbers. numbers.items ≡ []) }
     ensures numbers { ¬ (word.now ≡ codes "-") → IfOk result (λ numbers. numbers.items ≡ map decimal_value (members_of word.now)) }
     ensures list { ¬ (word.now ≡ codes "-") → IfOk result (λ _. IsNumberList greatest word.now) }
-    ensures malformed { result ≡ Err Malformed → ¬ IsNumberList greatest word.now }
+    ensures malformed { (reason : Reason) → result ≡ Err (Malformed reason) → ¬ IsNumberList greatest word.now }
 {
     match word {
         b"-" => Ok(Vec::new(alloc)),
@@ -77,13 +90,14 @@ fn is_lower_case(text: &[u8]) -> bool
 
 /// The bytes that a word writes: `x`, and two hexadecimal digits in lower case for each byte, the high one first.
 /// `Malformed` for any other word.
-pub fn parse_bytes(alloc: Global, word: &[u8]) -> Result<Vec<u8>, Stop>
+pub fn parse_bytes<'a>(alloc: Global, word: &'a [u8]) -> Result<Vec<u8>, Stop<'a>>
     ensures bytes { IfOk result (λ bytes. word.now ≡ codes "x" ++ encode_lower bytes.items) }
-    ensures malformed { result ≡ Err Malformed → ¬ IsHexWord word.now }
+    ensures malformed { (reason : Reason) → result ≡ Err (Malformed reason) → ¬ IsHexWord word.now }
 {
-    let digits = word.strip_prefix(b"x").ok_or(Stop::Malformed)?;
+    let unread = Stop::malformed(Mistake::NoBytes, b"");
+    let digits = word.strip_prefix(b"x").ok_or(unread)?;
     if !is_lower_case(digits) {
-        return Err(Stop::Malformed);
+        return Err(unread);
     }
     Ok(hex::decode(alloc, digits)?)
 }

@@ -1,7 +1,11 @@
 // The answers of a script, each a line.
-ghost use Rattle.std.specs.Prelude.{◌≤◌, length};
+ghost use Rattle.std.specs.Prelude.{◌≡◌, ◌≤◌, IsErr, IfOk, length};
+ghost use Rattle.std.specs.Result.{ForOk};
 ghost use Rattle.std.specs.List.{All};
+ghost use Rattle.shard_script.specs.Answers.{HasShortCells};
+ghost use Rattle.shard_script.specs.declared.answer.Outcome.TheVariants.{Refused};
 
+use crate::answer::{Answer, Outcome};
 use crate::elements::number_of;
 use std::io;
 use std::io::Write;
@@ -24,23 +28,8 @@ fn write_index_number<W: Write>(out: &mut W, number: u64) -> io::Result<()> {
     }
 }
 
-/// Writes that a command was done.
-pub fn write_done<W: Write>(out: &mut W) -> io::Result<()> {
-    out.write_all(b"ok\n")
-}
-
-/// Writes the length of the object that was stored.
-pub fn write_stored<W: Write>(out: &mut W, len: usize) -> io::Result<()> {
-    writeln!(out, "ok {len}")
-}
-
-/// Writes that there is no object.
-pub fn write_none<W: Write>(out: &mut W) -> io::Result<()> {
-    out.write_all(b"none\n")
-}
-
-/// Writes the numbers of an index.
-pub fn write_index<W: Write>(out: &mut W, numbers: &[u64]) -> io::Result<()> {
+// Writes the numbers of an index.
+fn write_index<W: Write>(out: &mut W, numbers: &[u64]) -> io::Result<()> {
     out.write_all(b"index ")?;
     for (place, number) in numbers.iter().enumerate() {
         write_comma(out, place)?;
@@ -49,8 +38,8 @@ pub fn write_index<W: Write>(out: &mut W, numbers: &[u64]) -> io::Result<()> {
     out.write_all(b"\n")
 }
 
-/// Writes the elements of an array of whole numbers; `-` where there are none.
-pub fn write_cells<W: Write>(out: &mut W, cells: &ArrayBytes) -> io::Result<()>
+// Writes the elements of an array of whole numbers; `-` where there are none.
+fn write_cells<W: Write>(out: &mut W, cells: &ArrayBytes) -> io::Result<()>
     requires { All (λ element. length element ≤ 8) cells.now.elements }
 {
     out.write_all(b"cells ")?;
@@ -64,8 +53,8 @@ pub fn write_cells<W: Write>(out: &mut W, cells: &ArrayBytes) -> io::Result<()>
     out.write_all(b"\n")
 }
 
-/// Writes the length and the bytes of an object, two hexadecimal digits a byte. It takes no memory: `out` is to buffer.
-pub fn write_object<W: Write>(out: &mut W, object: &[u8]) -> io::Result<()> {
+// Writes the length and the bytes of an object, two hexadecimal digits a byte. It takes no memory: `out` is to buffer.
+fn write_object<W: Write>(out: &mut W, object: &[u8]) -> io::Result<()> {
     write!(out, "object {} x", object.len())?;
     for byte in object {
         write!(out, "{byte:02x}")?;
@@ -73,19 +62,42 @@ pub fn write_object<W: Write>(out: &mut W, object: &[u8]) -> io::Result<()> {
     out.write_all(b"\n")
 }
 
-/// Writes the length of the object that was compacted, or that it stayed.
-pub fn write_compacted<W: Write>(out: &mut W, answer: Option<usize>) -> io::Result<()> {
+// Writes what a command answers.
+fn write_answer<W: Write>(out: &mut W, answer: &Answer) -> io::Result<()>
+    requires { HasShortCells answer.now }
+{
     match answer {
-        Some(len) => writeln!(out, "compact {len}"),
-        None => out.write_all(b"compact none\n"),
+        Answer::Done => out.write_all(b"ok\n"),
+        Answer::Stored(len) => writeln!(out, "ok {len}"),
+        Answer::Compacted(Some(len)) => writeln!(out, "compact {len}"),
+        Answer::Compacted(None) => out.write_all(b"compact none\n"),
+        Answer::NoObject => out.write_all(b"none\n"),
+        Answer::Index(numbers) => write_index(out, numbers),
+        Answer::Cells(cells) => write_cells(out, cells),
+        Answer::Object(object) => write_object(out, object),
     }
 }
 
-/// Writes that a call was refused, and why.
-pub fn write_refusal<W: Write>(out: &mut W, error: CodecError) -> io::Result<()> {
-    let number = error.number();
-    let name = error.name();
-    writeln!(out, "refused {number} {name}")
+/// Writes what a command answers, or that it was refused, and why; tells which.
+pub fn write_answered<W: Write>(
+    out: &mut W,
+    answered: &Result<Answer<'_>, CodecError>,
+) -> io::Result<Outcome>
+    requires { ForOk answered.now HasShortCells }
+    ensures { IfOk result (λ outcome. outcome ≡ Refused → IsErr answered.now) }
+{
+    match answered {
+        Ok(answer) => {
+            write_answer(out, answer)?;
+            Ok(Outcome::Answered)
+        }
+        Err(error) => {
+            let number = error.number();
+            let name = error.name();
+            writeln!(out, "refused {number} {name}")?;
+            Ok(Outcome::Refused)
+        }
+    }
 }
 
 /// Writes that a line is no command's.

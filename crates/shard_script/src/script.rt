@@ -3,6 +3,7 @@ ghost use Rattle.std.specs.Prelude.{◌≡◌, ◌≤◌, IfOk, IfErr, IfSome, v
 ghost use Rattle.shard_script.specs.declared.stop.Stop.TheVariants.{Failed};
 ghost use Rattle.shard_script.specs.declared.script.TheConstants.{MAX_INPUT};
 
+use crate::explain::{Sink, write_reason};
 use crate::pieces::Pieces;
 use crate::print::write_malformed;
 use crate::stop::Stop;
@@ -18,7 +19,7 @@ const MAX_READS: u32 = 33_554_432;
 
 // The bytes of a reader to its end. `Failed` where a read fails, where there are more bytes than `MAX_INPUT` or the
 // end is not met in `MAX_READS` calls, and where memory is refused.
-fn read_input<R: Read>(alloc: Global, reader: &mut R) -> Result<Vec<u8>, Stop>
+fn read_input<R: Read>(alloc: Global, reader: &mut R) -> Result<Vec<u8>, Stop<'static>>
     ensures bounded { IfOk result (λ input. vec_len input ≤ MAX_INPUT) }
     ensures failed { IfErr result (λ stop. stop ≡ Failed) }
     ensures whole { IfOk result (λ input. IfSome (R.remaining reader.old) (λ bytes. input.items ≡ bytes)) }
@@ -44,8 +45,28 @@ fn read_input<R: Read>(alloc: Global, reader: &mut R) -> Result<Vec<u8>, Stop>
     Err(Stop::Failed)
 }
 
+// Where a script stops at a line that is no command's, writes the line `malformed`, and the reason as a message. A message
+// that is not taken is dropped.
+fn write_stop<W: Write, M: Write>(
+    out: &mut W,
+    messages: &mut M,
+    line_number: u64,
+    stop: &Stop,
+) -> io::Result<()> {
+    if let Stop::Malformed(reason) = stop {
+        write_malformed(out, line_number)?;
+        let _ = write_reason(messages, line_number, reason);
+    }
+    Ok(())
+}
+
 // Runs the lines of a script, first to last, up to the first that is no command's.
-fn run_lines<W: Write>(alloc: Global, input: &[u8], out: &mut W) -> Result<(), Stop> {
+fn run_lines<'a, W: Write, M: Write>(
+    alloc: Global,
+    input: &'a [u8],
+    out: &mut W,
+    messages: &mut M,
+) -> Result<(), Stop<'a>> {
     let mut tool = Tool::new();
     let mut line_number: u64 = 0;
     for line in Pieces::new(input, b'\n') {
@@ -53,20 +74,26 @@ fn run_lines<W: Write>(alloc: Global, input: &[u8], out: &mut W) -> Result<(), S
         if line.is_empty() {
             continue;
         }
-        let ran = tool.run(alloc, line, out);
-        if ran == Err(Stop::Malformed) {
-            write_malformed(out, line_number)?;
+        match tool.run(alloc, line, out) {
+            Ok(_) => {}
+            Err(stop) => {
+                write_stop(out, messages, line_number, &stop)?;
+                return Err(stop);
+            }
         }
-        ran?;
     }
     Ok(())
 }
 
-// Reads a script to its end, runs it, and sees that its answers are written.
-fn run_all<R: Read, W: Write + Drop>(alloc: Global, reader: &mut R, writer: W) -> Result<(), Stop> {
-    let input = read_input(alloc, reader)?;
+// Runs a script, and sees that its answers are written.
+fn run_input<'a, W: Write + Drop, M: Write>(
+    alloc: Global,
+    input: &'a [u8],
+    writer: W,
+    messages: &mut M,
+) -> Result<(), Stop<'a>> {
     let mut out = BufWriter::new(alloc, writer)?;
-    let ran = run_lines(alloc, &input, &mut out);
+    let ran = run_lines(alloc, input, &mut out, messages);
     out.flush()?;
     ran
 }
@@ -76,10 +103,27 @@ fn run_all<R: Read, W: Write + Drop>(alloc: Global, reader: &mut R, writer: W) -
 /// no command's, after the line `malformed` with its number; 1 where a read or a write fails, where the script has
 /// more than 16,777,216 bytes or its end isn't met in 33,554,432 reads, and where a growth of the script's own is
 /// refused.
-pub fn run_script<R: Read + Drop, W: Write + Drop>(alloc: Global, mut reader: R, writer: W) -> u8
+pub fn run_script<R: Read + Drop, W: Write + Drop>(alloc: Global, reader: R, writer: W) -> u8
     ensures { result ≤ 2 }
 {
-    match run_all(alloc, &mut reader, writer) {
+    run_script_explained(alloc, reader, writer, Sink)
+}
+
+/// Does as `run_script`, and says by a message why a line is no command's, as `line 3: 256 is past uint8`. A message takes
+/// no memory; whether it is taken changes neither the answers nor the status.
+pub fn run_script_explained<R: Read + Drop, W: Write + Drop, M: Write + Drop>(
+    alloc: Global,
+    mut reader: R,
+    writer: W,
+    mut messages: M,
+) -> u8
+    ensures { result ≤ 2 }
+{
+    let input = match read_input(alloc, &mut reader) {
+        Ok(input) => input,
+        Err(stop) => return stop.status(),
+    };
+    match run_input(alloc, &input, writer, &mut messages) {
         Ok(()) => 0,
         Err(stop) => stop.status(),
     }

@@ -1,23 +1,30 @@
 // What a script works on: the codec of its last `shard` and the object that it stored.
-ghost use Rattle.std.specs.Prelude.{◌≡◌, ◌≤◌, Some, None, IfOk, IfErr, IfSome, IfNone, IsSomeAnd, OnOk, OnErr, length, map, vec_len};
+ghost use Rattle.std.specs.Prelude.{◌≡◌, ◌≤◌, ◌<◌, ◌^◌, ◌*◌, Some, None, IfOk, IfErr, IfSome, IfNone, IsSomeAnd, OnOk, OnErr, length, map, vec_len};
 ghost use Rattle.std.specs.List.{All};
 ghost use Rattle.zarr_parts.specs.Grid.{grid_of};
-ghost use Rattle.zarr_parts.specs.Order.{◌or_as◌then◌, RefusedBy};
+ghost use Rattle.zarr_parts.specs.Numbering.{count_of};
+ghost use Rattle.zarr_parts.specs.Order.{◌or◌then◌, ◌or_as◌then◌, done, RefusedBy};
+ghost use Rattle.zarr_words.specs.declared.error.CodecError.TheVariants.{TooLarge};
 ghost use Rattle.zarr_codecs.specs.Handles.{seen};
-ghost use Rattle.zarr_codecs.specs.Reads.{cells_at};
+ghost use Rattle.zarr_codecs.specs.Reads.{cells_at, AskedTests};
 ghost use Rattle.zarr_codecs.specs.Refusals.{RefusesUnserved};
-ghost use Rattle.zarrs_sharding.specs.Decoders.{object_cells};
+ghost use Rattle.zarrs_sharding.specs.Decoders.{index_in, object_cells, OpenTests, ObjectCellsTests};
+ghost use Rattle.zarrs_sharding.specs.DecodeTests.{IndexTests};
 ghost use Rattle.zarrs_sharding.specs.Index.{index_geo, numbers_in_index};
-ghost use Rattle.zarrs_sharding.specs.Serves.{fixed_size, layout};
+ghost use Rattle.zarrs_sharding.specs.Serves.{fixed_size, layout, IndexCodecTests};
 ghost use Rattle.zarrs_sharding.specs.Compacting.{IsCompact};
-ghost use Rattle.shard_script.specs.Shards.{codec_of, asked_by, geo_of};
+ghost use Rattle.shard_script.specs.Shards.{codec_of, asked_by, geo_of, state_of, tool_state, Opens};
+ghost use Rattle.shard_script.specs.Answers.{HasShortCells};
+ghost use Rattle.shard_script.specs.declared.answer.Answer.TheVariants.{Done};
+ghost use Rattle.shard_script.specs.declared.answer.Outcome.TheVariants.{Refused};
+ghost use Rattle.shard_script.specs.declared.reason.Reason.{Reason};
+ghost use Rattle.shard_script.specs.declared.stop.Stop.TheVariants.{Malformed};
 
-use crate::command::{Command, Settings};
+use crate::answer::{Answer, Outcome};
+use crate::command::{Command, Look, Settings, Work};
 use crate::element_type::ElementType;
-use crate::print::{
-    write_cells, write_compacted, write_done, write_index, write_none, write_object, write_refusal,
-    write_stored,
-};
+use crate::print::write_answered;
+use crate::reason::Mistake;
 use crate::stop::Stop;
 use std::alloc::Global;
 use std::io;
@@ -129,6 +136,12 @@ impl Shard {
         ensures numbers { let bytes = ⟦<BytesCodec as ArrayToBytesCodecTraits>⟧ in let c = self.now.codec in let g = index_geo self.now.chunks_per_shard in
             IfOk result (λ found. IfSome found (λ numbers. IsSomeAnd self.now.object (λ object.
             numbers_in_index (bytes.meaning c.index_codec g).cells c.location (fixed_size (bytes.meaning c.index_codec g).representation) object.items ≡ Some numbers.items))) }
+        ensures refused { let bytes = ⟦<BytesCodec as ArrayToBytesCodecTraits>⟧ in let c = self.now.codec in let g = index_geo self.now.chunks_per_shard in
+            IfErr result (λ e. IsSomeAnd self.now.object (λ object. RefusedBy (
+            16 * count_of self.now.chunks_per_shard < 2 ^ 64 or TooLarge then
+            IndexCodecTests (bytes.meaning c.index_codec g) (
+            IndexTests (bytes.meaning c.index_codec g).decode_tests (bytes.meaning c.index_codec g).cells c.location (fixed_size (bytes.meaning c.index_codec g).representation) object.items
+            done)) e)) }
     {
         let Some(object) = &self.object else {
             return Ok(None);
@@ -207,6 +220,14 @@ impl Shard {
         ensures cells { let codec = ⟦<Codec as ArrayToBytesCodecTraits>⟧ in let g = geo_of self.old in
             IfOk result (λ array. cells_at (object_cells (codec.meaning self.old.codec g).cells g (seen (λ bytes. bytes.items) self.old.object)) g.shape
             (N.selection indexer.now).points ≡ map Some array.elements) }
+        ensures same { state_of self.new ≡ state_of self.old }
+        ensures refused { let codec = ⟦<Codec as ArrayToBytesCodecTraits>⟧ in let bytes = ⟦<BytesCodec as ArrayToBytesCodecTraits>⟧ in
+            let c = self.old.codec in let g = geo_of self.old in let object = seen (λ bytes. bytes.items) self.old.object in
+            IfErr result (RefusedBy (
+            (codec.meaning c g).serves or_as RefusesUnserved (codec.meaning c g) then
+            Opens (index_in bytes.meaning c g) object or_as OpenTests bytes.meaning c (grid_of g.shape c.subchunk_shape) object then
+            AskedTests g (N.selection indexer.now) (codec.meaning c g).answerable (
+            ObjectCellsTests bytes.meaning bytes.meaning c g object (N.selection indexer.now).points))) }
     {
         let handle = MemoryHandle::new(self.object.take());
         let options = CodecOptions::default();
@@ -231,64 +252,64 @@ impl Shard {
         }
     }
 
-    // Answers the cells that an indexer asks.
-    fn run_read<N: Indexer, W: Write>(
-        &mut self,
-        alloc: Global,
-        indexer: &N,
-        out: &mut W,
-    ) -> io::Result<()> {
-        match self.read(alloc, indexer) {
-            Ok(cells) => write_cells(out, &cells),
-            Err(error) => write_refusal(out, error),
+    // Does a work on the object. Where it is refused everything stays as it was.
+    fn work(&mut self, alloc: Global, work: Work) -> Result<Answer<'static>, CodecError>
+        ensures short { IfOk result HasShortCells }
+        ensures kept { OnErr result (state_of self.new ≡ state_of self.old) }
+    {
+        match work {
+            Work::Encode(elements) => {
+                let len = self.encode(alloc, &elements)?;
+                Ok(Answer::Stored(len))
+            }
+            Work::Store(bytes) => Ok(Answer::Stored(self.store(bytes))),
+            Work::Compact => {
+                let answer = self.compact(alloc)?;
+                Ok(Answer::Compacted(answer))
+            }
+            Work::Read(subset) => {
+                let cells = self.read(alloc, &subset)?;
+                Ok(Answer::Cells(cells))
+            }
+            Work::Cells(coordinates) => {
+                let cells = self.read(alloc, &coordinates)?;
+                Ok(Answer::Cells(cells))
+            }
         }
     }
 
-    // Stores elements, and answers the object's length.
-    fn run_encode<W: Write>(
-        &mut self,
-        alloc: Global,
-        elements: &ArrayBytes,
-        out: &mut W,
-    ) -> io::Result<()> {
-        match self.encode(alloc, elements) {
-            Ok(len) => write_stored(out, len),
-            Err(error) => write_refusal(out, error),
+    // Tells of the object, which stays.
+    fn look(&self, alloc: Global, look: Look) -> Result<Answer<'_>, CodecError>
+        ensures short { IfOk result HasShortCells }
+    {
+        match look {
+            Look::Index => match self.index(alloc)? {
+                Some(numbers) => Ok(Answer::Index(numbers)),
+                None => Ok(Answer::NoObject),
+            },
+            Look::Decode => match self.decode(alloc)? {
+                Some(cells) => Ok(Answer::Cells(cells)),
+                None => Ok(Answer::NoObject),
+            },
+            Look::Object => match &self.object {
+                Some(object) => Ok(Answer::Object(object)),
+                None => Ok(Answer::NoObject),
+            },
         }
     }
 
-    // Answers the elements of the object.
-    fn run_decode<W: Write>(&self, alloc: Global, out: &mut W) -> io::Result<()> {
-        match self.decode(alloc) {
-            Ok(Some(cells)) => write_cells(out, &cells),
-            Ok(None) => write_none(out),
-            Err(error) => write_refusal(out, error),
-        }
+    // Does a work on the object, and writes the answer; tells whether it was refused, and then everything stays.
+    fn run_work<W: Write>(&mut self, alloc: Global, work: Work, out: &mut W) -> io::Result<Outcome>
+        ensures { IfOk result (λ outcome. outcome ≡ Refused → state_of self.new ≡ state_of self.old) }
+    {
+        let worked = self.work(alloc, work);
+        write_answered(out, &worked)
     }
 
-    // Answers the numbers of the object's index.
-    fn run_index<W: Write>(&self, alloc: Global, out: &mut W) -> io::Result<()> {
-        match self.index(alloc) {
-            Ok(Some(numbers)) => write_index(out, &numbers),
-            Ok(None) => write_none(out),
-            Err(error) => write_refusal(out, error),
-        }
-    }
-
-    // Answers the object's bytes.
-    fn run_object<W: Write>(&self, out: &mut W) -> io::Result<()> {
-        match &self.object {
-            Some(object) => write_object(out, object),
-            None => write_none(out),
-        }
-    }
-
-    // Compacts the object, and answers its new length where it changed.
-    fn run_compact<W: Write>(&mut self, alloc: Global, out: &mut W) -> io::Result<()> {
-        match self.compact(alloc) {
-            Ok(answer) => write_compacted(out, answer),
-            Err(error) => write_refusal(out, error),
-        }
+    // Tells of the object, and writes the answer; tells whether it was refused.
+    fn run_look<W: Write>(&self, alloc: Global, look: Look, out: &mut W) -> io::Result<Outcome> {
+        let told = self.look(alloc, look);
+        write_answered(out, &told)
     }
 }
 
@@ -305,14 +326,15 @@ impl Tool {
     }
 
     // Takes another shard. Where it is refused everything stays as it was.
-    fn open(&mut self, alloc: Global, settings: Settings) -> Result<(), CodecError>
+    fn open(&mut self, alloc: Global, settings: Settings) -> Result<Answer<'static>, CodecError>
+        ensures done { IfOk result (λ answer. answer ≡ Done) }
         ensures ok { OnOk result (IsSomeAnd self.new.shard (λ shard. (shard.object ≡ None) × (shard.codec ≡ codec_of settings) × (geo_of shard ≡ asked_by settings))) }
         ensures kept { OnErr result (self.new ≡ self.old) }
         ensures refused { let codec = ⟦<Codec as ArrayToBytesCodecTraits>⟧ in let c = codec_of settings in let g = asked_by settings in
             IfErr result (RefusedBy (RefusesUnserved (codec.meaning c g))) }
     {
         self.shard = Some(Shard::new(alloc, settings)?);
-        Ok(())
+        Ok(Answer::Done)
     }
 
     // The type of the elements, where there is a shard.
@@ -323,35 +345,38 @@ impl Tool {
         }
     }
 
-    // Takes another shard, and answers that it did.
-    fn run_shard<W: Write>(
+    /// Runs a line that is not empty, and writes its answer; tells whether it was refused. A command that is refused and a
+    /// line that is no command's change nothing. `Malformed` where the line is no command's, and nothing is written then;
+    /// `Failed` where a write fails or a growth of the script's own is refused.
+    pub fn run<'a, W: Write>(
         &mut self,
         alloc: Global,
-        settings: Settings,
+        line: &'a [u8],
         out: &mut W,
-    ) -> io::Result<()> {
-        match self.open(alloc, settings) {
-            Ok(()) => write_done(out),
-            Err(error) => write_refusal(out, error),
+    ) -> Result<Outcome, Stop<'a>>
+        ensures refused { IfOk result (λ outcome. outcome ≡ Refused → tool_state self.new ≡ tool_state self.old) }
+        ensures malformed { (reason : Reason) → result ≡ Err (Malformed reason) → tool_state self.new ≡ tool_state self.old }
+    {
+        match Command::parse(alloc, line, self.element_type())? {
+            Command::Shard(settings) => {
+                let opened = self.open(alloc, settings);
+                let outcome = write_answered(out, &opened)?;
+                Ok(outcome)
+            }
+            Command::Work(work) => {
+                let Some(shard) = &mut self.shard else {
+                    return Err(Stop::malformed(Mistake::NoShard, line));
+                };
+                let outcome = shard.run_work(alloc, work, out)?;
+                Ok(outcome)
+            }
+            Command::Look(look) => {
+                let Some(shard) = &self.shard else {
+                    return Err(Stop::malformed(Mistake::NoShard, line));
+                };
+                let outcome = shard.run_look(alloc, look, out)?;
+                Ok(outcome)
+            }
         }
-    }
-
-    /// Runs a line that is not empty, and writes its answer. `Malformed` where the line is no command's, and nothing
-    /// is written then; `Failed` where a write fails or a growth of the script's own is refused.
-    pub fn run<W: Write>(&mut self, alloc: Global, line: &[u8], out: &mut W) -> Result<(), Stop> {
-        let command = Command::parse(alloc, line, self.element_type())?;
-        match (command, &mut self.shard) {
-            (Command::Shard(settings), _) => self.run_shard(alloc, settings, out)?,
-            (Command::Encode(elements), Some(shard)) => shard.run_encode(alloc, &elements, out)?,
-            (Command::Index, Some(shard)) => shard.run_index(alloc, out)?,
-            (Command::Decode, Some(shard)) => shard.run_decode(alloc, out)?,
-            (Command::Object, Some(shard)) => shard.run_object(out)?,
-            (Command::Store(bytes), Some(shard)) => write_stored(out, shard.store(bytes))?,
-            (Command::Compact, Some(shard)) => shard.run_compact(alloc, out)?,
-            (Command::Read(subset), Some(shard)) => shard.run_read(alloc, &subset, out)?,
-            (Command::Cells(coordinates), Some(shard)) => shard.run_read(alloc, &coordinates, out)?,
-            (_, None) => return Err(Stop::Malformed),
-        }
-        Ok(())
     }
 }

@@ -1,11 +1,12 @@
-// A program over lines of text: makes shards, encodes, decodes and compacts them, and tells their index and bytes.
+// A program over lines of text: makes shards, encodes, decodes and compacts them, and tells their index and bytes. On
+// standard error it says why a line is no command's.
 #![tactic(auto)]
 
-use shard_script::run_script;
+use shard_script::run_script_explained;
 use std::io;
 use std::process::ExitCode;
 
 fn main(rt: HostRuntime) -> ExitCode {
-    let status = run_script(rt.alloc(), rt.stdin(), io::writer(&rt));
+    let status = run_script_explained(rt.alloc(), rt.stdin(), io::writer(&rt), rt.stderr());
     ExitCode::from(status)
 }

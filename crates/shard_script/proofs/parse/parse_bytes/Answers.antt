@@ -7,14 +7,14 @@ use Rattle.shard_script.proofs.HexLaws.{encode_lower-decode_of, encode_lower-no_
 use Rattle.shard_script.proofs.parse.parse_bytes.Goals as goal
 
 pub returns-then-not-is_lower_case-clause-malformed : goal.returns-then-not-is_lower_case-clause-malformed
-returns-then-not-is_lower_case-clause-malformed c = λ _ word.
+returns-then-not-is_lower_case-clause-malformed c = λ _ _ word.
     let is = rw c.in_ok-digits.ensures.ok_part at (strip_prefix_is Decides-eqb c.args.word.now (codes "x") c.strip_prefix.result c.strip_prefix.ensures.cases) in
     let text = text_of_word c.args.word.now c.in_ok-digits.digits.now is word in
     let lower = c.if-not-is_lower_case.ensures.1 (rw text (encode_lower-no_upper_case word.bytes word.fit)) in
     cc
 
 pub returns-in_err-decode-clause-malformed : goal.returns-in_err-decode-clause-malformed
-returns-in_err-decode-clause-malformed c = λ malformed word.
+returns-in_err-decode-clause-malformed c = λ reason malformed word.
     let is = rw c.in_ok-digits.ensures.ok_part at (strip_prefix_is Decides-eqb c.args.word.now (codes "x") c.strip_prefix.result c.strip_prefix.ensures.cases) in
     let text = text_of_word c.args.word.now c.in_ok-digits.digits.now is word in
     let read = ap decode_of text ∙ decode_of-encode_lower word.bytes word.fit in

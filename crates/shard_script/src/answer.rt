@@ -1,0 +1,30 @@
+// What commands answer.
+use zarr_parts::ArrayBytes;
+
+/// What a command answers.
+#[derive(Debug, Drop)]
+pub enum Answer<'a> {
+    /// It was done.
+    Done,
+    /// An object of so many bytes was stored.
+    Stored(usize),
+    /// The object was compacted to so many bytes; `None` where it stayed.
+    Compacted(Option<usize>),
+    /// There is no object.
+    NoObject,
+    /// The numbers of the object's index.
+    Index(Vec<u64>),
+    /// Elements: whole numbers, their least significant byte first.
+    Cells(ArrayBytes<'a>),
+    /// The object's bytes.
+    Object(&'a [u8]),
+}
+
+/// What became of a command.
+#[derive(Debug, Clone, Copy, PartialEq, Eq)]
+pub enum Outcome {
+    /// It was answered.
+    Answered,
+    /// It was refused.
+    Refused,
+}
