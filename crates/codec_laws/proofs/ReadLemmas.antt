@@ -17,6 +17,7 @@ use Rattle.object_handles.specs.Handles.{IsPart}
 use Rattle.codec_laws.specs.Cells.{cell_length}
 use Rattle.codec_laws.specs.Refusals.{AreTooLong}
 use Rattle.codec_laws.specs.Reads.{cells_at, IsAnswer, IsReadOf}
+use Rattle.codec_laws.proofs.CodecLaws.{same_elements}
 use Rattle.object_handles.specs.Objects.{interval_part, HasInterval}
 use Rattle.zarr_boxes.proofs.PieceLaws.{map-map}
 use Rattle.std.proofs.Math.Seq.{take-length}
@@ -92,15 +93,6 @@ pub interval_read : (i : Interval) (size : ℕ) (contents : Option (List ℕ)) (
 interval_read i size None b total told = absurd (some_none b told)
 interval_read i size (Some bytes) b total told = some_same b (take size (drop i.offset bytes)) told.1 ∙ ap (λ n. take n (drop i.offset bytes)) (sym total)
 
-same_from_some : (xs ys : List (List ℕ)) → map Some xs ≡ map Some ys → xs ≡ ys
-same_from_some [] [] h = refl
-same_from_some [] (y ∷ ys) h = cc
-same_from_some (x ∷ xs) [] h = cc
-same_from_some (x ∷ xs) (y ∷ ys) h =
-    let here : x ≡ y = cc in
-    let rest : map Some xs ≡ map Some ys = cc in
-    rw (here, same_from_some xs ys rest) refl
-
 -- cells that are read of bytes are the elements of the array that the bytes are
 pub reads_agree : (cells : List ℕ → List (Option (List ℕ))) (b : List ℕ) (shape : List ℕ) (points read elements : List (List ℕ))
     → IsReadOf cells (record { offset = 0; size = length b }) (Some b) shape points read → cells b ≡ map Some elements → length elements ≡ count_of shape → All (λ point. IsInside point shape) points
@@ -108,5 +100,5 @@ pub reads_agree : (cells : List ℕ → List (Option (List ℕ))) (b : List ℕ)
 reads_agree cells b shape points read elements h are counted inside =
     let numbered = map (λ point. number_of point shape) points in
     let whole : cells_at (cells b) shape points ≡ map Some read = rw (take-length b) at h.read in
-    same_from_some read (map (λ i. get_or elements i []) numbered) (sym whole ∙ elements_at (cells b) elements shape points are counted inside)
+    same_elements read (map (λ i. get_or elements i []) numbered) (sym whole ∙ elements_at (cells b) elements shape points are counted inside)
     ∙ map-map (λ i. get_or elements i []) (λ point. number_of point shape) points

@@ -47,8 +47,9 @@ pub fn check_target(
     Ok(())
 }
 
-/// A codec from arrays to bytes (Zarr V3 core, "Codecs"). Every call takes the shape, the data type and the
-/// fill value of the array that it is about. Every call makes the tests of `check` first.
+/// A codec from arrays to bytes (Zarr V3 core, "Codecs"). Every call takes the shape, the data type and the fill value of the
+/// array that it is about, `recommended_concurrency` no fill value. Every call makes the tests of `check` first, but for
+/// `compact` and `recommended_concurrency`, which state their own.
 pub trait ArrayToBytesCodecTraits {
     // what the codec means for the arrays of a shape, a type and a fill value
     ghost meaning: { Self → Geo → Meaning };

@@ -1,4 +1,3 @@
-use Rattle.std.proofs.Common.{◌≡◌, map, Some}
 use Rattle.zarr_parts.specs.Geo.{geo}
 use Rattle.zarr_parts.specs.Types.{size_of}
 use Rattle.codec_laws.proofs.CodecLaws.{same_array, refused_by_decode, refused_so, answered_so}
