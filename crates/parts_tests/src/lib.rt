@@ -14,7 +14,11 @@ mod indexers;
 #[cfg(test)]
 mod numbering;
 #[cfg(test)]
+mod numbers;
+#[cfg(test)]
 mod overlaps;
+#[cfg(test)]
+mod runs;
 #[cfg(test)]
 mod selections;
 #[cfg(test)]

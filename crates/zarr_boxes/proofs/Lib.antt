@@ -3,11 +3,15 @@ pub mod BoxLaws
 pub mod PieceLaws
 pub mod RunLaws
 pub mod RowLaws
+pub mod RowSetLaws
 pub mod MissLaws
 pub mod GridLaws
+pub mod FollowLaws
 pub mod LocateLaws
 pub mod RangeLaws
 pub mod CoordinateLaws
 pub mod SelectionLemmas
 pub mod OverlapLaws
+pub mod MeetingLaws
+pub mod TouchedLaws
 pub mod CountLaws

@@ -250,6 +250,14 @@ concat-pieces n many xs whole =
     concat-map (piece n xs) (range_with_len 0 many)
     ∙ (sym (rw none at (run_pieces n 0 many xs)) ∙ take_all (many * n) xs (omega arith))
 
+-- bytes whose pieces are those of others at some places
+pub joined_pieces : (n many : ℕ) (xs part : List ℕ) (place : ℕ → ℕ) → length part ≡ many * n → ((k : ℕ) → k < many → piece n part k ≡ piece n xs (place k))
+    → part ≡ flat_map (piece n xs) (map place (range_with_len 0 many))
+joined_pieces n many xs part place long each =
+    sym (concat-pieces n many part long)
+    ∙ ap concat (map_range_same (piece n part) (λ k. piece n xs (place k)) many [] each ∙ sym (map-map (piece n xs) place (range_with_len 0 many)))
+    ∙ concat-map (piece n xs) (map place (range_with_len 0 many))
+
 -- each piece of a list that is long enough has the size
 pub All-pieces : (n many : ℕ) (xs : List ℕ) → many * n ≤ length xs → All (λ e. length e ≡ n) (pieces n many xs)
 All-pieces n many xs fits = All-from_get_or (λ e. length e ≡ n) (pieces n many xs) [] (λ i lt.

@@ -1,15 +1,15 @@
 -- The runs of a box along one axis lie a stride apart.
-use Rattle.std.proofs.Common.{◌≡◌, ◌≢◌, ℕ, zero, suc, ◌+◌, ◌-◌, ◌*◌, ◌/◌, ◌%◌, ◌<◌, ◌≤◌, List, [], ◌∷◌, length, get_or, take, drop, refl, ap, sym, ◌∙◌, arith, inl, inr}
+use Rattle.std.proofs.Common.{◌≡◌, ◌≢◌, ℕ, zero, suc, ◌+◌, ◌-◌, ◌*◌, ◌/◌, ◌%◌, ◌^◌, ◌<◌, ◌≤◌, List, [], ◌∷◌, length, get_or, take, drop, refl, ap, sym, ◌∙◌, arith, inl, inr}
 use Rattle.std.proofs.lemmas.Nat.{mod_below, mul-le, row_fits, div-add-mod'}
 use Rattle.std.proofs.lemmas.Bool.{cases_lt}
 use Rattle.std.proofs.Math.Nat.{div-eq_of_eq-mul_left}
 use Rattle.std.specs.List.{AllZip}
 use Rattle.zarr_boxes.specs.Numbering.{count_of, number_of, point_of, zip_with}
 use Rattle.zarr_boxes.specs.Boxes.{Region, LiesIn, number_in}
-use Rattle.zarr_boxes.specs.Runs.{IsRowSet, AreRows, IsRunning, IsStepping}
+use Rattle.zarr_boxes.specs.Runs.{IsRunLength, IsRowSet, AreRows, IsRunning, IsStepping, row_place, AreBoxRows}
 use Rattle.zarr_boxes.proofs.NumberingLaws.{rest_positive, both_positive, count_of-drop}
 use Rattle.zarr_boxes.proofs.BoxLaws.{count_split}
-use Rattle.zarr_boxes.proofs.RunLaws.{blocks, whole_blocks}
+use Rattle.zarr_boxes.proofs.RunLaws.{blocks, whole_blocks, run_follows}
 
 -- the number of the point that is `r` further along an axis
 pub row_step : (start len shape : List ℕ) (axis q r : ℕ) → length start ≡ length len → AllZip ◌≤◌ (zip_with ◌+◌ start len) shape → axis < length len
@@ -170,3 +170,42 @@ stepping_more place rows stride next turn many last known lt = record {
 -- a run that is to come begins at a point of the box
 pub run_below : (box : Region) (shape : List ℕ) (run next many : ℕ) → IsRunning box shape run next many → next < many → next * run < count_of box.shape
 run_below box shape run next many known lt = omega (arith, known.all, known.some, row_fits next run many run lt (omega arith))
+
+-- a factor of a smaller product is smaller
+below_by_factor : (k rows run : ℕ) → k * run < rows * run → k < rows
+below_by_factor k rows run lt = elim (cases_lt k rows) [
+  | inl below ↦ below
+  | inr above ↦ absurd (omega (arith, lt, mul-le rows run k run above (omega arith)))
+]
+
+-- a box that has no points has no rows
+pub no_rows : (box : Region) (shape : List ℕ) → count_of box.shape ≡ 0 → AreBoxRows box shape 1 1 1 0
+no_rows box shape none = record { some = omega arith; some_rows = omega arith; all = omega arith; fits = omega arith; each = λ q j lt. absurd (omega arith) }
+
+-- the rows of a box whose runs are whole row sets
+pub rows_of_box : (box : Region) (shape : List ℕ) (run rows stride many sets : ℕ) → length box.start ≡ length box.shape → LiesIn box shape → count_of box.shape < 2 ^ 64
+    → IsRunLength box.shape shape run → 0 < run → many * run ≡ count_of box.shape → AreRows (λ i. number_in box shape (i * run)) rows stride many → sets ≡ many / rows
+    → AreBoxRows box shape run rows stride sets
+rows_of_box box shape run rows stride many sets same inside fits long some all are is =
+    let whole : sets ≡ are.whole.0 = is ∙ div-eq_of_eq-mul_left are.some are.whole.1 in
+    let many_is : many ≡ sets * rows = omega (arith, rw (← whole) at are.whole.1) in
+    record {
+      some = some;
+      some_rows = are.some;
+      all =
+          let split : sets * (rows * run) ≡ (sets * rows) * run = omega arith in
+          split ∙ (ap (λ m. m * run) (sym many_is) ∙ all);
+      fits = fits;
+      each = λ q j lq lj.
+          let k = j / run in
+          let r = j % run in
+          let split = div-add-mod' j run in
+          let small = mod_below j run some in
+          let row : k < rows = below_by_factor k rows run (omega (arith, split, lj)) in
+          let run_at : q * rows + k < many = omega (arith, many_is, row_fits q rows sets rows lq (omega arith), row) in
+          let at : q * (rows * run) + j ≡ (q * rows + k) * run + r = omega (arith, split) in
+          let first : q * (rows * run) ≡ (q * rows) * run = omega arith in
+          let follow = run_follows box shape run many same inside long all (q * rows + k) r run_at small in
+          let step = are.steps q k row run_at in
+          rw (at, follow, first) (ap (λ n. n + r) step);
+    }

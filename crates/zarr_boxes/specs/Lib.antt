@@ -2,6 +2,7 @@ pub mod Numbering
 pub mod Boxes
 pub mod Overlaps
 pub mod Grid
+pub mod Touched
 pub mod Pieces
 pub mod Runs
 pub mod Selections

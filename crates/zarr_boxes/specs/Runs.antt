@@ -1,5 +1,5 @@
 -- Runs of neighbouring numbers: a first number and how many follow from it.
-use Rattle.std.specs.Prelude.{◌≡◌, ◌≢◌, ℕ, ◌+◌, ◌-◌, ◌*◌, ◌^◌, ◌<◌, ◌≤◌, List, map, drop, length, slice_index}
+use Rattle.std.specs.Prelude.{◌≡◌, ◌≢◌, ℕ, ◌+◌, ◌-◌, ◌*◌, ◌/◌, ◌%◌, ◌^◌, ◌<◌, ◌≤◌, List, map, drop, length, slice_index}
 use Rattle.std.specs.List.{All, flat_map, range_with_len}
 use Rattle.zarr_boxes.specs.Numbering.{count_of}
 use Rattle.zarr_boxes.specs.Boxes.{Region, number_in, IsServed}
@@ -41,6 +41,19 @@ pub record IsStepping (place : ℕ → ℕ) (rows stride next turn many last : �
   pub before : next ≤ turn
   pub within : turn ≤ many
   pub here : (k : ℕ) → next + k < turn → place (next + k) ≡ last + (k + 1) * stride
+
+-- the place of an element of rows of one length, of which each begins a stride after the one before it
+abbrev pub row_place : (first stride run : ℕ) → ℕ → ℕ
+row_place first stride run j = first + (j / run) * stride + j % run
+
+-- the points of a box, in row-major order, are sets of such rows
+pub record AreBoxRows (box : Region) (shape : List ℕ) (run rows stride sets : ℕ) : Type 0 where
+  pub some : 0 < run
+  pub some_rows : 0 < rows
+  pub all : sets * (rows * run) ≡ count_of box.shape
+  pub fits : count_of box.shape < 2 ^ 64
+  pub each : (q j : ℕ) → q < sets → j < rows * run
+      → number_in box shape (q * (rows * run) + j) ≡ row_place (number_in box shape (q * (rows * run))) stride run j
 
 -- the runs of a box that are still to come
 abbrev pub runs_from : Region → List ℕ → ℕ → ℕ → ℕ → List (ℕ × ℕ)

@@ -1,5 +1,5 @@
 // Where the cells of a shape lie in the grid of subchunks that it is cut into.
-ghost use Rattle.std.specs.Prelude.{◌≡◌, ◌<◌};
+ghost use Rattle.std.specs.Prelude.{◌≡◌, ◌<◌, ◌↔◌, IsTrue, length, drop};
 ghost use Rattle.zarr_boxes.specs.Numbering.{AllPositive, count_of};
 ghost use Rattle.zarr_boxes.specs.Grid.{Divides, grid_of, subchunk_number, place_number};
 
@@ -54,4 +54,22 @@ pub fn locate(
             }
         },
     }
+}
+
+// Whether two lists of axes are one.
+fn are_same(axes: &[u64], others: &[u64]) -> bool
+    ensures { IsTrue result ↔ (axes.now ≡ others.now) }
+{
+    axes == others
+}
+
+/// Whether the subchunks of a shape follow one another in it, each one run of its elements: all axes but the first are whole
+/// in the subchunk shape. Takes no memory.
+pub fn subchunks_follow(shape: &[u64], sub: &[u64]) -> bool
+    ensures { IsTrue result → (0 < length shape.now) × (drop 1 shape.now ≡ drop 1 sub.now) }
+{
+    if shape.len() == 0 || sub.len() == 0 {
+        return false;
+    }
+    are_same(&shape[1..], &sub[1..])
 }

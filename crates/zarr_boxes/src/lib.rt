@@ -4,14 +4,16 @@
 mod grid;
 mod indexer;
 mod numbering;
+mod rows;
 mod runs;
 mod selection;
 mod shape;
 mod subset;
 
-pub use grid::{Located, locate};
+pub use grid::{Located, locate, subchunks_follow};
 pub use indexer::{Coordinates, Indexer};
 pub use numbering::{count, number_along, ravel_indices, unravel_index};
+pub use rows::BoxRows;
 pub use runs::ContiguousRuns;
 pub use selection::{check_selection, point_numbers};
 pub use shape::ChunkShape;

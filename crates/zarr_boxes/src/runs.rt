@@ -5,14 +5,14 @@ ghost use Rattle.zarr_boxes.specs.Runs.{IsRunLength, IsRowSet};
 
 // The runs along one axis of a box: the length of each, how many there are, and how far apart they begin.
 #[derive(Clone, Copy)]
-struct RowSet {
-    run: u64,
-    rows: u64,
-    stride: u64,
+pub(crate) struct RowSet {
+    pub run: u64,
+    pub rows: u64,
+    pub stride: u64,
 }
 
 // The runs along the axis before that of a run, of a box that isn't empty.
-fn row_set(len: &[u64], shape: &[u64]) -> RowSet
+pub(crate) fn row_set(len: &[u64], shape: &[u64]) -> RowSet
     requires same_axes { length len.now ≡ length shape.now }
     requires some { 0 < count_of len.now }
     requires fits { count_of len.now < 2 ^ 64 }
@@ -38,13 +38,16 @@ fn row_set(len: &[u64], shape: &[u64]) -> RowSet
     }
 }
 
-ghost use Rattle.std.specs.Prelude.{All};
+ghost use Rattle.std.specs.Prelude.{All, [], IfOk, IfErr, OnOk};
+ghost use Rattle.zarr_words.specs.Order.{done};
+ghost use Rattle.zarr_boxes.specs.BoxRefusals.{BoxTests};
 ghost use Rattle.std.specs.Iterator.{item_count, YieldsFirst};
 ghost use Rattle.zarr_boxes.specs.Boxes.{IsBox, IsServed, numbers_in};
 ghost use Rattle.zarr_boxes.specs.Runs.{laid_end_to_end};
 
-use crate::subset::{ArraySubset, points_in};
+use crate::subset::{ArraySubset, check_box, points_in};
 use std::marker::Model;
+use zarr_words::CodecError;
 
 /// The runs of a box: the number of the first element and how many there are.
 #[derive(Drop)]
@@ -97,12 +100,28 @@ impl<'a> Iterator for ContiguousRuns<'a> {
 }
 
 impl ArraySubset {
+    /// The numbers of the box's elements in an array of a shape, in runs of neighbours: pairs of the first number and how many
+    /// follow from it. Each run is as long as the product of the box's axes from the first behind which it spans the shape on
+    /// every axis; an empty box has none. Refused, in this order, as `IncompatibleDimensionality`, `OutOfBounds`, and
+    /// `TooLarge` where the shape's count passes `u64::MAX`. Takes no memory.
+    pub fn contiguous_runs<'a>(&'a self, shape: &'a [u64]) -> Result<ContiguousRuns<'a>, CodecError>
+        ensures runs { IfOk result (λ runs. laid_end_to_end runs ≡ numbers_in self.now shape.now) }
+        ensures long { IfOk result (λ runs. All (λ run. IsRunLength self.now.shape shape.now run.1) runs) }
+        ensures none { IfOk result (λ runs. count_of self.now.shape ≡ 0 → runs ≡ []) }
+        ensures served { OnOk result (IsServed self.now shape.now) }
+        ensures refused { IfErr result (BoxTests self.now shape.now done) }
+    {
+        check_box(self, shape)?;
+        Ok(self.runs_in(shape))
+    }
+
     /// The numbers of the box's elements in an array of a shape that it lies in, in runs of neighbours.
     pub fn runs_in<'a>(&'a self, shape: &'a [u64]) -> ContiguousRuns<'a>
         requires { IsServed self.now shape.now }
         ensures runs { laid_end_to_end result ≡ numbers_in self.now shape.now }
         ensures long { All (λ run. IsRunLength self.now.shape shape.now run.1) result }
         ensures within { All (λ run. run.0 + run.1 ≤ count_of shape.now) result }
+        ensures none { count_of self.now.shape ≡ 0 → result ≡ [] }
         ensures fits { count_of self.now.shape < 2 ^ 64 }
         ensures well_formed { IsBox self.now.start self.now.shape }
     {

@@ -85,7 +85,7 @@ fn number_asked<N: Indexer>(indexer: &N, i: u64, shape: &[u64]) -> u64
 }
 
 // The row-major numbers in a shape of the points of a box, run by run. `count` is how many there are.
-fn box_numbers(
+pub(crate) fn box_numbers(
     alloc: Global,
     subset: &ArraySubset,
     count: u64,

@@ -1,11 +1,13 @@
 // Boxes of coordinates: what they are made of, and where their points lie in an array.
 ghost use Rattle.std.specs.Prelude.{◌≡◌, ℕ, ◌+◌, ◌*◌, ◌^◌, ◌<◌, ◌≤◌, List, SomeIff, IfOk, IfErr, OnOk, OnErr, IsTrue, ◌↔◌, length, replicate, All};
-ghost use Rattle.zarr_words.specs.Order.{done};
+ghost use Rattle.zarr_words.specs.Order.{◌or◌then◌, done, RefusedBy};
+ghost use Rattle.zarr_words.specs.declared.error.CodecError.TheVariants.{OutOfBounds};
 ghost use Rattle.zarr_boxes.specs.Numbering.{count_of};
 ghost use Rattle.zarr_boxes.specs.Boxes.{Region, region_of_ranges, IsBox, end_of, LiesIn, number_in, IsServed};
 ghost use Rattle.zarr_boxes.specs.BoxRefusals.{BoxTests};
 
 mod overlap;
+mod touched;
 
 use crate::numbering::count;
 use std::alloc::{AllocError, Global};
@@ -84,6 +86,16 @@ impl ArraySubset {
             shape.push(len)?;
         }
         Ok(Some(ArraySubset { start, shape }))
+    }
+
+    /// The box of one range of coordinates along each axis, in one step. Refused as `OutOfBounds` where a start passes its end,
+    /// or as `OutOfMemory`.
+    pub fn from_ranges(alloc: Global, ranges: &[Range<u64>]) -> Result<Self, CodecError>
+        ensures ordered { OnOk result (All (λ range. range.start ≤ range.end) ranges.now) }
+        ensures subset { IfOk result (λ made. made ≡ region_of_ranges ranges.now) }
+        ensures refused { IfErr result (RefusedBy (All (λ range. range.start ≤ range.end) ranges.now or OutOfBounds then done)) }
+    {
+        ArraySubset::new_with_ranges(alloc, ranges)?.ok_or(CodecError::OutOfBounds)
     }
 
     /// The box with this start and this length along each axis. `None` where their numbers of axes differ, or an
@@ -229,7 +241,8 @@ pub fn check_box(subset: &ArraySubset, shape: &[u64]) -> Result<u64, CodecError>
 // How many points a box has that lies in a shape whose count fits.
 pub fn points_in(subset: &ArraySubset, shape: &[u64]) -> u64
     requires { IsServed subset.now shape.now }
-    ensures { result ≡ count_of subset.now.shape }
+    ensures value { result ≡ count_of subset.now.shape }
+    ensures well_formed { IsBox subset.now.start subset.now.shape }
 {
     subset.num_elements().unwrap()
 }

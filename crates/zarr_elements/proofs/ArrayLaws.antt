@@ -3,6 +3,7 @@ use Rattle.std.proofs.Common.{◌≡◌, ℕ, zero, suc, ◌+◌, ◌-◌, ◌*�
 use Rattle.std.proofs.lemmas.List.FromFn.{length-map-range_with_len, get_or-map-range_with_len, sum_by-map-range_with_len_more}
 use Rattle.std.proofs.lemmas.List.Sums.{sum_by-cons}
 use Rattle.std.proofs.lemmas.List.{take_at, drop_all, take_all, get_or_past, length-take-le, length-drop, length-append, get_or-set_same, get_or-set_other}
+use Rattle.std.proofs.lemmas.List.Elements.{All-map}
 use Rattle.std.proofs.lemmas.Option.{same_Some}
 use Rattle.std.proofs.lemmas.Bool.{cases_lt, cases_eq}
 use Rattle.std.proofs.lemmas.Nat.{div-add-mod', row_fits, mul-le}
@@ -192,6 +193,18 @@ fixed_array-concat n elements pos h =
     let count : length (concat elements) / n ≡ length elements = div-eq_of_eq-mul_left pos (length-concat n elements h) in
     let same : pieces n (length (concat elements) / n) (concat elements) ≡ elements = ap (λ m. pieces n m (concat elements)) count ∙ pieces-concat n elements h in
     ap (λ es. record { kind = Fixed n; elements = es }) same
+
+-- elements of one size, told one by one
+flat_map-concat : {X : Type 0} (f : X → List ℕ) (xs : List X) → flat_map f xs ≡ concat (map f xs)
+flat_map-concat f [] = refl
+flat_map-concat f (x ∷ xs) = ap (λ rest. f x ++ rest) (flat_map-concat f xs)
+
+pub whole-flat_map : {X : Type 0} (n : ℕ) (f : X → List ℕ) (xs : List X) → 0 < n → ((x : X) → length (f x) ≡ n) → IsWhole n (flat_map f xs)
+whole-flat_map n f xs pos h = rw (flat_map-concat f xs) (whole-concat n (map f xs) pos (All-map (λ e. length e ≡ n) f xs (λ k d below. h _)))
+
+pub fixed_array-flat_map : {X : Type 0} (n : ℕ) (f : X → List ℕ) (xs : List X) → 0 < n → ((x : X) → length (f x) ≡ n)
+    → fixed_array n (flat_map f xs) ≡ record { kind = Fixed n; elements = map f xs }
+fixed_array-flat_map n f xs pos h = rw (flat_map-concat f xs) (fixed_array-concat n (map f xs) pos (All-map (λ e. length e ≡ n) f xs (λ k d below. h _)))
 
 -- one element more at the end
 pub whole_push : (n : ℕ) (bytes e : List ℕ) → IsWhole n bytes → length e ≡ n → IsWhole n (bytes ++ e)

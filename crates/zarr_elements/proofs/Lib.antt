@@ -3,3 +3,4 @@ pub mod PartLaws
 pub mod SameLaws
 pub mod FillLaws
 pub mod GridArrays
+pub mod TakenLaws

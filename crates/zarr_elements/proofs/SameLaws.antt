@@ -64,6 +64,11 @@ concat-variable_array x o h =
     let joined = rw (h.begins, last, h.ends) at (joined_to x o 0 (length o - 1) h (omega (arith, h.some))) in
     concat-map (part x o) (range_with_len 0 (length o - 1)) ∙ (joined ∙ take_all (length x) x (omega arith))
 
+-- the elements of an array, laid end to end, are its bytes
+pub concat_held : (held : Held) (bytes : List ℕ) → IsHeld held bytes → concat (array_of held bytes).elements ≡ bytes
+concat_held (held.Fixed n) bytes h = concat-fixed_array n bytes h
+concat_held (held.Variable offsets) bytes h = concat-variable_array bytes offsets.items h
+
 pub record IsSameHeld (h k : Held) (x y : List ℕ) : Type 0 where
   pub layout : held_layout h ≡ held_layout k
   pub bytes : x ≡ y

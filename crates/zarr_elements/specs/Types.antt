@@ -1,5 +1,5 @@
 -- What a data type says of its elements.
-use Rattle.std.specs.Prelude.{◌≡◌, ◌≢◌, ℕ, List, length}
+use Rattle.std.specs.Prelude.{◌≡◌, ◌≢◌, ℕ, List, Option, Some, None, length, codes}
 use Rattle.zarr_elements.specs.declared.data_type.DataType.{DataType}
 use Rattle.zarr_elements.specs.declared.data_type.DataType.TheVariants.{Bool, Int8, Int16, Int32, Int64}
 use Rattle.zarr_elements.specs.declared.data_type.DataType.TheVariants.{UInt8, UInt16, UInt32, UInt64, Raw, Bytes, Optional}
@@ -34,3 +34,18 @@ FitsKind Variable element = Unit {0}
 abbrev pub byte_size : DataTypeSize → ℕ
 byte_size (Fixed n) = n
 byte_size Variable = 0
+
+-- the Zarr name of a type, of those whose name says no more
+abbrev pub type_name : DataType → Option (List ℕ)
+type_name Bool = Some (codes "bool")
+type_name Int8 = Some (codes "int8")
+type_name Int16 = Some (codes "int16")
+type_name Int32 = Some (codes "int32")
+type_name Int64 = Some (codes "int64")
+type_name UInt8 = Some (codes "uint8")
+type_name UInt16 = Some (codes "uint16")
+type_name UInt32 = Some (codes "uint32")
+type_name UInt64 = Some (codes "uint64")
+type_name (Raw n) = None
+type_name Bytes = Some (codes "bytes")
+type_name Optional = None

@@ -1,6 +1,7 @@
 // Arrays of elements, each a string of bytes.
-ghost use Rattle.std.specs.Prelude.{◌≡◌, ◌≢◌, ◌+◌, ◌*◌, ◌/◌, ◌%◌, ◌<◌, SomeIff, IfErr, OnOk, IfSome, IfNone, IsTrue, All, ◌↔◌, length, Option};
-ghost use Rattle.std.specs.List.{concat, sum_by};
+ghost use Rattle.std.specs.Prelude.{◌≡◌, ◌≢◌, ◌+◌, ◌*◌, ◌/◌, ◌%◌, ◌<◌, ◌≤◌, map, SomeIff, IfErr, OnOk, IfSome, IfNone, IsTrue, All, ◌↔◌, [], length, Option};
+ghost use Rattle.std.specs.List.{concat, sum_by, range_with_len};
+ghost use Rattle.zarr_boxes.specs.Pieces.{piece};
 ghost use Rattle.std.specs.Cow.{cow_slice_items};
 ghost use Rattle.zarr_words.specs.Order.{done};
 ghost use Rattle.zarr_elements.specs.Arrays.{Array, element_of, fixed_array, variable_array, IsWhole, AreOffsets, part};
@@ -18,8 +19,10 @@ mod update;
 
 use crate::data_type::{DataType, DataTypeSize};
 use crate::fill_value::FillValue;
-use crate::pieces::piece_at;
+use crate::pieces::{piece_at, run_at};
 pub use builder::ArrayBuilder;
+pub use fill::repeated;
+pub use owned::VariableParts;
 use std::alloc::{AllocError, Global};
 use std::borrow::CowSlice;
 use std::marker::Model;
@@ -59,6 +62,18 @@ fn part_at<'a>(bytes: &'a [u8], offsets: &[usize], i: usize) -> &'a [u8]
     ensures { result.now ≡ part bytes.now offsets.now i }
 {
     &bytes[offsets[i]..offsets[i + 1]]
+}
+
+// So many elements of one size from one on.
+fn range_of(bytes: &[u8], size: usize, first: usize, count: usize) -> ArrayBytes<'_>
+    requires whole { IsWhole size bytes.now }
+    requires within { first + count ≤ length bytes.now / size }
+    ensures { result ≡ record { kind = Fixed size; elements = map (piece size bytes.now) (range_with_len first count) } }
+{
+    ArrayBytes {
+        bytes: CowSlice::Borrowed(run_at(bytes, size, first, count)),
+        held: Held::Fixed(size),
+    }
 }
 
 // Whether offsets begin at 0, never fall and end at the length.
@@ -129,6 +144,13 @@ impl<'a> ArrayBytes<'a> {
         }
     }
 
+    /// Whether there is no element.
+    pub fn is_empty(&self) -> bool
+        ensures { IsTrue result ↔ (self.now.elements ≡ []) }
+    {
+        self.len() == 0
+    }
+
     /// The element at a place, which is below `len`.
     pub fn element(&self, i: usize) -> &[u8]
         requires { i < length self.now.elements }
@@ -145,6 +167,25 @@ impl<'a> ArrayBytes<'a> {
         ensures { result ≡ sum_by length self.now.elements }
     {
         self.bytes.len()
+    }
+
+    /// The elements one after the other.
+    pub fn bytes(&self) -> &[u8]
+        ensures { result.now ≡ concat self.now.elements }
+    {
+        &self.bytes
+    }
+
+    /// So many elements from one on, lent, where elements have one size. `None` where each has its own. Takes no memory.
+    pub fn lent_range(&self, first: usize, count: usize) -> Option<ArrayBytes<'_>>
+        requires { first + count ≤ length self.now.elements }
+        ensures some { IfSome result (λ part. part ≡ record { kind = self.now.kind; elements = map (element_of self.now) (range_with_len first count) }) }
+        ensures none { IfNone result (self.now.kind ≡ Variable) }
+    {
+        match &self.held {
+            Held::Fixed(size) => Some(range_of(&self.bytes, *size, first, count)),
+            Held::Variable(_) => None,
+        }
     }
 
     /// The elements one after the other, where they have one size. `None` where each has its own.

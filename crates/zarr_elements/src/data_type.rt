@@ -1,7 +1,8 @@
 // Data types and the sizes of their elements.
-ghost use Rattle.std.specs.Prelude.{◌≡◌, ◌↔◌, IsTrue};
+ghost use Rattle.std.specs.Prelude.{◌≡◌, ◌≢◌, ◌↔◌, IsTrue, Some, None, IfSome, IfNone};
 ghost use Rattle.zarr_elements.specs.declared.data_type.DataType.TheVariants.{Optional};
-ghost use Rattle.zarr_elements.specs.Types.{size_of};
+ghost use Rattle.zarr_elements.specs.declared.data_type.DataType.{DataType};
+ghost use Rattle.zarr_elements.specs.Types.{size_of, type_name};
 
 /// What the elements of an array are (Zarr V3 core, "Data types").
 #[derive(Debug, Clone, Copy, PartialEq, Eq)]
@@ -42,6 +43,47 @@ pub enum DataTypeSize {
 }
 
 impl DataType {
+    /// The type with a Zarr name (Zarr V3 core, "Core data types"; `bytes` is an extension). `None` where it names no other than
+    /// `Raw`, whose names say how many bits it has.
+    pub fn from_name(name: &str) -> Option<Self>
+        ensures named { IfSome result (λ data_type. type_name data_type ≡ Some name.now) }
+        ensures unnamed { IfNone result ((data_type : DataType) → type_name data_type ≢ Some name.now) }
+    {
+        match name {
+            "bool" => Some(DataType::Bool),
+            "int8" => Some(DataType::Int8),
+            "int16" => Some(DataType::Int16),
+            "int32" => Some(DataType::Int32),
+            "int64" => Some(DataType::Int64),
+            "uint8" => Some(DataType::UInt8),
+            "uint16" => Some(DataType::UInt16),
+            "uint32" => Some(DataType::UInt32),
+            "uint64" => Some(DataType::UInt64),
+            "bytes" => Some(DataType::Bytes),
+            _ => None,
+        }
+    }
+
+    /// The type's Zarr name. `None` of `Raw`, whose name says how many bits it has, and of `Optional`.
+    pub fn name(&self) -> Option<&'static str>
+        ensures named { IfSome result (λ name. type_name self.now ≡ Some name.now) }
+        ensures unnamed { IfNone result (type_name self.now ≡ None) }
+    {
+        match self {
+            DataType::Bool => Some("bool"),
+            DataType::Int8 => Some("int8"),
+            DataType::Int16 => Some("int16"),
+            DataType::Int32 => Some("int32"),
+            DataType::Int64 => Some("int64"),
+            DataType::UInt8 => Some("uint8"),
+            DataType::UInt16 => Some("uint16"),
+            DataType::UInt32 => Some("uint32"),
+            DataType::UInt64 => Some("uint64"),
+            DataType::Bytes => Some("bytes"),
+            DataType::Raw(_) | DataType::Optional => None,
+        }
+    }
+
     /// How many bytes an element has: 1 to 8, the number of `Raw`, or a length of its own.
     /// `Optional` answers `Fixed(0)`.
     pub fn size(&self) -> DataTypeSize

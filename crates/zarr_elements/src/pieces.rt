@@ -1,13 +1,11 @@
-// Elements of one size, taken from and written to the boxes of an array.
-ghost use Rattle.std.specs.Prelude.{◌≡◌, ℕ, ◌+◌, ◌*◌, ◌^◌, ◌<◌, ◌≤◌, ◌≢◌, All, IfOk, OnOk, ◌++◌, length};
+// Elements of one size, one after the other in bytes.
+ghost use Rattle.std.specs.Prelude.{◌≡◌, ℕ, ◌+◌, ◌*◌, ◌^◌, ◌<◌, ◌≤◌, ◌≢◌, length};
 ghost use Rattle.std.specs.List.{flat_map, range_with_len};
 ghost use Rattle.zarr_boxes.specs.Numbering.{count_of};
-ghost use Rattle.zarr_boxes.specs.Boxes.{number_in, numbers_in, IsServed};
+ghost use Rattle.zarr_boxes.specs.Boxes.{number_in, IsServed};
 ghost use Rattle.zarr_boxes.specs.Pieces.{piece, IsUpdated};
-ghost use Rattle.zarr_boxes.specs.Runs.{laid_end_to_end};
 
-use std::alloc::{AllocError, Global};
-use zarr_boxes::{ArraySubset, ContiguousRuns, points_in};
+use zarr_boxes::ArraySubset;
 
 // The piece at a place.
 pub(crate) fn piece_at(bytes: &[u8], size: usize, i: usize) -> &[u8]
@@ -29,43 +27,6 @@ pub(crate) fn write_piece(bytes: &mut [u8], size: usize, i: usize, with: &[u8])
     bytes[from..from + size].copy_from_slice(with);
 }
 
-// The elements at the points of a box, one after the other.
-pub(crate) fn gather(
-    alloc: Global,
-    bytes: &[u8],
-    size: usize,
-    subset: &ArraySubset,
-    shape: &[u64],
-) -> Result<Vec<u8>, AllocError>
-    requires served { IsServed subset.now shape.now }
-    requires whole { length bytes.now ≡ count_of shape.now * size }
-    ensures { IfOk result (λ part. part.items ≡ flat_map (piece size bytes.now) (numbers_in subset.now shape.now)) }
-{
-    let runs = subset.runs_in(shape);
-    let room = points_in(subset, shape) as usize * size;
-    gather_runs(alloc, bytes, size, runs, room)
-}
-
-// Writes the update's elements at the points of a box.
-pub(crate) fn scatter(
-    output: &mut [u8],
-    size: usize,
-    subset: &ArraySubset,
-    shape: &[u64],
-    update: &[u8],
-)
-    requires served { IsServed subset.now shape.now }
-    requires whole { length output.old ≡ count_of shape.now * size }
-    requires whole_update { length update.now ≡ count_of subset.now.shape * size }
-    ensures { IsUpdated (count_of subset.now.shape) (number_in subset.now shape.now) (piece size output.old) (piece size update.now) (piece size output.new) }
-{
-    let mut done = 0;
-    for (first, len) in subset.runs_in(shape) {
-        copy_run(output, size, first as usize, update, done, len as usize);
-        done += len as usize;
-    }
-}
-
 // Writes bytes over as many others, of a number that is known when it is compiled.
 #[inline(always)]
 fn copy_exactly<const N: usize>(to: &mut [u8], from: &[u8])
@@ -76,48 +37,33 @@ fn copy_exactly<const N: usize>(to: &mut [u8], from: &[u8])
     to[..N].copy_from_slice(&from[..N]);
 }
 
-// Writes bytes over as many others. A length that stands here takes no call.
+// Writes bytes over as many others. A number that isn't 0 is how many they are, known when it is compiled.
 #[inline(always)]
-fn copy_bytes(to: &mut [u8], from: &[u8])
-    requires { length from.now ≡ length to.old }
+fn copy_bytes<const N: usize>(to: &mut [u8], from: &[u8])
+    requires same { length from.now ≡ length to.old }
+    requires known { N ≢ 0 → length from.now ≡ N }
     ensures { to.new ≡ from.now }
 {
-    match from.len() {
-        8 => copy_exactly::<8>(to, from),
-        16 => copy_exactly::<16>(to, from),
-        32 => copy_exactly::<32>(to, from),
-        64 => copy_exactly::<64>(to, from),
-        _ => to.copy_from_slice(from),
+    if N == 0 {
+        to.copy_from_slice(from);
+    } else {
+        copy_exactly::<N>(to, from);
     }
 }
 
-// Appends bytes, of a number that is known when it is compiled.
+// Copies a run of elements over another. A number that isn't 0 is how many bytes they have.
 #[inline(always)]
-fn append_exactly<const N: usize>(part: &mut Vec<u8>, bytes: &[u8]) -> Result<(), AllocError>
-    requires { length bytes.now ≡ N }
-    ensures { OnOk result (part.new.items ≡ part.old.items ++ bytes.now) }
-{
-    part.extend_from_slice(&bytes[..N])
-}
-
-// Appends bytes. A length that stands here takes no call.
-#[inline(always)]
-fn append_bytes(part: &mut Vec<u8>, bytes: &[u8]) -> Result<(), AllocError>
-    ensures { OnOk result (part.new.items ≡ part.old.items ++ bytes.now) }
-{
-    match bytes.len() {
-        8 => append_exactly::<8>(part, bytes),
-        16 => append_exactly::<16>(part, bytes),
-        32 => append_exactly::<32>(part, bytes),
-        64 => append_exactly::<64>(part, bytes),
-        _ => part.extend_from_slice(bytes),
-    }
-}
-
-// Copies a run of elements over another.
-fn copy_run(output: &mut [u8], size: usize, first: usize, update: &[u8], from: usize, len: usize)
+pub(crate) fn copy_run<const N: usize>(
+    output: &mut [u8],
+    size: usize,
+    first: usize,
+    update: &[u8],
+    from: usize,
+    len: usize,
+)
     requires inside { (first + len) * size ≤ length output.old }
     requires inside_update { (from + len) * size ≤ length update.now }
+    requires known { N ≢ 0 → len * size ≡ N }
     ensures written { (r : ℕ) → r < len → piece size output.new (first + r) ≡ piece size update.now (from + r) }
     ensures before { (i : ℕ) → i < first → piece size output.new i ≡ piece size output.old i }
     ensures after { (i : ℕ) → first + len ≤ i → piece size output.new i ≡ piece size output.old i }
@@ -125,7 +71,7 @@ fn copy_run(output: &mut [u8], size: usize, first: usize, update: &[u8], from: u
     let bytes = len * size;
     let to = first * size;
     let taken = from * size;
-    copy_bytes(&mut output[to..to + bytes], &update[taken..taken + bytes]);
+    copy_bytes::<N>(&mut output[to..to + bytes], &update[taken..taken + bytes]);
 }
 
 // Writes one element at each point of a box.
@@ -181,26 +127,8 @@ fn repeat_run(output: &mut [u8], size: usize, from: usize, to: usize, len: usize
     back[..bytes].copy_from_slice(&front[taken..taken + bytes]);
 }
 
-// The elements of runs, one after the other.
-pub(crate) fn gather_runs<'a>(
-    alloc: Global,
-    bytes: &[u8],
-    size: usize,
-    runs: ContiguousRuns<'a>,
-    room: usize,
-) -> Result<Vec<u8>, AllocError>
-    requires { All (λ run. (run.0 + run.1) * size ≤ length bytes.now) runs }
-    ensures { IfOk result (λ part. part.items ≡ flat_map (piece size bytes.now) (laid_end_to_end runs.entry)) }
-{
-    let mut part = Vec::with_capacity(alloc, room)?;
-    for (first, len) in runs {
-        append_bytes(&mut part, run_at(bytes, size, first as usize, len as usize))?;
-    }
-    Ok(part)
-}
-
 // The elements of one run.
-fn run_at(bytes: &[u8], size: usize, first: usize, len: usize) -> &[u8]
+pub(crate) fn run_at(bytes: &[u8], size: usize, first: usize, len: usize) -> &[u8]
     requires { (first + len) * size ≤ length bytes.now }
     ensures { result.now ≡ flat_map (piece size bytes.now) (range_with_len first len) }
 {

@@ -12,7 +12,8 @@ ghost use Rattle.zarr_words.specs.declared.error.CodecError.TheVariants.{Invalid
 use crate::array_bytes::ArrayBytes;
 use crate::data_type::DataTypeSize;
 use crate::fill_value::FillValue;
-use crate::pieces::{fill_box, scatter};
+use crate::pieces::fill_box;
+use crate::rows::scatter;
 use zarr_boxes::{ArraySubset, check_box, points_in};
 use zarr_words::CodecError;
 
@@ -52,7 +53,7 @@ fn elements_of_size<'a>(
 }
 
 impl<'a> FixedTarget<'a> {
-    ghost use Rattle.zarr_elements.specs.Targets.{IsWritten, TargetTests};
+    ghost use Rattle.zarr_elements.specs.Targets.{target_bytes, target_element_size, target_shape, target_box, IsWritten, TargetTests};
 
     /// Whether so many bytes are an array of a shape with elements of a size that isn't 0, in which the subset lies.
     /// Takes no memory.
@@ -76,10 +77,10 @@ impl<'a> FixedTarget<'a> {
         subset: &'a ArraySubset,
     ) -> Self
         requires { IsTarget (length bytes.old) element_size shape.now subset.now }
-        ensures bytes { result.bytes ≡ bytes.entry }
-        ensures element_size { result.element_size ≡ element_size }
-        ensures shape { result.shape.now ≡ shape.now }
-        ensures subset { result.subset.now ≡ subset.now }
+        ensures bytes { target_bytes result ≡ bytes.entry }
+        ensures element_size { target_element_size result ≡ element_size }
+        ensures shape { target_shape result ≡ shape.now }
+        ensures subset { target_box result ≡ subset.now }
     {
         FixedTarget {
             bytes,
@@ -98,10 +99,10 @@ impl<'a> FixedTarget<'a> {
         subset: &'a ArraySubset,
     ) -> Option<Self>
         ensures made { IsSome result ↔ IsTarget (length bytes.old) element_size shape.now subset.now }
-        ensures bytes { IfSome result (λ target. target.bytes ≡ bytes.entry) }
-        ensures element_size { IfSome result (λ target. target.element_size ≡ element_size) }
-        ensures shape { IfSome result (λ target. target.shape.now ≡ shape.now) }
-        ensures subset { IfSome result (λ target. target.subset.now ≡ subset.now) }
+        ensures bytes { IfSome result (λ target. target_bytes target ≡ bytes.entry) }
+        ensures element_size { IfSome result (λ target. target_element_size target ≡ element_size) }
+        ensures shape { IfSome result (λ target. target_shape target ≡ shape.now) }
+        ensures subset { IfSome result (λ target. target_box target ≡ subset.now) }
     {
         if !FixedTarget::fits(bytes.len(), element_size, shape, subset) {
             return None;
@@ -111,21 +112,21 @@ impl<'a> FixedTarget<'a> {
 
     /// How many elements the subset has.
     pub fn num_elements(&self) -> u64
-        ensures { result ≡ count_of self.now.subset.now.shape }
+        ensures { result ≡ count_of (target_box self.now).shape }
     {
         points_in(self.subset, self.shape)
     }
 
     /// How many bytes each element has, which is never 0.
     pub fn element_size(&self) -> usize
-        ensures { result ≡ self.now.element_size }
+        ensures { result ≡ target_element_size self.now }
     {
         self.element_size
     }
 
     /// The box that elements are written into.
     pub fn subset(&self) -> &ArraySubset
-        ensures { result.now ≡ self.now.subset.now }
+        ensures { result.now ≡ target_box self.now }
     {
         self.subset
     }
@@ -134,9 +135,9 @@ impl<'a> FixedTarget<'a> {
     /// the element size; the bytes are then as they were. Takes no memory.
     pub fn fill(&mut self, fill_value: &FillValue) -> Result<(), CodecError>
         ensures written { OnOk result (IsWritten self.old self.new (λ k. fill_value.now)) }
-        ensures fits { OnOk result (length fill_value.now ≡ self.old.element_size) }
+        ensures fits { OnOk result (length fill_value.now ≡ target_element_size self.old) }
         ensures kept { OnErr result (self.new ≡ self.old) }
-        ensures refused { IfErr result (length fill_value.now ≡ self.old.element_size or WrongElementKind then done) }
+        ensures refused { IfErr result (length fill_value.now ≡ target_element_size self.old or WrongElementKind then done) }
     {
         let element = fill_value.as_ne_bytes();
         if element.len() != self.element_size {
@@ -157,8 +158,8 @@ impl<'a> FixedTarget<'a> {
     /// the bytes are then as they were. Takes no memory.
     pub fn copy_from(&mut self, array: &ArrayBytes) -> Result<(), CodecError>
         ensures written { OnOk result (IsWritten self.old self.new (element_of array.now)) }
-        ensures kind { OnOk result (array.now.kind ≡ Fixed self.old.element_size) }
-        ensures counted { OnOk result (count_of self.old.subset.now.shape ≡ length array.now.elements) }
+        ensures kind { OnOk result (array.now.kind ≡ Fixed (target_element_size self.old)) }
+        ensures counted { OnOk result (count_of (target_box self.old).shape ≡ length array.now.elements) }
         ensures kept { OnErr result (self.new ≡ self.old) }
         ensures refused { IfErr result (TargetTests array.now.kind (length array.now.elements) self.old done) }
     {

@@ -5,6 +5,7 @@ pub use Rattle.zarr_boxes.specs.Numbering
 pub use Rattle.zarr_boxes.specs.Boxes
 pub use Rattle.zarr_boxes.specs.Overlaps
 pub use Rattle.zarr_boxes.specs.Grid
+pub use Rattle.zarr_boxes.specs.Touched
 pub use Rattle.zarr_boxes.specs.Pieces
 pub use Rattle.zarr_boxes.specs.Runs
 pub use Rattle.zarr_boxes.specs.Selections

@@ -5,10 +5,11 @@ mod laws;
 
 pub use laws::{box_law, grid_law, numbering_law, overlap_law};
 pub use zarr_boxes::{
-    ArraySubset, ChunkShape, Coordinates, Indexer, Located, check_selection, locate, number_along,
-    point_numbers, ravel_indices, unravel_index,
+    ArraySubset, ChunkShape, ContiguousRuns, Coordinates, Indexer, Located, check_selection,
+    locate, number_along, point_numbers, ravel_indices, unravel_index,
 };
 pub use zarr_elements::{
-    ArrayBuilder, ArrayBytes, DataType, DataTypeSize, FillValue, FixedTarget, update_array_bytes,
+    ArrayBuilder, ArrayBytes, DataType, DataTypeSize, FillValue, FixedTarget, Number,
+    VariableParts, update_array_bytes,
 };
 pub use zarr_words::{CodecError, CodecOptions, CodecSpecificOptions};

@@ -60,8 +60,8 @@ fn check_fill(data_type: &DataType, count: u64, fill: &[u8]) -> Result<(), Codec
     Ok(())
 }
 
-// One element so many times, end to end.
-fn repeated(alloc: Global, count: usize, element: &[u8]) -> Result<Vec<u8>, AllocError>
+/// One element so many times, end to end. Refused only as out of memory.
+pub fn repeated(alloc: Global, count: usize, element: &[u8]) -> Result<Vec<u8>, AllocError>
     requires { count * length element.now < 2 ^ 64 }
     ensures len { IfOk result (λ bytes. length bytes.items ≡ count * length element.now) }
     ensures each { IfOk result (λ bytes. pieces (length element.now) count bytes.items ≡ replicate count element.now) }

@@ -10,7 +10,7 @@ ghost use Rattle.zarr_elements.specs.Refusals.{ValidTests, IsValid};
 use super::extract::check_whole;
 use super::{ArrayBytes, Held, part_at};
 use crate::data_type::DataType;
-use crate::pieces::scatter;
+use crate::rows::scatter;
 use std::alloc::{AllocError, Global};
 use std::borrow::CowSlice;
 use zarr_boxes::{ArraySubset, points_in};

@@ -19,7 +19,7 @@ row_set-run-requires-clause-same_axes c =
 
 pub row_set-run-requires-clause-some_around : goal.row_set-run-requires-clause-some_around
 row_set-run-requires-clause-some_around c =
-    let first = number_in_below c.args.self.now c.args.shape.now 0 c.requires.0 (omega (arith, c.points_in-total.ensures)) in
+    let first = number_in_below c.args.self.now c.args.shape.now 0 c.requires.0 (omega (arith, c.points_in-total.ensures.value)) in
     omega (arith, first)
 
 -- what is known of the runs of a box that isn't empty
@@ -35,7 +35,7 @@ known : (c : After-row_set-run) → Known c
 known c =
     let set = rw c.shape-len.ensures.value at c.row_set-run.ensures in
     let long : IsRunLength c.args.self.now.shape c.args.shape.now c.row_set-run.result.run = (set.axis, set.run_axis, set.run_is) in
-    let points : 0 < count_of c.args.self.now.shape = omega (arith, c.points_in-total.ensures) in
+    let points : 0 < count_of c.args.self.now.shape = omega (arith, c.points_in-total.ensures.value) in
     let divides = run_divides c.args.self.now.shape c.args.shape.now c.row_set-run.result.run long points in
     record {
       set = set;
@@ -43,7 +43,7 @@ known c =
       same = length_all_zip (λ first len. first + len < 2 ^ 64) c.args.self.now.start c.args.self.now.shape c.shape-len.ensures.well_formed;
       points = points;
       some = divides.0;
-      all = rw c.points_in-total.ensures divides.1;
+      all = rw c.points_in-total.ensures.value divides.1;
     }
 
 pub nonzero_div-result : goal.nonzero_div-result
@@ -55,7 +55,7 @@ invariant_of-result-2 c =
     let runs = c.row_set-run.result in
     let k = known (goal.at.invariant_of-result-2 c).After-row_set-run in
     let many = c.points_in-total.result / runs.run in (
-      record { served = c.requires; all = k.all; fits = omega (arith, c.points_in-total.ensures); some = k.some; done = omega arith },
+      record { served = c.requires; all = k.all; fits = omega (arith, c.points_in-total.ensures.value); some = k.some; done = omega arith },
       stepping_none (λ i. number_in box c.args.shape.now (i * runs.run)) runs.rows runs.stride many (box_rows box c.args.shape.now runs.run runs.rows runs.stride many k.same c.requires.0 k.points k.set k.all),
     )
 

@@ -17,4 +17,4 @@ loop-i-preserved c =
 pub returns : goal.returns
 returns c =
     taken_array c.args.offsets.now c.args.bytes.now c.loop-i.ends.items c.loop-i.taken.items c.args.subset.now c.args.shape.now c.loop-i.i
-    c.requires.all c.requires.served.0 (omega (arith, c.points_in-total.ensures)) c.loop-i.invariant.so_far
+    c.requires.all c.requires.served.0 (omega (arith, c.points_in-total.ensures.value)) c.loop-i.invariant.so_far

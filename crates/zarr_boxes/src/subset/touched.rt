@@ -1,0 +1,108 @@
+// The subchunks that a box touches.
+ghost use Rattle.std.specs.Prelude.{◌≡◌, ◌+◌, ◌-◌, ◌/◌, ◌^◌, ◌<◌, IfOk, All, length};
+ghost use Rattle.zarr_boxes.specs.Numbering.{AllPositive, count_of};
+ghost use Rattle.zarr_boxes.specs.Boxes.{IsBox, LiesIn};
+ghost use Rattle.zarr_boxes.specs.Grid.{Divides, grid_of};
+ghost use Rattle.zarr_boxes.specs.Touched.{AreTouched, IsTouchedBox};
+
+use super::{ArraySubset, points_in};
+use crate::selection::box_numbers;
+use crate::shape::ChunkShape;
+use std::alloc::{AllocError, Global};
+
+// How many subchunks of a length the cells of a range along an axis lie in.
+fn touched_along(first: u64, len: u64, part: u64) -> u64
+    requires some { 0 < part }
+    requires fits { first + len < 2 ^ 64 }
+    ensures none { len ≡ 0 → result ≡ 0 }
+    ensures ends { 0 < len → first / part + result ≡ (first + (len - 1)) / part + 1 }
+{
+    if len == 0 {
+        return 0;
+    }
+    let last = (first + (len - 1)) / part;
+    last - first / part + 1
+}
+
+// The box of the grid that has the subchunks which a box touches.
+fn touched_box(
+    alloc: Global,
+    start: &[u64],
+    len: &[u64],
+    sub: &[u64],
+) -> Result<(Vec<u64>, Vec<u64>), AllocError>
+    requires well_formed { IsBox start.now len.now }
+    requires sub { AllPositive sub.now }
+    requires axes { length start.now ≡ length sub.now }
+    ensures { IfOk result (λ made. IsTouchedBox (record { start = start.now; shape = len.now }) sub.now (record { start = made.0.items; shape = made.1.items })) }
+{
+    let mut starts = Vec::with_capacity(alloc, start.len())?;
+    let mut lengths = Vec::with_capacity(alloc, start.len())?;
+    for axis in 0..start.len() {
+        starts.push(start[axis] / sub[axis])?;
+        lengths.push(touched_along(start[axis], len[axis], sub[axis]))?;
+    }
+    Ok((starts, lengths))
+}
+
+// The quotients of a shape's axes by the subchunk's.
+fn quotients(alloc: Global, shape: &[u64], sub: &[u64]) -> Result<Vec<u64>, AllocError>
+    requires sub { AllPositive sub.now }
+    requires axes { length shape.now ≡ length sub.now }
+    ensures { IfOk result (λ grid. grid.items ≡ grid_of shape.now sub.now) }
+{
+    let mut grid = Vec::with_capacity(alloc, shape.len())?;
+    for axis in 0..shape.len() {
+        grid.push(shape[axis] / sub[axis])?;
+    }
+    Ok(grid)
+}
+
+// The row-major numbers in the grid of the subchunks in which points of a box lie, ascending.
+fn touched_numbers(
+    alloc: Global,
+    start: &[u64],
+    len: &[u64],
+    shape: &[u64],
+    sub: &[u64],
+) -> Result<Vec<u64>, AllocError>
+    requires well_formed { IsBox start.now len.now }
+    requires inside { LiesIn (record { start = start.now; shape = len.now }) shape.now }
+    requires shape { AllPositive shape.now }
+    requires sub { AllPositive sub.now }
+    requires divides { Divides sub.now shape.now }
+    requires fits { count_of shape.now < 2 ^ 64 }
+    ensures touched { IfOk result (λ touched. AreTouched shape.now sub.now (record { start = start.now; shape = len.now }) touched.items) }
+    ensures below { IfOk result (λ touched. All (λ k. k < count_of (grid_of shape.now sub.now)) touched.items) }
+{
+    let grid = quotients(alloc, shape, sub)?;
+    let (start, shape) = touched_box(alloc, start, len, sub)?;
+    let touched = ArraySubset { start, shape };
+    let numbers = box_numbers(alloc, &touched, points_in(&touched, &grid), &grid)?;
+    Ok(numbers)
+}
+
+impl ArraySubset {
+    /// The row-major numbers in the grid of the subchunks in which points of the box lie, ascending; none for an empty
+    /// box. Refused only as out of memory.
+    pub fn touched_subchunks(
+        &self,
+        alloc: Global,
+        shape: &ChunkShape,
+        sub: &ChunkShape,
+    ) -> Result<Vec<u64>, AllocError>
+        requires inside { LiesIn self.now shape.now }
+        requires divides { Divides sub.now shape.now }
+        requires fits { count_of shape.now < 2 ^ 64 }
+        ensures touched { IfOk result (λ touched. AreTouched shape.now sub.now self.now touched.items) }
+        ensures below { IfOk result (λ touched. All (λ k. k < count_of (grid_of shape.now sub.now)) touched.items) }
+    {
+        touched_numbers(
+            alloc,
+            &self.start,
+            &self.shape,
+            shape.as_slice(),
+            sub.as_slice(),
+        )
+    }
+}

@@ -1,0 +1,34 @@
+use Rattle.std.proofs.Common.{◌≡◌, ◌∙◌, ℕ, ◌+◌, ◌*◌, ◌≤◌, ap, sym, arith}
+use Rattle.zarr_boxes.specs.Pieces.{piece}
+use Rattle.zarr_boxes.specs.Runs.{row_place}
+use Rattle.zarr_boxes.proofs.GridLaws.{at_least}
+use Rattle.zarr_boxes.proofs.RowSetLaws.{row_at, rows_more}
+use Rattle.zarr_elements.proofs.rows.copy_rows_of.Goals as goal
+
+pub overflow_add-taken : goal.overflow_add-taken
+overflow_add-taken g c =
+    let from = c.args.from in
+    let all = c.requires.inside_update c.loop-k.k (omega arith) in
+    let some = at_least (from.first + c.loop-k.k * from.stride + c.args.run) c.args.size c.requires.some in
+    omega (arith, all, some)
+
+pub loop-k-preserved : goal.loop-k-preserved
+loop-k-preserved g c =
+    let known = c.loop-k.invariant in
+    let to = c.args.to in
+    let from = c.args.from in
+    let run = c.args.run in
+    let k = c.loop-k.k in
+    let wrote = c.copy_run.ensures in
+    let taken : ℕ → _ = piece c.args.size c.args.update.now in
+    record {
+      whole = omega (arith, known.whole);
+      so_far = rows_more k c.args.rows run to.first to.stride _ _ _ _ known.so_far c.requires.apart (omega arith)
+          (λ r lt. wrote.written r lt ∙ ap taken (sym (row_at from.first from.stride run k r lt)))
+          wrote.before wrote.after;
+    }
+
+pub returns : goal.returns
+returns g c =
+    let end : c.loop-k.k ≡ c.args.rows = omega arith in
+    rw end at c.loop-k.invariant.so_far
