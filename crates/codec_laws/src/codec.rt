@@ -7,7 +7,7 @@ ghost use Rattle.zarr_parts.specs.Types.{size_of, FitsKind};
 ghost use Rattle.zarr_parts.specs.Arrays.{Array};
 ghost use Rattle.zarr_words.specs.declared.error.CodecError.{CodecError};
 ghost use Rattle.zarr_parts.specs.Selections.{LiesWithin};
-ghost use Rattle.zarr_parts.specs.Targets.{TargetTests};
+ghost use Rattle.zarr_parts.specs.Targets.{target_element_size, target_box, TargetTests};
 ghost use Rattle.zarr_elements.specs.declared.data_type.DataTypeSize.TheVariants.{Fixed};
 ghost use Rattle.zarr_words.specs.declared.error.CodecError.TheVariants.{TooLarge};
 ghost use Rattle.object_handles.specs.Handles.{IsRead, IsCounted, MayFault};
@@ -34,8 +34,8 @@ pub fn check_target(
     count: Option<u64>,
     data_type: &DataType,
 ) -> Result<(), CodecError>
-    ensures kind { OnOk result (size_of data_type.now ≡ Fixed target.now.element_size) }
-    ensures counted { (n : ℕ) → SomeIff count (n < 2 ^ 64) n → OnOk result (count_of target.now.subset.now.shape ≡ n) }
+    ensures kind { OnOk result (size_of data_type.now ≡ Fixed (target_element_size target.now)) }
+    ensures counted { (n : ℕ) → SomeIff count (n < 2 ^ 64) n → OnOk result (count_of (target_box target.now).shape ≡ n) }
     ensures refused { (n : ℕ) → SomeIff count (n < 2 ^ 64) n → IfErr result (TargetTests (size_of data_type.now) n target.now done) }
 {
     if data_type.size() != DataTypeSize::Fixed(target.element_size()) {
@@ -130,13 +130,13 @@ pub trait ArrayToBytesCodecTraits {
         options: &CodecOptions,
     ) -> Result<(), CodecError>
         ensures serves { OnOk result (meaning self.now (geo shape.now data_type.now fill_value.now)).serves }
-        ensures kind { OnOk result (size_of data_type.now ≡ Fixed target.old.element_size) }
-        ensures counted { OnOk result (count_of target.old.subset.now.shape ≡ count_of shape.now) }
+        ensures kind { OnOk result (size_of data_type.now ≡ Fixed (target_element_size target.old)) }
+        ensures counted { OnOk result (count_of (target_box target.old).shape ≡ count_of shape.now) }
         ensures cells { OnOk result (IsDecodedInto target.old target.new ((meaning self.now (geo shape.now data_type.now fill_value.now)).cells bytes.now)) }
         ensures kept { OnErr result (target.new ≡ target.old) }
         ensures lawful { let m = meaning self.now (geo shape.now data_type.now fill_value.now) in
-            IfErr result (λ e. m.serves → size_of data_type.now ≡ Fixed target.old.element_size
-            → count_of target.old.subset.now.shape ≡ count_of shape.now → MayRefuseDecode (m.cells bytes.now) e) }
+            IfErr result (λ e. m.serves → size_of data_type.now ≡ Fixed (target_element_size target.old)
+            → count_of (target_box target.old).shape ≡ count_of shape.now → MayRefuseDecode (m.cells bytes.now) e) }
         ensures refused { let m = meaning self.now (geo shape.now data_type.now fill_value.now) in
             IfErr result (RefusedBy (
             m.serves or_as RefusesUnserved m then

@@ -4,6 +4,8 @@
 #[cfg(test)]
 mod bytes_codec;
 #[cfg(test)]
+mod chains;
+#[cfg(test)]
 mod counting;
 #[cfg(test)]
 mod examples;

@@ -1,5 +1,5 @@
 // Objects that are also written in part, through a handle.
-ghost use Rattle.std.specs.Prelude.{◌≡◌, IsTrue, Some, None, OnOk, IfErr, length};
+ghost use Rattle.std.specs.Prelude.{◌≡◌, ◌+◌, ◌^◌, ◌<◌, IsTrue, Some, None, OnOk, IfErr, length};
 ghost use Rattle.object_handles.specs.Handles.{MayFault};
 ghost use Rattle.object_handles.specs.Writes.{IsWriting, RefusesWrite, KeptUnlessFault, written_all, bytes_of};
 
@@ -19,6 +19,7 @@ pub trait BytesPartialEncoderTraits: BytesPartialDecoderTraits {
     ) -> Result<(), CodecError>
         ensures writing { IsWriting (Self.state self.old) (Self.state self.new) }
         ensures written { OnOk result (IsTrue (Self.state self.old).tells → (Self.state self.new).contents ≡ Some (written_all pieces.now (bytes_of (Self.state self.old).contents))) }
+        ensures fits { OnOk result (IsTrue (Self.state self.old).tells → length (written_all pieces.now (bytes_of (Self.state self.old).contents)) + 1 < 2 ^ 64) }
         ensures kept { IfErr result (KeptUnlessFault (Self.state self.old) (Self.state self.new)) }
         ensures refused { let size = length (written_all pieces.now (bytes_of (Self.state self.old).contents)) in
             IfErr result (RefusesWrite size (Self.state self.old) (Self.state self.new)) };
@@ -28,6 +29,7 @@ pub trait BytesPartialEncoderTraits: BytesPartialDecoderTraits {
     fn replace(&mut self, alloc: Global, bytes: &[u8]) -> Result<(), CodecError>
         ensures writing { IsWriting (Self.state self.old) (Self.state self.new) }
         ensures written { OnOk result (IsTrue (Self.state self.old).tells → (Self.state self.new).contents ≡ Some bytes.now) }
+        ensures fits { OnOk result (IsTrue (Self.state self.old).tells → length bytes.now + 1 < 2 ^ 64) }
         ensures kept { IfErr result (KeptUnlessFault (Self.state self.old) (Self.state self.new)) }
         ensures refused { IfErr result (RefusesWrite (length bytes.now) (Self.state self.old) (Self.state self.new)) };
 

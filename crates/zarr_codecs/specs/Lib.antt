@@ -11,3 +11,8 @@ pub use Rattle.small_codecs.specs.BytesCodec
 pub use Rattle.small_codecs.specs.BytesCodecLaws
 pub use Rattle.codec_laws.specs.RoundTrip
 pub use Rattle.object_handles.specs.Writes
+pub use Rattle.codec_chains.specs.Codings
+pub use Rattle.codec_chains.specs.Chains
+pub use Rattle.codec_chains.specs.ChainLaws
+pub use Rattle.codec_chains.specs.Trailers
+pub use Rattle.codec_chains.specs.TrailerLaws

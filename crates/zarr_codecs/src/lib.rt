@@ -1,6 +1,7 @@
 // The laws of codecs from arrays to bytes, and the small codecs that keep them.
 #![tactic(auto)]
 
+pub use codec_chains::{BytesChain, BytesToBytesCodecTraits};
 pub use codec_laws::{
     ArrayToBytesCodecTraits, BytesRepresentation, FunctionalCodec, RecommendedConcurrency,
     check_target, decode_after_encode, read_after_decode,

@@ -1,5 +1,5 @@
 // Writes to an object in memory, in place.
-ghost use Rattle.std.specs.Prelude.{◌≡◌, ◌≤◌, ◌+◌, ◌^◌, Some, IfOk, IfErr, OnOk, OnErr, length};
+ghost use Rattle.std.specs.Prelude.{◌≡◌, ◌≤◌, ◌<◌, ◌+◌, ◌^◌, Some, IfOk, IfErr, OnOk, OnErr, length};
 ghost use Rattle.zarr_words.specs.declared.error.CodecError.TheVariants.{TooLarge};
 ghost use Rattle.object_handles.specs.Handles.{in_memory};
 ghost use Rattle.object_handles.specs.Writes.{RefusesWrite, written_all};
@@ -41,6 +41,7 @@ fn overwrite(bytes: &mut [u8], pieces: &[(u64, &[u8])])
 // Writes pieces into the bytes, which grow as they need to.
 fn write_into(bytes: &mut Vec<u8>, pieces: &[(u64, &[u8])]) -> Result<(), CodecError>
     ensures written { OnOk result (bytes.new.items ≡ written_all pieces.now bytes.old.items) }
+    ensures fits { OnOk result (length (written_all pieces.now bytes.old.items) + 1 < 2 ^ 64) }
     ensures kept { OnErr result (bytes.new.items ≡ bytes.old.items) }
     ensures refused { IfErr result (RefusesWrite (length (written_all pieces.now bytes.old.items)) (in_memory (Some bytes.old.items)) (in_memory (Some bytes.new.items))) }
 {

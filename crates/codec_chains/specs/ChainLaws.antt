@@ -1,0 +1,56 @@
+-- A chain keeps the laws.
+use Rattle.std.proofs.Common.{◌≡◌, ◌<◌, ℕ, List, Option, Some, None, IfSome, length, get_or, ap, ◌∙◌}
+use Rattle.std.proofs.lemmas.List.{length-replicate, get_or-replicate}
+use Rattle.std.specs.Option.{option_map}
+use Rattle.zarr_words.specs.Words.{Bytes, Elements, CellsOf, Written}
+use Rattle.zarr_words.specs.declared.error.CodecError.TheVariants.{TooLarge}
+use Rattle.zarr_parts.specs.Numbering.{count_of}
+use Rattle.zarr_parts.specs.Geo.{Geo}
+use Rattle.codec_laws.specs.declared.representation.BytesRepresentation.{BytesRepresentation}
+use Rattle.codec_laws.specs.Meanings.{Meaning}
+use Rattle.codec_laws.specs.Laws.{IsLawful}
+use Rattle.codec_laws.specs.RefusalLaws.{test_faultless, test_as_faultless}
+use Rattle.codec_laws.specs.Representations.{IsWithin}
+use Rattle.codec_chains.specs.Codings.{Coding, IsInvertible, IsBounded}
+use Rattle.codec_chains.specs.Chains.{cells_of, IsChained, chain_meaning}
+
+-- as many cells, whether there are bytes or not
+length-cells_of : (cells : CellsOf) (n : ℕ) (inner : Option Bytes) → ((b : Bytes) → length (cells b) ≡ n)
+    → length (cells_of cells n inner) ≡ n
+length-cells_of cells n None h = length-replicate n None
+length-cells_of cells n (Some b) h = h b
+
+-- what holds of each cell that is there
+cells_of-each : (P : Bytes → Type 0) (cells : CellsOf) (n i : ℕ) (inner : Option Bytes) → i < n
+    → ((b : Bytes) → IfSome (get_or (cells b) i None) P) → IfSome (get_or (cells_of cells n inner) i None) P
+cells_of-each P cells n i None below h = rw (get_or-replicate {A = Option (List ℕ)} n i None None below) tt
+cells_of-each P cells n i (Some b) below h = h b
+
+-- an encoding of an encoding is as long as is told
+within_both : (coding : Coding) (told : Option BytesRepresentation) (inner : Bytes) → IsBounded coding
+    → IsWithin told (length inner) → IsWithin (option_map coding.representation told) (length (coding.encoding inner))
+within_both coding None inner bounded h = tt
+within_both coding (Some told) inner bounded h = bounded.within told inner h
+
+-- what the chain means keeps the laws
+pub chain_lawful : (coding : Coding) (m : Meaning) (g : Geo) → IsInvertible coding → IsBounded coding → IsLawful g m
+    → IsLawful g (chain_meaning coding m g)
+chain_lawful coding m g invertible bounded law = record {
+  check_faultless = λ e h. law.check_faultless e h;
+  encode_faultless = λ array e h.
+      test_as_faultless _ _ _ (law.encode_faultless array) (test_faultless _ TooLarge _ tt (λ x h. absurd h)) e h;
+  compact_faultless = λ b e h. absurd h;
+  cells_counted = λ b s. length-cells_of m.cells (count_of g.shape) (coding.decoding b) (λ inner. law.cells_counted inner s);
+  cells_fitting = λ b i s below.
+      cells_of-each _ m.cells (count_of g.shape) i (coding.decoding b) below (λ inner. law.cells_fitting inner i s below);
+  written_cells = λ a b s h e.
+      let back : coding.decoding b ≡ Some e.inner = ap coding.decoding e.encoded ∙ invertible e.inner in
+      rw back (law.written_cells a e.inner s h e.inner_written);
+  compacted_cells = λ old new s rewritten. absurd rewritten;
+  bounded = λ a b s h e. rw e.encoded (within_both coding m.representation e.inner bounded (law.bounded a e.inner s h e.inner_written));
+}
+
+-- where the elements are written in one way, the chain encodes them in one way
+pub chained_encoding : (written : Written) (encoding : Bytes → Bytes) (elements : Elements) (b one : Bytes)
+    → IsChained written encoding elements b → ((inner : Bytes) → written elements inner → inner ≡ one) → b ≡ encoding one
+chained_encoding written encoding elements b one h same = h.encoded ∙ ap encoding (same h.inner h.inner_written)

@@ -1,0 +1,5 @@
+pub mod Codings
+pub mod Chains
+pub mod ChainLaws
+pub mod Trailers
+pub mod TrailerLaws

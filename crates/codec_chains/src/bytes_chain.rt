@@ -1,0 +1,253 @@
+// A codec with a codec from bytes to bytes behind it.
+ghost use Rattle.std.specs.Prelude.{◌≡◌, Some, IfOk, IfErr, map};
+ghost use Rattle.std.specs.Cow.{cow_slice_items};
+ghost use Rattle.zarr_words.specs.Order.{RefusedBy};
+ghost use Rattle.zarr_parts.specs.Geo.{geo, IsArrayOf};
+ghost use Rattle.zarr_parts.specs.Types.{size_of};
+ghost use Rattle.codec_laws.specs.Refusals.{MayRefuseDecode};
+
+use crate::bytes_to_bytes::BytesToBytesCodecTraits;
+use codec_laws::{
+    ArrayToBytesCodecTraits, BytesRepresentation, FunctionalCodec, RecommendedConcurrency,
+};
+use object_handles::{
+    ByteRange, BytesPartialDecoderTraits, Interval, SliceHandle, check_interval, lent,
+};
+use std::alloc::Global;
+use std::borrow::CowSlice;
+use zarr_parts::{
+    ArrayBytes, ChunkShape, CodecError, CodecOptions, DataType, FillValue, Indexer, check_selection,
+};
+
+/// A codec from arrays to bytes with a codec from bytes to bytes behind it, which encodes its bytes once more. It serves
+/// what `C` serves.
+#[derive(Debug, Drop)]
+pub struct BytesChain<C, B> {
+    /// The codec from arrays to bytes, which is the first to encode.
+    pub array_to_bytes: C,
+    /// The codec from bytes to bytes behind it.
+    pub bytes_to_bytes: B,
+}
+
+impl<C, B> BytesChain<C, B> {
+    /// The first codec with the second one behind it.
+    pub fn new(array_to_bytes: C, bytes_to_bytes: B) -> Self
+        ensures { result ≡ record { array_to_bytes = array_to_bytes; bytes_to_bytes = bytes_to_bytes } }
+    {
+        BytesChain {
+            array_to_bytes,
+            bytes_to_bytes,
+        }
+    }
+}
+
+// Decodes bytes that it lets go, to an array with bytes of its own.
+fn decode_owned<C: ArrayToBytesCodecTraits>(
+    codec: &C,
+    alloc: Global,
+    bytes: Vec<u8>,
+    shape: &ChunkShape,
+    data_type: &DataType,
+    fill_value: &FillValue,
+    options: &CodecOptions,
+) -> Result<ArrayBytes<'static>, CodecError>
+    requires { (C.meaning codec.now (geo shape.now data_type.now fill_value.now)).serves }
+    ensures array { let g = geo shape.now data_type.now fill_value.now in
+        IfOk result (λ array. (array.kind ≡ size_of data_type.now) × IsArrayOf g array.elements) }
+    ensures cells { let m = C.meaning codec.now (geo shape.now data_type.now fill_value.now) in
+        IfOk result (λ array. m.cells bytes.items ≡ map Some array.elements) }
+    ensures lawful { let m = C.meaning codec.now (geo shape.now data_type.now fill_value.now) in
+        IfErr result (MayRefuseDecode (m.cells bytes.items)) }
+    ensures refused { let m = C.meaning codec.now (geo shape.now data_type.now fill_value.now) in
+        IfErr result (RefusedBy (m.decode_tests bytes.items)) }
+{
+    let array = codec.decode(alloc, &bytes, shape, data_type, fill_value, options)?;
+    let owned = array.into_owned(alloc)?;
+    Ok(owned)
+}
+
+// Decodes bytes that are lent on or owned.
+fn decode_inner<'a, C: ArrayToBytesCodecTraits>(
+    codec: &C,
+    alloc: Global,
+    inner: CowSlice<'a, u8>,
+    shape: &ChunkShape,
+    data_type: &DataType,
+    fill_value: &FillValue,
+    options: &CodecOptions,
+) -> Result<ArrayBytes<'a>, CodecError>
+    requires { (C.meaning codec.now (geo shape.now data_type.now fill_value.now)).serves }
+    ensures array { let g = geo shape.now data_type.now fill_value.now in
+        IfOk result (λ array. (array.kind ≡ size_of data_type.now) × IsArrayOf g array.elements) }
+    ensures cells { let m = C.meaning codec.now (geo shape.now data_type.now fill_value.now) in
+        IfOk result (λ array. m.cells (cow_slice_items inner.entry) ≡ map Some array.elements) }
+    ensures lawful { let m = C.meaning codec.now (geo shape.now data_type.now fill_value.now) in
+        IfErr result (MayRefuseDecode (m.cells (cow_slice_items inner.entry))) }
+    ensures refused { let m = C.meaning codec.now (geo shape.now data_type.now fill_value.now) in
+        IfErr result (RefusedBy (m.decode_tests (cow_slice_items inner.entry))) }
+{
+    match inner {
+        CowSlice::Borrowed(bytes) => {
+            codec.decode(alloc, bytes, shape, data_type, fill_value, options)
+        }
+        CowSlice::Owned(bytes) => {
+            decode_owned(codec, alloc, bytes, shape, data_type, fill_value, options)
+        }
+    }
+}
+
+impl<C: ArrayToBytesCodecTraits, B: BytesToBytesCodecTraits> ArrayToBytesCodecTraits
+    for BytesChain<C, B> {
+    ghost use Rattle.codec_chains.specs.Chains.{chain_meaning};
+    ghost use Rattle.codec_chains.specs.ChainLaws.{chain_lawful};
+
+    ghost meaning = { λ s g. chain_meaning (B.coding s.bytes_to_bytes) (C.meaning s.array_to_bytes g) g };
+
+    ghost concurrency = { λ s shape. C.concurrency s.array_to_bytes shape };
+
+    ghost lawful = { λ s g. chain_lawful (B.coding s.bytes_to_bytes) (C.meaning s.array_to_bytes g) g
+        (B.invertible s.bytes_to_bytes) (B.bounded s.bytes_to_bytes) (C.lawful s.array_to_bytes g) };
+
+    ghost concurrency_faultless = { λ s shape e h. C.concurrency_faultless s.array_to_bytes shape e h };
+
+    /// Refused as `check` of the first codec.
+    fn check(
+        &self,
+        alloc: Global,
+        shape: &ChunkShape,
+        data_type: &DataType,
+        fill_value: &FillValue,
+    ) -> Result<(), CodecError> {
+        self.array_to_bytes
+            .check(alloc, shape, data_type, fill_value)
+    }
+
+    /// Encodes by the first codec, and its bytes by the second. Refused as `encode` of the first codec, then as `TooLarge`
+    /// where the bytes of the second pass `usize::MAX`; or as `OutOfMemory`.
+    fn encode(
+        &self,
+        alloc: Global,
+        bytes: &ArrayBytes,
+        shape: &ChunkShape,
+        data_type: &DataType,
+        fill_value: &FillValue,
+        options: &CodecOptions,
+    ) -> Result<Vec<u8>, CodecError> {
+        let inner = self
+            .array_to_bytes
+            .encode(alloc, bytes, shape, data_type, fill_value, options)?;
+        let encoded = self.bytes_to_bytes.encode(alloc, &inner)?;
+        Ok(encoded)
+    }
+
+    /// Decodes by the second codec, and its bytes by the first. Refused as `check` refuses, then as `Damaged` where the
+    /// second has no inverse of the bytes, then as `decode` of the first.
+    fn decode<'a>(
+        &self,
+        alloc: Global,
+        bytes: &'a [u8],
+        shape: &ChunkShape,
+        data_type: &DataType,
+        fill_value: &FillValue,
+        options: &CodecOptions,
+    ) -> Result<ArrayBytes<'a>, CodecError> {
+        self.array_to_bytes
+            .check(alloc, shape, data_type, fill_value)?;
+        let _axes = shape.as_slice();
+        let inner = self.bytes_to_bytes.decode(alloc, bytes)?;
+        decode_inner(
+            &self.array_to_bytes,
+            alloc,
+            inner,
+            shape,
+            data_type,
+            fill_value,
+            options,
+        )
+    }
+
+    /// As many as the first codec tells, and refused as it refuses.
+    fn recommended_concurrency(
+        &self,
+        shape: &ChunkShape,
+        data_type: &DataType,
+    ) -> Result<RecommendedConcurrency, CodecError> {
+        self.array_to_bytes
+            .recommended_concurrency(shape, data_type)
+    }
+
+    /// How long encodings are by the second codec, of bytes that are as long as the first one tells. Refused as the first
+    /// codec refuses.
+    fn encoded_representation(
+        &self,
+        alloc: Global,
+        shape: &ChunkShape,
+        data_type: &DataType,
+        fill_value: &FillValue,
+    ) -> Result<BytesRepresentation, CodecError> {
+        let inner = self
+            .array_to_bytes
+            .encoded_representation(alloc, shape, data_type, fill_value)?;
+        Ok(self.bytes_to_bytes.encoded_representation(inner))
+    }
+
+    /// Reads the whole interval, and by the first codec the asked cells of the bytes that the second decodes. Refused as
+    /// the trait says, then as `Damaged` where the second codec has no inverse of the bytes, then as the first refuses
+    /// these bytes.
+    fn partial_decode<H: BytesPartialDecoderTraits, N: Indexer>(
+        &self,
+        alloc: Global,
+        handle: &mut H,
+        interval: Interval,
+        shape: &ChunkShape,
+        data_type: &DataType,
+        fill_value: &FillValue,
+        indexer: &N,
+        options: &CodecOptions,
+    ) -> Result<ArrayBytes<'static>, CodecError> {
+        self.array_to_bytes
+            .check(alloc, shape, data_type, fill_value)?;
+        let _axes = shape.as_slice();
+        let _ = check_selection(indexer, shape)?;
+        check_interval(handle, interval)?;
+        let mut room = Vec::new(alloc);
+        let range = ByteRange::FromStart(interval.offset, Some(interval.size));
+        let Some(bytes) = lent(handle, &mut room, alloc, range)? else {
+            return Err(CodecError::OutOfBounds);
+        };
+        let inner = self.bytes_to_bytes.decode(alloc, bytes)?;
+        let whole = Interval {
+            offset: 0,
+            size: inner.len() as u64,
+        };
+        let mut inner_handle = SliceHandle::new(&inner);
+        let cells = self.array_to_bytes.partial_decode(
+            alloc,
+            &mut inner_handle,
+            whole,
+            shape,
+            data_type,
+            fill_value,
+            indexer,
+            options,
+        )?;
+        Ok(cells)
+    }
+}
+
+impl<C: FunctionalCodec, B: BytesToBytesCodecTraits> FunctionalCodec for BytesChain<C, B> {
+    ghost use Rattle.codec_chains.specs.ChainLaws.{chained_encoding};
+
+    ghost functional = { λ s. C.functional s.array_to_bytes };
+
+    ghost encoding = { λ s g elements. (B.coding s.bytes_to_bytes).encoding (C.encoding s.array_to_bytes g elements) };
+
+    /// Where the first codec is.
+    fn is_functional(&self) -> bool {
+        self.array_to_bytes.is_functional()
+    }
+
+    ghost one_encoding = { λ s g elements b functional serves array written.
+        chained_encoding _ (B.coding s.bytes_to_bytes).encoding elements b (C.encoding s.array_to_bytes g elements) written
+        (λ inner h. C.one_encoding s.array_to_bytes g elements inner functional serves array h) };
+}

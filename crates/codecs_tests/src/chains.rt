@@ -1,0 +1,175 @@
+// Codecs behind the codec `bytes`: one that puts the byte 42 behind bytes, and the checksum.
+use crate::examples::{fill, fixed, shape, subset};
+use std::alloc::Global;
+use test_codecs::MarkedCodec;
+use zarr_codecs::{
+    ArrayToBytesCodecTraits, BytesChain, BytesCodec, BytesRepresentation, BytesToBytesCodecTraits,
+    FunctionalCodec, Interval, MemoryHandle,
+};
+use zarr_crc32c::{Crc32cCodec, crc32c};
+use zarr_parts::{ArrayBytes, ChunkShape, CodecError, CodecOptions, DataType, FillValue};
+
+// An array of two bytes.
+#[derive(Drop)]
+struct Cells {
+    axes: ChunkShape,
+    zero: FillValue,
+}
+
+fn two_cells(alloc: Global) -> Result<Cells, CodecError> {
+    let axes = shape(alloc, &[2])?;
+    let zero = fill(alloc, &[0])?;
+    Ok(Cells { axes, zero })
+}
+
+fn marked() -> BytesChain<BytesCodec, MarkedCodec> {
+    BytesChain::new(BytesCodec::little(), MarkedCodec)
+}
+
+// The elements of an array, each of which has one size, or the refusal.
+fn elements_of(
+    alloc: Global,
+    answer: Result<ArrayBytes, CodecError>,
+) -> Result<Vec<u8>, CodecError> {
+    let array = answer?;
+    let elements = array.fixed_bytes().ok_or(CodecError::WrongElementKind)?;
+    Ok(elements.to_vec(alloc)?)
+}
+
+// What an answer says, for a comparison.
+fn said(answer: &Result<Vec<u8>, CodecError>) -> Result<&[u8], CodecError> {
+    match answer {
+        Ok(bytes) => Ok(bytes.as_slice()),
+        Err(error) => Err(*error),
+    }
+}
+
+fn encoded(alloc: Global, elements: &[u8]) -> Result<Vec<u8>, CodecError> {
+    let Cells { axes, zero } = two_cells(alloc)?;
+    let array = fixed(elements, 1)?;
+    let options = CodecOptions::default();
+    marked().encode(alloc, &array, &axes, &DataType::UInt8, &zero, &options)
+}
+
+// A chain encodes what its first codec wrote, and refuses what that refuses.
+#[test]
+fn a_chain_encodes_twice(rt: HostRuntime) {
+    let one = Err(CodecError::InvalidNumberOfElements);
+    for (elements, want) in [([1, 2].as_slice(), Ok([1, 2, 42].as_slice())), (&[1], one)] {
+        assert_eq!(rt; said(&encoded(rt.alloc(), elements)), want);
+    }
+}
+
+fn decoded(alloc: Global, bytes: &[u8]) -> Result<Vec<u8>, CodecError> {
+    let Cells { axes, zero } = two_cells(alloc)?;
+    let options = CodecOptions::default();
+    let array = marked().decode(alloc, bytes, &axes, &DataType::UInt8, &zero, &options);
+    elements_of(alloc, array)
+}
+
+// A chain is damaged where either of its codecs finds its bytes so.
+#[test]
+fn a_chain_decodes_twice(rt: HostRuntime) {
+    let damaged = Err(CodecError::Damaged);
+    for (bytes, want) in [
+        ([1, 2, 42].as_slice(), Ok([1, 2].as_slice())),
+        (&[1, 2, 41], damaged),
+        (&[1, 42], damaged),
+        (&[42], damaged),
+        (&[], damaged),
+    ] {
+        assert_eq!(rt; said(&decoded(rt.alloc(), bytes)), want, "{bytes:?}");
+    }
+}
+
+// The second cell, read of an interval of 7, 1, 2, 42, 7.
+fn read(alloc: Global, offset: u64, size: u64) -> Result<Vec<u8>, CodecError> {
+    let Cells { axes, zero } = two_cells(alloc)?;
+    let second = subset(alloc, &[1..2])?;
+    let mut handle = MemoryHandle::new(Some([7, 1, 2, 42, 7].to_vec(alloc)?));
+    let cells = marked().partial_decode(
+        alloc,
+        &mut handle,
+        Interval { offset, size },
+        &axes,
+        &DataType::UInt8,
+        &zero,
+        &second,
+        &CodecOptions::default(),
+    );
+    elements_of(alloc, cells)
+}
+
+// The bytes of an interval are decoded whole.
+#[test]
+fn a_chain_is_read_whole(rt: HostRuntime) {
+    let damaged = Err(CodecError::Damaged);
+    for (offset, size, want) in [
+        (1, 3, Ok([2].as_slice())),
+        (1, 2, damaged),
+        (2, 2, damaged),
+        (3, 3, Err(CodecError::OutOfBounds)),
+    ] {
+        assert_eq!(rt;
+            said(&read(rt.alloc(), offset, size)),
+            want,
+            "{offset} {size}"
+        );
+    }
+}
+
+fn told(alloc: Global) -> Result<BytesRepresentation, CodecError> {
+    let Cells { axes, zero } = two_cells(alloc)?;
+    marked().encoded_representation(alloc, &axes, &DataType::UInt8, &zero)
+}
+
+// A chain has one encoding of an array where its first codec has, which is longer by what the second puts behind it.
+#[test]
+fn a_chain_tells_its_size(rt: HostRuntime) {
+    assert!(rt; marked().is_functional());
+    assert_eq!(rt; told(rt.alloc()), Ok(BytesRepresentation::FixedSize(3)));
+}
+
+// The check values of CRC-32C.
+#[test]
+fn checksums_are_those_of_crc32c(rt: HostRuntime) {
+    for (bytes, want) in [
+        (b"123456789".as_slice(), 0xE306_9283),
+        (&[0; 32], 0x8A91_36AA),
+        (&[0xFF; 32], 0x62A8_AB43),
+        (&[], 0),
+    ] {
+        assert_eq!(rt; crc32c(bytes), want, "{bytes:?}");
+    }
+}
+
+fn with_checksum(alloc: Global, bytes: &[u8]) -> Result<Vec<u8>, CodecError> {
+    Crc32cCodec.encode(alloc, bytes)
+}
+
+fn without_checksum(alloc: Global, bytes: &[u8]) -> Result<Vec<u8>, CodecError> {
+    let decoded = Crc32cCodec.decode(alloc, bytes)?;
+    Ok(decoded.as_slice().to_vec(alloc)?)
+}
+
+// A checksum stands behind the bytes, the least significant byte first, and a wrong one is damaged.
+#[test]
+fn a_checksum_is_compared(rt: HostRuntime) {
+    let text = b"123456789\x83\x92\x06\xE3".as_slice();
+    assert_eq!(rt; said(&with_checksum(rt.alloc(), b"123456789")), Ok(text));
+    let damaged = Err(CodecError::Damaged);
+    for (bytes, want) in [
+        (text, Ok(b"123456789".as_slice())),
+        (b"123456788\x83\x92\x06\xE3", damaged),
+        (b"123456789\x83\x92\x06\xE2", damaged),
+        (b"123456789\x83\x92\x06", damaged),
+        (&[0, 0, 0, 0], Ok(&[])),
+        (&[0, 0, 0], damaged),
+    ] {
+        assert_eq!(rt;
+            said(&without_checksum(rt.alloc(), bytes)),
+            want,
+            "{bytes:?}"
+        );
+    }
+}
