@@ -1,3 +1,4 @@
 pub mod GroupingLemmas
 pub mod ReadGroupLemmas
 pub mod GatherLemmas
+pub mod LayingLaws

@@ -1,2 +1,3 @@
 pub mod Grouping
 pub mod Gathering
+pub mod Updates

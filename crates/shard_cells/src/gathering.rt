@@ -1,5 +1,5 @@
 // The cells of a shard, gathered from its decoded subchunks.
-ghost use Rattle.std.specs.Prelude.{◌≡◌, ◌≢◌, ◌≤◌, ◌<◌, ◌/◌, ◌*◌, ◌^◌, Option, SomeIff, IfOk, IfErr, OnOk, map};
+ghost use Rattle.std.specs.Prelude.{◌≡◌, ◌≢◌, ◌≤◌, ◌<◌, ◌/◌, ◌*◌, ◌^◌, ℕ, Option, None, SomeIff, IfOk, IfErr, OnOk, map, length};
 ghost use Rattle.std.specs.List.{range_with_len};
 ghost use Rattle.zarr_parts.specs.Order.{◌or◌then◌};
 ghost use Rattle.zarr_parts.specs.Numbering.{count_of};
@@ -9,6 +9,7 @@ ghost use Rattle.zarr_elements.specs.declared.data_type.DataTypeSize.TheVariants
 ghost use Rattle.zarr_words.specs.declared.error.CodecError.TheVariants.{OutOfMemory, TooLarge};
 ghost use Rattle.shard_format.specs.Decoding.{AreChunks, IsChunkOf, element_at, element_in, bytes_in, bytes_gathered};
 
+use crate::laying::laid;
 use std::alloc::Global;
 use zarr_parts::{ArrayBuilder, ArrayBytes, ChunkShape, CodecError, DataTypeSize, Located, locate};
 
@@ -67,6 +68,44 @@ pub fn check_lengths(
     Ok(())
 }
 
+// The cells of a shard, one after the other, each taken from its decoded subchunk.
+fn listed(
+    alloc: Global,
+    subchunks: &[Option<ArrayBytes>],
+    cells: u64,
+    places: u64,
+    shape: &ChunkShape,
+    sub: &ChunkShape,
+    kind: DataTypeSize,
+    fill: &[u8],
+) -> Result<ArrayBytes<'static>, CodecError>
+    requires kind { kind ≢ Fixed 0 }
+    requires fill { FitsKind kind fill.now }
+    requires cells { cells ≡ count_of shape.now }
+    requires places { places ≡ count_of sub.now }
+    requires divides { Divides sub.now shape.now }
+    requires subchunks { AreChunks kind sub.now (count_of (grid_of shape.now sub.now)) subchunks.now }
+    ensures refused { IfErr result (λ e. e ≡ OutOfMemory) }
+    ensures kind { IfOk result (λ array. array.kind ≡ kind) }
+    ensures elements { IfOk result (λ array. array.elements ≡ map (element_in subchunks.now fill.now shape.now sub.now) (range_with_len 0 (count_of shape.now))) }
+{
+    let many = subchunks.len() as u64;
+    let mut elements = ArrayBuilder::new(alloc, kind)?;
+    for i in 0..cells {
+        let Located { subchunk, place } = locate(
+            i,
+            cells,
+            many,
+            places,
+            shape.as_slice(),
+            sub.as_slice(),
+        );
+        let element = element_of(&subchunks[subchunk as usize], place as usize, kind, fill);
+        elements.push(element)?;
+    }
+    Ok(elements.finish())
+}
+
 /// The cells of a shard, gathered from its decoded subchunks. Refused as `TooLarge` where no number can say how many bytes
 /// the elements have together; that is tested before any memory is asked.
 pub fn gathered(
@@ -91,21 +130,11 @@ pub fn gathered(
     ensures kind { IfOk result (λ array. array.kind ≡ kind) }
     ensures elements { IfOk result (λ array. array.elements ≡ map (element_in subchunks.now fill.now shape.now sub.now) (range_with_len 0 (count_of shape.now))) }
 {
-    let many = subchunks.len() as u64;
-    let places = cells / many;
+    let places = cells / subchunks.len() as u64;
     check_lengths(subchunks, places, kind, fill)?;
-    let mut elements = ArrayBuilder::new(alloc, kind)?;
-    for i in 0..cells {
-        let Located { subchunk, place } = locate(
-            i,
-            cells,
-            many,
-            places,
-            shape.as_slice(),
-            sub.as_slice(),
-        );
-        let element = element_of(&subchunks[subchunk as usize], place as usize, kind, fill);
-        elements.push(element)?;
-    }
-    Ok(elements.finish())
+    let array = match kind {
+        DataTypeSize::Variable => listed(alloc, subchunks, cells, places, shape, sub, kind, fill)?,
+        DataTypeSize::Fixed(_) => laid(alloc, subchunks, cells, places, shape, sub, fill)?,
+    };
+    Ok(array)
 }

@@ -4,7 +4,10 @@
 mod asked;
 mod gathering;
 mod grouping;
+mod laying;
+mod update;
 
 pub use asked::{check_asked, put_together};
 pub use gathering::{check_lengths, gathered};
 pub use grouping::{Grouping, Places, Standing, grouped};
+pub use update::check_update;

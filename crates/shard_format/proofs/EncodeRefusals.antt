@@ -132,7 +132,7 @@ index_refused index subchunks numbers e counted below h =
     ]
 
 -- where there is a size that is fixed
-size_within : (told : Option BytesRepresentation) (n len : ℕ) → told ≡ Some (FixedSize n) → IsWithin told len → len ≡ n
+pub size_within : (told : Option BytesRepresentation) (n len : ℕ) → told ≡ Some (FixedSize n) → IsWithin told len → len ≡ n
 size_within told n len is h = rw is at h
 
 -- the index has the length that the index codec tells

@@ -58,7 +58,7 @@ shifted start Bad = Bad
 pub other_number : (a b : ℕ) → (¬ (a ≡ b)) → eqb a b ≡ false
 other_number a b h = elim (eqb_tells a b) [ inl same ↦ absurd (h same.1) | inr other ↦ other.0 ]
 
-shifted_pair : (inner_written : List (List ℕ) → List ℕ → Type 0) (fill : List ℕ) (e : List (List ℕ)) (bytes : List ℕ) (start len : ℕ) (s : Slot)
+pub shifted_pair : (inner_written : List (List ℕ) → List ℕ → Type 0) (fill : List ℕ) (e : List (List ℕ)) (bytes : List ℕ) (start len : ℕ) (s : Slot)
     → IsLaid inner_written fill e bytes s → start + length bytes ≤ len → start + length bytes < absent_number
     → slot_of_pair len (offset_number start s) (size_number s) ≡ shifted start s
 shifted_pair inner_written fill e bytes start len Absent h room small = refl
@@ -70,7 +70,7 @@ shifted_pair inner_written fill e bytes start len (InRange offset size) h room s
     ) refl
 shifted_pair inner_written fill e bytes start len Bad h room small = absurd h
 
-stands_shifted : (inner_written : List (List ℕ) → List ℕ → Type 0) (l : Layout) (e : List (List ℕ)) (index bytes all : List ℕ) (s : Slot)
+pub stands_shifted : (inner_written : List (List ℕ) → List ℕ → Type 0) (l : Layout) (e : List (List ℕ)) (index bytes all : List ℕ) (s : Slot)
     → Whole l.location l.index_size index bytes all → IsLaid inner_written l.fill e bytes s
     → StandsAt inner_written l all e (shifted (data_start l.location l.index_size) s)
 stands_shifted inner_written l e index bytes all Absent w h = h
@@ -85,12 +85,12 @@ apart_shifted start p q (InRange o n) (InRange r m) h k below = λ i from before
 apart_shifted start p q (InRange o n) Bad h k below = tt
 apart_shifted start p q Bad t h k below = tt
 
-size_shifted : (start : ℕ) (s : Slot) → slot_size (shifted start s) ≡ slot_size s
+pub size_shifted : (start : ℕ) (s : Slot) → slot_size (shifted start s) ≡ slot_size s
 size_shifted start Absent = refl
 size_shifted start (InRange o n) = refl
 size_shifted start Bad = refl
 
-begins_shifted : (start p : ℕ) (s : Slot) → BeginsAt p s → BeginsAt (start + p) (shifted start s)
+pub begins_shifted : (start p : ℕ) (s : Slot) → BeginsAt p s → BeginsAt (start + p) (shifted start s)
 begins_shifted start p Absent h = tt
 begins_shifted start p (InRange o n) h = ap (λ (x : ℕ). start + x) h
 begins_shifted start p Bad h = tt

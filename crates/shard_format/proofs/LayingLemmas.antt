@@ -53,23 +53,23 @@ pub sum_grows_to : (f : ℕ → ℕ) (j k : ℕ) → j ≤ k → sum_by f (range
 sum_grows_to f j k below = subst (λ m. sum_by f (range_with_len 0 j) ≤ sum_by f (range_with_len 0 m)) (room j k below) (sum_grows f j (k - j))
 
 -- the slot of the subchunk that comes next
-begins_placed : (present : Bool) (place size : ℕ) → BeginsAt place (placed_slot present place size)
+pub begins_placed : (present : Bool) (place size : ℕ) → BeginsAt place (placed_slot present place size)
 begins_placed true place size = refl
 begins_placed false place size = tt
 
-size_placed : (inner_written : List (List ℕ) → List ℕ → Type 0) (fill : List ℕ) (e : List (List ℕ)) (present : Bool) (offset : ℕ) (more : List ℕ)
+pub size_placed : (inner_written : List (List ℕ) → List ℕ → Type 0) (fill : List ℕ) (e : List (List ℕ)) (present : Bool) (offset : ℕ) (more : List ℕ)
     → IsStored inner_written fill e present more → slot_size (placed_slot present offset (length more)) ≡ length more
 size_placed inner_written fill e true offset more h = refl
 size_placed inner_written fill e false offset more h = ap length (sym h.1)
 
-laid_placed : (inner_written : List (List ℕ) → List ℕ → Type 0) (fill : List ℕ) (e : List (List ℕ)) (present : Bool) (bytes more : List ℕ)
+pub laid_placed : (inner_written : List (List ℕ) → List ℕ → Type 0) (fill : List ℕ) (e : List (List ℕ)) (present : Bool) (bytes more : List ℕ)
     → IsStored inner_written fill e present more → IsLaid inner_written fill e (bytes ++ more) (placed_slot present (length bytes) (length more))
 laid_placed inner_written fill e true bytes more h =
     (h.0, rw (drop-append_seam bytes more, take-length more) h.1, omega (arith, length-append bytes more))
 laid_placed inner_written fill e false bytes more h = h.0
 
 -- what is laid stays where more follows
-laid_stays : (inner_written : List (List ℕ) → List ℕ → Type 0) (fill : List ℕ) (e : List (List ℕ)) (s : Slot) (bytes more : List ℕ)
+pub laid_stays : (inner_written : List (List ℕ) → List ℕ → Type 0) (fill : List ℕ) (e : List (List ℕ)) (s : Slot) (bytes more : List ℕ)
     → IsLaid inner_written fill e bytes s → IsLaid inner_written fill e (bytes ++ more) s
 laid_stays inner_written fill e Absent bytes more h = h
 laid_stays inner_written fill e (InRange offset size) bytes more h = (

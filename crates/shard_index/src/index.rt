@@ -1,10 +1,10 @@
 // The index of a shard, by its index codec.
-ghost use Rattle.std.specs.Prelude.{◌≡◌, ◌<◌, ◌+◌, ◌^◌, ◌*◌, ℕ, IsTrue, Some, IfOk, IfErr, OnOk, length, slice_index_or};
+ghost use Rattle.std.specs.Prelude.{◌≡◌, ◌<◌, ◌+◌, ◌^◌, ◌*◌, ℕ, IsTrue, Some, IfOk, IfErr, OnOk, All, map, length, slice_index_or};
 ghost use Rattle.zarr_parts.specs.Order.{done, RefusedBy};
 ghost use Rattle.zarr_parts.specs.Numbering.{count_of};
 ghost use Rattle.object_handles.specs.Handles.{IsRead, IsCounted};
 ghost use Rattle.object_handles.specs.Objects.{interval_part, HasInterval, ObjectTests};
-ghost use Rattle.shard_format.specs.Index.{data_start, numbers_in_index, numbers_of_cells};
+ghost use Rattle.shard_format.specs.Index.{data_start, numbers_in_index, numbers_of_cells, element_of_number};
 ghost use Rattle.shard_format.specs.Serves.{IndexServes, IndexCodecTests};
 ghost use Rattle.shard_format.specs.DecodeTests.{RefusesStored, IndexTests};
 ghost use Rattle.shard_format.specs.EncodeTests.{RefusesIndex};
@@ -173,7 +173,28 @@ impl<X: ArrayToBytesCodecTraits> IndexCodec<'_, X> {
     {
         let start = start_of_data(self.location, plan.size);
         let numbers = numbers_of_slots(alloc, slots, start)?;
-        let array = array_of_numbers(alloc, &numbers)?;
+        let index = self.encode_numbers(alloc, &numbers, plan, options)?;
+        Ok(index)
+    }
+
+    /// The bytes of the index of these numbers. Refused as the index codec refuses, or as `OutOfMemory`.
+    pub fn encode_numbers(
+        &self,
+        alloc: Global,
+        numbers: &[u64],
+        plan: &IndexPlan,
+        options: &CodecOptions,
+    ) -> Result<Vec<u8>, CodecError>
+        requires plan { IsIndexPlan (index_meaning X.meaning self.now.codec.now) plan.now }
+        requires counted { length numbers.now ≡ 2 * count_of plan.now.grid }
+        requires below { All (λ n. n < 2 ^ 64) numbers.now }
+        ensures written { let index = index_meaning X.meaning self.now.codec.now plan.now.grid in
+            IfOk result (λ bytes. index.written (map element_of_number numbers.now) bytes.items) }
+        ensures size { IfOk result (λ bytes. length bytes.items ≡ plan.now.size) }
+        ensures refused { let index = index_meaning X.meaning self.now.codec.now plan.now.grid in
+            IfErr result (RefusedBy (RefusesIndex index (count_of plan.now.grid))) }
+    {
+        let array = array_of_numbers(alloc, numbers)?;
         let data_type = DataType::UInt64;
         let index = self.codec.encode(alloc, &array, &plan.shape, &data_type, &plan.fill, options)?;
         Ok(index)

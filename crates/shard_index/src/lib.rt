@@ -3,6 +3,8 @@
 
 mod index;
 mod numbers;
+mod pairs;
 mod place;
 
 pub use index::{IndexCodec, IndexPlan};
+pub use pairs::{check_pairs, without_pairs};

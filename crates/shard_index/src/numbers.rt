@@ -1,6 +1,7 @@
 // The numbers of an index: from the elements of an array and back, and from slots.
-ghost use Rattle.std.specs.Prelude.{◌≡◌, ◌<◌, ◌*◌, ◌^◌, ℕ, IfOk, IfErr, map, length, slice_index_or};
-ghost use Rattle.std.specs.List.{All};
+ghost use Rattle.std.specs.Prelude.{◌≡◌, ◌<◌, ◌*◌, ◌/◌, ◌^◌, ℕ, IfOk, IfErr, map, length, slice_index_or};
+ghost use Rattle.std.specs.List.{All, flat_map};
+ghost use Rattle.std.specs.Simd.{first_chunks};
 ghost use Rattle.zarr_elements.specs.declared.data_type.DataTypeSize.TheVariants.{Fixed};
 ghost use Rattle.zarr_words.specs.declared.error.CodecError.TheVariants.{OutOfMemory};
 ghost use Rattle.shard_format.specs.Index.{number_of_element, element_of_number};
@@ -8,18 +9,19 @@ ghost use Rattle.shard_format.specs.Laying.{offset_number, size_number, EndsBelo
 ghost use Rattle.shard_format.specs.declared.slot.Slot.TheVariants.{Bad};
 
 use shard_format::Slot;
-use std::alloc::Global;
-use zarr_parts::{ArrayBuilder, ArrayBytes, CodecError, DataTypeSize};
+use std::alloc::{AllocError, Global};
+use std::borrow::CowSlice;
+use zarr_parts::{ArrayBytes, CodecError};
 
-// The number that an element of the index is.
-fn number_at(element: &[u8]) -> u64
-    requires { length element.now ≡ 8 }
-    ensures { result ≡ number_of_element element.now }
+// The numbers that bytes are, of eight bytes each.
+fn numbers_of_bytes(alloc: Global, bytes: &[u8]) -> Result<Vec<u64>, AllocError>
+    ensures { IfOk result (λ numbers. numbers.items ≡ map number_of_element (first_chunks 8 (length bytes.now / 8) bytes.now)) }
 {
-    u64::from_le_bytes([
-        element[0], element[1], element[2], element[3], element[4], element[5], element[6],
-        element[7],
-    ])
+    let (chunks, _) = bytes.as_chunks::<8>();
+    chunks
+        .iter()
+        .map(|chunk| u64::from_le_bytes(*chunk))
+        .collect(alloc)
 }
 
 // The numbers that an array's elements are.
@@ -28,11 +30,7 @@ pub(crate) fn numbers_of_array(alloc: Global, index: &ArrayBytes) -> Result<Vec<
     ensures refused { IfErr result (λ e. e ≡ OutOfMemory) }
     ensures numbers { IfOk result (λ numbers. numbers.items ≡ map number_of_element index.now.elements) }
 {
-    let mut numbers = Vec::with_capacity(alloc, index.len())?;
-    for i in 0..index.len() {
-        let number = number_at(index.element(i));
-        numbers.push(number)?;
-    }
+    let numbers = numbers_of_bytes(alloc, index.bytes())?;
     Ok(numbers)
 }
 
@@ -82,6 +80,17 @@ pub(crate) fn numbers_of_slots(
     Ok(numbers)
 }
 
+// The bytes of these numbers, one after the other.
+fn bytes_of_numbers(alloc: Global, numbers: &[u64]) -> Result<Vec<u8>, AllocError>
+    ensures { IfOk result (λ bytes. bytes.items ≡ flat_map element_of_number numbers.now) }
+{
+    let mut bytes = Vec::with_capacity(alloc, numbers.len().saturating_mul(8))?;
+    for number in numbers {
+        bytes.extend_from_slice(&number.to_le_bytes())?;
+    }
+    Ok(bytes)
+}
+
 // The array of these numbers.
 pub(crate) fn array_of_numbers(
     alloc: Global,
@@ -91,10 +100,9 @@ pub(crate) fn array_of_numbers(
     ensures kind { IfOk result (λ array. array.kind ≡ Fixed 8) }
     ensures elements { IfOk result (λ array. array.elements ≡ map element_of_number numbers.now) }
 {
-    let mut elements = ArrayBuilder::new(alloc, DataTypeSize::Fixed(8))?;
-    for i in 0..numbers.len() {
-        let element = numbers[i].to_le_bytes();
-        elements.push(&element)?;
+    let bytes = bytes_of_numbers(alloc, numbers)?;
+    match ArrayBytes::new_flen(CowSlice::Owned(bytes), 8) {
+        Some(array) => Ok(array),
+        None => unreachable!(),
     }
-    Ok(elements.finish())
 }

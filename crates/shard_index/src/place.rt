@@ -1,6 +1,6 @@
 // Where the index stands in a shard.
 ghost use Rattle.std.specs.Prelude.{◌≡◌, ◌≤◌, length};
-ghost use Rattle.shard_format.specs.Index.{index_part, data_start};
+ghost use Rattle.shard_format.specs.Index.{index_part, data_start, data_end};
 ghost use Rattle.shard_format.specs.Reading.{index_start};
 
 use shard_format::ShardingIndexLocation;
@@ -23,6 +23,16 @@ pub(crate) fn start_of_data(location: ShardingIndexLocation, index_size: u64) ->
     match location {
         ShardingIndexLocation::Start => index_size,
         ShardingIndexLocation::End => 0,
+    }
+}
+
+// Where the data part ends in a shard of so many bytes.
+pub(crate) fn end_of_data(location: ShardingIndexLocation, index_size: u64, len: u64) -> u64
+    ensures { result ≡ data_end location index_size len }
+{
+    match location {
+        ShardingIndexLocation::Start => len,
+        ShardingIndexLocation::End => len.saturating_sub(index_size),
     }
 }
 

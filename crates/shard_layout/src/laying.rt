@@ -1,5 +1,5 @@
 // Subchunks laid end to end in the data part of a shard.
-ghost use Rattle.std.specs.Prelude.{◌≡◌, ◌<◌, ◌^◌, IfOk, IfErr, length};
+ghost use Rattle.std.specs.Prelude.{◌≡◌, ◌<◌, ◌^◌, IfOk, IfErr, IfSome, length, drop};
 ghost use Rattle.zarr_parts.specs.Numbering.{count_of};
 ghost use Rattle.zarr_parts.specs.Grid.{Divides, grid_of, subchunk};
 ghost use Rattle.zarr_parts.specs.Types.{size_of, HasElements};
@@ -8,18 +8,41 @@ ghost use Rattle.shard_format.specs.Laying.{placed_slot, whole_shard};
 
 use shard_format::{ShardingIndexLocation, Slot, subchunk_subset};
 use std::alloc::Global;
+use zarr_boxes::subchunks_follow;
 use zarr_parts::{ArrayBytes, ChunkShape, CodecError, DataType};
 
-/// A subchunk of an array.
-pub fn gather_subchunk(
+// A subchunk of an array in which subchunks follow one another, lent where its elements have one size.
+fn lent_subchunk<'a>(
+    array: &'a ArrayBytes,
+    number: u64,
+    _shape: &ChunkShape,
+    sub: &ChunkShape,
+) -> Option<ArrayBytes<'a>>
+    requires counted { length array.now.elements ≡ count_of _shape.now }
+    requires fits { count_of _shape.now < 2 ^ 64 }
+    requires some { 0 < count_of _shape.now }
+    requires divides { Divides sub.now _shape.now }
+    requires axes { 0 < length _shape.now }
+    requires follow { drop 1 _shape.now ≡ drop 1 sub.now }
+    requires below { number < count_of (grid_of _shape.now sub.now) }
+    ensures kind { IfSome result (λ part. part.kind ≡ array.now.kind) }
+    ensures elements { IfSome result (λ part. part.elements ≡ subchunk _shape.now sub.now array.now.elements number) }
+{
+    let places = sub.num_elements()?;
+    let part = array.lent_range((number * places) as usize, places as usize)?;
+    Some(part)
+}
+
+/// A subchunk of an array: lent where subchunks follow one another in it and its elements have one size, and else copied.
+pub fn gather_subchunk<'a>(
     alloc: Global,
-    array: &ArrayBytes,
+    array: &'a ArrayBytes,
     number: u64,
     shape: &ChunkShape,
     grid: &ChunkShape,
     sub: &ChunkShape,
     data_type: &DataType,
-) -> Result<ArrayBytes<'static>, CodecError>
+) -> Result<ArrayBytes<'a>, CodecError>
     requires supported { HasElements data_type.now }
     requires kind { array.now.kind ≡ size_of data_type.now }
     requires counted { length array.now.elements ≡ count_of shape.now }
@@ -33,6 +56,11 @@ pub fn gather_subchunk(
     ensures elements { IfOk result (λ part. part.elements ≡ subchunk shape.now sub.now array.now.elements number) }
 {
     let axes = shape.as_slice();
+    if subchunks_follow(axes, sub.as_slice()) {
+        if let Some(part) = lent_subchunk(array, number, shape, sub) {
+            return Ok(part);
+        }
+    }
     let Some(subset) = subchunk_subset(alloc, number, grid, sub)? else {
         unreachable!()
     };

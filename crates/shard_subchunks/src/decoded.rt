@@ -66,7 +66,7 @@ impl<I: ArrayToBytesCodecTraits> Subchunks<'_, I> {
         ensures refused { let inner = inner_meaning I.meaning self.now in
             IfErr result (RefusedBy (SubchunkTests inner.decode_tests inner.cells bytes.now (Some index.now.numbers.items) (length index.now.numbers.items / 2) done)) }
     {
-        let mut found = Vec::new(alloc);
+        let mut found = Vec::with_capacity(alloc, index.subchunks())?;
         for k in 0..index.subchunks() {
             let subchunk = self.decode_slot(alloc, bytes, k as u64, index.slot(k))?;
             found.push(subchunk)?;

@@ -15,16 +15,16 @@ use shard_layout::{LaidOut, gather_subchunk, placed};
 use std::alloc::Global;
 use zarr_parts::{ArrayBytes, ChunkShape, CodecError};
 
-// What is to be stored of a subchunk: nothing where it is all fill.
+/// What is to be stored of a subchunk: nothing where it is all fill.
 #[derive(Drop)]
-struct Stored {
-    present: bool,
-    bytes: Vec<u8>,
+pub struct Stored {
+    pub present: bool,
+    pub bytes: Vec<u8>,
 }
 
 impl<I: ArrayToBytesCodecTraits> Subchunks<'_, I> {
-    // Encodes a subchunk that isn't all fill.
-    fn stored_of(&self, alloc: Global, part: &ArrayBytes) -> Result<Stored, CodecError>
+    /// Encodes a subchunk that isn't all fill. Refused as `CannotEncode` or `TooLarge`; or as `OutOfMemory`.
+    pub fn stored_of(&self, alloc: Global, part: &ArrayBytes) -> Result<Stored, CodecError>
         requires serves { (inner_meaning I.meaning self.now).serves }
         requires kind { part.now.kind ≡ size_of self.now.data_type.now }
         requires array { IsArrayOf (subchunk_geo self.now) part.now.elements }
@@ -80,7 +80,7 @@ impl<I: ArrayToBytesCodecTraits> Subchunks<'_, I> {
             (subchunk shape.now self.now.shape.now array.now.elements) (count_of grid.now) done)) }
     {
         let mut bytes: Vec<u8> = Vec::new(alloc);
-        let mut slots = Vec::new(alloc);
+        let mut slots = Vec::with_capacity(alloc, subchunks as usize)?;
         for k in 0..subchunks {
             let part = gather_subchunk(alloc, array, k, shape, grid, self.shape, self.data_type)?;
             let stored = self.stored_of(alloc, &part)?;

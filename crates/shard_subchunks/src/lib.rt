@@ -7,4 +7,5 @@ mod encoded;
 mod read;
 mod subchunks;
 
+pub use encoded::Stored;
 pub use subchunks::Subchunks;

@@ -27,4 +27,4 @@ returns-in_err-subchunk-clause-refused g c =
     let cells = (g.I.ArrayToBytesCodecTraits.meaning a.self.now.codec.now sub_g).cells in
     let refused = one_refused decode cells sub_g a.bytes.now a.index.now.numbers.items c.loop-k.found.items (length a.index.now.numbers.items / 2) c.loop-k.k c.in_err-subchunk.field-0.0
     (omega arith) c.loop-k.invariant.each (rw (c.slot.ensures.slot, c.requires.len) at c.in_err-subchunk.ensures.refused) in
-    passed_on c.from_residual.result c.in_err-subchunk.field-0.0 (RefusedBy (SubchunkTests decode cells a.bytes.now (Some a.index.now.numbers.items) (length a.index.now.numbers.items / 2) done)) c.from_residual.ensures.1 refused
+    passed_on c.from_residual-in_err-subchunk.result c.in_err-subchunk.field-0.0 (RefusedBy (SubchunkTests decode cells a.bytes.now (Some a.index.now.numbers.items) (length a.index.now.numbers.items / 2) done)) c.from_residual-in_err-subchunk.ensures.1 refused

@@ -1,0 +1,32 @@
+use Rattle.zarr_parts.specs.Numbering.{count_of}
+use Rattle.shard_format.specs.Index.{index_geo}
+use Rattle.shard_format.proofs.RefusalLemmas.{passed_on}
+use Rattle.shard_format.proofs.EncodeRefusals.{array_of_index, index_refused, size_within}
+use Rattle.std.proofs.Common.{map, length, ◌∙◌, sym}
+use Rattle.shard_format.specs.Index.{element_of_number}
+use Rattle.shard_format.specs.Serves.{fixed_size}
+use Rattle.shard_index.proofs.index.IndexCodec.encode_numbers.Goals as goal
+
+pub returns-in_err-index-clause-refused : goal.returns-in_err-index-clause-refused
+returns-in_err-index-clause-refused g c =
+    let x = c.args.self.now.codec.now in
+    let grid = c.args.plan.now.grid in
+    let codec = g.X.ArrayToBytesCodecTraits in
+    let e = c.in_err-index.field-0.0 in
+    let numbers = c.args.numbers.now in
+    let law = rw (c.requires.plan.shape, c.requires.plan.fill, c.in_ok-array.ensures.elements) at c.in_err-index.ensures.lawful in
+    passed_on _ e _ c.from_residual-in_err-index.ensures.1
+    (index_refused (codec.meaning x (index_geo grid)) (count_of grid) numbers e c.requires.counted c.requires.below
+    (law c.requires.plan.serves.served c.in_ok-array.ensures.kind (array_of_index grid numbers c.requires.counted)))
+
+pub returns-clause-size : goal.returns-clause-size
+returns-clause-size g c =
+    let x = c.args.self.now.codec.now in
+    let grid = c.args.plan.now.grid in
+    let codec = g.X.ArrayToBytesCodecTraits in
+    let index = codec.meaning x (index_geo grid) in
+    let numbers = c.args.numbers.now in
+    let written = rw (c.requires.plan.shape, c.requires.plan.fill, c.in_ok-array.ensures.elements) at c.in_ok-index.ensures.written in
+    size_within index.representation (fixed_size index.representation) (length c.in_ok-index.index.items) c.requires.plan.serves.fixed
+    ((g.met.X.ArrayToBytesCodecTraits.lawful x (index_geo grid)).bounded (map element_of_number numbers) c.in_ok-index.index.items c.requires.plan.serves.served (array_of_index grid numbers c.requires.counted) written)
+    ∙ sym c.requires.plan.size

@@ -1,0 +1,36 @@
+use Rattle.std.proofs.Common.{◌≡◌, ◌+◌, ◌*◌, ◌<◌, ◌≤◌, ◌∙◌, ℕ, ap, sym, arith, length, map}
+use Rattle.std.specs.List.{range_with_len}
+use Rattle.std.proofs.lemmas.Nat.{row_fits}
+use Rattle.zarr_parts.specs.Numbering.{count_of}
+use Rattle.zarr_parts.specs.Grid.{grid_of}
+use Rattle.zarr_parts.specs.Arrays.{Array, element_of}
+use Rattle.zarr_boxes.proofs.GridLaws.{count-grid}
+use Rattle.zarr_boxes.proofs.FollowLaws.{subchunk_follows}
+use Rattle.shard_layout.proofs.laying.lent_subchunk.Goals as goal
+use Rattle.shard_layout.proofs.laying.lent_subchunk.Goals.{In_ok-places}
+
+-- the subchunk ends within the array
+within : (c : In_ok-places) → c.args.number * c.in_ok-places.places + c.in_ok-places.places ≤ count_of c.args._shape.now
+within c =
+    let sub = c.args.sub.now in
+    let shape = c.args._shape.now in
+    let fits = row_fits c.args.number (count_of sub) (count_of (grid_of shape sub)) (count_of sub) c.requires.below (omega arith) in
+    rw c.in_ok-places.ensures.value.1 (omega (arith, fits, count-grid shape sub c.requires.divides))
+
+pub overflow_mul-number : goal.overflow_mul-number
+overflow_mul-number c = omega (arith, within (goal.at.overflow_mul-number c).In_ok-places, c.requires.fits)
+
+pub lent_range-requires : goal.lent_range-requires
+lent_range-requires c = omega (arith, within (goal.at.lent_range-requires c).In_ok-places, c.requires.counted)
+
+pub returns-clause-elements : goal.returns-clause-elements
+returns-clause-elements c =
+    let array = c.args.array.now in
+    let sub = c.args.sub.now in
+    let shape = c.args._shape.now in
+    let k = c.args.number in
+    let taken : ℕ → ℕ → _ = λ (from many : ℕ). map (element_of array) (range_with_len from many) in
+    let is = c.in_ok-places.ensures.value.1 in
+    ap (λ (a : Array). a.elements) c.in_ok-part.ensures.some
+    ∙ (ap (λ (n : ℕ). taken (k * n) n) is
+    ∙ sym (subchunk_follows shape sub array.elements k c.requires.divides c.requires.follow c.requires.axes c.requires.some))
