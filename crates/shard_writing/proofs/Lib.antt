@@ -1,0 +1,12 @@
+pub mod OldLemmas
+pub mod MeetingLemmas
+pub mod CellLemmas
+pub mod ChangedLemmas
+pub mod LaidLemmas
+pub mod PairLemmas
+pub mod PlaceLemmas
+pub mod PutLemmas
+pub mod WriteLemmas
+pub mod AnewLemmas
+pub mod RefusalLemmas
+pub mod MadeLemmas

@@ -1,0 +1,95 @@
+use Rattle.std.proofs.Common.{◌∙◌, sym, inl, inr, arith}
+use Rattle.std.proofs.lemmas.Bool.{false≢true}
+use Rattle.object_handles.specs.Writes.{bytes_of}
+use Rattle.shard_format.specs.Cells.{cell_in}
+use Rattle.shard_format.proofs.RefusalLemmas.{passed_on}
+use Rattle.shard_subchunks.specs.Inner.{subchunk_geo, inner_meaning}
+use Rattle.shard_writing.proofs.CellLemmas.{axes_of, no_straddle, covered_array, covered_cells, overlaid_array, overlaid_part, straddles, taken_refused, put_refused}
+use Rattle.shard_writing.proofs.writing.Writing.new_cells.Goals as goal
+
+pub returns-in_err-part-clause-refused : goal.returns-in_err-part-clause-refused
+returns-in_err-part-clause-refused g c =
+    let a = c.args in
+    let s = a.self.now in
+    let e = c.in_err-part.field-0.0 in
+    let refused = rw c.shape.ensures.value at c.in_err-part.ensures.refused in
+    passed_on _ e _ c.from_residual-in_err-part.ensures.1
+    (inl (taken_refused s.shape.now s.subchunks.shape.now a.subset.now a.number c.in_ok-meeting.meeting.in_sub c.in_ok-meeting.meeting.in_box a.update.now s.subchunks.data_type.now e
+    c.in_ok-meeting.ensures.meets c.requires.well_formed c.requires.inside c.requires.fits c.requires.supported c.requires.kind c.requires.all refused))
+
+pub returns-then-is_whole-clause-cells : goal.returns-then-is_whole-clause-cells
+returns-then-is_whole-clause-cells g c = λ t.
+    let a = c.args in
+    let s = a.self.now in
+    let meeting = c.in_ok-meeting.meeting in
+    let part = rw c.shape.ensures.value at c.in_ok-part.ensures.extracted in
+    let inner = inner_meaning g.I.ArrayToBytesCodecTraits.meaning s.subchunks in
+    let whole = c.is_whole.ensures.whole.0 c.if-is_whole.true in
+    covered_cells s.shape.now (subchunk_geo s.subchunks) a.subset.now a.number meeting.in_sub meeting.in_box c.in_ok-meeting.ensures.meets whole (axes_of meeting.in_sub c.in_ok-meeting.ensures.meets.sub_well_formed)
+    a.update.now c.in_ok-part.part (cell_in inner.cells s.subchunks.fill_value.now (bytes_of (g.H.BytesPartialDecoderTraits.state a.handle.now).contents) a.slot) part c.requires.all c.requires.fitting
+
+pub returns-then-is_whole-clause-passed : goal.returns-then-is_whole-clause-passed
+returns-then-is_whole-clause-passed g c = λ t straddle.
+    let a = c.args in
+    let s = a.self.now in
+    let meeting = c.in_ok-meeting.meeting in
+    let whole = c.is_whole.ensures.whole.0 c.if-is_whole.true in
+    absurd (no_straddle s.shape.now (subchunk_geo s.subchunks) a.subset.now a.number meeting.in_sub meeting.in_box c.in_ok-meeting.ensures.meets whole
+    (axes_of meeting.in_sub c.in_ok-meeting.ensures.meets.sub_well_formed) straddle)
+
+pub returns-in_err-old-clause-refused : goal.returns-in_err-old-clause-refused
+returns-in_err-old-clause-refused g c =
+    let a = c.args in
+    let s = a.self.now in
+    let meeting = c.in_ok-meeting.meeting in
+    let e = c.in_err-old.field-0.0 in
+    let straddle = straddles s.shape.now (subchunk_geo s.subchunks) a.subset.now a.number meeting.in_sub meeting.in_box c.in_ok-meeting.ensures.meets c.is_whole.ensures.positive c.requires.touches
+    (λ whole. absurd (false≢true (sym c.if-is_whole.false ∙ c.is_whole.ensures.whole.1 whole))) in
+    passed_on _ e _ c.from_residual-in_err-old.ensures.1 (elim c.in_err-old.ensures.refused [
+      | inl memory ↦ inl memory
+      | inr tests ↦ inr (λ t. elim (tests t) [ inl fault ↦ inl fault | inr refused ↦ inr (straddle, refused) ])
+    ])
+
+pub returns-in_err-new-clause-refused : goal.returns-in_err-new-clause-refused
+returns-in_err-new-clause-refused g c =
+    let a = c.args in
+    let s = a.self.now in
+    let meeting = c.in_ok-meeting.meeting in
+    let e = c.in_err-new.field-0.0 in
+    let part = rw c.shape.ensures.value at c.in_ok-part.ensures.extracted in
+    let refused = rw c.as_slice-sub.ensures.value at c.in_err-new.ensures.refused in
+    passed_on _ e _ c.from_residual-in_err-new.ensures.1
+    (inl (put_refused s.shape.now (subchunk_geo s.subchunks) a.subset.now a.number meeting.in_sub meeting.in_box a.update.now c.in_ok-part.part c.in_ok-old.old e c.in_ok-meeting.ensures.meets
+    (omega (arith, c.ranges.places.fits, c.requires.places)) c.requires.supported c.requires.kind part c.in_ok-old.ensures.kind c.in_ok-old.ensures.array refused))
+
+pub returns-clause-cells : goal.returns-clause-cells
+returns-clause-cells g c = λ t.
+    let a = c.args in
+    let s = a.self.now in
+    let meeting = c.in_ok-meeting.meeting in
+    let part = rw c.shape.ensures.value at c.in_ok-part.ensures.extracted in
+    let updated = rw c.as_slice-sub.ensures.value at c.in_ok-new.ensures.updated in
+    let inner = inner_meaning g.I.ArrayToBytesCodecTraits.meaning s.subchunks in
+    overlaid_part s.shape.now (subchunk_geo s.subchunks) a.subset.now a.number meeting.in_sub meeting.in_box c.in_ok-meeting.ensures.meets
+    a.update.now c.in_ok-part.part c.in_ok-old.old c.in_ok-new.new (cell_in inner.cells s.subchunks.fill_value.now (bytes_of (g.H.BytesPartialDecoderTraits.state a.handle.now).contents) a.slot)
+    part c.requires.all c.requires.fitting updated c.in_ok-old.ensures.array (c.in_ok-old.ensures.cells t)
+
+pub returns-then-is_whole-clause-array : goal.returns-then-is_whole-clause-array
+returns-then-is_whole-clause-array g c =
+    let a = c.args in
+    let s = a.self.now in
+    let meeting = c.in_ok-meeting.meeting in
+    let part = rw c.shape.ensures.value at c.in_ok-part.ensures.extracted in
+    let whole = c.is_whole.ensures.whole.0 c.if-is_whole.true in
+    covered_array s.shape.now (subchunk_geo s.subchunks) a.subset.now a.number meeting.in_sub meeting.in_box c.in_ok-meeting.ensures.meets whole (axes_of meeting.in_sub c.in_ok-meeting.ensures.meets.sub_well_formed)
+    a.update.now c.in_ok-part.part part c.requires.all c.requires.fitting
+
+pub returns-clause-array : goal.returns-clause-array
+returns-clause-array g c =
+    let a = c.args in
+    let s = a.self.now in
+    let meeting = c.in_ok-meeting.meeting in
+    let part = rw c.shape.ensures.value at c.in_ok-part.ensures.extracted in
+    let updated = rw c.as_slice-sub.ensures.value at c.in_ok-new.ensures.updated in
+    overlaid_array s.shape.now (subchunk_geo s.subchunks) a.subset.now a.number meeting.in_sub meeting.in_box c.in_ok-meeting.ensures.meets
+    a.update.now c.in_ok-part.part c.in_ok-old.old c.in_ok-new.new part c.requires.all c.requires.fitting updated c.in_ok-old.ensures.array

@@ -1,0 +1,51 @@
+use Rattle.std.proofs.Common.{◌≡◌, ◌∙◌, ◌^◌, ◌≤◌, ◌+◌, ◌/◌, sym, inl, inr, refl, length, arith}
+use Rattle.std.proofs.lemmas.Bool.{false≢true}
+use Rattle.shard_writing.specs.Writing.{place_behind, length_behind}
+use Rattle.shard_writing.proofs.PlaceLemmas.{goes_behind, at_least}
+use Rattle.shard_writing.proofs.writing.Writing.settle.Goals as goal
+
+pub returns-in_default-clause-refused : goal.returns-in_default-clause-refused
+returns-in_default-clause-refused g c =
+    let s = c.args.self.now in
+    let location = s.index_codec.location in
+    let size = s.plan.now.size in
+    let numbers = c.args.numbers.now in
+    let slices = c.args.laid.bytes.items in
+    let known = rw c.deref.ensures.value at c.are_absent.ensures in
+    let total : c.len-total.result ≡ length slices = omega (arith, c.len-total.ensures, c.args.laid.bytes.ok.0) in
+    let past = rw (c.place_behind-place.ensures, total) at c.in_default.ensures in
+    let large : 2 ^ 64 ≤ length_behind location c.args.len (place_behind location size c.args.len numbers (length numbers / 2)) (length slices) + 1 = at_least _ past in
+    inr (inl (refl, (c.in_ok-new.new.items, c.in_ok-new.ensures.cleared, inr (λ absent. false≢true (sym c.if-are_absent.false ∙ known.1 absent), large))))
+
+pub returns-then-long-clause-refused : goal.returns-then-long-clause-refused
+returns-then-long-clause-refused g c =
+    let s = c.args.self.now in
+    let location = s.index_codec.location in
+    let size = s.plan.now.size in
+    let numbers = c.args.numbers.now in
+    let slices = c.args.laid.bytes.items in
+    let known = rw c.deref.ensures.value at c.are_absent.ensures in
+    let total : c.len-total.result ≡ length slices = omega (arith, c.len-total.ensures, c.args.laid.bytes.ok.0) in
+    let long = rw (c.place_behind-place.ensures, total) at c.in-Some.ensures in
+    let large : 2 ^ 64 ≤ length_behind location c.args.len (place_behind location size c.args.len numbers (length numbers / 2)) (length slices) + 1 = omega (arith, long.1, c.if-long.true) in
+    inr (inl (refl, (c.in_ok-new.new.items, c.in_ok-new.ensures.cleared, inr (λ absent. false≢true (sym c.if-are_absent.false ∙ known.1 absent), large))))
+
+pub returns-clause-settled : goal.returns-clause-settled
+returns-clause-settled g c = λ old same.
+    let s = c.args.self.now in
+    let location = s.index_codec.location in
+    let size = s.plan.now.size in
+    let numbers = c.args.numbers.now in
+    let slices = c.args.laid.bytes.items in
+    let known = rw c.deref.ensures.value at c.are_absent.ensures in
+    let total : c.len-total.result ≡ length slices = omega (arith, c.len-total.ensures, c.args.laid.bytes.ok.0) in
+    let long = (rw (c.place_behind-place.ensures, total) at c.in-Some.ensures).1 in
+    let put = rw (c.place_behind-place.ensures, long) at c.in_ok-appended.ensures.put in
+    let stays = rw long at c.in_ok-appended.ensures.long in
+    inr (inr (record {
+      cleared = c.in_ok-new.new.items;
+      clear = c.in_ok-new.ensures.cleared;
+      present = λ absent. false≢true (sym c.if-are_absent.false ∙ known.1 absent);
+      put = rw same (λ enough. put old (rw same enough) (rw same (goes_behind location size c.args.len (length slices) numbers (length numbers / 2) enough)));
+      long = rw same stays;
+    }))

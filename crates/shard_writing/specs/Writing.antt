@@ -1,0 +1,305 @@
+-- A write into a shard: what becomes of the object, of its index and of its cells.
+use Rattle.std.specs.Prelude.{◌≡◌, ◌≢◌, ◌≤◌, ◌<◌, ◌^◌, ◌⊎◌, ⊤, ℕ, ◌+◌, ◌-◌, ◌*◌, ◌/◌, max, List, Option, Some, None}
+use Rattle.std.specs.Prelude.{[], length, map, fold, slice_index, slice_index_or}
+use Rattle.std.specs.List.{All, range_with_len, sum_by}
+use Rattle.zarr_words.specs.Words.{Bytes, Elements, CellsOf, Written, Refusals}
+use Rattle.zarr_words.specs.declared.error.CodecError.{CodecError}
+use Rattle.zarr_words.specs.declared.error.CodecError.TheVariants.{TooLarge}
+use Rattle.zarr_parts.specs.Numbering.{count_of}
+use Rattle.zarr_parts.specs.Boxes.{Region, IsBox, LiesIn, number_in}
+use Rattle.zarr_parts.specs.Grid.{grid_of, cell_number}
+use Rattle.zarr_parts.specs.Touched.{Touches, AreTouched}
+use Rattle.zarr_parts.specs.Geo.{Geo, IsArrayOf}
+use Rattle.zarr_parts.specs.Arrays.{Array}
+use Rattle.zarr_elements.specs.declared.data_type.DataTypeSize.TheVariants.{Variable}
+use Rattle.object_handles.specs.Objects.{HasInterval}
+use Rattle.object_handles.specs.Writes.{bytes_of}
+use Rattle.codec_laws.specs.Meanings.{Meaning}
+use Rattle.shard_format.specs.Index.{absent_number, slot_at, slice_at, index_part, data_start, data_end}
+use Rattle.shard_format.specs.Index.{element_of_number, numbers_in_index}
+use Rattle.shard_format.specs.Cells.{Layout, cell_in}
+use Rattle.shard_format.specs.Encoding.{StandsAt, slot_size, BeginsAt}
+use Rattle.shard_format.specs.Laying.{IsLaid, taken, offset_number, size_number}
+use Rattle.shard_format.specs.Packing.{slice_of}
+use Rattle.shard_format.specs.declared.location.ShardingIndexLocation.{ShardingIndexLocation}
+use Rattle.shard_format.specs.declared.location.ShardingIndexLocation.TheVariants.{Start, End}
+use Rattle.shard_format.specs.declared.order.SubchunkWriteOrder.TheVariants.{Unordered}
+use Rattle.shard_format.specs.declared.slot.Slot.{Slot}
+use Rattle.shard_format.specs.declared.slot.Slot.TheVariants.{Absent, InRange, Bad}
+
+-- no subchunk is stored: each number is the absent one
+abbrev pub AreAbsent : List ℕ → Type 0
+AreAbsent numbers = All (λ n. n ≡ absent_number) numbers
+
+-- the held numbers and length are those of the object: without one each pair is absent
+abbrev pub HoldsNumbers : CellsOf → ShardingIndexLocation → (index_size : ℕ) → Option Bytes → (len : ℕ) → List ℕ → Type 0
+HoldsNumbers index_cells location index_size None len numbers = (len ≡ 0) × AreAbsent numbers
+HoldsNumbers index_cells location index_size (Some bytes) len numbers =
+    (length bytes ≡ len) × (numbers_in_index index_cells location index_size bytes ≡ Some numbers)
+
+-- no cell of the box is at place p of subchunk k
+abbrev pub IsUncovered : (shape sub : List ℕ) → Region → (k p : ℕ) → Type 0
+IsUncovered shape sub box k p = (q : ℕ) → q < count_of box.shape → cell_number shape sub k p ≢ number_in box shape q
+
+-- the elements of subchunk k after the write: those of the update where the box covers them, and elsewhere the old cells,
+-- which are there; `old` says what the old cell at a place is
+pub record AreNewCells (shape : List ℕ) (sub_g : Geo) (box : Region) (update : Elements) (old : ℕ → Option Bytes) (k : ℕ)
+    (elements : Elements) : Type 0 where
+  pub array : IsArrayOf sub_g elements
+  pub given : (p q : ℕ) → p < count_of sub_g.shape → q < count_of box.shape → cell_number shape sub_g.shape k p ≡ number_in box shape q
+      → slice_index_or elements p [] ≡ slice_index_or update q []
+  pub kept : (p : ℕ) → p < count_of sub_g.shape → IsUncovered shape sub_g.shape box k p → old p ≡ Some (slice_index_or elements p [])
+
+-- the cells of subchunk k of an object
+abbrev pub cells_in : CellsOf → (fill bytes numbers : List ℕ) → (k : ℕ) → ℕ → Option Bytes
+cells_in inner_cells fill bytes numbers k = cell_in inner_cells fill bytes (slot_at (length bytes) numbers k)
+
+-- where a slot's slice ends, 0 where there is none
+abbrev pub slot_end : Slot → ℕ
+slot_end Absent = 0
+slot_end (InRange offset size) = offset + size
+slot_end Bad = 0
+
+-- the greatest end of a slice of a shard of so many bytes, and no less than a number
+abbrev pub last_end : (least len : ℕ) → List ℕ → (subchunks : ℕ) → ℕ
+last_end least len numbers subchunks = fold max least (map (λ k. slot_end (slot_at len numbers k)) (range_with_len 0 subchunks))
+
+-- where new slices go behind the old ones: with the index at the end, where it began; else behind the last old slice
+abbrev pub place_behind : ShardingIndexLocation → (index_size len : ℕ) → List ℕ → (subchunks : ℕ) → ℕ
+place_behind Start index_size len numbers subchunks = last_end index_size len numbers subchunks
+place_behind End index_size len numbers subchunks = len - index_size
+
+-- how long the object is then
+abbrev pub length_behind : ShardingIndexLocation → (len place total : ℕ) → ℕ
+length_behind Start len place total = max len (place + total)
+length_behind End len place total = len + total
+
+-- the shard starts anew: of the subchunks that the box doesn't touch none is stored
+abbrev pub IsAnew : (shape sub : List ℕ) → Region → (len : ℕ) → List ℕ → Type 0
+IsAnew shape sub box len numbers =
+    (k : ℕ) → k < count_of (grid_of shape sub) → ¬ (Touches shape sub box k) → slot_at len numbers k ≡ Absent
+
+-- it does: the new slices begin where the data part does
+pub record StartsAnew (l : Layout) (box : Region) (len : ℕ) (numbers : List ℕ) (total place new_len : ℕ) : Type 0 where
+  pub anew : IsAnew l.shape l.sub box len numbers
+  pub place_is : place ≡ data_start l.location l.index_size
+  pub long : new_len ≡ l.index_size + total
+
+-- it does not: they go behind the old ones
+pub record GoesBehind (l : Layout) (box : Region) (len : ℕ) (numbers : List ℕ) (total place new_len : ℕ) : Type 0 where
+  pub not_anew : ¬ (IsAnew l.shape l.sub box len numbers)
+  pub place_is : place ≡ place_behind l.location l.index_size len numbers (count_of (grid_of l.shape l.sub))
+  pub long : new_len ≡ length_behind l.location len place total
+
+-- where so many bytes of new slices begin, and how long the object is with them
+abbrev pub ArePlaced : Layout → Region → (len : ℕ) → List ℕ → (total place new_len : ℕ) → Type 0
+ArePlaced l box len numbers total place new_len =
+    StartsAnew l box len numbers total place new_len ⊎ GoesBehind l box len numbers total place new_len
+
+-- subchunk k keeps its pair, and its bytes
+pub record IsKept (old numbers new new_numbers : List ℕ) (k : ℕ) : Type 0 where
+  pub offset : slice_index new_numbers (2 * k) ≡ slice_index numbers (2 * k)
+  pub size : slice_index new_numbers (2 * k + 1) ≡ slice_index numbers (2 * k + 1)
+  pub slot : slot_at (length new) new_numbers k ≡ slot_at (length old) numbers k
+  pub bytes : slice_of new (slot_at (length new) new_numbers k) ≡ slice_of old (slot_at (length old) numbers k)
+
+-- subchunk k stands where its new pair says, with its new cells
+pub record IsNew (inner : Meaning) (l : Layout) (sub_g : Geo) (box : Region) (update : Elements) (old numbers new new_numbers : List ℕ)
+    (k : ℕ) : Type 0 where
+  pub elements : Elements
+  pub cells : AreNewCells l.shape sub_g box update (cells_in inner.cells l.fill old numbers k) k elements
+  pub stands : StandsAt inner.written l new elements (slot_at (length new) new_numbers k)
+
+-- the bytes that the first n of the touched subchunks take
+abbrev pub taken_by : (len : ℕ) → (numbers touched : List ℕ) → (n : ℕ) → ℕ
+taken_by len numbers touched n = sum_by (λ j. slot_size (slot_at len numbers (slice_index touched j))) (range_with_len 0 n)
+
+-- the object is a shard with this index, which stands where it belongs
+pub record HasIndex (index_written : Written) (location : ShardingIndexLocation) (index_size : ℕ) (numbers bytes : List ℕ) : Type 0 where
+  pub long_enough : index_size ≤ length bytes
+  pub written : index_written (map element_of_number numbers) (index_part location index_size bytes)
+
+-- where the new slices stand: one behind the other from a place on, which goes, with the length, by what was there
+pub record StandInRow (l : Layout) (box : Region) (touched : List ℕ) (old numbers new new_numbers : List ℕ) : Type 0 where
+  pub place : ℕ
+  pub placed : ArePlaced l box (length old) numbers (taken_by (length new) new_numbers touched (length touched)) place (length new)
+  pub begins : (j : ℕ) → j < length touched
+      → BeginsAt (place + taken_by (length new) new_numbers touched j) (slot_at (length new) new_numbers (slice_index touched j))
+
+-- no object exactly where no subchunk is stored; else an index, with the new slices in a row
+abbrev pub IsStoredAs : (index_written : Written) → Layout → Region → (touched old numbers : List ℕ) → Option Bytes → List ℕ → Type 0
+IsStoredAs index_written l box touched old numbers None new_numbers = AreAbsent new_numbers
+IsStoredAs index_written l box touched old numbers (Some new) new_numbers =
+    (¬ (AreAbsent new_numbers)) × HasIndex index_written l.location l.index_size new_numbers new
+    × StandInRow l box touched old numbers new new_numbers
+
+-- the second object is the first with an update written over the cells of a box: the touched subchunks stand with their new cells,
+-- one behind the other, and the others keep pair and bytes
+pub record IsWriteOf (inner index : Meaning) (l : Layout) (sub_g : Geo) (box : Region) (update : Elements)
+    (old : Option Bytes) (numbers : List ℕ) (new : Option Bytes) (new_numbers : List ℕ) : Type 0 where
+  pub touched : List ℕ
+  pub are_touched : AreTouched l.shape l.sub box touched
+  pub counted : length new_numbers ≡ 2 * count_of (grid_of l.shape l.sub)
+  pub below : All (λ n. n < 2 ^ 64) new_numbers
+  pub stored : IsStoredAs index.written l box touched (bytes_of old) numbers new new_numbers
+  pub stand : (k : ℕ) → k < count_of (grid_of l.shape l.sub) → Touches l.shape l.sub box k
+      → IsNew inner l sub_g box update (bytes_of old) numbers (bytes_of new) new_numbers k
+  pub kept : (k : ℕ) → k < count_of (grid_of l.shape l.sub) → ¬ (Touches l.shape l.sub box k)
+      → IsKept (bytes_of old) numbers (bytes_of new) new_numbers k
+
+-- a part of a box and of subchunk k, seen from either's start, has the cells that both have
+pub record IsMeeting (shape sub : List ℕ) (box : Region) (k : ℕ) (in_sub in_box : Region) : Type 0 where
+  pub sub_inside : LiesIn in_sub sub
+  pub box_inside : LiesIn in_box box.shape
+  pub sub_well_formed : IsBox in_sub.start in_sub.shape
+  pub box_well_formed : IsBox in_box.start in_box.shape
+  pub same_shape : in_sub.shape ≡ in_box.shape
+  pub one_cell : (r : ℕ) → r < count_of in_sub.shape
+      → cell_number shape sub k (number_in in_sub sub r) ≡ number_in box shape (number_in in_box box.shape r)
+  pub met : (p q : ℕ) → p < count_of sub → q < count_of box.shape → cell_number shape sub k p ≡ number_in box shape q
+      → (r : ℕ) × (r < count_of in_sub.shape) × (number_in in_sub sub r ≡ p) × (number_in in_box box.shape r ≡ q)
+
+-- a slot's slice lies in an object, which is there
+abbrev pub HasSlice : Option Bytes → Slot → Type 0
+HasSlice contents Absent = ⊤
+HasSlice contents (InRange offset size) = HasInterval (record { offset = offset; size = size }) contents
+HasSlice contents Bad = ⊤
+
+-- these are the cells of the subchunk that a slot names
+abbrev pub AreCellsOf : CellsOf → (fill bytes : List ℕ) → Slot → (places : ℕ) → Elements → Type 0
+AreCellsOf inner_cells fill bytes slot places elements =
+    (p : ℕ) → p < places → cell_in inner_cells fill bytes slot p ≡ Some (slice_index_or elements p [])
+
+-- the array at a place of a list
+abbrev pub array_at : List Array → ℕ → Array
+array_at arrays j = slice_index_or arrays j (record { kind = Variable; elements = [] })
+
+-- the first k of some subchunks stand one after the other
+pub record AreLaid (inner_written : Written) (fill : List ℕ) (elements : ℕ → Elements) (bytes : Bytes) (slots : List Slot)
+    (k : ℕ) : Type 0 where
+  pub counted : length slots ≡ k
+  pub laid : (j : ℕ) → j < k → IsLaid inner_written fill (elements j) bytes (slice_index_or slots j Bad)
+  pub begins : (j : ℕ) → j < k → BeginsAt (taken slots j) (slice_index_or slots j Bad)
+  pub filled : taken slots k ≡ length bytes
+
+-- the pairs of the first n of some subchunks say where their slots stand, whose data part begins at `start`; the other pairs are the
+-- old ones
+pub record HasPairs (touched : List ℕ) (slot : ℕ → Slot) (start : ℕ) (old new : List ℕ) (n : ℕ) : Type 0 where
+  pub counted : length new ≡ length old
+  pub offsets : (i : ℕ) → i < n → slice_index new (2 * slice_index touched i) ≡ offset_number start (slot i)
+  pub sizes : (i : ℕ) → i < n → slice_index new (2 * slice_index touched i + 1) ≡ size_number (slot i)
+  pub other_offsets : (k : ℕ) → ((i : ℕ) → i < n → slice_index touched i ≢ k) → slice_index new (2 * k) ≡ slice_index old (2 * k)
+  pub other_sizes : (k : ℕ) → ((i : ℕ) → i < n → slice_index touched i ≢ k) → slice_index new (2 * k + 1) ≡ slice_index old (2 * k + 1)
+
+-- new slices stand in a shard from a place on, where the pairs say, behind one another in its data part, and the index is one of the
+-- numbers
+pub record HasPut (index_written : Written) (location : ShardingIndexLocation) (index_size : ℕ) (touched : List ℕ) (slots : List Slot)
+    (slices numbers : List ℕ) (place : ℕ) (new new_numbers : List ℕ) : Type 0 where
+  pub pairs : HasPairs touched (λ i. slice_index_or slots i Bad) place numbers new_numbers (length touched)
+  pub below : All (λ n. n < 2 ^ 64) new_numbers
+  pub index : HasIndex index_written location index_size new_numbers new
+  pub after_start : data_start location index_size ≤ place
+  pub before_end : place + length slices ≤ data_end location index_size (length new)
+  pub small : length new < absent_number
+  pub slice : (o n : ℕ) → o + n ≤ length slices → slice_at (place + o) n new ≡ slice_at o n slices
+
+-- the same of an object, which is there
+abbrev pub IsPut : Written → ShardingIndexLocation → (index_size : ℕ) → (touched : List ℕ) → List Slot → (slices numbers : List ℕ)
+    → (place : ℕ)
+    → Option Bytes → (new_numbers : List ℕ) → (new_len : ℕ) → Type 0
+IsPut index_written location index_size touched slots slices numbers place None new_numbers new_len = ⊥
+IsPut index_written location index_size touched slots slices numbers place (Some new) new_numbers new_len =
+    HasPut index_written location index_size touched slots slices numbers place new new_numbers × (length new ≡ new_len)
+
+-- the slices that end at a place or before it are as they were
+abbrev pub KeepsSlices : (start place : ℕ) → (old new : List ℕ) → Type 0
+KeepsSlices start place old new = (o n : ℕ) → start ≤ o → o + n ≤ place → slice_at o n new ≡ slice_at o n old
+
+-- a place behind the old slices of an object of so many bytes, and its length with so many bytes of new slices there
+abbrev pub GoesTo : ShardingIndexLocation → (index_size len place total new_len : ℕ) → Type 0
+GoesTo Start index_size len place total new_len = (index_size ≤ place) × (place ≤ len) × (new_len ≡ max len (place + total))
+GoesTo End index_size len place total new_len = (place + index_size ≡ len) × (new_len ≡ len + total)
+
+-- where the index goes then: first, or right behind the new slices
+abbrev pub index_behind : ShardingIndexLocation → (place total : ℕ) → ℕ
+index_behind Start place total = 0
+index_behind End place total = place + total
+
+-- no subchunk is stored any more: the touched pairs are absent as all others, and so are the new slots
+pub record IsErased (touched : List ℕ) (slots : List Slot) (numbers new_numbers : List ℕ) : Type 0 where
+  pub clear : HasPairs touched (λ i. Absent) 0 numbers new_numbers (length touched)
+  pub absent : AreAbsent new_numbers
+  pub none : All (λ slot. slot ≡ Absent) slots
+
+-- without the touched pairs none is left, and some new slot is a slice: the new slices are the shard's only ones
+pub record IsBegun (index_written : Written) (location : ShardingIndexLocation) (index_size : ℕ) (touched : List ℕ) (slots : List Slot)
+    (slices numbers : List ℕ) (new : Option Bytes) (new_numbers : List ℕ) (new_len : ℕ) : Type 0 where
+  pub cleared : List ℕ
+  pub clear : HasPairs touched (λ i. Absent) 0 numbers cleared (length touched)
+  pub absent : AreAbsent cleared
+  pub some : ¬ (All (λ slot. slot ≡ Absent) slots)
+  pub put : IsPut index_written location index_size touched slots slices cleared (data_start location index_size) new new_numbers new_len
+  pub long : new_len ≡ index_size + length slices
+
+-- without the touched pairs some are left: the new slices go behind the old ones of an object that has an index
+pub record IsAppended (index_written : Written) (location : ShardingIndexLocation) (index_size : ℕ) (touched : List ℕ) (slots : List Slot)
+    (slices numbers old : List ℕ) (new : Option Bytes) (new_numbers : List ℕ) (new_len : ℕ) : Type 0 where
+  pub cleared : List ℕ
+  pub clear : HasPairs touched (λ i. Absent) 0 numbers cleared (length touched)
+  pub present : ¬ (AreAbsent cleared)
+  pub put : index_size ≤ length old
+      → IsPut index_written location index_size touched slots slices cleared
+      (place_behind location index_size (length old) numbers (length numbers / 2)) new new_numbers new_len
+      × KeepsSlices (data_start location index_size)
+      (place_behind location index_size (length old) numbers (length numbers / 2)) old (bytes_of new)
+  pub long : new_len ≡ length_behind location (length old)
+      (place_behind location index_size (length old) numbers (length numbers / 2)) (length slices)
+
+-- what becomes of an object with these new slices
+abbrev pub IsSettled : Written → ShardingIndexLocation → (index_size : ℕ) → (touched : List ℕ) → List Slot → (slices numbers : List ℕ)
+    → (old new : Option Bytes) → (new_numbers : List ℕ) → (new_len : ℕ) → Type 0
+IsSettled index_written location index_size touched slots slices numbers old new new_numbers new_len =
+    ((new ≡ None) × (new_len ≡ 0) × IsErased touched slots numbers new_numbers)
+    ⊎ (IsBegun index_written location index_size touched slots slices numbers new new_numbers new_len
+    ⊎ IsAppended index_written location index_size touched slots slices numbers (bytes_of old) new new_numbers new_len)
+
+-- the length that the object would have with these new slices, which is more than can be addressed
+abbrev pub IsTooLong : ShardingIndexLocation → (index_size : ℕ) → (touched numbers : List ℕ) → (len total : ℕ) → Type 0
+IsTooLong location index_size touched numbers len total =
+    (cleared : List ℕ) × HasPairs touched (λ i. Absent) 0 numbers cleared (length touched)
+    × ((AreAbsent cleared × (2 ^ 64 ≤ index_size + total + 1)) ⊎ ((¬ (AreAbsent cleared))
+    × (2 ^ 64 ≤ length_behind location len (place_behind location index_size len numbers (length numbers / 2)) total + 1)))
+
+-- how new slices that are laid out may still be refused: for the length, or as the index is
+abbrev pub RefusesToPut : ShardingIndexLocation → (index_size : ℕ) → (touched numbers : List ℕ) → (len total : ℕ) → Refusals
+    → CodecError → Type 0
+RefusesToPut location index_size touched numbers len total index e =
+    ((e ≡ TooLarge) × IsTooLong location index_size touched numbers len total)
+    ⊎ index e
+
+-- how a write was made: the touched subchunks' new cells, laid out in slices, and what became of the object with these
+pub record IsMade (inner : Meaning) (index_written : Written) (shape : List ℕ) (sub_g : Geo) (location : ShardingIndexLocation)
+    (index_size : ℕ)
+    (box : Region) (update : Elements) (numbers : List ℕ) (old new : Option Bytes) (new_numbers : List ℕ) (new_len : ℕ) : Type 0 where
+  pub touched : List ℕ
+  pub are_touched : AreTouched shape sub_g.shape box touched
+  pub below : All (λ k. k < count_of (grid_of shape sub_g.shape)) touched
+  pub elements : ℕ → Elements
+  pub cells : (j : ℕ) → j < length touched
+      → AreNewCells shape sub_g box update (cells_in inner.cells sub_g.fill (bytes_of old) numbers (slice_index touched j))
+      (slice_index touched j) (elements j)
+  pub slots : List Slot
+  pub slices : Bytes
+  pub laid : AreLaid inner.written sub_g.fill elements slices slots (length touched)
+  pub settled : IsSettled index_written location index_size touched slots slices numbers old new new_numbers new_len
+
+-- a slot is absent, or its slice lies between two places
+abbrev pub LiesBetween : (start end : ℕ) → Slot → Type 0
+LiesBetween start end Absent = ⊤
+LiesBetween start end (InRange offset size) = (start ≤ offset) × (offset + size ≤ end)
+LiesBetween start end Bad = ⊥
+
+-- the layout of a shard of this shape, whose subchunks are asked of the inner codec as this geo says
+abbrev pub layout_from : List ℕ → Geo → ShardingIndexLocation → (index_size : ℕ) → Layout
+layout_from shape sub_g location index_size =
+    record { shape = shape; sub = sub_g.shape; fill = sub_g.fill; location = location; index_size = index_size; order = Unordered }

@@ -1,0 +1,20 @@
+// A write into a stored shard, step by step: nothing here knows the sharding codec.
+#![tactic(auto)]
+
+mod cells;
+mod change;
+mod changed;
+mod encoded;
+mod meeting;
+mod numbers;
+mod old;
+mod place;
+mod prepare;
+mod put;
+mod settle;
+mod writing;
+
+pub use change::{Change, Prepared};
+pub use meeting::Meeting;
+pub use old::old_cells;
+pub use writing::Writing;
