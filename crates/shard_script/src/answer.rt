@@ -10,6 +10,8 @@ pub enum Answer<'a> {
     Stored(usize),
     /// The object was compacted to so many bytes; `None` where it stayed.
     Compacted(Option<usize>),
+    /// The object was erased.
+    Erased,
     /// There is no object.
     NoObject,
     /// The numbers of the object's index.

@@ -29,6 +29,8 @@ pub enum Work {
     Store(Vec<u8>),
     /// Compacts the object.
     Compact,
+    /// Erases the object.
+    Erase,
     /// Reads the cells of a subset.
     Read(ArraySubset),
     /// Reads the cells at coordinates.
@@ -137,6 +139,7 @@ fn parse_for_shard<'a>(
         b"decode" => Ok(Command::Look(Look::Decode)),
         b"object" => parse_object(alloc, words),
         b"compact" => Ok(Command::Work(Work::Compact)),
+        b"erase" => Ok(Command::Work(Work::Erase)),
         b"read" => {
             let subset = parse_subset(alloc, next_word(words)?)?;
             Ok(Command::Work(Work::Read(subset)))
@@ -153,7 +156,7 @@ fn parse_for_shard<'a>(
 fn asks_for_shard(name: &[u8]) -> bool {
     matches!(
         name,
-        b"encode" | b"index" | b"decode" | b"object" | b"compact" | b"read" | b"cells"
+        b"encode" | b"index" | b"decode" | b"object" | b"compact" | b"erase" | b"read" | b"cells"
     )
 }
 

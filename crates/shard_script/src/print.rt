@@ -71,6 +71,7 @@ fn write_answer<W: Write>(out: &mut W, answer: &Answer) -> io::Result<()>
         Answer::Stored(len) => writeln!(out, "ok {len}"),
         Answer::Compacted(Some(len)) => writeln!(out, "compact {len}"),
         Answer::Compacted(None) => out.write_all(b"compact none\n"),
+        Answer::Erased => out.write_all(b"ok none\n"),
         Answer::NoObject => out.write_all(b"none\n"),
         Answer::Index(numbers) => write_index(out, numbers),
         Answer::Cells(cells) => write_cells(out, cells),
@@ -84,7 +85,8 @@ pub fn write_answered<W: Write>(
     answered: &Result<Answer<'_>, CodecError>,
 ) -> io::Result<Outcome>
     requires { ForOk answered.now HasShortCells }
-    ensures { IfOk result (λ outcome. outcome ≡ Refused → IsErr answered.now) }
+    ensures refused { IfOk result (λ outcome. outcome ≡ Refused → IsErr answered.now) }
+    ensures told { IsErr answered.now → IfOk result (λ outcome. outcome ≡ Refused) }
 {
     match answered {
         Ok(answer) => {

@@ -9,6 +9,7 @@ ghost use Rattle.zarr_codecs.specs.Handles.{seen};
 ghost use Rattle.zarr_codecs.specs.Reads.{cells_at, AskedTests};
 ghost use Rattle.zarr_codecs.specs.Refusals.{RefusesUnserved};
 ghost use Rattle.zarrs_sharding.specs.Decoders.{index_in, object_cells, OpenTests, ObjectCellsTests};
+ghost use Rattle.zarrs_sharding.specs.Sessions.{SessionTests};
 ghost use Rattle.zarrs_sharding.specs.DecodeTests.{IndexTests};
 ghost use Rattle.zarrs_sharding.specs.Index.{index_geo, numbers_in_index};
 ghost use Rattle.zarrs_sharding.specs.Serves.{fixed_size, layout, IndexCodecTests};
@@ -252,6 +253,38 @@ impl Shard {
         }
     }
 
+    // Erases the object. Where its opening is refused it stays.
+    fn erase(&mut self, alloc: Global) -> Result<(), CodecError>
+        ensures erased { OnOk result (state_of self.new ≡ record (state_of self.old) { object = None }) }
+        ensures kept { OnErr result (state_of self.new ≡ state_of self.old) }
+        ensures refused { let codec = ⟦<Codec as ArrayToBytesCodecTraits>⟧ in let bytes = ⟦<BytesCodec as ArrayToBytesCodecTraits>⟧ in
+            let c = self.old.codec in let g = geo_of self.old in
+            IfErr result (RefusedBy (
+            (codec.meaning c g).serves or_as RefusesUnserved (codec.meaning c g) then
+            SessionTests bytes.meaning c g (seen (λ bytes. bytes.items) self.old.object))) }
+    {
+        let handle = MemoryHandle::new(self.object.take());
+        let opened = self.codec.open_state(
+            alloc,
+            handle,
+            &self.shape,
+            &self.element_type.data_type(),
+            &self.fill_value,
+            &CodecOptions::default(),
+        );
+        match opened {
+            Ok(mut session) => {
+                let erased = session.erase();
+                self.object = session.close().into_inner();
+                erased
+            }
+            Err((handle, refusal)) => {
+                self.object = handle.into_inner();
+                Err(refusal)
+            }
+        }
+    }
+
     // Does a work on the object. Where it is refused everything stays as it was.
     fn work(&mut self, alloc: Global, work: Work) -> Result<Answer<'static>, CodecError>
         ensures short { IfOk result HasShortCells }
@@ -266,6 +299,10 @@ impl Shard {
             Work::Compact => {
                 let answer = self.compact(alloc)?;
                 Ok(Answer::Compacted(answer))
+            }
+            Work::Erase => {
+                self.erase(alloc)?;
+                Ok(Answer::Erased)
             }
             Work::Read(subset) => {
                 let cells = self.read(alloc, &subset)?;

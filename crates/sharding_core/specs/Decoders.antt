@@ -11,7 +11,6 @@ use Rattle.object_handles.specs.Handles.{HandleState, IsRead, WasRead, seen}
 use Rattle.codec_laws.specs.Reads.{cells_at}
 use Rattle.object_handles.specs.declared.bytes.ByteRange.{ByteRange}
 use Rattle.object_handles.specs.declared.bytes.ByteRange.TheVariants.{FromStart}
-use Rattle.codec_laws.specs.declared.representation.BytesRepresentation.{BytesRepresentation}
 use Rattle.codec_laws.specs.Meanings.{Meaning}
 use Rattle.shard_format.specs.Index.{index_geo, slot_at, numbers_in_index}
 use Rattle.shard_format.specs.Serves.{sub_geo, fixed_size}
@@ -97,14 +96,20 @@ abbrev pub bytes_held : ℕ → Option (List ℕ) → ℕ
 bytes_held handle None = handle
 bytes_held handle (Some numbers) = min (handle + 8 * length numbers) (2 ^ 64 - 1)
 
--- the tests of an object that is opened as a shard of this codec and grid: that its length can be counted, and those of its index
-abbrev pub OpenTests : {I X : Type 0} → (X → Geo → Meaning) → ShardingCodec I X → (grid : List ℕ) → Option (List ℕ) → CodecError → Type 0
-OpenTests meaning codec grid None = done
-OpenTests meaning codec grid (Some bytes) =
+-- the tests of an object that is opened as a shard of this codec and grid: that its length can be counted, those of its index, and later
+-- ones of its bytes
+abbrev pub OpeningTests : {I X : Type 0} → (X → Geo → Meaning) → ShardingCodec I X → (grid : List ℕ) → Option (List ℕ) → (List ℕ → Refusals)
+    → CodecError → Type 0
+OpeningTests meaning codec grid None later = done
+OpeningTests meaning codec grid (Some bytes) later =
     let index = meaning codec.index_codec (index_geo grid) in
     length bytes + 1 < 2 ^ 64 or TooLarge then
     IndexTests index.decode_tests index.cells codec.location (fixed_size index.representation) bytes
-    done
+    (later bytes)
+
+-- the tests of an object that is opened for reading
+abbrev pub OpenTests : {I X : Type 0} → (X → Geo → Meaning) → ShardingCodec I X → (grid : List ℕ) → Option (List ℕ) → CodecError → Type 0
+OpenTests meaning codec grid contents = OpeningTests meaning codec grid contents (λ bytes. done)
 
 -- what the held index says of subchunk k: without an object each is absent
 abbrev pub held_slot : ℕ → Option (List ℕ) → ℕ → Slot

@@ -2,3 +2,4 @@ pub mod Meanings
 pub mod ShardLaws
 pub mod Plans
 pub mod Decoders
+pub mod Sessions

@@ -12,8 +12,10 @@ mod index;
 mod options;
 mod partial_decoder;
 mod read;
+mod state;
 
 pub use capabilities::{PartialDecoderCapability, PartialEncoderCapability};
 pub use codec::ShardingCodec;
 pub use options::ShardingCodecOptions;
 pub use partial_decoder::ShardingPartialDecoder;
+pub use state::ShardState;

@@ -112,17 +112,19 @@ impl<I, X: ArrayToBytesCodecTraits> ShardingCodec<I, X> {
 }
 
 impl<I: ArrayToBytesCodecTraits, X: ArrayToBytesCodecTraits> ShardingCodec<I, X> {
-    // Tests what is asked of the codec, and reads what a decoder holds of a handle's object.
-    fn open_shard<H: BytesPartialDecoderTraits>(
+    // Tests what is asked of the codec, and reads what a decoder holds of a handle's object; beside it the plan of its index.
+    pub(crate) fn open_shard<H: BytesPartialDecoderTraits>(
         &self,
         alloc: Global,
         handle: &mut H,
         asked: &Asked,
         options: &CodecOptions,
-    ) -> Result<OpenShard, CodecError>
+    ) -> Result<(OpenShard, IndexPlan), CodecError>
         ensures read { IsRead (H.state handle.old) (H.state handle.new) }
-        ensures asked { IfOk result (λ shard. geo shard.shape shard.data_type shard.fill_value ≡ asked_geo asked.now) }
-        ensures known { IfOk result (IsKnown ⟦<Self as ArrayToBytesCodecTraits>⟧.meaning (index_in X.meaning) H.state self.now handle.new) }
+        ensures asked { IfOk result (λ o. geo o.0.shape o.0.data_type o.0.fill_value ≡ asked_geo asked.now) }
+        ensures known { IfOk result (λ o. IsKnown ⟦<Self as ArrayToBytesCodecTraits>⟧.meaning (index_in X.meaning) H.state self.now handle.new o.0) }
+        ensures plan { IfOk result (λ o. IsIndexPlan (index_meaning X.meaning self.now.index_codec) o.1) }
+        ensures grid { IfOk result (λ o. o.1.grid ≡ grid_of asked.now.shape.now self.now.subchunk_shape) }
         ensures fault { IfErr result (IsCounted (H.state handle.old) (H.state handle.new)) }
         ensures refused { let codec = ⟦<Self as ArrayToBytesCodecTraits>⟧ in let s = self.now in let g = asked_geo asked.now in
             IfErr result (RefusedBy (
@@ -137,15 +139,16 @@ impl<I: ArrayToBytesCodecTraits, X: ArrayToBytesCodecTraits> ShardingCodec<I, X>
             index,
         } = plan;
         let held = self.read_held(alloc, handle, &index, options)?;
-        Ok(OpenShard {
+        let shard = OpenShard {
             shape: asked.shape.try_clone(alloc)?,
             data_type: *asked.data_type,
             fill_value: asked.fill_value.try_clone(alloc)?,
             cells,
             subchunks,
-            grid: index.grid,
+            grid: index.grid.try_clone(alloc)?,
             held,
-        })
+        };
+        Ok((shard, index))
     }
 
     /// Opens a decoder of the shard that is a handle's object, or of no object, and reads its index. A refusal gives the
@@ -179,7 +182,7 @@ impl<I: ArrayToBytesCodecTraits, X: ArrayToBytesCodecTraits> ShardingCodec<I, X>
             fill_value,
         };
         match self.open_shard(alloc, &mut handle, &asked, options) {
-            Ok(shard) => Ok(ShardingPartialDecoder {
+            Ok((shard, _)) => Ok(ShardingPartialDecoder {
                 codec: self,
                 handle,
                 shard,

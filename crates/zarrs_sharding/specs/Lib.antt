@@ -1,6 +1,8 @@
 pub use Rattle.sharding_core.specs.Meanings
 pub use Rattle.sharding_core.specs.ShardLaws
 pub use Rattle.sharding_core.specs.Decoders
+pub use Rattle.sharding_core.specs.Sessions
+pub use Rattle.shard_index.specs.DataPart
 pub use Rattle.shard_format.specs.Index
 pub use Rattle.shard_format.specs.Cells
 pub use Rattle.shard_format.specs.Encoding

@@ -8,6 +8,6 @@ pub use shard_format::{
     ShardingIndexLocation, SubchunkWriteOrder, calculate_chunks_per_shard, sharding_index_shape,
 };
 pub use sharding_core::{
-    PartialDecoderCapability, PartialEncoderCapability, ShardingCodec, ShardingCodecOptions,
-    ShardingPartialDecoder,
+    PartialDecoderCapability, PartialEncoderCapability, ShardState, ShardingCodec,
+    ShardingCodecOptions, ShardingPartialDecoder,
 };

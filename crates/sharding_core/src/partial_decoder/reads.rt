@@ -103,7 +103,7 @@ impl<I: ArrayToBytesCodecTraits, X: ArrayToBytesCodecTraits> ShardingCodec<I, X>
     }
 
     // The cells that an indexer asks of a shard that is open.
-    fn read_open<H: BytesPartialDecoderTraits, N: Indexer>(
+    pub(crate) fn read_open<H: BytesPartialDecoderTraits, N: Indexer>(
         &self,
         alloc: Global,
         handle: &mut H,

@@ -1,0 +1,86 @@
+// Handles of which one call fails: at each call in turn, until a run meets no failure.
+use crate::shards::{Session, Shards, read, seven, subset_of};
+use std::alloc::Global;
+use zarr_codecs::FaultingHandle;
+use zarr_parts::{ArraySubset, CodecError};
+use zarrs_sharding::ShardingIndexLocation;
+
+// The number of a refusal, 0 where there is none.
+fn number(refusal: Option<CodecError>) -> u8 {
+    match refusal {
+        Some(error) => error.number(),
+        None => 0,
+    }
+}
+
+// How the calls of a failed session that read or write are refused, where all are refused alike; 0 where it is not failed.
+fn refused_by_all(
+    alloc: Global,
+    session: &mut Session<'_, FaultingHandle>,
+    cells: &ArraySubset,
+) -> u8 {
+    if !session.is_failed() {
+        return 0;
+    }
+    let exists = number(session.exists().err());
+    let erase = number(session.erase().err());
+    let read = number(read(alloc, session, cells).err());
+    if exists == read && erase == read {
+        read
+    } else {
+        0
+    }
+}
+
+// Reads, erases, and calls a session that failed once more; how these are refused.
+fn run_calls(
+    alloc: Global,
+    session: &mut Session<'_, FaultingHandle>,
+    cells: &ArraySubset,
+) -> (u8, u8, u8) {
+    let read = number(read(alloc, session, cells).err());
+    let erase = number(session.erase().err());
+    (read, erase, refused_by_all(alloc, session, cells))
+}
+
+// Whether a handle has an object, whose call of a session's may have failed.
+fn is_there(handle: FaultingHandle) -> u8 {
+    u8::from(handle.into_inner().is_some())
+}
+
+// A run over an object, of which the call with this number fails: it is opened, read and erased. How these three are refused,
+// and what comes after them in a session that failed; and whether there is an object then.
+fn run(alloc: Global, fails_at: u64) -> Result<[u8; 5], CodecError> {
+    let shards = Shards::new(alloc, ShardingIndexLocation::End)?;
+    let cells = subset_of(alloc, 0..4)?;
+    let handle = FaultingHandle::new(Some(seven(alloc)?), fails_at);
+    match shards.open(alloc, handle) {
+        Ok(mut session) => {
+            let (read, erase, again) = run_calls(alloc, &mut session, &cells);
+            Ok([0, read, erase, again, is_there(session.close())])
+        }
+        Err((handle, error)) => Ok([error.number(), 0, 0, 0, is_there(handle)]),
+    }
+}
+
+// A fault at the opening leaves the object; one at the read leaves the session too; by one at the erasure the session fails.
+const STAGES: [[u8; 5]; 4] = [
+    [16, 0, 0, 0, 1],
+    [0, 16, 0, 0, 0],
+    [0, 0, 16, 17, 1],
+    [0, 0, 0, 0, 0],
+];
+
+// Each run is one of these stages, which come in this order.
+#[test]
+fn a_fault_is_met_at_each_call(rt: HostRuntime) {
+    let mut stage = 0;
+    for fails_at in 0..100 {
+        let ran = run(rt.alloc(), fails_at);
+        if stage < 3 && ran == Ok(STAGES[stage + 1]) {
+            stage += 1;
+        }
+        assert_eq!(rt; ran, Ok(STAGES[stage]), "at call {fails_at}");
+    }
+    assert_eq!(rt; stage, 3);
+}

@@ -1,0 +1,11 @@
+// Tests of shards that are held open for reading and writing, over their public calls alone.
+#![tactic(auto)]
+
+#[cfg(test)]
+mod faults;
+#[cfg(test)]
+mod opening;
+#[cfg(test)]
+mod sessions;
+#[cfg(test)]
+mod shards;

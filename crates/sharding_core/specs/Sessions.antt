@@ -1,0 +1,126 @@
+-- A shard that is held open for reading and writing, by its index, which stays in step with the object.
+use Rattle.std.specs.Prelude.{◌≡◌, ◌<◌, ◌^◌, ◌⊎◌, ℕ, ◌+◌, ◌-◌, ◌*◌, min, Bool, true, false, IsTrue}
+use Rattle.std.specs.Prelude.{List, Option, Some, None, IfNone, length, replicate}
+use Rattle.zarr_parts.specs.Order.{done}
+use Rattle.zarr_parts.specs.Numbering.{count_of}
+use Rattle.zarr_parts.specs.Grid.{grid_of}
+use Rattle.zarr_parts.specs.Geo.{Geo, geo}
+use Rattle.zarr_words.specs.declared.error.CodecError.{CodecError}
+use Rattle.zarr_words.specs.declared.error.CodecError.TheVariants.{Fault}
+use Rattle.object_handles.specs.Handles.{HandleState, IsRead}
+use Rattle.object_handles.specs.Writes.{IsWriting}
+use Rattle.codec_laws.specs.Meanings.{Meaning}
+use Rattle.shard_format.specs.Index.{absent_number, index_geo, slot_at}
+use Rattle.shard_format.specs.Serves.{fixed_size}
+use Rattle.shard_format.specs.declared.index.ShardIndex.{ShardIndex}
+use Rattle.shard_index.specs.Indexes.{IsIndexPlan}
+use Rattle.shard_index.specs.DataPart.{IsInDataPart, PairTests}
+use Rattle.sharding_core.specs.Decoders.{index_in, held_len, IsKnown, OpeningTests}
+use Rattle.sharding_core.specs.declared.codec.ShardingCodec.{ShardingCodec}
+use Rattle.sharding_core.specs.declared.state.OpenSession.{OpenSession}
+
+-- what contracts see of a session: its codec, what it is asked to serve, its handle, whether a write failed in it, and what it holds of
+-- the object: its length, and the numbers of its index; without an object no bytes, and each subchunk absent
+pub record Session (C H : Type 0) : Type 0 where
+  pub codec : C
+  pub geo : Geo
+  pub handle : H
+  pub failed : Bool
+  pub len : ℕ
+  pub index : List ℕ
+
+-- the numbers of an index of n subchunks, each of them absent
+abbrev pub absent_index : ℕ → List ℕ
+absent_index n = replicate (2 * n) absent_number
+
+-- the subchunks of the shards of a session
+abbrev pub subchunks_of : {I X : Type 0} → ShardingCodec I X → Geo → ℕ
+subchunks_of codec g = count_of (grid_of g.shape codec.subchunk_shape)
+
+-- the bytes of their index
+abbrev pub index_size_of : {I X : Type 0} → (X → Geo → Meaning) → ShardingCodec I X → Geo → ℕ
+index_size_of meaning codec g = fixed_size (meaning codec.index_codec (index_geo (grid_of g.shape codec.subchunk_shape))).representation
+
+-- the held length and numbers are those of the object; `index_in` says which numbers the index of some bytes has
+abbrev pub HoldsNumbers : (List ℕ → Option (List ℕ)) → Option (List ℕ) → ℕ → List ℕ → Type 0
+HoldsNumbers index_in None len numbers = (len ≡ 0) × (numbers ≡ replicate (length numbers) absent_number)
+HoldsNumbers index_in (Some bytes) len numbers = (length bytes ≡ len) × (index_in bytes ≡ Some numbers)
+
+-- the codec serves what the session reads and writes; each held pair is absent or lies in the data part; and where no write failed and the
+-- handle tells its bytes, the held length and numbers are those of the object
+pub record IsInStep {I X H : Type 0} (meaning : ShardingCodec I X → Geo → Meaning) (index_meaning : X → Geo → Meaning)
+    (state : H → HandleState) (s : Session (ShardingCodec I X) H) : Type 0 where
+  pub serves : (meaning s.codec s.geo).serves
+  pub room : s.len + 1 < 2 ^ 64
+  pub counted : length s.index ≡ 2 * subchunks_of s.codec s.geo
+  pub placed : (k : ℕ) → k < subchunks_of s.codec s.geo
+      → IsInDataPart s.codec.location (index_size_of index_meaning s.codec s.geo) s.len (slot_at s.len s.index k)
+  pub held : s.failed ≡ false → IsTrue (state s.handle).tells
+      → HoldsNumbers (index_in index_meaning s.codec s.geo) (state s.handle).contents s.len s.index
+
+-- the numbers that a session holds: of the index of the object, or where there is none of a blank one
+abbrev pub numbers_held : Option ShardIndex → List ℕ → List ℕ
+numbers_held None blank = blank
+numbers_held (Some index) blank = index.numbers.items
+
+-- the session of a codec and a handle that holds this of a shard
+abbrev pub session_of : {C H : Type 0} → C → H → Bool → OpenSession → Session C H
+session_of codec handle failed opened =
+    record {
+      codec = codec;
+      geo = geo opened.shard.shape opened.shard.data_type opened.shard.fill_value;
+      handle = handle;
+      failed = failed;
+      len = held_len opened.shard.held;
+      index = numbers_held opened.shard.held opened.blank.items;
+    }
+
+-- what is known of what a session holds: it is in step; what it reads by is that of an open decoder, where no write failed; the index codec
+-- serves its grid; and without an object the blank index has each subchunk absent
+pub record IsHeldOpen {I X H : Type 0} (meaning : ShardingCodec I X → Geo → Meaning) (index_meaning : X → Geo → Meaning)
+    (state : H → HandleState) (codec : ShardingCodec I X) (handle : H) (failed : Bool) (opened : OpenSession) : Type 0 where
+  pub in_step : IsInStep meaning index_meaning state (session_of codec handle failed opened)
+  pub known : failed ≡ false → IsKnown meaning (index_in index_meaning) state codec handle opened.shard
+  pub plan : IsIndexPlan (λ grid. index_meaning codec.index_codec (index_geo grid)) opened.plan
+  pub grid : opened.plan.grid ≡ grid_of opened.shard.shape codec.subchunk_shape
+  pub blank : IfNone opened.shard.held (opened.blank.items ≡ absent_index (count_of (grid_of opened.shard.shape codec.subchunk_shape)))
+
+-- a call leaves all but the handle, and of this the object
+pub record IsLeft {C H : Type 0} (state : H → HandleState) (old new : Session C H) : Type 0 where
+  pub codec : new.codec ≡ old.codec
+  pub geo : new.geo ≡ old.geo
+  pub failed : new.failed ≡ old.failed
+  pub len : new.len ≡ old.len
+  pub index : new.index ≡ old.index
+  pub handle : IsRead (state old.handle) (state new.handle)
+
+-- a writing call was done: no write failed, and it leaves the codec, the arrays and what the handle keeps
+pub record IsDone {C H : Type 0} (state : H → HandleState) (old new : Session C H) : Type 0 where
+  pub codec : new.codec ≡ old.codec
+  pub geo : new.geo ≡ old.geo
+  pub before : old.failed ≡ false
+  pub after : new.failed ≡ false
+  pub handle : IsWriting (state old.handle) (state new.handle)
+
+-- a writing call of the handle failed: the session is failed from now on, and of the object nothing is said
+pub record HasFailed {C H : Type 0} (state : H → HandleState) (old new : Session C H) : Type 0 where
+  pub codec : new.codec ≡ old.codec
+  pub geo : new.geo ≡ old.geo
+  pub before : old.failed ≡ false
+  pub after : new.failed ≡ true
+  pub handle : IsWriting (state old.handle) (state new.handle)
+  pub counted : (state old.handle).faults < (state new.handle).faults
+
+-- a refused writing call left the session and the object, or it is a fault by which the session failed
+abbrev pub IsLeftOrFailed : {C H : Type 0} → (H → HandleState) → Session C H → Session C H → CodecError → Type 0
+IsLeftOrFailed state old new e = IsLeft state old new ⊎ ((e ≡ Fault) × HasFailed state old new)
+
+-- the bytes that a session holds in memory: the handle's, and 8 for each number of the held index
+abbrev pub bytes_of_session : ℕ → List ℕ → ℕ
+bytes_of_session handle numbers = min (handle + 8 * length numbers) (2 ^ 64 - 1)
+
+-- the tests of an object that is opened for writing too: as for reading, and then those of the pairs of its index
+abbrev pub SessionTests : {I X : Type 0} → (X → Geo → Meaning) → ShardingCodec I X → Geo → Option (List ℕ) → CodecError → Type 0
+SessionTests meaning codec g contents =
+    OpeningTests meaning codec (grid_of g.shape codec.subchunk_shape) contents (λ bytes.
+    PairTests codec.location (index_size_of meaning codec g) (length bytes) (index_in meaning codec g bytes) (subchunks_of codec g) done)
