@@ -5,7 +5,6 @@ mod counted;
 
 use crate::counted::Counted;
 use std::alloc::Global;
-use std::borrow::CowSlice;
 use zarr_codecs::{ArrayToBytesCodecTraits, BytesCodec};
 use zarr_parts::{
     ArrayBytes, ChunkShape, CodecError, CodecOptions, Coordinates, DataType, FillValue,
@@ -33,18 +32,15 @@ fn codec(alloc: Global) -> Result<ShardingCodec<Inner, BytesCodec>, CodecError> 
 
 // The numbers 0 to 63 of 16 bits.
 fn cells(alloc: Global) -> Result<ArrayBytes<'static>, CodecError> {
-    let mut bytes = Vec::new(alloc);
-    for number in 0..64u16 {
-        bytes.extend_from_slice(&number.to_le_bytes())?;
-    }
-    ArrayBytes::new_flen(CowSlice::Owned(bytes), 2).ok_or(CodecError::WrongElementKind)
+    let numbers: Vec<u16> = (0..64u16).collect(alloc)?;
+    Ok(ArrayBytes::from_numbers(alloc, &numbers)?)
 }
 
 // Three cells of an array of 8 by 8, and how many ranges were read for them.
 fn read_three(alloc: Global) -> Result<(ArrayBytes<'static>, u64), CodecError> {
     let codec = codec(alloc)?;
     let shape = shape(alloc, &[8, 8])?;
-    let fill = FillValue::new([0, 0].to_vec(alloc)?);
+    let fill = FillValue::from_number(alloc, 0u16)?;
     let options = CodecOptions::default();
     let bytes = codec.encode(
         alloc,

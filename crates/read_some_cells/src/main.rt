@@ -1,49 +1,61 @@
-// Stores cells as a shard, opens it through a handle, and reads a box of them: of the object only the index and the slices
-// in which the box lies are read.
+// Stores numbers as a shard, opens it through a handle, and reads a box and three cells of them: of the object only the index
+// and the slices in which they lie are read.
 #![tactic(auto)]
 
 use std::alloc::Global;
-use std::borrow::CowSlice;
 use zarr_codecs::{ArrayToBytesCodecTraits, BytesCodec, MemoryHandle};
 use zarr_parts::{
-    ArrayBytes, ArraySubset, ChunkShape, CodecError, CodecOptions, DataType, FillValue,
+    ArrayBytes, ArraySubset, ChunkShape, CodecError, CodecOptions, Coordinates, DataType,
+    FillValue,
 };
 use zarrs_sharding::{ShardingCodec, ShardingIndexLocation};
-
-// The cells of a shape of 2 by 4, row by row.
-const CELLS: [u8; 8] = [0, 1, 2, 3, 4, 5, 6, 7];
 
 fn shape(alloc: Global, axes: &[u64]) -> Result<ChunkShape, CodecError> {
     ChunkShape::new(alloc, axes)?.ok_or(CodecError::InvalidSubchunkShape)
 }
 
-fn read_some(alloc: Global) -> Result<ArrayBytes<'static>, CodecError> {
-    let codec = ShardingCodec::new(
-        shape(alloc, &[2, 2])?,
-        BytesCodec::little(),
-        BytesCodec::little(),
-        ShardingIndexLocation::End,
-    );
-    let shape = shape(alloc, &[2, 4])?;
-    let fill = FillValue::new([0].to_vec(alloc)?);
-    let options = CodecOptions::default();
-    let cells = ArrayBytes::new_flen(CowSlice::Borrowed(&CELLS), 1).ok_or(CodecError::Damaged)?;
-    let bytes = codec.encode(alloc, &cells, &shape, &DataType::UInt8, &fill, &options)?;
+// Shards of subchunks of 4 by 4.
+fn codec(alloc: Global) -> Result<ShardingCodec<BytesCodec, BytesCodec>, CodecError> {
+    let (inner, index) = (BytesCodec::little(), BytesCodec::little());
+    let subchunk = shape(alloc, &[4, 4])?;
+    Ok(ShardingCodec::new(subchunk, inner, index, ShardingIndexLocation::End))
+}
 
-    let handle = MemoryHandle::new(Some(bytes));
-    let subset = ArraySubset::new_with_ranges(alloc, &[0..2, 1..3])?.ok_or(
-        CodecError::OutOfBounds,
-    )?;
-    match codec.partial_decoder(alloc, handle, &shape, &DataType::UInt8, &fill, &options) {
-        Ok(mut decoder) => decoder.partial_decode(alloc, &subset, &options),
+// The numbers 0 to 63 of an 8 by 8 array, as a shard.
+fn store(alloc: Global) -> Result<Vec<u8>, CodecError> {
+    let numbers: Vec<u16> = (0..64u16).collect(alloc)?;
+    let cells = ArrayBytes::from_numbers(alloc, &numbers)?;
+    let shape = shape(alloc, &[8, 8])?;
+    let fill = FillValue::from_number(alloc, 0u16)?;
+    let options = CodecOptions::default();
+    codec(alloc)?.encode(alloc, &cells, &shape, &DataType::UInt16, &fill, &options)
+}
+
+// Those of a box of 2 by 3, and then of three cells.
+fn read(alloc: Global, shard: Vec<u8>) -> Result<[Vec<u16>; 2], CodecError> {
+    let codec = codec(alloc)?;
+    let shape = shape(alloc, &[8, 8])?;
+    let fill = FillValue::from_number(alloc, 0u16)?;
+    let options = CodecOptions::default();
+    let handle = MemoryHandle::new(Some(shard));
+    match codec.partial_decoder(alloc, handle, &shape, &DataType::UInt16, &fill, &options) {
+        Ok(mut decoder) => {
+            let subset = ArraySubset::from_ranges(alloc, &[1..3, 3..6])?;
+            let three = Coordinates::new(2, 3, [7, 7, 0, 0, 7, 7].to_vec(alloc)?);
+            let three = three.ok_or(CodecError::IncompatibleDimensionality)?;
+            Ok([
+                decoder.partial_decode(alloc, &subset, &options)?.to_numbers(alloc)?,
+                decoder.partial_decode(alloc, &three, &options)?.to_numbers(alloc)?,
+            ])
+        }
         Err((_handle, error)) => Err(error),
     }
 }
 
 fn main(rt: HostRuntime) -> anyhow::Result<()> {
-    let cells = read_some(rt.alloc())?;
-    for place in 0..cells.len() {
-        println!(rt; "{:?}", cells.element(place))?;
+    let shard = store(rt.alloc())?;
+    for numbers in read(rt.alloc(), shard)? {
+        println!(rt; "{:?}", numbers)?;
     }
     Ok(())
 }
