@@ -45,6 +45,17 @@ in_list (x ∷ xs) k = elim (cases_eq x k) [
   ]
 ]
 
+-- where no pair is left, none is left without some
+pub cleared_absent : (touched numbers cleared : List ℕ) (n : ℕ) → length numbers ≡ 2 * n → HasPairs touched (λ i. Absent) 0 numbers cleared (length touched)
+    → AreAbsent numbers → AreAbsent cleared
+cleared_absent touched numbers cleared n counted clear absent =
+    all_absent cleared n (clear.counted ∙ counted) (λ k k_below. elim (in_list touched k) [
+      | inl found ↦ subst (IsPairAbsent cleared) found.2 (clear.offsets found.0 found.1, clear.sizes found.0 found.1)
+      | inr other ↦
+          let pair = pair_absent numbers n k counted absent k_below in
+          (clear.other_offsets k other ∙ pair.0, clear.other_sizes k other ∙ pair.1)
+    ])
+
 -- a slot that is absent has a pair that is
 pair_of_slot : (t u v : Bool) (offset size : ℕ) → (if t then Absent else (if u then Bad else (if v then InRange offset size else Bad))) ≡ Absent → t ≡ true
 pair_of_slot true u v offset size h = refl

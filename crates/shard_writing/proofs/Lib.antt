@@ -10,3 +10,4 @@ pub mod WriteLemmas
 pub mod AnewLemmas
 pub mod RefusalLemmas
 pub mod MadeLemmas
+pub mod HeldLemmas

@@ -21,7 +21,7 @@ use Rattle.shard_format.specs.declared.slot.Slot.TheVariants.{Absent, InRange, B
 use Rattle.shard_writing.specs.Writing.{AreAbsent, AreNewCells, cells_in, IsKept, IsWriteOf, AreLaid, HasPairs, HasPut, IsErased, slot_end, last_end, place_behind, length_behind, KeepsSlices, LiesBetween, IsMade, layout_from}
 use Rattle.zarr_boxes.proofs.GridLaws.{over_first}
 use Rattle.shard_writing.proofs.PlaceLemmas.{last_end_more}
-use Rattle.shard_writing.proofs.AnewLemmas.{pair_absent, all_absent, in_list, absent_pair, anew_of_absent, absent_of_anew}
+use Rattle.shard_writing.proofs.AnewLemmas.{pair_absent, all_absent, in_list, absent_pair, cleared_absent, anew_of_absent, absent_of_anew}
 use Rattle.shard_writing.proofs.WriteLemmas.{absent_slot, kept_absent, is_write}
 
 -- each slice ends no later than the last one
@@ -192,16 +192,6 @@ module _ (inner index : Meaning) (shape : List ℕ) (sub_g : Geo) (location : Sh
   half : length numbers / 2 ≡ count_of (grid_of shape sub_g.shape)
   half = ap (λ m. m / 2) counted ∙ over_first 2 (count_of (grid_of shape sub_g.shape)) (omega arith)
 
-  still_absent : (touched cleared : List ℕ) → HasPairs touched (λ i. Absent) 0 numbers cleared (length touched) → AreAbsent numbers → AreAbsent cleared
-  still_absent touched cleared clear absent =
-      let n = count_of (grid_of shape sub_g.shape) in
-      all_absent cleared n (clear.counted ∙ counted) (λ k k_below. elim (in_list touched k) [
-        | inl found ↦ subst (λ m. (get_or cleared (2 * m) 0 ≡ absent_number) × (get_or cleared (2 * m + 1) 0 ≡ absent_number)) found.2 (clear.offsets found.0 found.1, clear.sizes found.0 found.1)
-        | inr other ↦
-            let pair = pair_absent numbers n k counted absent k_below in
-            (clear.other_offsets k other ∙ pair.0, clear.other_sizes k other ∙ pair.1)
-      ])
-
   made_there : (new : List ℕ) → IsMade inner index.written shape sub_g location size box update numbers object (Some new) new_numbers new_len
       → IsWriteOf inner index (layout_from shape sub_g location size) sub_g box update object numbers (Some new) new_numbers
   made_there new made =
@@ -214,7 +204,7 @@ module _ (inner index : Meaning) (shape : List ℕ) (sub_g : Geo) (location : Sh
               write_begun inner index l sub_g box update object numbers made.touched made.slots made.slices made.elements made.are_touched below counted made.laid made.cells begun.cleared begun.clear
               (data_start location size) new new_numbers begun.put.0 begun.absent begun.some refl (begun.put.1 ∙ begun.long)
           | inr appended ↦
-              let long_enough = enough (λ absent. appended.present (still_absent made.touched appended.cleared appended.clear absent)) in
+              let long_enough = enough (λ absent. appended.present (cleared_absent made.touched numbers appended.cleared (count_of (grid_of shape sub_g.shape)) counted appended.clear absent)) in
               let put = appended.put long_enough in
               write_appended inner index l sub_g box update object numbers made.touched made.slots made.slices made.elements made.are_touched below counted made.laid made.cells appended.cleared appended.clear
               (place_behind location size (length (bytes_of object)) numbers (length numbers / 2)) new new_numbers put.0.0 appended.present lies put.1
@@ -231,7 +221,7 @@ module _ (inner index : Meaning) (shape : List ℕ) (sub_g : Geo) (location : Sh
         | inr more ↦ elim more [
           | inl begun ↦ absurd begun.put
           | inr appended ↦
-              let long_enough = enough (λ absent. appended.present (still_absent made.touched appended.cleared appended.clear absent)) in
+              let long_enough = enough (λ absent. appended.present (cleared_absent made.touched numbers appended.cleared (count_of (grid_of shape sub_g.shape)) counted appended.clear absent)) in
               absurd (appended.put long_enough).0
         ]
       ]

@@ -21,7 +21,7 @@ use Rattle.shard_format.proofs.EncodingLemmas.{shifted, shifted_pair, size_shift
 use Rattle.shard_format.proofs.LayingLemmas.{sum_same}
 use Rattle.shard_writing.specs.Writing.{AreAbsent, AreNewCells, cells_in, ArePlaced, IsKept, IsNew, taken_by, StandInRow, IsWriteOf, AreLaid, HasPut}
 
-inside_data : (location : ShardingIndexLocation) (size len n : ℕ) → n ≤ data_end location size len → n ≤ len
+pub inside_data : (location : ShardingIndexLocation) (size len n : ℕ) → n ≤ data_end location size len → n ≤ len
 inside_data Start size len n h = h
 inside_data End size len n h = omega arith
 

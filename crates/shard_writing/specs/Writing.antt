@@ -263,19 +263,19 @@ IsSettled index_written location index_size touched slots slices numbers old new
     ⊎ (IsBegun index_written location index_size touched slots slices numbers new new_numbers new_len
     ⊎ IsAppended index_written location index_size touched slots slices numbers (bytes_of old) new new_numbers new_len)
 
--- the length that the object would have with these new slices, which is more than can be addressed
-abbrev pub IsTooLong : ShardingIndexLocation → (index_size : ℕ) → (touched numbers : List ℕ) → (len total : ℕ) → Type 0
-IsTooLong location index_size touched numbers len total =
+-- the length that the object has with new slices of so many bytes, with P: anew where no pair is left without the touched ones
+abbrev pub HasNewLength : ShardingIndexLocation → (index_size : ℕ) → (touched numbers : List ℕ) → (len total : ℕ) → (ℕ → Type 0) → Type 0
+HasNewLength location index_size touched numbers len total P =
     (cleared : List ℕ) × HasPairs touched (λ i. Absent) 0 numbers cleared (length touched)
-    × ((AreAbsent cleared × (2 ^ 64 ≤ index_size + total + 1)) ⊎ ((¬ (AreAbsent cleared))
-    × (2 ^ 64 ≤ length_behind location len (place_behind location index_size len numbers (length numbers / 2)) total + 1)))
+    × ((AreAbsent cleared × P (index_size + total)) ⊎ ((¬ (AreAbsent cleared))
+    × P (length_behind location len (place_behind location index_size len numbers (length numbers / 2)) total)))
 
--- how new slices that are laid out may still be refused: for the length, or as the index is
+-- how new slices that are laid out may still be refused: for the length, or, where that fits, as the index is
 abbrev pub RefusesToPut : ShardingIndexLocation → (index_size : ℕ) → (touched numbers : List ℕ) → (len total : ℕ) → Refusals
     → CodecError → Type 0
 RefusesToPut location index_size touched numbers len total index e =
-    ((e ≡ TooLarge) × IsTooLong location index_size touched numbers len total)
-    ⊎ index e
+    ((e ≡ TooLarge) × HasNewLength location index_size touched numbers len total (λ n. 2 ^ 64 ≤ n + 1))
+    ⊎ (HasNewLength location index_size touched numbers len total (λ n. n + 1 < 2 ^ 64) × index e)
 
 -- how a write was made: the touched subchunks' new cells, laid out in slices, and what became of the object with these
 pub record IsMade (inner : Meaning) (index_written : Written) (shape : List ℕ) (sub_g : Geo) (location : ShardingIndexLocation)
@@ -303,3 +303,10 @@ LiesBetween start end Bad = ⊥
 abbrev pub layout_from : List ℕ → Geo → ShardingIndexLocation → (index_size : ℕ) → Layout
 layout_from shape sub_g location index_size =
     record { shape = shape; sub = sub_g.shape; fill = sub_g.fill; location = location; index_size = index_size; order = Unordered }
+
+-- what is held of a shard of so many bytes and n subchunks: its length can be counted, and each pair is absent or in the data part
+pub record IsHeld (location : ShardingIndexLocation) (index_size n len : ℕ) (numbers : List ℕ) : Type 0 where
+  pub counted : length numbers ≡ 2 * n
+  pub room : len + 1 < 2 ^ 64
+  pub placed : (k : ℕ) → k < n
+      → LiesBetween (data_start location index_size) (data_end location index_size len) (slot_at len numbers k)

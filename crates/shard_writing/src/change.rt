@@ -1,8 +1,9 @@
 // What a write does to an object, when all is read and encoded.
-ghost use Rattle.std.specs.Prelude.{◌≡◌, ◌^◌, ◌<◌, ◌+◌, IsTrue, IfErr, OnOk, length};
-ghost use Rattle.object_handles.specs.Handles.{MayFault};
+ghost use Rattle.std.specs.Prelude.{◌≡◌, ◌^◌, ◌<◌, ◌+◌, IsTrue, IfErr, IfSome, OnOk, length};
+ghost use Rattle.object_handles.specs.Handles.{IsCounted};
+ghost use Rattle.object_handles.specs.Objects.{ObjectTests};
 ghost use Rattle.object_handles.specs.Writes.{IsWriting, KeptUnlessFault, bytes_of};
-ghost use Rattle.zarr_parts.specs.Order.{RefusedBy};
+ghost use Rattle.zarr_parts.specs.Order.{done, RefusedBy};
 ghost use Rattle.shard_writing.specs.Changes.{object_after};
 
 use object_handles::BytesPartialEncoderTraits;
@@ -41,9 +42,12 @@ impl Change {
         alloc: Global,
         handle: &mut H,
     ) -> Result<(), CodecError>
+        requires room { IsTrue (H.state handle.old).tells → IfSome (object_after self.now (H.state handle.old).contents) (λ bytes. length bytes + 1 < 2 ^ 64) }
         ensures writing { IsWriting (H.state handle.old) (H.state handle.new) }
         ensures made { OnOk result (IsTrue (H.state handle.old).tells → (H.state handle.new).contents ≡ object_after self.now (H.state handle.old).contents) }
         ensures kept { IfErr result (KeptUnlessFault (H.state handle.old) (H.state handle.new)) }
+        ensures fault { IfErr result (IsCounted (H.state handle.old) (H.state handle.new)) }
+        ensures refused { IfErr result (RefusedBy (ObjectTests (H.state handle.old) (H.state handle.new) done)) }
     {
         match self {
             Change::Erase => handle.erase(),

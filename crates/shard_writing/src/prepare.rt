@@ -11,7 +11,8 @@ ghost use Rattle.object_handles.specs.Writes.{bytes_of};
 ghost use Rattle.shard_format.specs.Index.{slot_at, data_start, data_end};
 ghost use Rattle.shard_subchunks.specs.Inner.{subchunk_geo, inner_meaning};
 ghost use Rattle.shard_index.specs.Indexes.{index_meaning, IsIndexPlan};
-ghost use Rattle.shard_writing.specs.Writing.{HasSlice, AreAbsent, LiesBetween, IsMade, IsWriteOf, layout_from};
+ghost use Rattle.shard_writing.specs.Writing.{HasSlice, AreAbsent, HoldsNumbers, LiesBetween, IsHeld, IsMade, IsWriteOf, layout_from};
+ghost use Rattle.shard_writing.specs.WriteTests.{WriteTests};
 ghost use Rattle.shard_writing.specs.Changes.{object_after};
 
 use crate::change::Prepared;
@@ -52,9 +53,9 @@ impl<I: ArrayToBytesCodecTraits, X: ArrayToBytesCodecTraits> Writing<'_, I, X> {
         requires all { length update.now.elements ≡ count_of subset.now.shape }
         requires len { IsTrue (H.state handle.old).tells → length (bytes_of (H.state handle.old).contents) ≡ len }
         requires there { IsTrue (H.state handle.old).tells → (k : ℕ) → k < count_of self.now.plan.now.grid → HasSlice (H.state handle.old).contents (slot_at len numbers.now k) }
-        requires lies { IsTrue (H.state handle.old).tells → (k : ℕ) → k < count_of self.now.plan.now.grid
+        requires lies { (k : ℕ) → k < count_of self.now.plan.now.grid
             → LiesBetween (data_start self.now.index_codec.location self.now.plan.now.size) (data_end self.now.index_codec.location self.now.plan.now.size len) (slot_at len numbers.now k) }
-        requires index { IsTrue (H.state handle.old).tells → ¬ (AreAbsent numbers.now) → self.now.plan.now.size ≤ len }
+        requires index { ¬ (AreAbsent numbers.now) → self.now.plan.now.size ≤ len }
         ensures read { IsRead (H.state handle.old) (H.state handle.new) }
         ensures made { let s = self.now.subchunks in let inner = inner_meaning I.meaning s in let index = index_meaning X.meaning self.now.index_codec.codec.now self.now.plan.now.grid in
             IfOk result (λ p. IsTrue (H.state handle.old).tells
@@ -64,7 +65,15 @@ impl<I: ArrayToBytesCodecTraits, X: ArrayToBytesCodecTraits> Writing<'_, I, X> {
             IfOk result (λ p. IsTrue (H.state handle.old).tells
             → IsWriteOf inner index (layout_from self.now.shape.now (subchunk_geo s) self.now.index_codec.location self.now.plan.now.size) (subchunk_geo s) subset.now update.now.elements
             (H.state handle.old).contents numbers.now (object_after p.change (H.state handle.old).contents) p.numbers.items) }
+        ensures held { IfOk result (λ p. IsHeld self.now.index_codec.location self.now.plan.now.size (count_of self.now.plan.now.grid) p.len p.numbers.items) }
+        ensures told { let index = index_meaning X.meaning self.now.index_codec.codec.now self.now.plan.now.grid in
+            IfOk result (λ p. IsTrue (H.state handle.old).tells
+            → HoldsNumbers index.cells self.now.index_codec.location self.now.plan.now.size (object_after p.change (H.state handle.old).contents) p.len p.numbers.items) }
         ensures fault { IfErr result (IsCounted (H.state handle.old) (H.state handle.new)) }
+        ensures refused { let s = self.now.subchunks in let inner = inner_meaning I.meaning s in let index = index_meaning X.meaning self.now.index_codec.codec.now self.now.plan.now.grid in
+            IfErr result (RefusedBy (ObjectTests (H.state handle.old) (H.state handle.new) (
+            WriteTests inner index (layout_from self.now.shape.now (subchunk_geo s) self.now.index_codec.location self.now.plan.now.size) (subchunk_geo s) subset.now update.now.elements
+            (bytes_of (H.state handle.old).contents) numbers.now))) }
     {
         let touched = subset.touched_subchunks(alloc, self.shape, self.subchunks.shape)?;
         let arrays = self.changed(

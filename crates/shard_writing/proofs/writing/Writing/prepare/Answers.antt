@@ -1,9 +1,17 @@
-use Rattle.std.proofs.Common.{◌≡◌, ◌∙◌, ap, length, arith}
+use Rattle.std.proofs.Common.{◌≡◌, ◌∙◌, ℕ, List, [], Some, inl, inr, ap, length, replicate, arith}
+use Rattle.std.proofs.lemmas.List.{length-replicate}
+use Rattle.zarr_parts.specs.Numbering.{count_of}
+use Rattle.zarr_parts.specs.Geo.{geo}
+use Rattle.shard_format.specs.Index.{index_geo}
+use Rattle.shard_writing.proofs.HeldLemmas.{held_settled, told_settled}
 use Rattle.shard_subchunks.specs.Inner.{subchunk_geo, inner_meaning}
-use Rattle.shard_writing.specs.Writing.{array_at}
+use Rattle.object_handles.specs.Writes.{bytes_of}
+use Rattle.shard_format.proofs.RefusalLemmas.{passed_on}
+use Rattle.shard_writing.specs.Writing.{array_at, layout_from}
 use Rattle.shard_index.specs.Indexes.{index_meaning}
 use Rattle.shard_writing.proofs.MadeLemmas.{made_is_write}
 use Rattle.shard_writing.proofs.PutLemmas.{laid_inside}
+use Rattle.shard_writing.proofs.RefusalLemmas.{old_first, new_tests, last_tests}
 use Rattle.shard_writing.proofs.writing.Writing.prepare.Goals as goal
 
 pub settle-requires-clause-same : goal.settle-requires-clause-same
@@ -57,7 +65,99 @@ returns-clause-written g c = λ t.
     let contents = (g.H.BytesPartialDecoderTraits.state a.handle.now).contents in
     let len = c.requires.len t in
     let counted = rw c.requires.grid at c.requires.counted in
-    let lies = rw (← len, c.requires.grid) at (c.requires.lies t) in
-    let enough = rw (← len) at (c.requires.index t) in
+    let lies = rw (← len, c.requires.grid) at c.requires.lies in
+    let enough = rw (← len) at c.requires.index in
     made_is_write inner index a.self.now.shape.now (subchunk_geo s) a.self.now.index_codec.location a.self.now.plan.now.size a.subset.now a.update.now.elements a.numbers.now contents
     c.in_ok-prepared.prepared.numbers.items c.in_ok-prepared.prepared.len counted lies enough _ (returns-clause-made g c t)
+
+pub returns-clause-held : goal.returns-clause-held
+returns-clause-held g c =
+    let a = c.args in
+    let s = a.self.now.subchunks in
+    let inner = inner_meaning g.I.ArrayToBytesCodecTraits.meaning s in
+    let index = index_meaning g.X.ArrayToBytesCodecTraits.meaning a.self.now.index_codec.codec.now a.self.now.plan.now.grid in
+    let blank : List ℕ = replicate a.len 0 in
+    let long : length blank ≡ a.len = length-replicate a.len 0 in
+    let arrays = c.in_ok-arrays.arrays.items in
+    let touched = c.in_ok-touched.touched.items in
+    let counted : length arrays ≡ length touched = c.in_ok-arrays.ensures.counted ∙ ap length c.deref.ensures.value in
+    let laid = rw (c.deref-2.ensures.value, counted) at c.in_ok-laid.ensures.laid in
+    let settled = rw c.deref-3.ensures.value at (c.in_ok-prepared.ensures.settled (Some blank) long) in
+    held_settled inner.written s.fill_value.now a.self.now.index_codec.location a.self.now.plan.now.size touched c.in_ok-laid.laid.slots.items c.in_ok-laid.laid.bytes.items
+    (λ j. (array_at arrays j).elements) laid (count_of a.self.now.plan.now.grid) a.numbers.now c.requires.counted index.written (Some blank) c.in_ok-prepared.prepared.numbers.items
+    c.in_ok-prepared.prepared.len (rw long c.requires.lies) (rw long c.requires.index) _ settled
+
+pub returns-clause-told : goal.returns-clause-told
+returns-clause-told g c = λ t.
+    let a = c.args in
+    let s = a.self.now.subchunks in
+    let plan = a.self.now.plan.now in
+    let codec = a.self.now.index_codec.codec.now in
+    let index = index_meaning g.X.ArrayToBytesCodecTraits.meaning codec plan.grid in
+    let contents = (g.H.BytesPartialDecoderTraits.state a.handle.now).contents in
+    let len = c.requires.len t in
+    let touched = c.in_ok-touched.touched.items in
+    let settled = rw c.deref-3.ensures.value at (c.in_ok-prepared.ensures.settled contents len) in
+    let law = g.met.X.ArrayToBytesCodecTraits.lawful codec (index_geo plan.grid) in
+    told_settled index.cells index.written s.shape.now (geo a.self.now.shape.now s.data_type.now s.fill_value.now) a.self.now.index_codec.location plan.size
+    (rw (← c.requires.grid) (λ e bytes array written. law.written_cells e bytes c.requires.plan.serves.served array written))
+    touched c.in_ok-laid.laid.slots.items c.in_ok-laid.laid.bytes.items a.numbers.now (rw (← c.requires.grid) c.requires.counted) contents c.in_ok-prepared.prepared.numbers.items
+    c.in_ok-prepared.prepared.len (rw len c.requires.index) _ settled
+
+pub returns-in_err-arrays-clause-refused : goal.returns-in_err-arrays-clause-refused
+returns-in_err-arrays-clause-refused g c =
+    let a = c.args in
+    let s = a.self.now.subchunks in
+    let inner = inner_meaning g.I.ArrayToBytesCodecTraits.meaning s in
+    let index = index_meaning g.X.ArrayToBytesCodecTraits.meaning a.self.now.index_codec.codec.now a.self.now.plan.now.grid in
+    let h = g.H.BytesPartialDecoderTraits in
+    let e = c.in_err-arrays.field-0.0 in
+    passed_on _ e _ c.from_residual-in_err-arrays.ensures.1
+    (old_first inner index (layout_from a.self.now.shape.now (subchunk_geo s) a.self.now.index_codec.location a.self.now.plan.now.size) (subchunk_geo s) a.subset.now a.update.now.elements
+    (bytes_of (h.state a.handle.now).contents) a.numbers.now c.in_ok-touched.touched.items (λ j. []) c.in_ok-touched.ensures.touched (λ j lt. c.in_ok-touched.ensures.below j 0 lt)
+    (h.state a.handle.now) (h.state c.changed.new.handle) e c.in_err-arrays.ensures.refused)
+
+pub returns-in_err-laid-clause-refused : goal.returns-in_err-laid-clause-refused
+returns-in_err-laid-clause-refused g c =
+    let a = c.args in
+    let s = a.self.now.subchunks in
+    let inner = inner_meaning g.I.ArrayToBytesCodecTraits.meaning s in
+    let index = index_meaning g.X.ArrayToBytesCodecTraits.meaning a.self.now.index_codec.codec.now a.self.now.plan.now.grid in
+    let contents = (g.H.BytesPartialDecoderTraits.state a.handle.now).contents in
+    let arrays = c.in_ok-arrays.arrays.items in
+    let touched = c.in_ok-touched.touched.items in
+    let counted : length arrays ≡ length touched = c.in_ok-arrays.ensures.counted ∙ ap length c.deref.ensures.value in
+    let refused = rw (c.deref-2.ensures.value, counted) at c.in_err-laid.ensures.refused in
+    passed_on _ c.in_err-laid.field-0.0 _ c.from_residual-in_err-laid.ensures.1 (elim refused [
+      | inl memory ↦ inl memory
+      | inr tests ↦ inr (λ t.
+          let cells = rw c.deref.ensures.value at (c.in_ok-arrays.ensures.cells t) in
+          let passed = rw c.requires.grid at (c.in_ok-arrays.ensures.passed t) in
+          inr (new_tests inner index (layout_from a.self.now.shape.now (subchunk_geo s) a.self.now.index_codec.location a.self.now.plan.now.size) (subchunk_geo s) a.subset.now a.update.now.elements
+          (bytes_of contents) a.numbers.now touched (λ j. (array_at arrays j).elements) c.in_ok-touched.ensures.touched (λ j lt. c.in_ok-touched.ensures.below j 0 lt)
+          passed (λ j lt. cells j (omega (arith, lt, counted))) c.in_err-laid.field-0.0 tests))
+    ])
+
+pub returns-in_err-prepared-clause-refused : goal.returns-in_err-prepared-clause-refused
+returns-in_err-prepared-clause-refused g c =
+    let a = c.args in
+    let s = a.self.now.subchunks in
+    let inner = inner_meaning g.I.ArrayToBytesCodecTraits.meaning s in
+    let index = index_meaning g.X.ArrayToBytesCodecTraits.meaning a.self.now.index_codec.codec.now a.self.now.plan.now.grid in
+    let contents = (g.H.BytesPartialDecoderTraits.state a.handle.now).contents in
+    let arrays = c.in_ok-arrays.arrays.items in
+    let touched = c.in_ok-touched.touched.items in
+    let counted : length arrays ≡ length touched = c.in_ok-arrays.ensures.counted ∙ ap length c.deref.ensures.value in
+    let laid = rw (c.deref-2.ensures.value, counted) at c.in_ok-laid.ensures.laid in
+    let refused = rw c.deref-3.ensures.value at c.in_err-prepared.ensures.refused in
+    passed_on _ c.in_err-prepared.field-0.0 _ c.from_residual-in_err-prepared.ensures.1 (elim refused [
+      | inl memory ↦ inl memory
+      | inr tests ↦ inr (λ t.
+          let cells = rw c.deref.ensures.value at (c.in_ok-arrays.ensures.cells t) in
+          let passed = rw c.requires.grid at (c.in_ok-arrays.ensures.passed t) in
+          let numbers_counted = rw c.requires.grid at c.requires.counted in
+          inr (last_tests inner index (layout_from a.self.now.shape.now (subchunk_geo s) a.self.now.index_codec.location a.self.now.plan.now.size) (subchunk_geo s) a.subset.now a.update.now.elements
+          (bytes_of contents) a.numbers.now touched (λ j. (array_at arrays j).elements) c.in_ok-touched.ensures.touched (λ j lt. c.in_ok-touched.ensures.below j 0 lt)
+          passed (λ j lt. cells j (omega (arith, lt, counted))) c.in_ok-laid.laid.slots.items c.in_ok-laid.laid.bytes.items laid numbers_counted c.in_err-prepared.field-0.0
+          (rw (c.requires.len t, ← c.requires.grid) tests)))
+    ])

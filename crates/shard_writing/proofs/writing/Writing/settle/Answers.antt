@@ -1,7 +1,8 @@
-use Rattle.std.proofs.Common.{◌≡◌, ◌∙◌, ◌^◌, ◌≤◌, ◌+◌, ◌/◌, sym, inl, inr, refl, length, arith}
+use Rattle.std.proofs.Common.{◌≡◌, ◌∙◌, ◌^◌, ◌<◌, ◌≤◌, ◌+◌, ◌/◌, sym, inl, inr, refl, length, arith}
 use Rattle.std.proofs.lemmas.Bool.{false≢true}
 use Rattle.shard_writing.specs.Writing.{place_behind, length_behind}
 use Rattle.shard_writing.proofs.PlaceLemmas.{goes_behind, at_least}
+use Rattle.shard_format.proofs.RefusalLemmas.{passed_on}
 use Rattle.shard_writing.proofs.writing.Writing.settle.Goals as goal
 
 pub returns-in_default-clause-refused : goal.returns-in_default-clause-refused
@@ -49,3 +50,19 @@ returns-clause-settled g c = λ old same.
       put = rw same (λ enough. put old (rw same enough) (rw same (goes_behind location size c.args.len (length slices) numbers (length numbers / 2) enough)));
       long = rw same stays;
     }))
+
+pub returns-in_err-appended-clause-refused : goal.returns-in_err-appended-clause-refused
+returns-in_err-appended-clause-refused g c =
+    let s = c.args.self.now in
+    let location = s.index_codec.location in
+    let size = s.plan.now.size in
+    let numbers = c.args.numbers.now in
+    let slices = c.args.laid.bytes.items in
+    let known = rw c.deref.ensures.value at c.are_absent.ensures in
+    let total : c.len-total.result ≡ length slices = omega (arith, c.len-total.ensures, c.args.laid.bytes.ok.0) in
+    let long = rw (c.place_behind-place.ensures, total) at c.in-Some.ensures in
+    let fits : length_behind location c.args.len (place_behind location size c.args.len numbers (length numbers / 2)) (length slices) + 1 < 2 ^ 64 = omega (arith, long.0, long.1, c.if-long.false) in
+    passed_on _ c.in_err-appended.field-0.0 _ c.from_residual-in_err-appended.ensures.1 (elim c.in_err-appended.ensures.refused [
+      | inl memory ↦ inl memory
+      | inr index ↦ inr (inr ((c.in_ok-new.new.items, c.in_ok-new.ensures.cleared, inr (λ absent. false≢true (sym c.if-are_absent.false ∙ known.1 absent), fits)), index))
+    ])
