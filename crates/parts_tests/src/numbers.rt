@@ -5,7 +5,10 @@ use std::test::Fail;
 use zarr_parts::{ArrayBytes, ArraySubset, CodecError, DataType, DataTypeSize, FillValue, Number};
 
 // The bytes and the size of the elements that these numbers are.
-fn elements<T: Number>(alloc: Global, numbers: &[T]) -> Result<(Vec<u8>, DataTypeSize), CodecError> {
+fn elements<T: Number>(
+    alloc: Global,
+    numbers: &[T],
+) -> Result<(Vec<u8>, DataTypeSize), CodecError> {
     let array = ArrayBytes::from_numbers(alloc, numbers)?;
     let kind = array.kind();
     Ok((array.into_fixed()?.into_owned(alloc)?, kind))
@@ -37,7 +40,10 @@ fn there_and_back(alloc: Global, numbers: &[u32]) -> Result<Vec<u32>, CodecError
 #[test]
 fn elements_become_numbers(rt: HostRuntime) -> Result<(), Fail> {
     let numbers = [0, 7, 258, 0x0102_0304, u32::MAX];
-    assert_eq!(rt; there_and_back(rt.alloc(), &numbers)?.as_slice(), numbers.as_slice());
+    assert_eq!(rt;
+        there_and_back(rt.alloc(), &numbers)?.as_slice(),
+        numbers.as_slice()
+    );
     Ok(())
 }
 
@@ -75,7 +81,10 @@ fn types_have_names(rt: HostRuntime) {
         ("bytes", DataType::Bytes),
     ];
     for (name, data_type) in table {
-        assert_eq!(rt; (DataType::from_name(name), data_type.name()), (Some(data_type), Some(name)));
+        assert_eq!(rt;
+            (DataType::from_name(name), data_type.name()),
+            (Some(data_type), Some(name))
+        );
     }
 }
 

@@ -5,8 +5,7 @@
 use std::alloc::Global;
 use zarr_codecs::{ArrayToBytesCodecTraits, BytesCodec, MemoryHandle};
 use zarr_parts::{
-    ArrayBytes, ArraySubset, ChunkShape, CodecError, CodecOptions, Coordinates, DataType,
-    FillValue,
+    ArrayBytes, ArraySubset, ChunkShape, CodecError, CodecOptions, Coordinates, DataType, FillValue,
 };
 use zarrs_sharding::{ShardingCodec, ShardingIndexLocation};
 
@@ -44,8 +43,12 @@ fn read(alloc: Global, shard: Vec<u8>) -> Result<[Vec<u16>; 2], CodecError> {
             let three = Coordinates::new(2, 3, [7, 7, 0, 0, 7, 7].to_vec(alloc)?);
             let three = three.ok_or(CodecError::IncompatibleDimensionality)?;
             Ok([
-                decoder.partial_decode(alloc, &subset, &options)?.to_numbers(alloc)?,
-                decoder.partial_decode(alloc, &three, &options)?.to_numbers(alloc)?,
+                decoder
+                    .partial_decode(alloc, &subset, &options)?
+                    .to_numbers(alloc)?,
+                decoder
+                    .partial_decode(alloc, &three, &options)?
+                    .to_numbers(alloc)?,
             ])
         }
         Err((_handle, error)) => Err(error),
