@@ -2,12 +2,14 @@
 #![tactic(auto)]
 
 mod asked;
+mod fill_values;
 mod gathering;
 mod grouping;
 mod laying;
 mod update;
 
 pub use asked::{check_asked, put_together};
+pub use fill_values::filled;
 pub use gathering::{check_lengths, gathered};
 pub use grouping::{Grouping, Places, Standing, grouped};
 pub use update::check_update;

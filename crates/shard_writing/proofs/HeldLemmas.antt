@@ -12,7 +12,8 @@ use Rattle.shard_format.specs.declared.location.ShardingIndexLocation.{ShardingI
 use Rattle.shard_format.specs.declared.slot.Slot.{Slot}
 use Rattle.shard_format.specs.declared.slot.Slot.TheVariants.{Absent, InRange, Bad}
 use Rattle.shard_format.proofs.EncodingLemmas.{shifted, shifted_pair}
-use Rattle.shard_writing.specs.Writing.{AreAbsent, AreLaid, HasPairs, HasPut, IsSettled, place_behind, LiesBetween, HoldsNumbers, IsHeld}
+use Rattle.shard_index.specs.DataPart.{LiesBetween}
+use Rattle.shard_writing.specs.Writing.{AreAbsent, AreLaid, HasPairs, HasPut, IsSettled, place_behind, HoldsNumbers, IsHeld}
 use Rattle.zarr_boxes.proofs.GridLaws.{over_first}
 use Rattle.shard_writing.proofs.AnewLemmas.{pair_absent, in_list, absent_pair, cleared_absent}
 use Rattle.shard_writing.proofs.WriteLemmas.{absent_slot, inside_data}

@@ -21,6 +21,7 @@ use Rattle.shard_format.specs.Cells.{Layout, cell_in}
 use Rattle.shard_format.specs.Encoding.{StandsAt, slot_size, BeginsAt}
 use Rattle.shard_format.specs.Laying.{IsLaid, taken, offset_number, size_number}
 use Rattle.shard_format.specs.Packing.{slice_of}
+use Rattle.shard_index.specs.DataPart.{IsInDataPart}
 use Rattle.shard_format.specs.declared.location.ShardingIndexLocation.{ShardingIndexLocation}
 use Rattle.shard_format.specs.declared.location.ShardingIndexLocation.TheVariants.{Start, End}
 use Rattle.shard_format.specs.declared.order.SubchunkWriteOrder.TheVariants.{Unordered}
@@ -293,12 +294,6 @@ pub record IsMade (inner : Meaning) (index_written : Written) (shape : List ℕ)
   pub laid : AreLaid inner.written sub_g.fill elements slices slots (length touched)
   pub settled : IsSettled index_written location index_size touched slots slices numbers old new new_numbers new_len
 
--- a slot is absent, or its slice lies between two places
-abbrev pub LiesBetween : (start end : ℕ) → Slot → Type 0
-LiesBetween start end Absent = ⊤
-LiesBetween start end (InRange offset size) = (start ≤ offset) × (offset + size ≤ end)
-LiesBetween start end Bad = ⊥
-
 -- the layout of a shard of this shape, whose subchunks are asked of the inner codec as this geo says
 abbrev pub layout_from : List ℕ → Geo → ShardingIndexLocation → (index_size : ℕ) → Layout
 layout_from shape sub_g location index_size =
@@ -308,5 +303,4 @@ layout_from shape sub_g location index_size =
 pub record IsHeld (location : ShardingIndexLocation) (index_size n len : ℕ) (numbers : List ℕ) : Type 0 where
   pub counted : length numbers ≡ 2 * n
   pub room : len + 1 < 2 ^ 64
-  pub placed : (k : ℕ) → k < n
-      → LiesBetween (data_start location index_size) (data_end location index_size len) (slot_at len numbers k)
+  pub placed : (k : ℕ) → k < n → IsInDataPart location index_size len (slot_at len numbers k)

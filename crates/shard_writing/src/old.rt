@@ -1,10 +1,9 @@
 // The old cells of a subchunk, read through a handle.
-ghost use Rattle.std.specs.Prelude.{◌≡◌, ◌≤◌, ◌*◌, ◌+◌, ◌^◌, ◌<◌, IsTrue, IfOk, IfErr, OnOk, Some, map, length, replicate};
+ghost use Rattle.std.specs.Prelude.{◌≡◌, ◌<◌, IsTrue, IfOk, IfErr, OnOk, Some, map};
 ghost use Rattle.zarr_parts.specs.Order.{RefusedBy};
 ghost use Rattle.zarr_parts.specs.Numbering.{count_of};
 ghost use Rattle.zarr_parts.specs.Types.{size_of, HasElements, FitsKind};
 ghost use Rattle.zarr_parts.specs.Geo.{IsArrayOf};
-ghost use Rattle.zarr_words.specs.declared.error.CodecError.TheVariants.{TooLarge};
 ghost use Rattle.object_handles.specs.Handles.{IsRead, IsCounted};
 ghost use Rattle.object_handles.specs.Objects.{ObjectTests};
 ghost use Rattle.object_handles.specs.Writes.{bytes_of};
@@ -15,34 +14,11 @@ ghost use Rattle.shard_writing.specs.WriteTests.{RefusesOld};
 
 use codec_laws::ArrayToBytesCodecTraits;
 use object_handles::{ByteRange, BytesPartialDecoderTraits, lent};
+use shard_cells::filled;
 use shard_format::{Slot, of_stored};
 use shard_subchunks::Subchunks;
 use std::alloc::Global;
-use zarr_parts::{ArrayBytes, CodecError, DataType, FillValue};
-
-// So many fill values of a type. Only where no number says how many bytes they have is this too large; `u64::MAX` elements
-// are more than any memory has, which refuses so great a growth.
-fn filled(
-    alloc: Global,
-    data_type: &DataType,
-    count: u64,
-    fill_value: &FillValue,
-) -> Result<ArrayBytes<'static>, CodecError>
-    requires supported { HasElements data_type.now }
-    requires fits { FitsKind (size_of data_type.now) fill_value.now }
-    ensures filled { IfOk result (λ array. array ≡ record { kind = size_of data_type.now; elements = replicate count fill_value.now }) }
-    ensures refused { IfErr result (RefusedBy (λ e. (e ≡ TooLarge) × (2 ^ 64 ≤ count * length fill_value.now))) }
-{
-    let size = fill_value.as_ne_bytes().len() as u64;
-    if count.checked_mul(size).is_none() {
-        return Err(CodecError::TooLarge);
-    }
-    if count == u64::MAX {
-        let _: Vec<u8> = Vec::with_capacity(alloc, usize::MAX)?;
-        return Err(CodecError::OutOfMemory);
-    }
-    ArrayBytes::new_fill_value(alloc, data_type, count, fill_value)
-}
+use zarr_parts::{ArrayBytes, CodecError};
 
 // The array that the stored bytes of a subchunk stand for, with bytes of its own.
 fn decoded<I: ArrayToBytesCodecTraits>(

@@ -8,10 +8,11 @@ ghost use Rattle.zarr_parts.specs.Types.{size_of, HasElements, FitsKind};
 ghost use Rattle.object_handles.specs.Handles.{IsRead, IsCounted};
 ghost use Rattle.object_handles.specs.Objects.{ObjectTests};
 ghost use Rattle.object_handles.specs.Writes.{bytes_of};
-ghost use Rattle.shard_format.specs.Index.{slot_at, data_start, data_end};
+ghost use Rattle.shard_format.specs.Index.{slot_at};
 ghost use Rattle.shard_subchunks.specs.Inner.{subchunk_geo, inner_meaning};
+ghost use Rattle.shard_index.specs.DataPart.{IsInDataPart};
 ghost use Rattle.shard_index.specs.Indexes.{index_meaning, IsIndexPlan};
-ghost use Rattle.shard_writing.specs.Writing.{HasSlice, AreAbsent, HoldsNumbers, LiesBetween, IsHeld, IsMade, IsWriteOf, layout_from};
+ghost use Rattle.shard_writing.specs.Writing.{HasSlice, AreAbsent, HoldsNumbers, IsHeld, IsMade, IsWriteOf, layout_from};
 ghost use Rattle.shard_writing.specs.WriteTests.{WriteTests};
 ghost use Rattle.shard_writing.specs.Changes.{object_after};
 
@@ -53,8 +54,7 @@ impl<I: ArrayToBytesCodecTraits, X: ArrayToBytesCodecTraits> Writing<'_, I, X> {
         requires all { length update.now.elements ≡ count_of subset.now.shape }
         requires len { IsTrue (H.state handle.old).tells → length (bytes_of (H.state handle.old).contents) ≡ len }
         requires there { IsTrue (H.state handle.old).tells → (k : ℕ) → k < count_of self.now.plan.now.grid → HasSlice (H.state handle.old).contents (slot_at len numbers.now k) }
-        requires lies { (k : ℕ) → k < count_of self.now.plan.now.grid
-            → LiesBetween (data_start self.now.index_codec.location self.now.plan.now.size) (data_end self.now.index_codec.location self.now.plan.now.size len) (slot_at len numbers.now k) }
+        requires lies { (k : ℕ) → k < count_of self.now.plan.now.grid → IsInDataPart self.now.index_codec.location self.now.plan.now.size len (slot_at len numbers.now k) }
         requires index { ¬ (AreAbsent numbers.now) → self.now.plan.now.size ≤ len }
         ensures read { IsRead (H.state handle.old) (H.state handle.new) }
         ensures made { let s = self.now.subchunks in let inner = inner_meaning I.meaning s in let index = index_meaning X.meaning self.now.index_codec.codec.now self.now.plan.now.grid in

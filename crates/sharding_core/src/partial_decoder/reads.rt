@@ -1,14 +1,13 @@
 // Reads of some cells of a shard that is open.
-ghost use Rattle.std.specs.Prelude.{◌≡◌, ◌*◌, ◌^◌, ◌≤◌, ℕ, List, [], IsTrue, Some, IfOk, IfErr, OnOk, OnErr, map, length, replicate, slice_index_or};
+ghost use Rattle.std.specs.Prelude.{◌≡◌, ℕ, List, [], IsTrue, Some, IfOk, IfErr, OnOk, OnErr, map, length, slice_index_or};
 ghost use Rattle.std.specs.List.{All};
 ghost use Rattle.zarr_parts.specs.Order.{RefusedBy};
 ghost use Rattle.zarr_parts.specs.Numbering.{count_of, IsInside};
 ghost use Rattle.zarr_parts.specs.Geo.{geo};
-ghost use Rattle.zarr_parts.specs.Types.{size_of, HasElements, FitsKind};
+ghost use Rattle.zarr_parts.specs.Types.{size_of};
 ghost use Rattle.zarr_parts.specs.Selections.{IsSelectionOf};
 ghost use Rattle.zarr_parts.specs.Targets.{IsWritten, TargetTests};
 ghost use Rattle.zarr_elements.specs.declared.data_type.DataTypeSize.TheVariants.{Fixed};
-ghost use Rattle.zarr_words.specs.declared.error.CodecError.TheVariants.{TooLarge};
 ghost use Rattle.object_handles.specs.Handles.{IsRead, IsCounted};
 ghost use Rattle.codec_laws.specs.Reads.{cells_at, IsAnswer, IsDecodedInto, AskedTests};
 ghost use Rattle.object_handles.specs.Objects.{ObjectTests};
@@ -18,37 +17,11 @@ use super::{OpenShard, ShardingPartialDecoder};
 use crate::codec::ShardingCodec;
 use codec_laws::{ArrayToBytesCodecTraits, check_target};
 use object_handles::{BytesPartialDecoderTraits, Interval};
-use shard_cells::check_asked;
+use shard_cells::{check_asked, filled};
 use shard_format::ShardIndex;
 use shard_subchunks::Subchunks;
 use std::alloc::Global;
-use zarr_parts::{
-    ArrayBytes, CodecError, CodecOptions, DataType, FillValue, FixedTarget, Indexer, point_numbers,
-};
-
-// So many fill values of a type. Only where no number says how many bytes they have is this too large; `u64::MAX` elements
-// are more than any memory has, which refuses so great a growth.
-fn filled(
-    alloc: Global,
-    data_type: &DataType,
-    count: u64,
-    fill_value: &FillValue,
-) -> Result<ArrayBytes<'static>, CodecError>
-    requires supported { HasElements data_type.now }
-    requires fits { FitsKind (size_of data_type.now) fill_value.now }
-    ensures filled { IfOk result (λ array. array ≡ record { kind = size_of data_type.now; elements = replicate count fill_value.now }) }
-    ensures refused { IfErr result (RefusedBy (λ e. (e ≡ TooLarge) × (2 ^ 64 ≤ count * length fill_value.now))) }
-{
-    let size = fill_value.as_ne_bytes().len() as u64;
-    if count.checked_mul(size).is_none() {
-        return Err(CodecError::TooLarge);
-    }
-    if count == u64::MAX {
-        let _: Vec<u8> = Vec::with_capacity(alloc, usize::MAX)?;
-        return Err(CodecError::OutOfMemory);
-    }
-    ArrayBytes::new_fill_value(alloc, data_type, count, fill_value)
-}
+use zarr_parts::{ArrayBytes, CodecError, CodecOptions, FixedTarget, Indexer, point_numbers};
 
 impl<I: ArrayToBytesCodecTraits, X: ArrayToBytesCodecTraits> ShardingCodec<I, X> {
     // The cells that an indexer asks of a shard that is open and has this index.
