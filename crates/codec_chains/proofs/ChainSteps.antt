@@ -1,5 +1,5 @@
 -- Steps of what a chain decodes and reads.
-use Rattle.std.proofs.Common.{◌≡◌, ℕ, zero, suc, ◌+◌, ◌<◌, ◌≤◌, ◌⊎◌, List, Option, Some, None, Result, Ok, Err, IsSome, IsErrAnd, IfErr, length, take, drop, replicate, refl, sym, subst, arith, inl, inr}
+use Rattle.std.proofs.Common.{◌≡◌, ℕ, zero, suc, ◌+◌, ◌<◌, ◌≤◌, ◌⊎◌, List, Option, Some, None, IsSome, length, take, drop, replicate, refl, sym, subst, arith, inl, inr}
 use Rattle.std.proofs.Math.Seq.{take-length}
 use Rattle.zarr_words.specs.Words.{Bytes, CellsOf}
 use Rattle.zarr_words.specs.Order.{◌or◌then◌, done, RefusedBy}
@@ -10,11 +10,7 @@ use Rattle.codec_laws.specs.Refusals.{MayRefuseDecode}
 use Rattle.codec_laws.specs.Reads.{MayRefuseRead, cells_at}
 use Rattle.codec_chains.specs.Chains.{cells_of}
 
--- a refusal that is handed on
-pub handed_on : {T : Type 0} (r : Result T CodecError) (e : CodecError) (P : CodecError → Type 0) → IsErrAnd r (λ x. x ≡ e) → P e → IfErr r P
-handed_on (Ok v) e P same told = tt
-handed_on (Err x) e P same told = subst P (sym same) told
-
+-- no cell of some is not all of them
 all_there-none : (n : ℕ) → 0 < n → all_there {A = List ℕ} (replicate n None) ≡ None
 all_there-none zero h = absurd (omega arith)
 all_there-none (suc n) h = refl

@@ -11,7 +11,7 @@ use codec_laws::{
     ArrayToBytesCodecTraits, BytesRepresentation, FunctionalCodec, RecommendedConcurrency,
 };
 use object_handles::{
-    ByteRange, BytesPartialDecoderTraits, Interval, SliceHandle, check_interval, lent,
+    ByteRange, BytesPartialDecoderTraits, Interval, SliceHandle, check_interval, read_range,
 };
 use std::alloc::Global;
 use std::borrow::CowSlice;
@@ -212,7 +212,7 @@ impl<C: ArrayToBytesCodecTraits, B: BytesToBytesCodecTraits> ArrayToBytesCodecTr
         check_interval(handle, interval)?;
         let mut room = Vec::new(alloc);
         let range = ByteRange::FromStart(interval.offset, Some(interval.size));
-        let Some(bytes) = lent(handle, &mut room, alloc, range)? else {
+        let Some(bytes) = read_range(handle, &mut room, alloc, range)? else {
             return Err(CodecError::OutOfBounds);
         };
         let inner = self.bytes_to_bytes.decode(alloc, bytes)?;

@@ -5,6 +5,7 @@ use Rattle.zarr_elements.specs.declared.data_type.DataTypeSize.{DataTypeSize}
 use Rattle.zarr_words.specs.declared.error.CodecError.{CodecError}
 use Rattle.zarr_words.specs.declared.error.CodecError.TheVariants.{OutOfMemory, TooLarge, Fault}
 use Rattle.codec_laws.specs.Cells.{all_there}
+use Rattle.codec_laws.specs.CellLaws.{all_there-map_some}
 use Rattle.codec_laws.specs.Refusals.{AreDamaged, MayRefuseDecode}
 use Rattle.codec_laws.specs.RoundTrip.{MayRefuseRoundTrip}
 
@@ -26,13 +27,9 @@ same_array x y kind cells kind_x kind_y cells_x cells_y =
     ap (λ k. record { kind = k; elements = x.elements }) same_kind ∙ ap (λ es. record { kind = y.kind; elements = es }) elements
 
 -- cells that are all there are not damaged
-pub all_there-some : (xs : List (List ℕ)) → all_there (map Some xs) ≡ Some xs
-all_there-some [] = refl
-all_there-some (x ∷ xs) = rw (all_there-some xs) refl
-
 pub undamaged : (cells : List (Option (List ℕ))) (xs : List (List ℕ)) → cells ≡ map Some xs → AreDamaged cells → ⊥
 undamaged cells xs is damaged =
-    let some : Some xs ≡ None = sym (ap all_there is ∙ all_there-some xs) ∙ damaged in
+    let some : Some xs ≡ None = sym (ap all_there is ∙ all_there-map_some xs) ∙ damaged in
     cc
 
 -- what `decode` may refuse of an array that was encoded

@@ -1,4 +1,5 @@
 pub mod Cells
+pub mod CellLaws
 pub mod Meanings
 pub mod Refusals
 pub mod RefusalLaws

@@ -2,7 +2,7 @@
 use std::alloc::{AllocError, Global};
 use std::borrow::CowSlice;
 use std::ops::Range;
-use zarr_codecs::{ByteRange, BytesPartialDecoderTraits, MemoryHandle, copied, lent};
+use zarr_codecs::{ByteRange, BytesPartialDecoderTraits, MemoryHandle, copy_range, read_range};
 use zarr_parts::{ArrayBytes, ArraySubset, ChunkShape, CodecError, FillValue};
 
 pub fn shape(alloc: Global, axes: &[u64]) -> Result<ChunkShape, CodecError> {
@@ -45,7 +45,7 @@ pub fn is_lent<H: BytesPartialDecoderTraits>(
     want: Result<Option<&[u8]>, CodecError>,
 ) -> bool {
     let mut room = Vec::new(alloc);
-    lent(handle, &mut room, alloc, range) == want
+    read_range(handle, &mut room, alloc, range) == want
 }
 
 // Whether a range of a handle's object is copied as these bytes, as no object, or refused so.
@@ -55,7 +55,7 @@ pub fn is_copied<H: BytesPartialDecoderTraits>(
     range: ByteRange,
     want: Result<Option<&[u8]>, CodecError>,
 ) -> bool {
-    match copied(handle, alloc, range) {
+    match copy_range(handle, alloc, range) {
         Ok(Some(bytes)) => want == Ok(Some(bytes.as_slice())),
         Ok(None) => want == Ok(None),
         Err(error) => want == Err(error),

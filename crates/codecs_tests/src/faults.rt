@@ -3,7 +3,7 @@ use crate::examples::{done, is_lent};
 use std::alloc::Global;
 use std::ops::Range;
 use zarr_codecs::{
-    ByteRange, BytesPartialDecoderTraits, BytesPartialEncoderTraits, FaultingHandle, copied,
+    ByteRange, BytesPartialDecoderTraits, BytesPartialEncoderTraits, FaultingHandle, copy_range,
 };
 use zarr_parts::CodecError;
 
@@ -19,7 +19,7 @@ fn ask<H: BytesPartialEncoderTraits>(
     match number {
         0 => done(handle.exists()),
         2 => done(handle.len()),
-        _ => done(copied(handle, alloc, ByteRange::Suffix(1))),
+        _ => done(copy_range(handle, alloc, ByteRange::Suffix(1))),
     }
 }
 

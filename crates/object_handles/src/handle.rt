@@ -65,7 +65,7 @@ fn split<'a>(
 }
 
 /// Reads as `partial_decode`, and lends the bytes: from the handle, or from `room`, which then holds them.
-pub fn lent<'a, H: BytesPartialDecoderTraits>(
+pub fn read_range<'a, H: BytesPartialDecoderTraits>(
     handle: &'a mut H,
     room: &'a mut Vec<u8>,
     alloc: Global,
@@ -78,7 +78,7 @@ pub fn lent<'a, H: BytesPartialDecoderTraits>(
 }
 
 /// Reads as `partial_decode`, and answers a copy.
-pub fn copied<H: BytesPartialDecoderTraits>(
+pub fn copy_range<H: BytesPartialDecoderTraits>(
     handle: &mut H,
     alloc: Global,
     range: ByteRange,
@@ -88,7 +88,7 @@ pub fn copied<H: BytesPartialDecoderTraits>(
     ensures refused { IfErr result (RefusesRead range (H.state handle.old) (H.state handle.new)) }
 {
     let mut room = Vec::new(alloc);
-    match lent(handle, &mut room, alloc, range)? {
+    match read_range(handle, &mut room, alloc, range)? {
         Some(bytes) => {
             let copy = bytes.to_vec(alloc)?;
             Ok(Some(copy))

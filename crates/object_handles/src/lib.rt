@@ -12,7 +12,7 @@ mod writing;
 pub use bytes::{ByteRange, Interval, part_of};
 pub use counting_handle::CountingHandle;
 pub use faulting_handle::FaultingHandle;
-pub use handle::{BytesPartialDecoderTraits, LendsSlice, copied, lent};
+pub use handle::{BytesPartialDecoderTraits, LendsSlice, copy_range, read_range};
 pub use interval::check_interval;
 pub use memory_handle::{MemoryHandle, SliceHandle};
 pub use writing::BytesPartialEncoderTraits;

@@ -9,7 +9,7 @@ use Rattle.zarr_parts.specs.Types.{FitsKind}
 use Rattle.zarr_elements.specs.declared.data_type.DataTypeSize.{DataTypeSize}
 use Rattle.codec_laws.specs.Cells.{cell_length}
 use Rattle.codec_laws.specs.Refusals.{AreTooLong}
-use Rattle.shard_format.specs.Laws.{all_there-map_some}
+use Rattle.codec_laws.specs.CellLaws.{all_there-map_some}
 use Rattle.shard_format.specs.Index.{slot_at}
 use Rattle.shard_format.specs.Cells.{cell_in, indexed_cell}
 use Rattle.shard_format.specs.Decoding.{IsChunkOf, element_at, IsPartOf}

@@ -13,7 +13,7 @@ use Rattle.object_handles.specs.declared.bytes.Interval.{Interval}
 use Rattle.object_handles.specs.Handles.{HandleState, IsRead}
 use Rattle.object_handles.specs.Objects.{interval_part, HasInterval, ObjectTests}
 use Rattle.shard_format.specs.Index.{slot_at}
-use Rattle.shard_format.specs.Laws.{all_there-map_some}
+use Rattle.codec_laws.specs.CellLaws.{all_there-map_some}
 use Rattle.shard_format.specs.ReadTests.{places_in, HasPlaces, RefusesPlaces, PlacesTests}
 use Rattle.shard_cells.specs.Grouping.{AreUsed, AreGrouped, lists_of}
 use Rattle.shard_cells.specs.declared.grouping.Grouping.{Grouping}

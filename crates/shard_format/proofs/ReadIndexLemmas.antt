@@ -9,7 +9,7 @@ use Rattle.codec_laws.specs.Refusals.{RefusesUnserved, MayRefuseDecode}
 use Rattle.object_handles.specs.Handles.{HandleState}
 use Rattle.object_handles.specs.Objects.{ObjectTests}
 use Rattle.shard_format.specs.Index.{index_part, number_of_element, numbers_in_index, numbers_of_cells}
-use Rattle.shard_format.specs.Laws.{all_there-map_some}
+use Rattle.codec_laws.specs.CellLaws.{all_there-map_some}
 use Rattle.shard_format.specs.DecodeTests.{stored_refusal, RefusesStored, IndexTests}
 use Rattle.shard_format.specs.declared.location.ShardingIndexLocation.{ShardingIndexLocation}
 

@@ -1,7 +1,6 @@
 -- A refusal of a shard's bytes is one that the codec laws allow.
 use Rattle.std.proofs.Common.{◌≡◌, ◌≢◌, ℕ, ◌*◌, ◌^◌, ◌<◌, ◌≤◌, nat_le, true, false, List, Option, Some, None, IfSome, ◌⊎◌, inl, inr, length, get_or, map, take, drop, refl, sym, ap, ◌∙◌, arith}
 use Rattle.std.specs.Option.{option_map}
-use Rattle.std.proofs.Common.{Result, Ok, Err, IfErr, IsErrAnd, subst}
 use Rattle.std.proofs.Common.{if◌then◌else◌}
 use Rattle.std.proofs.lemmas.Bool.{lt-leb}
 use Rattle.std.proofs.lemmas.Bool.Decides.{leb_tells}
@@ -24,17 +23,13 @@ use Rattle.shard_format.specs.declared.slot.Slot.{Slot}
 use Rattle.shard_format.specs.declared.slot.Slot.TheVariants.{Absent, InRange, Bad}
 use Rattle.zarr_parts.specs.Grid.{grid_of, Divides, subchunk_number, place_number, cell_number}
 use Rattle.zarr_boxes.proofs.GridLaws.{cell_number-below, subchunk_number-cell_number, place_number-cell_number}
-use Rattle.shard_format.specs.Laws.{all_there-map_some, count-append_two}
+use Rattle.shard_format.specs.Laws.{count-append_two}
+use Rattle.codec_laws.specs.CellLaws.{all_there-map_some}
 use Rattle.shard_format.specs.Index.{slot_at, index_part, index_shape, number_of_element, numbers_in_index}
 use Rattle.shard_format.specs.Cells.{Layout, cell_in, cell_by, shard_cells}
 use Rattle.shard_format.specs.Serves.{fixed_size, layout_of, layout, ShardServes}
 use Rattle.shard_format.specs.Decoding.{IsDecoded}
 use Rattle.shard_format.specs.DecodeTests.{stored_refusal, HasArray, RefusesSubchunk, slot_by, IndexTests, SubchunkTests, DecodeTests}
-
--- a refusal that `?` passes on
-pub passed_on : {T : Type 0} (r : Result T CodecError) (e : CodecError) (P : CodecError → Type 0) → IsErrAnd r (λ x. x ≡ e) → P e → IfErr r P
-passed_on (Ok x) e P is h = tt
-passed_on (Err x) e P is h = subst P (sym is) h
 
 -- how stored bytes can be refused
 abbrev pub StoredRefused : List (Option (List ℕ)) → CodecError → Type 0

@@ -12,7 +12,7 @@ use Rattle.std.specs.List.{All, range_with_len}
 use Rattle.zarr_parts.specs.Geo.{Geo, IsArrayOf}
 use Rattle.zarr_parts.specs.Types.{size_of, FitsKind}
 use Rattle.zarr_parts.specs.Numbering.{count_of}
-use Rattle.codec_laws.specs.Cells.{all_there}
+use Rattle.codec_laws.specs.CellLaws.{all_there-map_some}
 use Rattle.zarr_parts.specs.Grid.{grid_of, Divides, subchunk_number, place_number, cell_number, subchunk}
 use Rattle.codec_laws.specs.Meanings.{Meaning}
 use Rattle.shard_format.specs.Index.{slot_at, index_part, data_end, index_geo, index_shape, number_of_element}
@@ -35,10 +35,6 @@ use Rattle.zarr_words.specs.Words.{CellsOf, Written}
 use Rattle.shard_format.specs.declared.location.ShardingIndexLocation.{ShardingIndexLocation}
 use Rattle.zarr_boxes.proofs.GridLaws.{subchunk_number-below, place_number-below, cell_number-below}
 use Rattle.zarr_boxes.proofs.GridLaws.{cell_number-located, length-subchunk, get_or-subchunk}
-
-pub all_there-map_some : (es : List (List ℕ)) → all_there (map Some es) ≡ Some es
-all_there-map_some [] = refl
-all_there-map_some (e ∷ es) = rw (all_there-map_some es)
 
 numbers_back : (ns : List ℕ) → All (λ n. n < 2 ^ 64) ns → map number_of_element (map element_of_number ns) ≡ ns
 numbers_back ns h =

@@ -15,7 +15,7 @@ ghost use Rattle.shard_index.specs.Indexes.{index_meaning, IsIndexPlan};
 use crate::numbers::{array_of_numbers, numbers_of_array, numbers_of_slots};
 use crate::place::{index_bytes, start_of_data, start_of_index};
 use codec_laws::{ArrayToBytesCodecTraits, BytesRepresentation};
-use object_handles::{ByteRange, BytesPartialDecoderTraits, Interval, lent};
+use object_handles::{ByteRange, BytesPartialDecoderTraits, Interval, read_range};
 use shard_format::{ShardIndex, ShardingIndexLocation, Slot, of_stored, sharding_index_shape};
 use std::alloc::Global;
 use zarr_parts::{ChunkShape, CodecError, CodecOptions, DataType, FillValue};
@@ -145,7 +145,7 @@ impl<X: ArrayToBytesCodecTraits> IndexCodec<'_, X> {
         let start = outer.offset + start_of_index(self.location, plan.size, outer.size);
         let range = ByteRange::FromStart(start, Some(plan.size));
         let mut room = Vec::new(alloc);
-        let Some(part) = lent(handle, &mut room, alloc, range)? else {
+        let Some(part) = read_range(handle, &mut room, alloc, range)? else {
             return Err(CodecError::OutOfBounds);
         };
         let numbers = self.decode_part(alloc, part, plan, options)?;

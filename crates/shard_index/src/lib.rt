@@ -7,4 +7,5 @@ mod pairs;
 mod place;
 
 pub use index::{IndexCodec, IndexPlan};
+pub use numbers::pair_of;
 pub use pairs::{check_pairs, without_pairs};

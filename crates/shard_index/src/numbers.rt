@@ -34,29 +34,16 @@ pub(crate) fn numbers_of_array(alloc: Global, index: &ArrayBytes) -> Result<Vec<
     Ok(numbers)
 }
 
-// A pair of the index.
-#[derive(Drop)]
-struct Pair {
-    offset: u64,
-    size: u64,
-}
-
-// The pair of a slot of the data part, which begins at `start`.
-fn pair_of(slot: Slot, start: u64) -> Pair
+/// The pair of the index that names a slot of the data part, which begins at `start`: its offset and its size.
+pub fn pair_of(slot: Slot, start: u64) -> (u64, u64)
     requires { EndsBelow start slot }
-    ensures offset { result.offset ≡ offset_number start slot }
-    ensures size { result.size ≡ size_number slot }
+    ensures offset { result.0 ≡ offset_number start slot }
+    ensures size { result.1 ≡ size_number slot }
 {
     match slot {
-        Slot::Absent => Pair {
-            offset: u64::MAX,
-            size: u64::MAX,
-        },
-        Slot::InRange { offset, size } => Pair {
-            offset: start + offset,
-            size,
-        },
-        Slot::Bad => Pair { offset: 0, size: 0 },
+        Slot::Absent => (u64::MAX, u64::MAX),
+        Slot::InRange { offset, size } => (start + offset, size),
+        Slot::Bad => (0, 0),
     }
 }
 
@@ -73,9 +60,9 @@ pub(crate) fn numbers_of_slots(
 {
     let mut numbers = Vec::with_capacity(alloc, 2 * slots.len())?;
     for k in 0..slots.len() {
-        let pair = pair_of(slots[k], start);
-        numbers.push(pair.offset)?;
-        numbers.push(pair.size)?;
+        let (offset, size) = pair_of(slots[k], start);
+        numbers.push(offset)?;
+        numbers.push(size)?;
     }
     Ok(numbers)
 }

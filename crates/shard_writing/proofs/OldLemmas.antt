@@ -5,7 +5,7 @@ use Rattle.object_handles.specs.Handles.{IsPart}
 use Rattle.object_handles.specs.Objects.{HasInterval}
 use Rattle.object_handles.specs.Writes.{bytes_of}
 use Rattle.shard_format.specs.DecodeTests.{HasArray}
-use Rattle.shard_format.specs.Laws.{all_there-map_some}
+use Rattle.codec_laws.specs.CellLaws.{all_there-map_some}
 use Rattle.shard_format.specs.declared.slot.Slot.TheVariants.{InRange}
 
 -- what was read of a slice that lies in the object

@@ -1,11 +1,12 @@
 // The numbers of an index with new pairs.
 ghost use Rattle.std.specs.Prelude.{◌≡◌, ◌*◌, ◌+◌, ◌^◌, ◌<◌, ℕ, IsTrue, ◌↔◌, IfOk, IfErr, All, length, slice_index, slice_index_or};
 ghost use Rattle.zarr_words.specs.declared.error.CodecError.TheVariants.{OutOfMemory};
-ghost use Rattle.shard_format.specs.Laying.{offset_number, size_number, EndsBelow};
+ghost use Rattle.shard_format.specs.Laying.{EndsBelow};
 ghost use Rattle.shard_format.specs.declared.slot.Slot.TheVariants.{Absent, Bad};
 ghost use Rattle.shard_writing.specs.Writing.{AreAbsent, HasPairs};
 
 use shard_format::Slot;
+use shard_index::pair_of;
 use std::alloc::Global;
 use zarr_parts::CodecError;
 
@@ -30,19 +31,6 @@ pub fn cleared(alloc: Global, numbers: &[u64], touched: &[u64]) -> Result<Vec<u6
         new[2 * k + 1] = u64::MAX;
     }
     Ok(new)
-}
-
-// The numbers of a slot's pair, where the data part begins at `start`.
-fn pair_of(slot: Slot, start: u64) -> (u64, u64)
-    requires { EndsBelow start slot }
-    ensures offset { result.0 ≡ offset_number start slot }
-    ensures size { result.1 ≡ size_number slot }
-{
-    match slot {
-        Slot::Absent => (u64::MAX, u64::MAX),
-        Slot::InRange { offset, size } => (start + offset, size),
-        Slot::Bad => (0, 0),
-    }
 }
 
 // The numbers with the pairs of some subchunks set to their slots, which stand in a data part that begins at `start`.

@@ -13,7 +13,7 @@ ghost use Rattle.shard_writing.specs.Writing.{HasSlice, AreCellsOf};
 ghost use Rattle.shard_writing.specs.WriteTests.{RefusesOld};
 
 use codec_laws::ArrayToBytesCodecTraits;
-use object_handles::{ByteRange, BytesPartialDecoderTraits, lent};
+use object_handles::{ByteRange, BytesPartialDecoderTraits, read_range};
 use shard_cells::filled;
 use shard_format::{Slot, of_stored};
 use shard_subchunks::Subchunks;
@@ -79,7 +79,7 @@ pub fn old_cells<I: ArrayToBytesCodecTraits, H: BytesPartialDecoderTraits>(
         Slot::InRange { offset, size } => {
             let range = ByteRange::FromStart(offset, Some(size));
             let mut room = Vec::new(alloc);
-            let Some(part) = lent(handle, &mut room, alloc, range)? else {
+            let Some(part) = read_range(handle, &mut room, alloc, range)? else {
                 return Err(CodecError::OutOfBounds);
             };
             let array = decoded(subchunks, alloc, part)?;

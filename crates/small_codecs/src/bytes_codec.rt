@@ -12,7 +12,7 @@ ghost use Rattle.small_codecs.specs.declared.bytes_codec.Endianness.TheVariants.
 use codec_laws::{
     ArrayToBytesCodecTraits, BytesRepresentation, FunctionalCodec, RecommendedConcurrency,
 };
-use object_handles::{ByteRange, BytesPartialDecoderTraits, Interval, check_interval, lent};
+use object_handles::{ByteRange, BytesPartialDecoderTraits, Interval, check_interval, read_range};
 use std::alloc::{AllocError, Global};
 use std::borrow::CowSlice;
 use std::marker::Model;
@@ -338,7 +338,7 @@ impl ArrayToBytesCodecTraits for BytesCodec {
         let numbers = point_numbers(alloc, indexer, count, shape)?;
         let mut room = Vec::new(alloc);
         let range = ByteRange::FromStart(interval.offset, Some(total));
-        let Some(bytes) = lent(handle, &mut room, alloc, range)? else {
+        let Some(bytes) = read_range(handle, &mut room, alloc, range)? else {
             return Err(CodecError::OutOfBounds);
         };
         let array = array_of_bytes(alloc, bytes, size, reversed)?;

@@ -1,4 +1,5 @@
 pub use Rattle.codec_laws.specs.Cells
+pub use Rattle.codec_laws.specs.CellLaws
 pub use Rattle.codec_laws.specs.Meanings
 pub use Rattle.codec_laws.specs.Refusals
 pub use Rattle.codec_laws.specs.RefusalLaws

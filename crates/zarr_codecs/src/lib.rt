@@ -8,7 +8,7 @@ pub use codec_laws::{
 };
 pub use object_handles::{
     ByteRange, BytesPartialDecoderTraits, BytesPartialEncoderTraits, CountingHandle,
-    FaultingHandle, Interval, LendsSlice, MemoryHandle, SliceHandle, check_interval, copied, lent,
-    part_of,
+    FaultingHandle, Interval, LendsSlice, MemoryHandle, SliceHandle, check_interval, copy_range,
+    part_of, read_range,
 };
 pub use small_codecs::{BytesCodec, Endianness};

@@ -12,7 +12,7 @@ ghost use Rattle.sharding_core.specs.Decoders.{held_len, held_numbers, index_in,
 use super::ShardingPartialDecoder;
 use crate::codec::ShardingCodec;
 use codec_laws::ArrayToBytesCodecTraits;
-use object_handles::{ByteRange, BytesPartialDecoderTraits, copied};
+use object_handles::{ByteRange, BytesPartialDecoderTraits, copy_range};
 use shard_format::{ShardIndex, Slot};
 use std::alloc::Global;
 use std::borrow::CowSlice;
@@ -102,7 +102,7 @@ impl<
         let Some(range) = range else {
             return Ok(None);
         };
-        match copied(&mut self.handle, alloc, range)? {
+        match copy_range(&mut self.handle, alloc, range)? {
             Some(bytes) => Ok(Some(CowSlice::Owned(bytes))),
             None => Ok(None),
         }

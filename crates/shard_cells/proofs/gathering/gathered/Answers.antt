@@ -1,7 +1,7 @@
 use Rattle.std.proofs.Common.{◌≡◌, ◌/◌, inl, inr, arith, length}
 use Rattle.zarr_boxes.proofs.GridLaws.{places_of}
 use Rattle.zarr_parts.specs.Numbering.{count_of}
-use Rattle.shard_format.proofs.RefusalLemmas.{passed_on}
+use Rattle.codec_laws.specs.RefusalLaws.{passed_on}
 use Rattle.shard_cells.proofs.gathering.gathered.Goals as goal
 use Rattle.shard_cells.proofs.gathering.gathered.Goals.{After-check_lengths}
 

@@ -1,5 +1,5 @@
 use Rattle.zarr_boxes.proofs.GridLaws.{count-positive}
-use Rattle.shard_format.proofs.RefusalLemmas.{passed_on}
+use Rattle.codec_laws.specs.RefusalLaws.{passed_on}
 use Rattle.shard_cells.proofs.LayingLaws.{grid_refused}
 use Rattle.shard_cells.proofs.laying.laid_bytes.Goals as goal
 

@@ -4,7 +4,7 @@ use Rattle.zarr_parts.specs.Numbering.{count_of}
 use Rattle.zarr_parts.specs.Pieces.{piece}
 use Rattle.zarr_boxes.proofs.GridLaws.{number_in-subchunk_box, subchunk_box-lies_in}
 use Rattle.zarr_boxes.proofs.PieceLaws.{length-concat}
-use Rattle.shard_format.proofs.RefusalLemmas.{passed_on}
+use Rattle.codec_laws.specs.RefusalLaws.{passed_on}
 use Rattle.shard_format.proofs.BoxLemmas.{box_refused}
 use Rattle.shard_cells.proofs.LayingLaws.{laid_pieces}
 use Rattle.shard_cells.proofs.laying.put_subchunk.Goals as goal

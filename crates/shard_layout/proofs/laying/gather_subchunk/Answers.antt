@@ -1,5 +1,5 @@
 use Rattle.zarr_boxes.proofs.GridLaws.{count-positive}
-use Rattle.shard_format.proofs.RefusalLemmas.{passed_on}
+use Rattle.codec_laws.specs.RefusalLaws.{passed_on}
 use Rattle.shard_format.proofs.BoxLemmas.{box_refused, part_refused, extracted_box}
 use Rattle.shard_layout.proofs.laying.gather_subchunk.Goals as goal
 

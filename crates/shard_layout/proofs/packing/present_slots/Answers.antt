@@ -3,7 +3,7 @@ use Rattle.zarr_parts.specs.Order.{Each, done, RefusedBy}
 use Rattle.zarr_words.specs.declared.error.CodecError.TheVariants.{BadIndexEntry}
 use Rattle.shard_format.specs.Index.{slot_at}
 use Rattle.shard_format.specs.Compacting.{IsGood}
-use Rattle.shard_format.proofs.RefusalLemmas.{passed_on}
+use Rattle.codec_laws.specs.RefusalLaws.{passed_on}
 use Rattle.shard_format.proofs.PackingLemmas.{one_more_slot, one_bad}
 use Rattle.shard_layout.proofs.packing.present_slots.Goals as goal
 

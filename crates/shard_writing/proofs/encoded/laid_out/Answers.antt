@@ -1,5 +1,5 @@
 use Rattle.std.proofs.Common.{◌<◌, length, arith}
-use Rattle.shard_format.proofs.RefusalLemmas.{passed_on}
+use Rattle.codec_laws.specs.RefusalLaws.{passed_on}
 use Rattle.shard_subchunks.specs.Inner.{inner_meaning}
 use Rattle.shard_writing.specs.Writing.{array_at}
 use Rattle.shard_writing.proofs.ChangedLemmas.{array_here}

@@ -1,5 +1,5 @@
 use Rattle.std.proofs.Common.{refl}
-use Rattle.zarrs_sharding.specs.Laws.{all_there-map_some}
+use Rattle.zarr_codecs.specs.CellLaws.{all_there-map_some}
 use Rattle.sharding_tests.proofs.laws.sound_cells.Goals as goal
 
 pub decode_sound-requires-clause-sound : goal.decode_sound-requires-clause-sound

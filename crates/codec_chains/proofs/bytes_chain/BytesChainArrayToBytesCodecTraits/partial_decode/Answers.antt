@@ -4,7 +4,8 @@ use Rattle.zarr_parts.specs.Numbering.{count_of}
 use Rattle.zarr_boxes.proofs.NumberingLaws.{count_positive}
 use Rattle.object_handles.specs.Objects.{interval_part}
 use Rattle.codec_laws.proofs.ReadLemmas.{interval_read}
-use Rattle.codec_chains.proofs.ChainSteps.{handed_on, refused_read, refused_inner, whole_lies_in}
+use Rattle.codec_chains.proofs.ChainSteps.{refused_read, refused_inner, whole_lies_in}
+use Rattle.codec_laws.specs.RefusalLaws.{passed_on}
 use Rattle.codec_chains.proofs.bytes_chain.BytesChainArrayToBytesCodecTraits.partial_decode.Goals as goal
 
 pub returns-in_err-inner-clause-lawful : goal.returns-in_err-inner-clause-lawful
@@ -14,7 +15,7 @@ returns-in_err-inner-clause-lawful g c =
     let contents = (g.H.BytesPartialDecoderTraits.state a.handle.now).contents in
     let e = c.in_err-inner.field-0.0 in
     let some : 0 < count_of a.shape.now = count_positive a.shape.now (λ i lt. c.as_slice-axes.ensures.positive i 0 lt) in
-    handed_on c.from_residual-in_err-inner.result e _ c.from_residual-in_err-inner.ensures.1 (λ s tells axes within has.
+    passed_on c.from_residual-in_err-inner.result e _ c.from_residual-in_err-inner.ensures.1 (λ s tells axes within has.
     let read = c.in_ok-check_interval.ensures.read in
     let told = rw read.contents_same at ((rw c.in-Some.is at c.in_ok-bytes.ensures.told).told (rw read.tells_same tells)) in
     let same : c.in-Some.bytes.now ≡ interval_part a.interval contents = interval_read a.interval a.interval.size contents c.in-Some.bytes.now refl told in
@@ -28,7 +29,7 @@ returns-in_err-cells-clause-lawful g c =
     let contents = (g.H.BytesPartialDecoderTraits.state a.handle.now).contents in
     let decoding = (g.B.BytesToBytesCodecTraits.coding a.self.now.bytes_to_bytes).decoding in
     let e = c.in_err-cells.field-0.0 in
-    handed_on c.from_residual-in_err-cells.result e _ c.from_residual-in_err-cells.ensures.1 (λ s tells axes within has.
+    passed_on c.from_residual-in_err-cells.result e _ c.from_residual-in_err-cells.ensures.1 (λ s tells axes within has.
     let read = c.in_ok-check_interval.ensures.read in
     let told = rw read.contents_same at ((rw c.in-Some.is at c.in_ok-bytes.ensures.told).told (rw read.tells_same tells)) in
     let same : c.in-Some.bytes.now ≡ interval_part a.interval contents = interval_read a.interval a.interval.size contents c.in-Some.bytes.now refl told in

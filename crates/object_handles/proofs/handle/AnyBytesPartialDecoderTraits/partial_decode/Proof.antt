@@ -1,4 +1,4 @@
--- As the proof of `lent`, with the two types of results exchanged.
+-- As the proof of `read_range`, with the two types of results exchanged.
 use Rattle.std.proofs.Common.{List, [], ◌∷◌, refl, IfOk, sym}
 use Rattle.std.proofs.raw_atomic.Walks.{proved, leaves}
 use base.Logic.{id⊢, emp}

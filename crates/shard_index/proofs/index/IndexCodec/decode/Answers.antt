@@ -1,5 +1,5 @@
 use Rattle.std.proofs.Common.{arith}
-use Rattle.shard_format.proofs.RefusalLemmas.{passed_on}
+use Rattle.codec_laws.specs.RefusalLaws.{passed_on}
 use Rattle.shard_format.proofs.ReadIndexLemmas.{numbers_of_part, part_refused}
 use Rattle.shard_index.specs.Indexes.{index_meaning}
 use Rattle.shard_index.proofs.index.IndexCodec.decode.Goals as goal

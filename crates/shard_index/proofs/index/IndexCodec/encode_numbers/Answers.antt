@@ -1,6 +1,6 @@
 use Rattle.zarr_parts.specs.Numbering.{count_of}
 use Rattle.shard_format.specs.Index.{index_geo}
-use Rattle.shard_format.proofs.RefusalLemmas.{passed_on}
+use Rattle.codec_laws.specs.RefusalLaws.{passed_on}
 use Rattle.shard_format.proofs.EncodeRefusals.{array_of_index, index_refused, size_within}
 use Rattle.std.proofs.Common.{map, length, ◌∙◌, sym}
 use Rattle.shard_format.specs.Index.{element_of_number}

@@ -4,7 +4,7 @@ use Rattle.shard_format.specs.Index.{index_part}
 use Rattle.shard_index.specs.Indexes.{index_meaning}
 use Rattle.codec_laws.proofs.ReadLemmas.{length-interval_part}
 use Rattle.shard_format.proofs.IntervalLemmas.{index_found}
-use Rattle.shard_format.proofs.RefusalLemmas.{passed_on}
+use Rattle.codec_laws.specs.RefusalLaws.{passed_on}
 use Rattle.shard_format.proofs.ReadIndexLemmas.{numbers_of_part, read_part_refused}
 use Rattle.shard_index.proofs.index.IndexCodec.read.Goals as goal
 
@@ -25,7 +25,7 @@ returns-in_err-numbers-clause-refused g c =
     let room : IsTrue (h.state a.handle.now).tells → size ≤ length bytes = λ t. omega (arith, fits, length-interval_part a.outer contents (c.requires.inside t)) in
     let is : IsTrue (h.state a.handle.now).tells → found ≡ index_part s.location size bytes = λ t. index_found s.location size a.outer contents found fits (c.requires.inside t) (lent.told t) in
     passed_on _ e _ c.from_residual-in_err-numbers.ensures.1
-    (read_part_refused (h.state a.handle.now) (h.state c.lent.follows.lender-at-none) index.decode_tests index.cells
+    (read_part_refused (h.state a.handle.now) (h.state c.read_range.follows.lender-at-none) index.decode_tests index.cells
     s.location size bytes found e room is c.in_err-numbers.ensures.refused)
 
 pub returns-clause-numbers : goal.returns-clause-numbers

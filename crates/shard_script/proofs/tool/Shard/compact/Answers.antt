@@ -1,4 +1,4 @@
-use Rattle.shard_format.proofs.RefusalLemmas.{passed_on}
+use Rattle.zarr_codecs.specs.RefusalLaws.{passed_on}
 use Rattle.shard_script.proofs.OptionLaws.{there}
 use Rattle.shard_script.proofs.tool.Shard.compact.Goals as goal
 

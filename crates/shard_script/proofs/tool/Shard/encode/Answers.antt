@@ -1,4 +1,4 @@
-use Rattle.shard_format.proofs.RefusalLemmas.{passed_on}
+use Rattle.zarr_codecs.specs.RefusalLaws.{passed_on}
 use Rattle.shard_script.proofs.tool.Shard.encode.Goals as goal
 
 pub returns-in_err-object-clause-refused : goal.returns-in_err-object-clause-refused

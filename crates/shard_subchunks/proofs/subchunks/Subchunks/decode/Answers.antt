@@ -5,7 +5,8 @@ use Rattle.shard_format.specs.Index.{slot_at}
 use Rattle.shard_format.specs.DecodeTests.{SubchunkTests}
 use Rattle.shard_format.specs.Decoding.{IsDecoded}
 use Rattle.shard_format.proofs.DecodingLemmas.{counted_more, each_more}
-use Rattle.shard_format.proofs.RefusalLemmas.{one_refused, passed_on}
+use Rattle.shard_format.proofs.RefusalLemmas.{one_refused}
+use Rattle.codec_laws.specs.RefusalLaws.{passed_on}
 use Rattle.shard_subchunks.proofs.subchunks.Subchunks.decode.Goals as goal
 
 pub loop-k-preserved : goal.loop-k-preserved

@@ -2,7 +2,7 @@ use Rattle.zarr_parts.specs.Numbering.{count_of}
 use Rattle.zarr_parts.specs.Geo.{geo}
 use Rattle.shard_subchunks.specs.Inner.{subchunk_geo}
 use Rattle.shard_format.specs.Laws.{IsArrayOf-subchunk}
-use Rattle.shard_format.proofs.RefusalLemmas.{passed_on}
+use Rattle.codec_laws.specs.RefusalLaws.{passed_on}
 use Rattle.shard_format.proofs.LayingLemmas.{one_more_laid, one_not_stored}
 use Rattle.shard_subchunks.proofs.subchunks.Subchunks.lay_out.Goals as goal
 

@@ -2,7 +2,7 @@ use Rattle.std.proofs.Common.{◌∙◌, inl, inr, arith}
 use Rattle.zarr_parts.specs.Types.{size_of}
 use Rattle.object_handles.specs.Objects.{interval_part}
 use Rattle.codec_laws.proofs.ReadLemmas.{length-interval_part}
-use Rattle.shard_format.proofs.RefusalLemmas.{passed_on}
+use Rattle.codec_laws.specs.RefusalLaws.{passed_on}
 use Rattle.shard_cells.proofs.GatherLemmas.{elements_counted, elements_fitting, AreRead-parts, cells_read, too_long_read, places_read}
 use Rattle.shard_cells.proofs.ReadGroupLemmas.{groups_counted, groups_some}
 use Rattle.shard_subchunks.specs.Inner.{inner_meaning}

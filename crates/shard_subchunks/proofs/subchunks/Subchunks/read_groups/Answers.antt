@@ -9,7 +9,7 @@ use Rattle.shard_format.specs.ReadTests.{AnswerTests}
 use Rattle.shard_format.specs.Decoding.{IsPartOf}
 use Rattle.shard_format.specs.Reading.{IsReadAt}
 use Rattle.shard_format.proofs.DecodingLemmas.{counted_more, each_more}
-use Rattle.shard_format.proofs.RefusalLemmas.{passed_on}
+use Rattle.codec_laws.specs.RefusalLaws.{passed_on}
 use Rattle.shard_cells.specs.Grouping.{lists_of}
 use Rattle.shard_cells.proofs.ReadGroupLemmas.{group_below, group_read, read_then, group_refused}
 use Rattle.shard_subchunks.specs.Inner.{inner_meaning}

@@ -3,7 +3,7 @@ use borrow.Author.Count.{below_more}
 use Rattle.zarr_parts.specs.Types.{size_of}
 use Rattle.zarr_parts.specs.Geo.{IsArrayOf}
 use Rattle.object_handles.specs.Writes.{bytes_of}
-use Rattle.shard_format.proofs.RefusalLemmas.{passed_on}
+use Rattle.codec_laws.specs.RefusalLaws.{passed_on}
 use Rattle.shard_cells.proofs.ReadGroupLemmas.{read_then}
 use Rattle.shard_subchunks.specs.Inner.{subchunk_geo, inner_meaning}
 use Rattle.shard_writing.specs.Writing.{AreNewCells, cells_in}

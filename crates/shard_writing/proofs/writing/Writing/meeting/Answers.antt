@@ -1,7 +1,7 @@
 use Rattle.std.proofs.Common.{◌%◌, ◌≡◌, ◌∙◌, ap, length, sym}
 use Rattle.std.proofs.lemmas.List.Elements.{length_all_zip}
 use Rattle.zarr_parts.specs.Boxes.{Region}
-use Rattle.shard_format.proofs.RefusalLemmas.{passed_on}
+use Rattle.codec_laws.specs.RefusalLaws.{passed_on}
 use Rattle.shard_format.proofs.BoxLemmas.{box_refused}
 use Rattle.shard_writing.proofs.MeetingLemmas.{same_axes, axes_refused, origin_in_box, origin_in_sub, meets}
 use Rattle.shard_writing.proofs.writing.Writing.meeting.Goals as goal

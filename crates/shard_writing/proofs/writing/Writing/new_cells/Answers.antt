@@ -2,7 +2,7 @@ use Rattle.std.proofs.Common.{◌∙◌, sym, inl, inr, arith}
 use Rattle.std.proofs.lemmas.Bool.{false≢true}
 use Rattle.object_handles.specs.Writes.{bytes_of}
 use Rattle.shard_format.specs.Cells.{cell_in}
-use Rattle.shard_format.proofs.RefusalLemmas.{passed_on}
+use Rattle.codec_laws.specs.RefusalLaws.{passed_on}
 use Rattle.shard_subchunks.specs.Inner.{subchunk_geo, inner_meaning}
 use Rattle.shard_writing.proofs.CellLemmas.{axes_of, no_straddle, covered_array, covered_cells, overlaid_array, overlaid_part, straddles, taken_refused, put_refused}
 use Rattle.shard_writing.proofs.writing.Writing.new_cells.Goals as goal

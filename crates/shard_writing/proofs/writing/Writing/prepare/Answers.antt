@@ -6,7 +6,7 @@ use Rattle.shard_format.specs.Index.{index_geo}
 use Rattle.shard_writing.proofs.HeldLemmas.{held_settled, told_settled}
 use Rattle.shard_subchunks.specs.Inner.{subchunk_geo, inner_meaning}
 use Rattle.object_handles.specs.Writes.{bytes_of}
-use Rattle.shard_format.proofs.RefusalLemmas.{passed_on}
+use Rattle.codec_laws.specs.RefusalLaws.{passed_on}
 use Rattle.shard_writing.specs.Writing.{array_at, layout_from}
 use Rattle.shard_index.specs.Indexes.{index_meaning}
 use Rattle.shard_writing.proofs.MadeLemmas.{made_is_write}

@@ -2,7 +2,7 @@ use Rattle.std.proofs.Common.{◌≡◌, ◌∙◌, ◌^◌, ◌<◌, ◌≤◌,
 use Rattle.std.proofs.lemmas.Bool.{false≢true}
 use Rattle.shard_writing.specs.Writing.{place_behind, length_behind}
 use Rattle.shard_writing.proofs.PlaceLemmas.{goes_behind, at_least}
-use Rattle.shard_format.proofs.RefusalLemmas.{passed_on}
+use Rattle.codec_laws.specs.RefusalLaws.{passed_on}
 use Rattle.shard_writing.proofs.writing.Writing.settle.Goals as goal
 
 pub returns-in_default-clause-refused : goal.returns-in_default-clause-refused

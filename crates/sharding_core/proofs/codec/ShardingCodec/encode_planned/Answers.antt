@@ -7,7 +7,7 @@ use Rattle.shard_format.specs.Index.{absent_number, index_geo, data_start}
 use Rattle.shard_format.specs.Laying.{IsIndexOf}
 use Rattle.shard_format.specs.Serves.{sub_geo, fixed_size}
 use Rattle.sharding_core.specs.Meanings.{layout_in}
-use Rattle.shard_format.proofs.RefusalLemmas.{passed_on}
+use Rattle.codec_laws.specs.RefusalLaws.{passed_on}
 use Rattle.shard_format.proofs.EncodingLemmas.{encoded_shard}
 use Rattle.shard_format.proofs.EncodeRefusals.{store_next, total_next, index_next, index_length}
 use Rattle.sharding_core.proofs.codec.ShardingCodec.encode_planned.Goals as goal

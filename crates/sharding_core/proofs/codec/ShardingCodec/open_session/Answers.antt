@@ -3,7 +3,7 @@ use Rattle.zarr_parts.specs.Geo.{geo}
 use Rattle.zarr_parts.specs.Grid.{grid_of}
 use Rattle.shard_format.specs.Index.{absent_number, index_geo}
 use Rattle.shard_format.specs.Serves.{sub_geo}
-use Rattle.shard_format.proofs.RefusalLemmas.{passed_on}
+use Rattle.codec_laws.specs.RefusalLaws.{passed_on}
 use Rattle.sharding_core.specs.Meanings.{shard_meaning}
 use Rattle.sharding_core.specs.Plans.{asked_geo}
 use Rattle.sharding_core.specs.Sessions.{subchunks_of, index_size_of}

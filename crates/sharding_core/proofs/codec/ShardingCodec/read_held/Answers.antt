@@ -1,5 +1,5 @@
 use Rattle.std.proofs.Common.{◌+◌, ◌^◌, ◌<◌, arith}
-use Rattle.shard_format.proofs.RefusalLemmas.{passed_on}
+use Rattle.codec_laws.specs.RefusalLaws.{passed_on}
 use Rattle.sharding_core.proofs.DecoderLemmas.{open_refused}
 use Rattle.sharding_core.proofs.codec.ShardingCodec.read_held.Goals as goal
 

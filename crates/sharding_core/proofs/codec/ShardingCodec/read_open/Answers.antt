@@ -5,7 +5,7 @@ use Rattle.shard_format.specs.Index.{index_geo}
 use Rattle.shard_format.specs.Cells.{shard_cells}
 use Rattle.shard_format.specs.Serves.{sub_geo, layout}
 use Rattle.sharding_core.specs.Decoders.{index_in}
-use Rattle.shard_format.proofs.RefusalLemmas.{passed_on}
+use Rattle.codec_laws.specs.RefusalLaws.{passed_on}
 use Rattle.sharding_core.proofs.DecoderLemmas.{no_object_cells, no_object_refused}
 use Rattle.sharding_core.proofs.codec.ShardingCodec.read_open.Goals as goal
 

@@ -5,7 +5,7 @@ use Rattle.object_handles.specs.Objects.{interval_part}
 use Rattle.shard_format.specs.Index.{index_geo}
 use Rattle.shard_format.specs.Serves.{sub_geo, layout}
 use Rattle.shard_format.specs.ReadTests.{AnswerTests}
-use Rattle.shard_format.proofs.RefusalLemmas.{passed_on}
+use Rattle.codec_laws.specs.RefusalLaws.{passed_on}
 use Rattle.shard_format.proofs.ReadLemmas.{asked_cells, cells_refused}
 use Rattle.shard_cells.proofs.ReadGroupLemmas.{read_then}
 use Rattle.sharding_core.proofs.codec.ShardingCodec.read_planned.Goals as goal

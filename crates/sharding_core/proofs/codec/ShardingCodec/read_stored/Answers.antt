@@ -2,7 +2,7 @@ use Rattle.zarr_parts.specs.Geo.{geo}
 use Rattle.zarr_parts.specs.Grid.{grid_of}
 use Rattle.shard_format.specs.Index.{index_geo}
 use Rattle.shard_format.specs.Serves.{sub_geo, layout}
-use Rattle.shard_format.proofs.RefusalLemmas.{passed_on}
+use Rattle.codec_laws.specs.RefusalLaws.{passed_on}
 use Rattle.sharding_core.proofs.DecoderLemmas.{stored_cells, stored_refused}
 use Rattle.sharding_core.proofs.codec.ShardingCodec.read_stored.Goals as goal
 

@@ -8,7 +8,7 @@ use Rattle.zarr_parts.specs.Order.{RefusedBy}
 use Rattle.shard_format.specs.Compacting.{CompactTests}
 use Rattle.shard_format.specs.Laying.{taken}
 use Rattle.shard_format.specs.Packing.{AreSlots}
-use Rattle.shard_format.proofs.RefusalLemmas.{passed_on}
+use Rattle.codec_laws.specs.RefusalLaws.{passed_on}
 use Rattle.shard_format.proofs.EncodeRefusals.{refused_as}
 use Rattle.shard_format.proofs.PackingLemmas.{good_slots, size_present, compact_shard, compacted_shard}
 use Rattle.shard_format.proofs.CompactRefusals.{index_next, pairs_next, size_next, rewrite_next, may_refuse_compact}

@@ -5,7 +5,8 @@ use Rattle.shard_format.specs.Index.{index_geo}
 use Rattle.shard_format.specs.Serves.{sub_geo, layout, fixed_size}
 use Rattle.shard_format.proofs.DecodingLemmas.{IsArrayOf-gathered, cells-gathered}
 use Rattle.shard_format.proofs.LengthLemmas.{lengths_last}
-use Rattle.shard_format.proofs.RefusalLemmas.{passed_on, lawful, index_first, subchunks_next}
+use Rattle.shard_format.proofs.RefusalLemmas.{lawful, index_first, subchunks_next}
+use Rattle.codec_laws.specs.RefusalLaws.{passed_on}
 use Rattle.sharding_core.proofs.codec.ShardingCodecArrayToBytesCodecTraits.decode.Goals as goal
 
 pub returns-in_err-index-clause-lawful : goal.returns-in_err-index-clause-lawful

@@ -9,7 +9,7 @@ use Rattle.shard_format.specs.Cells.{shard_cells}
 use Rattle.shard_format.specs.Serves.{sub_geo, layout}
 use Rattle.shard_format.specs.Laws.{length-shard_cells, shard_cells_fitting}
 use Rattle.shard_format.specs.ReadTests.{AnswerTests, ReadTests}
-use Rattle.shard_format.proofs.RefusalLemmas.{passed_on}
+use Rattle.codec_laws.specs.RefusalLaws.{passed_on}
 use Rattle.shard_format.proofs.ReadRefusals.{may_refuse_read, object_lawful, asked_refused}
 use Rattle.sharding_core.proofs.codec.ShardingCodecArrayToBytesCodecTraits.partial_decode.Goals as goal
 

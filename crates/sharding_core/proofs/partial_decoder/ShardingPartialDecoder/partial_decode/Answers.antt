@@ -3,7 +3,7 @@ use Rattle.zarr_parts.specs.Geo.{geo}
 use Rattle.zarr_parts.specs.Types.{size_of, byte_size}
 use Rattle.object_handles.specs.Objects.{ObjectTests}
 use Rattle.sharding_core.specs.Decoders.{ObjectCellsTests}
-use Rattle.shard_format.proofs.RefusalLemmas.{passed_on}
+use Rattle.codec_laws.specs.RefusalLaws.{passed_on}
 use Rattle.sharding_core.proofs.DecoderLemmas.{asked_refused}
 use Rattle.sharding_core.proofs.partial_decoder.ShardingPartialDecoder.partial_decode.Goals as goal
 

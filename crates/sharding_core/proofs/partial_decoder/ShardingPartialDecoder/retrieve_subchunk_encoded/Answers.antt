@@ -4,7 +4,7 @@ use Rattle.zarr_parts.specs.Numbering.{number_of}
 use Rattle.object_handles.specs.Objects.{ObjectTests}
 use Rattle.zarr_parts.specs.Order.{done}
 use Rattle.sharding_core.specs.Decoders.{held_len, held_numbers, held_slot, index_in}
-use Rattle.shard_format.proofs.RefusalLemmas.{passed_on}
+use Rattle.codec_laws.specs.RefusalLaws.{passed_on}
 use Rattle.sharding_core.proofs.DecoderLemmas.{slot_first, slice_refused}
 use Rattle.sharding_core.proofs.partial_decoder.ShardingPartialDecoder.retrieve_subchunk_encoded.Goals as goal
 
@@ -31,5 +31,5 @@ returns-in_err-bytes-clause-refused g c =
     let e = c.in_err-bytes.field-0.0 in
     let found = rw (c.as_slice.ensures.value, c.self.invariant.grid) at c.in_ok-range.ensures in
     rw (← c.self.view_is) (passed_on _ e _ c.from_residual-in_err-bytes.ensures.1
-    (slice_refused (h.state d.handle) (h.state c.copied.new.handle) grid subchunk (index_in g.X.ArrayToBytesCodecTraits.meaning s asked)
+    (slice_refused (h.state d.handle) (h.state c.copy_range.new.handle) grid subchunk (index_in g.X.ArrayToBytesCodecTraits.meaning s asked)
     index (held_len d.shard.held) c.in-Some.range e c.self.invariant.is_open.held found.axes found.inside (rw c.in-Some.is at found.range) found.fits c.in_err-bytes.ensures.refused))

@@ -34,17 +34,17 @@ use Rattle.std.specs.contracts.alloc.Global as Global
 use Rattle.std.proofs.alloc.Global.TheLaws as global
 use Rattle.object_handles.specs.contracts.bytes.ByteRange as ByteRange
 use Rattle.object_handles.proofs.bytes.ByteRange.TheLaws as range
-use Rattle.object_handles.specs.contracts.handle.lent as f
+use Rattle.object_handles.specs.contracts.handle.read_range as f
 use Rattle.object_handles.specs.contracts.handle.split as g
 use Rattle.object_handles.specs.contracts.handle.BytesPartialDecoderTraits.partial_decode as h
-use Rattle.object_handles.proofs.handle.lent.Statement.{statement}
-use Rattle.object_handles.proofs.handle.lent.Code as code
+use Rattle.object_handles.proofs.handle.read_range.Statement.{statement}
+use Rattle.object_handles.proofs.handle.read_range.Code as code
 use Rattle.object_handles.proofs.handle.split.Met as split_met
 use Rattle.object_handles.proofs.HandleLaws.{joined}
 use Rattle.object_handles.proofs.HandleRows.{Lent, Lent-laws, Part, Part-laws, Bytes}
 
-pub lent_spec : {M : Type 1} → statement M
-lent_spec 𝓤 𝓛 𝓜 𝓡 wired H L gs d met =
+pub read_range_spec : {M : Type 1} → statement M
+read_range_spec 𝓤 𝓛 𝓜 𝓡 wired H L gs d met =
     let T = f.ended H gs d in let R = param 0 H in
     let vG : (Global.the_row).Denot → List Val = λ x. of_struct.val Global.the_type global.the_laws x ∷ [] in let vB : (ByteRange.the_row).Denot → List Val = λ x. of_enum.val ByteRange.the_type range.the_laws x ∷ [] in
     let hs : Stays T.signature.params T.kept = (stay_dropped (RefMutOf (0 ∷ []) tt (plain (λ _. R)) (λ _. tt)) no, (stay_dropped (RefMutOf (0 ∷ []) tt (plain (λ _. Bytes)) (λ _. tt)) no, (stay_dropped (plain (λ _. Global.the_row)) yes, (stay_dropped (plain (λ _. ByteRange.the_row)) yes, tt)))) in
