@@ -19,6 +19,7 @@ test_as_faultless P R later h rest e (inl refused) = h e refused
 test_as_faultless P R later h rest e (inr passed) = rest e passed.1
 
 -- a refusal that `?` passes on
-pub passed_on : {T : Type 0} (r : Result T CodecError) (e : CodecError) (P : CodecError → Type 0) → IsErrAnd r (λ x. x ≡ e) → P e → IfErr r P
+pub passed_on : {T : Type 0} (r : Result T CodecError) (e : CodecError) (P : CodecError → Type 0)
+    → IsErrAnd r (λ x. x ≡ e) → P e → IfErr r P
 passed_on (Ok x) e P is h = tt
 passed_on (Err x) e P is h = subst P (sym is) h
