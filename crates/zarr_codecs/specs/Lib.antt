@@ -17,3 +17,7 @@ pub use Rattle.codec_chains.specs.Chains
 pub use Rattle.codec_chains.specs.ChainLaws
 pub use Rattle.codec_chains.specs.Trailers
 pub use Rattle.codec_chains.specs.TrailerLaws
+pub use Rattle.codec_metadata.specs.CreateErrors
+pub use Rattle.codec_metadata.specs.Metadata
+pub use Rattle.codec_metadata.specs.BytesMetadata
+pub use Rattle.codec_metadata.specs.BytesMetadataLaws

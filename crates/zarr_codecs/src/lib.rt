@@ -6,6 +6,10 @@ pub use codec_laws::{
     ArrayToBytesCodecTraits, BytesRepresentation, FunctionalCodec, RecommendedConcurrency,
     check_target, decode_after_encode, read_after_decode,
 };
+pub use codec_metadata::{
+    CodecTraitsV3, MemberTest, PluginCreateError, create_after_metadata, metadata_name,
+    test_members,
+};
 pub use object_handles::{
     ByteRange, BytesPartialDecoderTraits, BytesPartialEncoderTraits, CountingHandle,
     FaultingHandle, Interval, LendsSlice, MemoryHandle, SliceHandle, check_interval, copy_range,

@@ -1,0 +1,4 @@
+pub mod CreateErrors
+pub mod Metadata
+pub mod BytesMetadata
+pub mod BytesMetadataLaws

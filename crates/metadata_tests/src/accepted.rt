@@ -1,0 +1,127 @@
+// Metadata and configurations that are accepted, and what is written of the codec.
+use crate::examples::{Shards, ShardsOfShards, codec_of, configured, created};
+use serde_json::Value;
+use std::alloc::Global;
+use std::test::Fail;
+use zarr_codecs::{ArrayToBytesCodecTraits, BytesCodec, CodecTraitsV3};
+use zarr_parts::{ChunkShape, CodecError, DataType, FillValue};
+
+const LITTLE: &str =
+    r#"{"chunk_shape":[2,2],"codecs":[{"configuration":{"endian":"little"},"name":"bytes"}],"index_codecs":[{"configuration":{"endian":"little"},"name":"bytes"}],"index_location":"start"}"#;
+
+const BIG: &str =
+    r#"{"chunk_shape":[2],"codecs":[{"name":"endian","configuration":{"endian":"big"}}],"index_codecs":["bytes"]}"#;
+
+const BIG_WRITTEN: &str =
+    r#"{"chunk_shape":[2],"codecs":[{"configuration":{"endian":"big"},"name":"bytes"}],"index_codecs":[{"name":"bytes"}],"index_location":"end"}"#;
+
+const NO_AXES: &str =
+    r#"{"index_location":"end","index_codecs":[{"name":"endian","must_understand":false,"configuration":{}}],"codecs":["endian"],"chunk_shape":[]}"#;
+
+const NO_AXES_WRITTEN: &str =
+    r#"{"chunk_shape":[],"codecs":[{"name":"bytes"}],"index_codecs":[{"name":"bytes"}],"index_location":"end"}"#;
+
+const LARGEST: &str =
+    r#"{"chunk_shape":[0],"chunk_shape":[18446744073709551615,1],"codecs":["bytes"],"index_codecs":["bytes"]}"#;
+
+const LARGEST_WRITTEN: &str =
+    r#"{"chunk_shape":[18446744073709551615,1],"codecs":[{"name":"bytes"}],"index_codecs":[{"name":"bytes"}],"index_location":"end"}"#;
+
+// All four members are written, names as they are today, and no empty configuration; of a key that is there twice the last
+// counts.
+#[test]
+fn a_configuration_is_written_in_one_form(rt: HostRuntime) -> Result<(), Fail> {
+    for (text, want) in [
+        (LITTLE, LITTLE),
+        (BIG, BIG_WRITTEN),
+        (NO_AXES, NO_AXES_WRITTEN),
+        (LARGEST, LARGEST_WRITTEN),
+    ] {
+        let found = configured(rt.alloc(), text)?;
+        assert_eq!(rt; found.as_str(), want, "of {text}");
+    }
+    Ok(())
+}
+
+// A name alone, both names, and a byte order.
+#[test]
+fn metadata_is_written_in_one_form(rt: HostRuntime) -> Result<(), Fail> {
+    for (text, want) in [
+        (r#""bytes""#, r#"{"name":"bytes"}"#),
+        (r#""endian""#, r#"{"name":"bytes"}"#),
+        (
+            r#"{"name":"endian","configuration":{"endian":"big"},"must_understand":true}"#,
+            r#"{"configuration":{"endian":"big"},"name":"bytes"}"#,
+        ),
+        (
+            r#"{"configuration":{"endian":"little"},"name":"bytes"}"#,
+            r#"{"configuration":{"endian":"little"},"name":"bytes"}"#,
+        ),
+    ] {
+        let found = created::<BytesCodec>(rt.alloc(), text)?;
+        assert_eq!(rt; found.as_str(), want, "of {text}");
+    }
+    Ok(())
+}
+
+// The byte order is told apart.
+#[test]
+fn a_byte_order_is_read(rt: HostRuntime) -> Result<(), Fail> {
+    for (text, want) in [
+        (r#""bytes""#, BytesCodec::new(None)),
+        (
+            r#"{"name":"bytes","configuration":{"endian":"big"}}"#,
+            BytesCodec::big(),
+        ),
+        (
+            r#"{"name":"bytes","configuration":{"endian":"little"}}"#,
+            BytesCodec::little(),
+        ),
+    ] {
+        let value = Value::from_str(rt.alloc(), text)?;
+        assert_eq!(rt; BytesCodec::create(rt.alloc(), &value)?, want);
+    }
+    Ok(())
+}
+
+const SHARDS: &str =
+    r#"{"configuration":{"chunk_shape":[2,2],"codecs":[{"configuration":{"endian":"little"},"name":"bytes"}],"index_codecs":[{"configuration":{"endian":"little"},"name":"bytes"}],"index_location":"start"},"name":"sharding_indexed"}"#;
+
+// A shard's metadata is its configuration under its name.
+#[test]
+fn the_metadata_of_shards_is_read_and_written(rt: HostRuntime) -> Result<(), Fail> {
+    let found = created::<Shards>(rt.alloc(), SHARDS)?;
+    assert_eq!(rt; found.as_str(), SHARDS);
+    Ok(())
+}
+
+const SHARDS_OF_SHARDS: &str =
+    r#"{"configuration":{"chunk_shape":[4],"codecs":[{"configuration":{"chunk_shape":[2],"codecs":[{"name":"bytes"}],"index_codecs":[{"name":"bytes"}],"index_location":"start"},"name":"sharding_indexed"}],"index_codecs":[{"configuration":{"endian":"big"},"name":"bytes"}],"index_location":"end"},"name":"sharding_indexed"}"#;
+
+// And that of a shard of shards.
+#[test]
+fn the_metadata_of_shards_of_shards_is_read_and_written(rt: HostRuntime) -> Result<(), Fail> {
+    let found = created::<ShardsOfShards>(rt.alloc(), SHARDS_OF_SHARDS)?;
+    assert_eq!(rt; found.as_str(), SHARDS_OF_SHARDS);
+    Ok(())
+}
+
+fn checked(alloc: Global, text: &str) -> Result<Result<(), CodecError>, Fail> {
+    let value = Value::from_str(alloc, text)?;
+    let codec = codec_of(alloc, &value)?;
+    let Some(shape) = ChunkShape::new(alloc, &[4])? else {
+        return Ok(Err(CodecError::InvalidSubchunkShape));
+    };
+    let fill = FillValue::from_number(alloc, 0u8)?;
+    Ok(codec.check(alloc, &shape, &DataType::UInt8, &fill))
+}
+
+// An index codec without a byte order makes a codec that serves no shape.
+#[test]
+fn an_index_needs_a_byte_order(rt: HostRuntime) -> Result<(), Fail> {
+    assert_eq!(rt;
+        checked(rt.alloc(), BIG)?,
+        Err(CodecError::UnsupportedDataType)
+    );
+    Ok(())
+}

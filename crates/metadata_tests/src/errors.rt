@@ -1,0 +1,36 @@
+// The numbers and names of refusals.
+use crate::examples::codec_of;
+use serde_json::Value;
+use std::alloc::Global;
+use std::test::Fail;
+use zarr_codecs::PluginCreateError;
+
+fn refusal(alloc: Global, text: &str) -> Result<(u8, &'static str), Fail> {
+    let value = Value::from_str(alloc, text)?;
+    match codec_of(alloc, &value) {
+        Ok(_) => Ok((0, "")),
+        Err(error) => Ok((error.number(), error.name())),
+    }
+}
+
+// A refusal has a number, and a name without the text that it carries.
+#[test]
+fn a_refusal_tells_its_number_and_name(rt: HostRuntime) -> Result<(), Fail> {
+    for (text, want) in [
+        (
+            r#"{"chunk_shape":[],"codecs":["gzip"],"index_codecs":[]}"#,
+            (2, "UnsupportedCodec"),
+        ),
+        ("{}", (3, "MissingField")),
+        ("7", (4, "BadField")),
+        (
+            r#"{"chunk_shape":[],"codecs":[],"index_codecs":[]}"#,
+            (5, "UnsupportedChain"),
+        ),
+    ] {
+        assert_eq!(rt; refusal(rt.alloc(), text)?, want, "of {text}");
+    }
+    let memory = PluginCreateError::OutOfMemory;
+    assert_eq!(rt; (memory.number(), memory.name()), (1, "OutOfMemory"));
+    Ok(())
+}

@@ -1,0 +1,49 @@
+// What is written is read as the codec: the laws as calls.
+use crate::examples::Shards;
+use std::alloc::Global;
+use std::test::Fail;
+use zarr_codecs::{BytesCodec, CodecTraitsV3, create_after_metadata};
+use zarr_parts::ChunkShape;
+use zarrs_sharding::{ShardingCodec, ShardingIndexLocation, new_after_configuration};
+
+// The metadata of a codec names the codec.
+#[test]
+fn metadata_gives_the_codec_back(rt: HostRuntime) -> Result<(), Fail> {
+    for codec in [
+        BytesCodec::new(None),
+        BytesCodec::little(),
+        BytesCodec::big(),
+    ] {
+        let metadata = codec.metadata(rt.alloc())?;
+        assert_eq!(rt;
+            create_after_metadata(rt.alloc(), &codec, &metadata)?,
+            codec
+        );
+    }
+    Ok(())
+}
+
+fn shards(alloc: Global, location: ShardingIndexLocation) -> Result<Shards, Fail> {
+    let shape = ChunkShape::new(alloc, &[3, 5])?.unwrap_or(ChunkShape::from_positive(Vec::new(
+        alloc,
+    )));
+    Ok(ShardingCodec::new(shape, BytesCodec::big(), BytesCodec::little(), location))
+}
+
+fn written_again(alloc: Global, location: ShardingIndexLocation) -> Result<(String, String), Fail> {
+    let codec = shards(alloc, location)?;
+    let value = codec.configuration(alloc)?;
+    let made = new_after_configuration(alloc, &codec, &value)?;
+    let again = made.configuration(alloc)?;
+    Ok((value.to_string(alloc)?, again.to_string(alloc)?))
+}
+
+// The codec of a codec's configuration has that configuration.
+#[test]
+fn a_configuration_gives_the_codec_back(rt: HostRuntime) -> Result<(), Fail> {
+    for location in [ShardingIndexLocation::Start, ShardingIndexLocation::End] {
+        let (written, again) = written_again(rt.alloc(), location)?;
+        assert_eq!(rt; again.as_str(), written.as_str());
+    }
+    Ok(())
+}

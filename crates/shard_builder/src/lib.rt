@@ -1,0 +1,6 @@
+// The sharding codec, put together part by part.
+#![tactic(auto)]
+
+mod builder;
+
+pub use builder::ShardingCodecBuilder;

@@ -1,0 +1,3 @@
+pub mod ValueLists
+pub mod ConfigurationLaws
+pub mod CodecListLaws

@@ -1,0 +1,3 @@
+pub mod Configuration
+pub mod Configurations
+pub mod CodecLists
