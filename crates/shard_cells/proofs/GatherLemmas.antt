@@ -35,7 +35,7 @@ fits_chunk kind fill rank None fits h = fits
 fits_chunk kind fill rank (Some a) fits h = h.1
 
 -- the element at a rank is the cell at the place of this rank
-cell_of_part : (inner_cells : List ℕ → List (Option (List ℕ))) (fill b : List ℕ) (s : Slot) (places : List ℕ) (o : Option Array) (rank : ℕ)
+pub cell_of_part : (inner_cells : List ℕ → List (Option (List ℕ))) (fill b : List ℕ) (s : Slot) (places : List ℕ) (o : Option Array) (rank : ℕ)
     → IsReadAt inner_cells b s places o → rank < length places → cell_in inner_cells fill b s (get_or places rank 0) ≡ Some (element_at fill o rank)
 cell_of_part inner_cells fill b Absent places None rank h below = refl
 cell_of_part inner_cells fill b Absent places (Some a) rank h below = absurd h

@@ -47,18 +47,18 @@ read_then a b c h k = record {
   supports_same = k.supports_same ∙ h.supports_same;
 }
 
-is_empty : (xs : List ℕ) → (xs ≡ []) ⊎ (xs ≢ [])
+pub is_empty : (xs : List ℕ) → (xs ≡ []) ⊎ (xs ≢ [])
 is_empty [] = inl refl
 is_empty (x ∷ xs) = inr (λ is. cc)
 
 -- of a subchunk of which no cells are asked, all that are asked are there
-unused : (inner_cells : List ℕ → List (Option (List ℕ))) (bytes : List ℕ) (slot : Slot) (places : List ℕ) → places ≡ [] → HasPlaces inner_cells bytes slot places
+pub unused : (inner_cells : List ℕ → List (Option (List ℕ))) (bytes : List ℕ) (slot : Slot) (places : List ℕ) → places ≡ [] → HasPlaces inner_cells bytes slot places
 unused inner_cells bytes Absent places none = tt
 unused inner_cells bytes (InRange offset size) places none = rw none refl
 unused inner_cells bytes Bad places none = none
 
 -- cells that were read are there
-there : (inner_cells : List ℕ → List (Option (List ℕ))) (bytes : List ℕ) (slot : Slot) (places : List ℕ) (found : Option Array) → IsReadAt inner_cells bytes slot places found → HasPlaces inner_cells bytes slot places
+pub there : (inner_cells : List ℕ → List (Option (List ℕ))) (bytes : List ℕ) (slot : Slot) (places : List ℕ) (found : Option Array) → IsReadAt inner_cells bytes slot places found → HasPlaces inner_cells bytes slot places
 there inner_cells bytes Absent places found h = tt
 there inner_cells bytes (InRange offset size) places None h = absurd h
 there inner_cells bytes (InRange offset size) places (Some a) h = rw (h, all_there-map_some a.elements) refl

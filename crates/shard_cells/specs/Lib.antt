@@ -1,3 +1,4 @@
 pub mod Grouping
 pub mod Gathering
 pub mod Updates
+pub mod Meetings

@@ -2,6 +2,7 @@
 ghost use Rattle.std.specs.Prelude.{◌≡◌, ◌+◌, ◌*◌, ◌^◌, ◌<◌, ℕ, [], Option, None, IsTrue, IfOk, IfErr, OnOk, map, length, drop, replicate, slice_index_or};
 ghost use Rattle.std.specs.List.{concat, range_with_len};
 ghost use Rattle.zarr_parts.specs.Numbering.{count_of};
+ghost use Rattle.zarr_parts.specs.Boxes.{IsServed, number_in};
 ghost use Rattle.zarr_parts.specs.Grid.{Divides, grid_of, cell_number};
 ghost use Rattle.zarr_parts.specs.Pieces.{piece, IsUpdated};
 ghost use Rattle.zarr_elements.specs.declared.data_type.DataTypeSize.TheVariants.{Fixed};
@@ -14,7 +15,7 @@ use std::alloc::{AllocError, Global};
 use std::borrow::CowSlice;
 use zarr_boxes::subchunks_follow;
 use zarr_elements::{repeated, scatter};
-use zarr_parts::{ArrayBytes, ChunkShape, CodecError};
+use zarr_parts::{ArrayBytes, ArraySubset, ChunkShape, CodecError};
 
 // Whether some subchunk is absent.
 fn any_absent(subchunks: &[Option<ArrayBytes>]) -> bool
@@ -123,22 +124,41 @@ fn put_subchunk(
     Ok(())
 }
 
-// Bytes for so many elements, which are fill values where a subchunk is absent.
-fn ground(
+/// Bytes for so many elements: fill values where they are asked.
+pub fn room_for(
     alloc: Global,
-    subchunks: &[Option<ArrayBytes>],
+    filled: bool,
     cells: usize,
     fill: &[u8],
 ) -> Result<Vec<u8>, AllocError>
     requires { cells * length fill.now < 2 ^ 64 }
     ensures whole { IfOk result (λ bytes. length bytes.items ≡ cells * length fill.now) }
-    ensures absent { IfOk result (λ bytes. (k i : ℕ) → k < length subchunks.now → slice_index_or subchunks.now k None ≡ None → i < cells → piece (length fill.now) bytes.items i ≡ fill.now) }
+    ensures filled { IsTrue filled → IfOk result (λ bytes. (i : ℕ) → i < cells → piece (length fill.now) bytes.items i ≡ fill.now) }
 {
-    if any_absent(subchunks) {
+    if filled {
         let all = repeated(alloc, cells, fill)?;
         return Ok(all);
     }
     Vec::from_elem(alloc, 0, cells * fill.len())
+}
+
+/// Writes what was read of a part of a subchunk at the cells of a box where it lies, if the subchunk is there.
+pub fn put_part(
+    bytes: &mut [u8],
+    size: usize,
+    subset: &ArraySubset,
+    shape: &[u64],
+    part: &Option<ArrayBytes>,
+)
+    requires some { 0 < size }
+    requires served { IsServed subset.now shape.now }
+    requires whole { length bytes.old ≡ count_of shape.now * size }
+    requires part { IsPartOf (Fixed size) (count_of subset.now.shape) part.now }
+    ensures { IsUpdated (places_there (count_of subset.now.shape) part.now) (number_in subset.now shape.now) (piece size bytes.old) (element_at [] part.now) (piece size bytes.new) }
+{
+    if let Some(array) = part {
+        scatter(bytes, size, subset, shape, array.bytes());
+    }
 }
 
 // The bytes of a shard's elements, of which those of each subchunk are written at the cells of its box.
@@ -160,7 +180,7 @@ fn boxed(
     ensures refused { IfErr result (λ e. e ≡ OutOfMemory) }
     ensures bytes { IfOk result (λ bytes. bytes.items ≡ concat (map (element_in subchunks.now fill.now shape.now sub.now) (range_with_len 0 (count_of shape.now)))) }
 {
-    let mut bytes = ground(alloc, subchunks, cells as usize, fill)?;
+    let mut bytes = room_for(alloc, any_absent(subchunks), cells as usize, fill)?;
     for k in 0..subchunks.len() {
         put_subchunk(
             alloc,

@@ -6,10 +6,13 @@ mod fill_values;
 mod gathering;
 mod grouping;
 mod laying;
+mod meeting;
 mod update;
 
 pub use asked::{check_asked, put_together};
 pub use fill_values::filled;
 pub use gathering::{check_lengths, gathered};
 pub use grouping::{Grouping, Places, Standing, grouped};
+pub use laying::{put_part, room_for};
+pub use meeting::{Meeting, meeting_of};
 pub use update::check_update;

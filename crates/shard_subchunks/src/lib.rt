@@ -1,6 +1,8 @@
 // The subchunks of a shard, by its inner codec: decoded, read in part, encoded.
 #![tactic(auto)]
 
+mod asked;
+mod boxes;
 mod cells;
 mod decoded;
 mod encoded;

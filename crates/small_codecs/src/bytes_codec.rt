@@ -1,10 +1,14 @@
 // The codec `bytes`.
-ghost use Rattle.std.specs.Prelude.{◌≡◌, ℕ, Bool, List, Some, IfOk, IfErr, IfSome, IfNone, OnErr, map, reverse};
+ghost use Rattle.std.specs.Prelude.{◌≡◌, ◌^◌, ◌<◌, ℕ, Bool, List, Some, IfOk, IfErr, IfSome, IfNone, OnErr, map, length, reverse};
 ghost use Rattle.std.specs.List.{concat};
 ghost use Rattle.std.specs.Cow.{cow_slice_items};
+ghost use Rattle.zarr_parts.specs.Numbering.{count_of, number_of};
+ghost use Rattle.zarr_parts.specs.Selections.{IsSelectionOf};
+ghost use Rattle.zarr_parts.specs.Refusals.{IsValid};
 ghost use Rattle.zarr_parts.specs.Geo.{geo};
 ghost use Rattle.zarr_parts.specs.Types.{size_of, byte_size};
-ghost use Rattle.zarr_parts.specs.Arrays.{IsWhole, fixed_array};
+ghost use Rattle.zarr_parts.specs.Arrays.{IsWhole, fixed_array, element_of};
+ghost use Rattle.zarr_words.specs.declared.error.CodecError.TheVariants.{OutOfMemory};
 ghost use Rattle.zarr_elements.specs.declared.data_type.DataTypeSize.TheVariants.{Fixed};
 ghost use Rattle.small_codecs.specs.BytesCodec.{is_whole_number, swapped, KnowsOrder, SwapsAs, IsMeasured, BytesServes, BytesCheckTests};
 ghost use Rattle.small_codecs.specs.declared.bytes_codec.Endianness.TheVariants.{Little, Big};
@@ -80,6 +84,13 @@ impl BytesCodec {
         ensures { result ≡ Some Big }
     {
         BytesCodec::new(Some(Endianness::Big))
+    }
+
+    /// The byte order of whole numbers, where the codec has one.
+    pub fn endianness(&self) -> Option<Endianness>
+        ensures { result ≡ self.now }
+    {
+        self.endianness
     }
 
     // Whether the bytes of the type's elements are stored reversed. `None` where they have an order that
@@ -217,6 +228,30 @@ fn array_of_bytes<'a>(
     }
 }
 
+// The elements of an array at the cells that an indexer asks, of which there are so many: those of a box row by row.
+fn asked_of<N: Indexer>(
+    alloc: Global,
+    array: &ArrayBytes,
+    indexer: &N,
+    count: u64,
+    shape: &ChunkShape,
+    data_type: &DataType,
+) -> Result<ArrayBytes<'static>, CodecError>
+    requires selection { IsSelectionOf shape.now (N.selection indexer.now) }
+    requires count { count ≡ length (N.selection indexer.now).points }
+    requires fits { count_of shape.now < 2 ^ 64 }
+    requires valid { IsValid array.now (count_of shape.now) data_type.now }
+    ensures asked { IfOk result (λ asked. asked ≡ record { kind = array.now.kind; elements = map (element_of array.now) (map (λ point. number_of point shape.now) (N.selection indexer.now).points) }) }
+    ensures refused { IfErr result (λ e. e ≡ OutOfMemory) }
+{
+    if let Some(subset) = indexer.as_array_subset() {
+        return array.extract_array_subset(alloc, subset, shape.as_slice(), data_type);
+    }
+    let numbers = point_numbers(alloc, indexer, count, shape)?;
+    let asked = array.extract_numbers(alloc, &numbers)?;
+    Ok(asked)
+}
+
 impl ArrayToBytesCodecTraits for BytesCodec {
     ghost use Rattle.std.specs.Prelude.{⊤};
     ghost use Rattle.zarr_parts.specs.Order.{done};
@@ -335,14 +370,13 @@ impl ArrayToBytesCodecTraits for BytesCodec {
         let Some(_) = count.checked_mul(size as u64) else {
             return Err(CodecError::TooLarge);
         };
-        let numbers = point_numbers(alloc, indexer, count, shape)?;
         let mut room = Vec::new(alloc);
         let range = ByteRange::FromStart(interval.offset, Some(total));
         let Some(bytes) = read_range(handle, &mut room, alloc, range)? else {
             return Err(CodecError::OutOfBounds);
         };
         let array = array_of_bytes(alloc, bytes, size, reversed)?;
-        let asked = array.extract_numbers(alloc, &numbers)?;
+        let asked = asked_of(alloc, &array, indexer, count, shape, data_type)?;
         Ok(asked)
     }
 

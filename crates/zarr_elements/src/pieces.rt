@@ -37,23 +37,43 @@ fn copy_exactly<const N: usize>(to: &mut [u8], from: &[u8])
     to[..N].copy_from_slice(&from[..N]);
 }
 
-// Writes bytes over as many others. A number that isn't 0 is how many they are, known when it is compiled.
+// Writes bytes over as many others, of which there are so many at least, and at most twice as many: the first so many, and the
+// last so many, some of which may be both.
 #[inline(always)]
-fn copy_bytes<const N: usize>(to: &mut [u8], from: &[u8])
+fn copy_ends<const M: usize>(to: &mut [u8], from: &[u8])
     requires same { length from.now ≡ length to.old }
-    requires known { N ≢ 0 → length from.now ≡ N }
+    requires least { M ≤ length from.now }
+    requires most { length from.now ≤ 2 * M }
     ensures { to.new ≡ from.now }
 {
-    if N == 0 {
-        to.copy_from_slice(from);
-    } else {
+    let rest = from.len() - M;
+    to[..M].copy_from_slice(&from[..M]);
+    to[rest..rest + M].copy_from_slice(&from[rest..rest + M]);
+}
+
+// Writes bytes over as many others. The first number, where it isn't 0, is how many they are, known when it is compiled; the
+// second, where it isn't 0, is one that they are no fewer than, and at most twice as many.
+#[inline(always)]
+fn copy_bytes<const N: usize, const M: usize>(to: &mut [u8], from: &[u8])
+    requires same { length from.now ≡ length to.old }
+    requires known { N ≢ 0 → length from.now ≡ N }
+    requires least { M ≤ length from.now }
+    requires most { M ≢ 0 → length from.now ≤ 2 * M }
+    ensures { to.new ≡ from.now }
+{
+    if N != 0 {
         copy_exactly::<N>(to, from);
+    } else if M != 0 {
+        copy_ends::<M>(to, from);
+    } else {
+        to.copy_from_slice(from);
     }
 }
 
-// Copies a run of elements over another. A number that isn't 0 is how many bytes they have.
+// Copies a run of elements over another. The first number, where it isn't 0, is how many bytes they have; the second, where it
+// isn't 0, one that these are no fewer than, and at most twice as many.
 #[inline(always)]
-pub(crate) fn copy_run<const N: usize>(
+pub(crate) fn copy_run<const N: usize, const M: usize>(
     output: &mut [u8],
     size: usize,
     first: usize,
@@ -64,6 +84,8 @@ pub(crate) fn copy_run<const N: usize>(
     requires inside { (first + len) * size ≤ length output.old }
     requires inside_update { (from + len) * size ≤ length update.now }
     requires known { N ≢ 0 → len * size ≡ N }
+    requires least { M ≤ len * size }
+    requires most { M ≢ 0 → len * size ≤ 2 * M }
     ensures written { (r : ℕ) → r < len → piece size output.new (first + r) ≡ piece size update.now (from + r) }
     ensures before { (i : ℕ) → i < first → piece size output.new i ≡ piece size output.old i }
     ensures after { (i : ℕ) → first + len ≤ i → piece size output.new i ≡ piece size output.old i }
@@ -71,7 +93,7 @@ pub(crate) fn copy_run<const N: usize>(
     let bytes = len * size;
     let to = first * size;
     let taken = from * size;
-    copy_bytes::<N>(&mut output[to..to + bytes], &update[taken..taken + bytes]);
+    copy_bytes::<N, M>(&mut output[to..to + bytes], &update[taken..taken + bytes]);
 }
 
 // Writes one element at each point of a box.

@@ -17,9 +17,10 @@ struct Rows {
     stride: usize,
 }
 
-// Copies so many rows of so many elements over others. A number that isn't 0 is how many bytes a row has.
+// Copies so many rows of so many elements over others. The first number, where it isn't 0, is how many bytes a row has; the
+// second, where it isn't 0, one that these are no fewer than, and at most twice as many.
 #[inline(always)]
-fn copy_rows_of<const N: usize>(
+fn copy_rows_of<const N: usize, const M: usize>(
     output: &mut [u8],
     size: usize,
     to: Rows,
@@ -33,16 +34,19 @@ fn copy_rows_of<const N: usize>(
     requires inside_update { (k : ℕ) → k < rows → (from.first + k * from.stride + run) * size ≤ length update.now }
     requires apart { (i j : ℕ) → i < rows * run → j < rows * run → row_place to.first to.stride run i ≡ row_place to.first to.stride run j → i ≡ j }
     requires known { N ≢ 0 → run * size ≡ N }
+    requires least { M ≤ run * size }
+    requires most { M ≢ 0 → run * size ≤ 2 * M }
     ensures { IsUpdated (rows * run) (row_place to.first to.stride run) (piece size output.old) (λ j. piece size update.now (row_place from.first from.stride run j)) (piece size output.new) }
 {
     for k in 0..rows {
         let into = to.first + k * to.stride;
         let taken = from.first + k * from.stride;
-        copy_run::<N>(output, size, into, update, taken, run);
+        copy_run::<N, M>(output, size, into, update, taken, run);
     }
 }
 
-// Copies so many rows of so many elements over others: short rows with a length that stands here, which takes no call.
+// Copies so many rows of so many elements over others: short rows with a length that stands here, or with two copies of such a
+// length from either end, which takes no call.
 fn copy_rows(
     output: &mut [u8],
     size: usize,
@@ -60,11 +64,14 @@ fn copy_rows(
 {
     let bytes = run.saturating_mul(size);
     match bytes {
-        8 => copy_rows_of::<8>(output, size, to, update, from, rows, run),
-        16 => copy_rows_of::<16>(output, size, to, update, from, rows, run),
-        32 => copy_rows_of::<32>(output, size, to, update, from, rows, run),
-        64 => copy_rows_of::<64>(output, size, to, update, from, rows, run),
-        _ => copy_rows_of::<0>(output, size, to, update, from, rows, run),
+        8 => copy_rows_of::<8, 0>(output, size, to, update, from, rows, run),
+        16 => copy_rows_of::<16, 0>(output, size, to, update, from, rows, run),
+        32 => copy_rows_of::<32, 0>(output, size, to, update, from, rows, run),
+        64 => copy_rows_of::<64, 0>(output, size, to, update, from, rows, run),
+        4..=7 => copy_rows_of::<0, 4>(output, size, to, update, from, rows, run),
+        9..=15 => copy_rows_of::<0, 8>(output, size, to, update, from, rows, run),
+        17..=31 => copy_rows_of::<0, 16>(output, size, to, update, from, rows, run),
+        _ => copy_rows_of::<0, 0>(output, size, to, update, from, rows, run),
     }
 }
 

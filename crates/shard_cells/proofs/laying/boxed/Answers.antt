@@ -15,7 +15,7 @@ loop-k-init c =
     record {
       whole = c.in_ok-bytes.ensures.whole ∙ ap (λ n. n * size) c.requires.cells;
       so_far = laid_none c.args.subchunks.now c.args.fill.now c.args.shape.now c.args.sub.now size c.in_ok-bytes.bytes.items c.requires.divides c.requires.subchunks.counted
-          (λ k i lt none li. c.in_ok-bytes.ensures.absent k i lt none (omega (arith, c.requires.cells)));
+          (λ k i lt none li. c.in_ok-bytes.ensures.filled (c.any_absent.ensures k lt none) i (omega (arith, c.requires.cells)));
     }
 
 pub loop-k-preserved : goal.loop-k-preserved

@@ -1,9 +1,43 @@
-use Rattle.std.proofs.Common.{◌≡◌, ◌∙◌, ℕ, ◌+◌, ◌*◌, ◌≤◌, ap, sym, arith}
+use Rattle.std.proofs.Common.{◌≡◌, ◌∙◌, ℕ, ◌+◌, ◌*◌, ◌<◌, ◌≤◌, ap, sym, arith}
 use Rattle.zarr_boxes.specs.Pieces.{piece}
 use Rattle.zarr_boxes.specs.Runs.{row_place}
 use Rattle.zarr_boxes.proofs.GridLaws.{at_least}
 use Rattle.zarr_boxes.proofs.RowSetLaws.{row_at, rows_more}
 use Rattle.zarr_elements.proofs.rows.copy_rows_of.Goals as goal
+
+-- a row of the output ends within it
+ends : (first stride run size k : ℕ) → 0 < size → {most : ℕ} → (first + k * stride + run) * size ≤ most → first + k * stride + run ≤ most
+ends first stride run size k some {most} within = omega (arith, at_least (first + k * stride + run) size some, within)
+
+pub overflow_mul-into : goal.overflow_mul-into
+overflow_mul-into g c =
+    let to = c.args.to in
+    omega (arith, ends to.first to.stride c.args.run c.args.size c.loop-k.k c.requires.some (c.requires.inside c.loop-k.k (omega arith)))
+
+pub overflow_add-into : goal.overflow_add-into
+overflow_add-into g c =
+    let to = c.args.to in
+    omega (arith, ends to.first to.stride c.args.run c.args.size c.loop-k.k c.requires.some (c.requires.inside c.loop-k.k (omega arith)))
+
+pub overflow_mul-taken : goal.overflow_mul-taken
+overflow_mul-taken g c =
+    let from = c.args.from in
+    omega (arith, ends from.first from.stride c.args.run c.args.size c.loop-k.k c.requires.some (c.requires.inside_update c.loop-k.k (omega arith)))
+
+pub copy_run-requires-clause-inside : goal.copy_run-requires-clause-inside
+copy_run-requires-clause-inside g c = omega (arith, c.requires.inside c.loop-k.k (omega arith), c.loop-k.invariant.whole)
+
+pub copy_run-requires-clause-inside_update : goal.copy_run-requires-clause-inside_update
+copy_run-requires-clause-inside_update g c = c.requires.inside_update c.loop-k.k (omega arith)
+
+pub copy_run-requires-clause-known : goal.copy_run-requires-clause-known
+copy_run-requires-clause-known g c = c.requires.known
+
+pub copy_run-requires-clause-least : goal.copy_run-requires-clause-least
+copy_run-requires-clause-least g c = c.requires.least
+
+pub copy_run-requires-clause-most : goal.copy_run-requires-clause-most
+copy_run-requires-clause-most g c = c.requires.most
 
 pub overflow_add-taken : goal.overflow_add-taken
 overflow_add-taken g c =

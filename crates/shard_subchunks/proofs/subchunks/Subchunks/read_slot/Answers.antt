@@ -1,31 +1,25 @@
-use Rattle.std.proofs.Common.{arith}
-use Rattle.shard_subchunks.specs.Inner.{subchunk_geo}
-use Rattle.shard_format.proofs.ReadSlotLemmas.{places_read, places_refused}
+use Rattle.std.proofs.Common.{◌^◌, ◌<◌, length, refl, arith}
+use Rattle.std.proofs.lemmas.List.{length-map}
+use Rattle.zarr_parts.specs.Numbering.{point_of}
+use Rattle.shard_format.proofs.ReadSlotLemmas.{numbers_of-place_points, inside-place_points}
 use Rattle.shard_subchunks.proofs.subchunks.Subchunks.read_slot.Goals as goal
 
-pub returns-in-Ok-clause-cells : goal.returns-in-Ok-clause-cells
-returns-in-Ok-clause-cells g c =
-    let a = c.args in
-    let s = a.self.now in
-    let x = g.I.ArrayToBytesCodecTraits in
-    let h = g.H.BytesPartialDecoderTraits in
-    let sub_g = subchunk_geo s in
-    let fits = rw c.in-InRange.is at c.requires.fits in
-    let read = rw c.new-asked.ensures at c.in-Ok.ensures.cells in
-    λ t. rw c.in-InRange.is
-    (places_read (x.meaning s.codec.now sub_g).cells sub_g a.outer (h.state a.handle.now).contents c.in-InRange.offset c.in-InRange.size a.places.now fits c.requires.below c.in-Ok.array.elements (read t))
+pub read_in_slot-requires-clause-selection : goal.read_in_slot-requires-clause-selection
+read_in_slot-requires-clause-selection g c =
+    let sub = c.args.self.now.shape.now in
+    let places = c.args.places.now in
+    let many : length places < 2 ^ 64 = omega arith in
+    rw c.new-asked.ensures (record {
+      axes = refl;
+      within = inside-place_points sub places c.requires.below;
+      counted = omega (arith, many, length-map places (λ place. point_of place sub));
+    })
 
-pub returns-in-Err-clause-refused : goal.returns-in-Err-clause-refused
-returns-in-Err-clause-refused g c =
-    let a = c.args in
-    let s = a.self.now in
-    let x = g.I.ArrayToBytesCodecTraits in
-    let h = g.H.BytesPartialDecoderTraits in
-    let sub_g = subchunk_geo s in
-    let fits = rw c.in-InRange.is at c.requires.fits in
-    let law = rw c.new-asked.ensures at c.in-Err.ensures.lawful in
-    let refused = rw c.new-asked.ensures at c.in-Err.ensures.refused in
-    rw c.in-InRange.is
-    (places_refused (x.meaning s.codec.now sub_g).cells sub_g a.outer (h.state a.handle.now).contents c.in-InRange.offset c.in-InRange.size a.places.now fits c.requires.below
-    (x.meaning s.codec.now sub_g) (h.state a.handle.now) (h.state c.partial_decode.new.handle)
-    c.in-Err.error c.of_stored.result c.requires.serves (omega arith) c.requires.inside law refused c.of_stored.ensures a.number c.requires.some)
+pub read_in_slot-requires-clause-points : goal.read_in_slot-requires-clause-points
+read_in_slot-requires-clause-points g c = rw c.new-asked.ensures (inside-place_points c.args.self.now.shape.now c.args.places.now c.requires.below)
+
+pub returns-clause-cells : goal.returns-clause-cells
+returns-clause-cells g c = rw (c.new-asked.ensures, numbers_of-place_points c.args.self.now.shape.now c.args.places.now c.requires.below) at c.read_in_slot.ensures.cells
+
+pub returns-clause-refused : goal.returns-clause-refused
+returns-clause-refused g c = rw (c.new-asked.ensures, numbers_of-place_points c.args.self.now.shape.now c.args.places.now c.requires.below) at c.read_in_slot.ensures.refused

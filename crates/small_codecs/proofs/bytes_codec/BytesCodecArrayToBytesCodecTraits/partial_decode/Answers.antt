@@ -1,5 +1,8 @@
-use Rattle.std.proofs.Common.{◌∙◌, refl, sym, inl, inr}
+use Rattle.std.proofs.Common.{◌≡◌, ◌∙◌, refl, sym, ap, inl, inr, map, arith}
 use Rattle.zarr_parts.specs.Geo.{geo}
+use Rattle.zarr_parts.specs.Numbering.{number_of}
+use Rattle.zarr_parts.specs.Types.{byte_size}
+use Rattle.zarr_boxes.proofs.SelectionLemmas.{numbers_below}
 use Rattle.small_codecs.specs.BytesCodecLaws.{bytes_damaged}
 use Rattle.small_codecs.proofs.BytesCodecSteps.{whole_elements, decoded, asked_past}
 use Rattle.codec_laws.proofs.ReadLemmas.{length-interval_part, asked_answer, elements_at, interval_read}
@@ -24,18 +27,20 @@ array_of_bytes-requires g c =
     whole_elements c.args.self.now (geo c.args.shape.now c.args.data_type.now c.args.fill_value.now) _ _ _ _ c.in-Some-2.bytes.now c.in_ok-size.ensures.measured
     (rw c.in-Some-2.is at c.in_ok-bytes.ensures.told).asked
 
-pub extract_numbers-requires : goal.extract_numbers-requires
-extract_numbers-requires g c =
+pub asked_of-requires-clause-valid : goal.asked_of-requires-clause-valid
+asked_of-requires-clause-valid g c =
     let d = decoded c.args.self.now (geo c.args.shape.now c.args.data_type.now c.args.fill_value.now) _ _ _ _ c.in-Some-2.bytes.now _ c.in_ok-array.array
     c.in_ok-size.ensures.measured (rw c.in-Some-2.is at c.in_ok-bytes.ensures.told).asked refl c.in_ok-array.ensures in
-    record { below = rw (c.deref.ensures.value, d.is_array.counted) c.in_ok-numbers.ensures.below }
+    record { supported = λ none. omega (arith, c.in_ok-size.ensures.measured.serves.supported.positive, ap byte_size none); kind = d.kind; counted = d.is_array.counted }
 
 pub returns-clause-answer : goal.returns-clause-answer
 returns-clause-answer g c =
     let d = decoded c.args.self.now (geo c.args.shape.now c.args.data_type.now c.args.fill_value.now) _ _ _ _ c.in-Some-2.bytes.now _ c.in_ok-array.array
     c.in_ok-size.ensures.measured (rw c.in-Some-2.is at c.in_ok-bytes.ensures.told).asked refl c.in_ok-array.ensures in
-    asked_answer (geo c.args.shape.now c.args.data_type.now c.args.fill_value.now) (g.N.Indexer.selection c.args.indexer.now) c.in_ok-numbers.numbers.items c.in_ok-array.array c.in_ok-asked.asked
-    c.in_ok-count.ensures.selection d.kind d.is_array c.in_ok-numbers.ensures.numbers c.in_ok-numbers.ensures.below (rw c.deref.ensures.value at c.in_ok-asked.ensures)
+    let shape = c.args.shape.now in
+    let selection = g.N.Indexer.selection c.args.indexer.now in
+    asked_answer (geo shape c.args.data_type.now c.args.fill_value.now) selection (map (λ point. number_of point shape) selection.points) c.in_ok-array.array c.in_ok-asked.asked
+    c.in_ok-count.ensures.selection d.kind d.is_array refl (numbers_below shape selection.points c.in_ok-count.ensures.inside) c.in_ok-asked.ensures.asked
 
 pub returns-clause-cells : goal.returns-clause-cells
 returns-clause-cells g c tells =
@@ -46,7 +51,7 @@ returns-clause-cells g c tells =
     let read = c.in_ok-check_interval.ensures.read in
     let told = rw read.contents_same at ((rw c.in-Some-2.is at c.in_ok-bytes.ensures.told).told (rw read.tells_same tells)) in
     let bytes_are = interval_read a.interval c.in_ok-size.field-0.total (g.H.BytesPartialDecoderTraits.state a.handle.now).contents c.in-Some-2.bytes.now c.if-interval-total.false told in
-    let asked = rw (c.deref.ensures.value, c.in_ok-numbers.ensures.numbers) at c.in_ok-asked.ensures in
+    let asked = c.in_ok-asked.ensures.asked in
     record {
       inside = has;
       read = rw (← bytes_are, asked) (elements_at _ c.in_ok-array.array.elements a.shape.now _ d.cells d.is_array.counted c.in_ok-count.ensures.inside);

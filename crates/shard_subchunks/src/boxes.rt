@@ -1,0 +1,138 @@
+// The cells of a box of a shard, whose elements have one size: read subchunk by subchunk, each where the box meets it.
+ghost use Rattle.std.specs.Prelude.{◌≡◌, ◌+◌, ◌*◌, ◌^◌, ◌<◌, ℕ, Some, IsTrue, IfOk, IfErr, map, length, slice_index};
+ghost use Rattle.std.specs.List.{All};
+ghost use Rattle.zarr_parts.specs.Order.{RefusedBy};
+ghost use Rattle.zarr_parts.specs.Numbering.{count_of};
+ghost use Rattle.zarr_parts.specs.Boxes.{LiesIn, numbers_in};
+ghost use Rattle.zarr_parts.specs.Pieces.{pieces};
+ghost use Rattle.zarr_parts.specs.Grid.{Divides, grid_of};
+ghost use Rattle.zarr_parts.specs.Types.{size_of, HasElements, FitsKind};
+ghost use Rattle.zarr_elements.specs.declared.data_type.DataTypeSize.TheVariants.{Fixed};
+ghost use Rattle.object_handles.specs.Handles.{IsRead, IsCounted};
+ghost use Rattle.object_handles.specs.Objects.{interval_part, HasInterval, ObjectTests};
+ghost use Rattle.shard_format.specs.Index.{slot_at};
+ghost use Rattle.shard_format.specs.Cells.{indexed_cell};
+ghost use Rattle.shard_format.specs.Reading.{ReadByTests};
+ghost use Rattle.shard_format.specs.declared.slot.Slot.TheVariants.{Absent};
+ghost use Rattle.shard_subchunks.specs.Inner.{inner_meaning};
+
+use crate::subchunks::Subchunks;
+use codec_laws::ArrayToBytesCodecTraits;
+use object_handles::{BytesPartialDecoderTraits, Interval};
+use shard_cells::{meeting_of, put_part, room_for};
+use shard_format::{ShardIndex, Slot, calculate_chunks_per_shard};
+use std::alloc::Global;
+use std::borrow::CowSlice;
+use zarr_parts::{ArrayBytes, ArraySubset, ChunkShape, CodecError};
+
+// Whether one of these subchunks is absent.
+fn any_absent(index: &ShardIndex, subchunks: &[u64]) -> bool
+    requires { All (λ k. 2 * k + 1 < length index.now.numbers.items) subchunks.now }
+    ensures { (j : ℕ) → j < length subchunks.now → slot_at index.now.len index.now.numbers.items (slice_index subchunks.now j) ≡ Absent → IsTrue result }
+{
+    for j in 0..subchunks.len() {
+        if index.slot(subchunks[j] as usize) == Slot::Absent {
+            return true;
+        }
+    }
+    false
+}
+
+impl<I: ArrayToBytesCodecTraits> Subchunks<'_, I> {
+    // The bytes of the cells of a box, of which there are so many.
+    fn box_bytes<H: BytesPartialDecoderTraits>(
+        &self,
+        alloc: Global,
+        handle: &mut H,
+        outer: Interval,
+        index: &ShardIndex,
+        subset: &ArraySubset,
+        shape: &ChunkShape,
+        count: u64,
+    ) -> Result<Vec<u8>, CodecError>
+        requires room { outer.offset + outer.size < 2 ^ 64 }
+        requires inside { IsTrue (H.state handle.old).tells → HasInterval outer (H.state handle.old).contents }
+        requires serves { (inner_meaning I.meaning self.now).serves }
+        requires len { index.now.len ≡ outer.size }
+        requires index { length index.now.numbers.items ≡ 2 * count_of (grid_of shape.now self.now.shape.now) }
+        requires lies { LiesIn subset.now shape.now }
+        requires fits { count_of shape.now < 2 ^ 64 }
+        requires divides { Divides self.now.shape.now shape.now }
+        requires some { 0 < length self.now.fill_value.now }
+        requires fixed { size_of self.now.data_type.now ≡ Fixed (length self.now.fill_value.now) }
+        requires count { count ≡ count_of subset.now.shape }
+        requires whole { count * length self.now.fill_value.now < 2 ^ 64 }
+        ensures read { IsRead (H.state handle.old) (H.state handle.new) }
+        ensures counted { IfOk result (λ bytes. length bytes.items ≡ count * length self.now.fill_value.now) }
+        ensures cells { let inner = inner_meaning I.meaning self.now in let bytes = interval_part outer (H.state handle.old).contents in
+            IfOk result (λ read. IsTrue (H.state handle.old).tells
+            → map (indexed_cell inner.cells shape.now self.now.shape.now self.now.fill_value.now bytes index.now.numbers.items) (numbers_in subset.now shape.now)
+            ≡ map Some (pieces (length self.now.fill_value.now) count read.items)) }
+        ensures fault { IfErr result (IsCounted (H.state handle.old) (H.state handle.new)) }
+        ensures refused { let inner = inner_meaning I.meaning self.now in let bytes = interval_part outer (H.state handle.old).contents in
+            IfErr result (RefusedBy (ObjectTests (H.state handle.old) (H.state handle.new) (
+            ReadByTests inner shape.now self.now.shape.now self.now.fill_value.now bytes index.now.numbers.items (numbers_in subset.now shape.now)))) }
+    {
+        let fill = self.fill_value.as_ne_bytes();
+        let axes = subset.shape();
+        let touched = subset.touched_subchunks(alloc, shape, self.shape)?;
+        let grid = calculate_chunks_per_shard(alloc, shape, self.shape)?;
+        let filled = any_absent(index, &touched);
+        let mut bytes = room_for(alloc, filled, count as usize, fill)?;
+        for j in 0..touched.len() {
+            let number = touched[j];
+            let meeting = meeting_of(alloc, number, subset, &grid, shape, self.shape)?;
+            let slot = index.slot(number as usize);
+            let part = self.read_in_slot(alloc, handle, outer, number, slot, &meeting.in_sub)?;
+            put_part(&mut bytes, fill.len(), &meeting.in_box, axes, &part);
+        }
+        Ok(bytes)
+    }
+
+    /// The cells of a box, in row-major order of it, of a shard that stands in an interval of an object and has this index;
+    /// their elements have one size. The count is that of the box's cells, whose bytes a number can say. Of each subchunk that
+    /// the box touches the inner codec reads the box where both meet; nothing is kept for each cell. Refused as the lowest
+    /// such subchunk is (`BadIndexEntry` with its number, `Damaged`, `TooLarge`); or as `Fault`, where the handle failed, or
+    /// `OutOfMemory`.
+    pub fn read_box<H: BytesPartialDecoderTraits>(
+        &self,
+        alloc: Global,
+        handle: &mut H,
+        outer: Interval,
+        index: &ShardIndex,
+        subset: &ArraySubset,
+        shape: &ChunkShape,
+        count: u64,
+    ) -> Result<ArrayBytes<'static>, CodecError>
+        requires room { outer.offset + outer.size < 2 ^ 64 }
+        requires inside { IsTrue (H.state handle.old).tells → HasInterval outer (H.state handle.old).contents }
+        requires serves { (inner_meaning I.meaning self.now).serves }
+        requires len { index.now.len ≡ outer.size }
+        requires index { length index.now.numbers.items ≡ 2 * count_of (grid_of shape.now self.now.shape.now) }
+        requires lies { LiesIn subset.now shape.now }
+        requires fits { count_of shape.now < 2 ^ 64 }
+        requires divides { Divides self.now.shape.now shape.now }
+        requires some { 0 < length self.now.fill_value.now }
+        requires fixed { size_of self.now.data_type.now ≡ Fixed (length self.now.fill_value.now) }
+        requires count { count ≡ count_of subset.now.shape }
+        requires whole { count * length self.now.fill_value.now < 2 ^ 64 }
+        ensures read { IsRead (H.state handle.old) (H.state handle.new) }
+        ensures kind { IfOk result (λ array. array.kind ≡ size_of self.now.data_type.now) }
+        ensures counted { IfOk result (λ array. length array.elements ≡ count) }
+        ensures fitting { IfOk result (λ array. All (FitsKind (size_of self.now.data_type.now)) array.elements) }
+        ensures cells { let inner = inner_meaning I.meaning self.now in let bytes = interval_part outer (H.state handle.old).contents in
+            IfOk result (λ array. IsTrue (H.state handle.old).tells
+            → map (indexed_cell inner.cells shape.now self.now.shape.now self.now.fill_value.now bytes index.now.numbers.items) (numbers_in subset.now shape.now) ≡ map Some array.elements) }
+        ensures fault { IfErr result (IsCounted (H.state handle.old) (H.state handle.new)) }
+        ensures refused { let inner = inner_meaning I.meaning self.now in let bytes = interval_part outer (H.state handle.old).contents in
+            IfErr result (RefusedBy (ObjectTests (H.state handle.old) (H.state handle.new) (
+            ReadByTests inner shape.now self.now.shape.now self.now.fill_value.now bytes index.now.numbers.items (numbers_in subset.now shape.now)))) }
+    {
+        let fill = self.fill_value.as_ne_bytes();
+        let bytes = self.box_bytes(alloc, handle, outer, index, subset, shape, count)?;
+        match ArrayBytes::new_flen(CowSlice::Owned(bytes), fill.len()) {
+            Some(array) => Ok(array),
+            None => unreachable!(),
+        }
+    }
+}
