@@ -1,5 +1,5 @@
 // Handles of which one call fails: at each call in turn, until a run meets no failure.
-use crate::shards::{Session, Shards, read, seven, subset_of};
+use crate::shards::{Session, Shards, read, seven, subset_of, write};
 use std::alloc::Global;
 use zarr_codecs::FaultingHandle;
 use zarr_parts::{ArraySubset, CodecError};
@@ -32,15 +32,20 @@ fn refused_by_all(
     }
 }
 
-// Reads, erases, and calls a session that failed once more; how these are refused.
+// Writes over a cell and reads it, erases, and calls a session that failed once more: how these are refused, or which cell is
+// read.
 fn run_calls(
     alloc: Global,
     session: &mut Session<'_, FaultingHandle>,
     cells: &ArraySubset,
-) -> (u8, u8, u8) {
-    let read = number(read(alloc, session, cells).err());
+) -> [u8; 4] {
+    let write = number(write(alloc, session, 1..2, &[9]).err());
+    let cell = match read(alloc, session, cells) {
+        Ok(bytes) => bytes.first().copied().unwrap_or(0),
+        Err(error) => error.number(),
+    };
     let erase = number(session.erase().err());
-    (read, erase, refused_by_all(alloc, session, cells))
+    [write, cell, erase, refused_by_all(alloc, session, cells)]
 }
 
 // Whether a handle has an object, whose call of a session's may have failed.
@@ -48,27 +53,30 @@ fn is_there(handle: FaultingHandle) -> u8 {
     u8::from(handle.into_inner().is_some())
 }
 
-// A run over an object, of which the call with this number fails: it is opened, read and erased. How these three are refused,
-// and what comes after them in a session that failed; and whether there is an object then.
-fn run(alloc: Global, fails_at: u64) -> Result<[u8; 5], CodecError> {
+// A run over an object, of which the call with this number fails: it is opened, written, read and erased. How these are refused,
+// with the cell that is read, and what comes after them in a session that failed; and whether there is an object then.
+fn run(alloc: Global, fails_at: u64) -> Result<[u8; 6], CodecError> {
     let shards = Shards::new(alloc, ShardingIndexLocation::End)?;
-    let cells = subset_of(alloc, 0..4)?;
+    let cells = subset_of(alloc, 1..2)?;
     let handle = FaultingHandle::new(Some(seven(alloc)?), fails_at);
     match shards.open(alloc, handle) {
         Ok(mut session) => {
-            let (read, erase, again) = run_calls(alloc, &mut session, &cells);
-            Ok([0, read, erase, again, is_there(session.close())])
+            let [write, cell, erase, again] = run_calls(alloc, &mut session, &cells);
+            Ok([0, write, cell, erase, again, is_there(session.close())])
         }
-        Err((handle, error)) => Ok([error.number(), 0, 0, 0, is_there(handle)]),
+        Err((handle, error)) => Ok([error.number(), 0, 0, 0, 0, is_there(handle)]),
     }
 }
 
-// A fault at the opening leaves the object; one at the read leaves the session too; by one at the erasure the session fails.
-const STAGES: [[u8; 5]; 4] = [
-    [16, 0, 0, 0, 1],
-    [0, 16, 0, 0, 0],
-    [0, 0, 16, 17, 1],
-    [0, 0, 0, 0, 0],
+// A fault at the opening leaves the object. One where the write reads leaves the session and the cell 7, and where it writes the
+// session fails. One at the read leaves the session; by one at the erasure it fails.
+const STAGES: [[u8; 6]; 6] = [
+    [16, 0, 0, 0, 0, 1],
+    [0, 16, 7, 0, 0, 0],
+    [0, 16, 17, 17, 17, 1],
+    [0, 0, 16, 0, 0, 0],
+    [0, 0, 9, 16, 17, 1],
+    [0, 0, 9, 0, 0, 0],
 ];
 
 // Each run is one of these stages, which come in this order.
@@ -77,10 +85,10 @@ fn a_fault_is_met_at_each_call(rt: HostRuntime) {
     let mut stage = 0;
     for fails_at in 0..100 {
         let ran = run(rt.alloc(), fails_at);
-        if stage < 3 && ran == Ok(STAGES[stage + 1]) {
+        if stage < 5 && ran == Ok(STAGES[stage + 1]) {
             stage += 1;
         }
         assert_eq!(rt; ran, Ok(STAGES[stage]), "at call {fails_at}");
     }
-    assert_eq!(rt; stage, 3);
+    assert_eq!(rt; stage, 5);
 }

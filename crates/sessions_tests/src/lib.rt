@@ -4,8 +4,14 @@
 #[cfg(test)]
 mod faults;
 #[cfg(test)]
+mod laws;
+#[cfg(test)]
+mod nested;
+#[cfg(test)]
 mod opening;
 #[cfg(test)]
 mod sessions;
 #[cfg(test)]
 mod shards;
+#[cfg(test)]
+mod writing;

@@ -1,15 +1,17 @@
 // Shards for the tests: four cells of one byte in two subchunks, with the fill value 0.
 use std::alloc::Global;
 use std::ops::Range;
-use zarr_codecs::{BytesCodec, BytesPartialEncoderTraits};
-use zarr_parts::{ArraySubset, ChunkShape, CodecError, CodecOptions, DataType, FillValue, Indexer};
+use zarr_codecs::{ArrayToBytesCodecTraits, BytesCodec, BytesPartialEncoderTraits};
+use zarr_parts::{
+    ArrayBytes, ArraySubset, ChunkShape, CodecError, CodecOptions, DataType, FillValue, Indexer,
+};
 use zarrs_sharding::{ShardState, ShardingCodec, ShardingIndexLocation};
 
 pub(crate) type Session<'a, H> = ShardState<'a, BytesCodec, BytesCodec, H>;
 
 pub(crate) const ABSENT: u64 = u64::MAX;
 
-fn shape_of(alloc: Global, axes: &[u64]) -> Result<ChunkShape, CodecError> {
+pub(crate) fn shape_of(alloc: Global, axes: &[u64]) -> Result<ChunkShape, CodecError> {
     ChunkShape::new(alloc, axes)?.ok_or(CodecError::OutOfBounds)
 }
 
@@ -84,14 +86,26 @@ pub(crate) fn subset_of(alloc: Global, range: Range<u64>) -> Result<ArraySubset,
 }
 
 // The cells that an indexer asks.
-pub(crate) fn read<H: BytesPartialEncoderTraits, N: Indexer>(
+pub(crate) fn read<I: ArrayToBytesCodecTraits, H: BytesPartialEncoderTraits, N: Indexer>(
     alloc: Global,
-    session: &mut Session<'_, H>,
+    session: &mut ShardState<'_, I, BytesCodec, H>,
     indexer: &N,
 ) -> Result<Vec<u8>, CodecError> {
     let array = session.partial_decode(alloc, indexer, &CodecOptions::default())?;
     let elements = array.fixed_bytes().ok_or(CodecError::WrongElementKind)?;
     Ok(elements.to_vec(alloc)?)
+}
+
+// Writes cells over those of a range.
+pub(crate) fn write<I: ArrayToBytesCodecTraits, H: BytesPartialEncoderTraits>(
+    alloc: Global,
+    session: &mut ShardState<'_, I, BytesCodec, H>,
+    range: Range<u64>,
+    cells: &[u8],
+) -> Result<(), CodecError> {
+    let subset = subset_of(alloc, range)?;
+    let update = ArrayBytes::from_numbers(alloc, cells)?;
+    session.partial_encode(alloc, &subset, &update, &CodecOptions::default())
 }
 
 // What an answer says, for a comparison.

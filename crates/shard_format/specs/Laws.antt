@@ -97,7 +97,7 @@ numbers_of_encoding index_cells index_written inner_written sub g l a b ns same 
     (h.counted ∙ ap (λ t. 2 * count_of t) same) h.below h.index
 
 -- a subchunk that stands somewhere gives its cells
-cell_of_standing : (inner_cells : CellsOf) (inner_written : Written)
+pub cell_of_standing : (inner_cells : CellsOf) (inner_written : Written)
     (sub_g : Geo) (l : Layout) (b : List ℕ) (e : List (List ℕ)) (s : Slot) (p : ℕ)
     → ((e : List (List ℕ)) (bytes : List ℕ) → IsArrayOf sub_g e → inner_written e bytes → inner_cells bytes ≡ map Some e)
     → IsArrayOf sub_g e

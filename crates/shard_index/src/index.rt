@@ -1,5 +1,5 @@
 // The index of a shard, by its index codec.
-ghost use Rattle.std.specs.Prelude.{◌≡◌, ◌<◌, ◌+◌, ◌^◌, ◌*◌, ℕ, IsTrue, Some, IfOk, IfErr, OnOk, All, map, length, slice_index_or};
+ghost use Rattle.std.specs.Prelude.{◌≡◌, ◌≤◌, ◌<◌, ◌+◌, ◌^◌, ◌*◌, ℕ, IsTrue, Some, IfOk, IfErr, OnOk, All, map, length, slice_index_or};
 ghost use Rattle.zarr_parts.specs.Order.{done, RefusedBy};
 ghost use Rattle.zarr_parts.specs.Numbering.{count_of};
 ghost use Rattle.object_handles.specs.Handles.{IsRead, IsCounted};
@@ -130,6 +130,7 @@ impl<X: ArrayToBytesCodecTraits> IndexCodec<'_, X> {
         requires inside { IsTrue (H.state handle.old).tells → HasInterval outer (H.state handle.old).contents }
         ensures read { IsRead (H.state handle.old) (H.state handle.new) }
         ensures len { IfOk result (λ index. index.len ≡ outer.size) }
+        ensures enough { OnOk result (plan.now.size ≤ outer.size) }
         ensures counted { IfOk result (λ index. length index.numbers.items ≡ 2 * count_of plan.now.grid) }
         ensures numbers { let index = index_meaning X.meaning self.now.codec.now plan.now.grid in
             IfOk result (λ found. IsTrue (H.state handle.old).tells

@@ -10,7 +10,7 @@ pub enum Answer<'a> {
     Stored(usize),
     /// The object was compacted to so many bytes; `None` where it stayed.
     Compacted(Option<usize>),
-    /// The object was erased.
+    /// There is no object any more.
     Erased,
     /// There is no object.
     NoObject,

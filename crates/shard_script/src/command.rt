@@ -29,6 +29,8 @@ pub enum Work {
     Store(Vec<u8>),
     /// Compacts the object.
     Compact,
+    /// Writes elements over the cells of a subset.
+    Write(ArraySubset, ArrayBytes<'static>),
     /// Erases the object.
     Erase,
     /// Reads the cells of a subset.
@@ -139,6 +141,11 @@ fn parse_for_shard<'a>(
         b"decode" => Ok(Command::Look(Look::Decode)),
         b"object" => parse_object(alloc, words),
         b"compact" => Ok(Command::Work(Work::Compact)),
+        b"write" => {
+            let subset = parse_subset(alloc, next_word(words)?)?;
+            let elements = parse_elements(alloc, next_word(words)?, element_type)?;
+            Ok(Command::Work(Work::Write(subset, elements)))
+        }
         b"erase" => Ok(Command::Work(Work::Erase)),
         b"read" => {
             let subset = parse_subset(alloc, next_word(words)?)?;
@@ -156,7 +163,15 @@ fn parse_for_shard<'a>(
 fn asks_for_shard(name: &[u8]) -> bool {
     matches!(
         name,
-        b"encode" | b"index" | b"decode" | b"object" | b"compact" | b"erase" | b"read" | b"cells"
+        b"encode"
+            | b"index"
+            | b"decode"
+            | b"object"
+            | b"compact"
+            | b"write"
+            | b"erase"
+            | b"read"
+            | b"cells"
     )
 }
 

@@ -10,6 +10,7 @@ ghost use Rattle.zarr_codecs.specs.Reads.{cells_at, AskedTests};
 ghost use Rattle.zarr_codecs.specs.Refusals.{RefusesUnserved};
 ghost use Rattle.zarrs_sharding.specs.Decoders.{index_in, object_cells, OpenTests, ObjectCellsTests};
 ghost use Rattle.zarrs_sharding.specs.Sessions.{SessionTests};
+ghost use Rattle.zarrs_sharding.specs.Writing.{AreOverlaid};
 ghost use Rattle.zarrs_sharding.specs.DecodeTests.{IndexTests};
 ghost use Rattle.zarrs_sharding.specs.Index.{index_geo, numbers_in_index};
 ghost use Rattle.zarrs_sharding.specs.Serves.{fixed_size, layout, IndexCodecTests};
@@ -31,7 +32,9 @@ use std::alloc::Global;
 use std::io;
 use std::io::Write;
 use zarr_codecs::{ArrayToBytesCodecTraits, BytesCodec, MemoryHandle};
-use zarr_parts::{ArrayBytes, ChunkShape, CodecError, CodecOptions, FillValue, Indexer};
+use zarr_parts::{
+    ArrayBytes, ArraySubset, ChunkShape, CodecError, CodecOptions, FillValue, Indexer,
+};
 use zarrs_sharding::{ShardingCodec, SubchunkWriteOrder, calculate_chunks_per_shard};
 
 type Codec = ShardingCodec<BytesCodec, BytesCodec>;
@@ -253,6 +256,42 @@ impl Shard {
         }
     }
 
+    // Writes elements over the cells of a subset. Where it is refused the object stays.
+    fn write(
+        &mut self,
+        alloc: Global,
+        subset: &ArraySubset,
+        elements: &ArrayBytes,
+    ) -> Result<(), CodecError>
+        ensures same { state_of self.new ≡ record (state_of self.old) { object = (state_of self.new).object } }
+        ensures cells { let codec = ⟦<Codec as ArrayToBytesCodecTraits>⟧ in let c = self.old.codec in let g = geo_of self.old in
+            OnOk result (AreOverlaid g.shape subset.now elements.now.elements (object_cells (codec.meaning c g).cells g (state_of self.old).object)
+            (object_cells (codec.meaning c g).cells g (state_of self.new).object)) }
+        ensures kept { OnErr result (state_of self.new ≡ state_of self.old) }
+    {
+        let handle = MemoryHandle::new(self.object.take());
+        let options = CodecOptions::default();
+        let opened = self.codec.open_state(
+            alloc,
+            handle,
+            &self.shape,
+            &self.element_type.data_type(),
+            &self.fill_value,
+            &options,
+        );
+        match opened {
+            Ok(mut session) => {
+                let written = session.partial_encode(alloc, subset, elements, &options);
+                self.object = session.close().into_inner();
+                written
+            }
+            Err((handle, refusal)) => {
+                self.object = handle.into_inner();
+                Err(refusal)
+            }
+        }
+    }
+
     // Erases the object. Where its opening is refused it stays.
     fn erase(&mut self, alloc: Global) -> Result<(), CodecError>
         ensures erased { OnOk result (state_of self.new ≡ record (state_of self.old) { object = None }) }
@@ -299,6 +338,13 @@ impl Shard {
             Work::Compact => {
                 let answer = self.compact(alloc)?;
                 Ok(Answer::Compacted(answer))
+            }
+            Work::Write(subset, elements) => {
+                self.write(alloc, &subset, &elements)?;
+                match &self.object {
+                    Some(object) => Ok(Answer::Stored(object.len())),
+                    None => Ok(Answer::Erased),
+                }
             }
             Work::Erase => {
                 self.erase(alloc)?;

@@ -25,7 +25,8 @@ use Rattle.zarr_boxes.proofs.BoxLaws.{all_zip_from_each, lies_in_length, lies_in
 use Rattle.zarr_boxes.proofs.PieceLaws.{number_in_below}
 use Rattle.zarr_boxes.proofs.RunLaws.{spanned_number}
 use Rattle.zarr_boxes.proofs.MissLaws.{on_or_off, place_of_point, elsewhere_from_off}
-use Rattle.shard_writing.specs.Writing.{IsUncovered, AreNewCells, IsMeeting}
+use Rattle.shard_cells.specs.Meetings.{IsMeeting}
+use Rattle.shard_writing.specs.Writing.{IsUncovered, AreNewCells}
 use Rattle.shard_writing.specs.WriteTests.{Straddles}
 
 -- a box has as many starts as lengths

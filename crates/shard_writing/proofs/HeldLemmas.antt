@@ -1,11 +1,11 @@
 -- What is held of a shard after a write: as many numbers, each pair absent or in the data part.
-use Rattle.std.proofs.Common.{◌≡◌, ◌≢◌, ℕ, ◌+◌, ◌*◌, ◌/◌, ◌^◌, ◌<◌, ◌≤◌, inl, inr, List, Option, Some, None, length, get_or, map, refl, ap, ◌∙◌, subst, arith}
+use Rattle.std.proofs.Common.{◌≡◌, ◌≢◌, ℕ, ◌+◌, ◌*◌, ◌/◌, ◌^◌, ◌<◌, ◌≤◌, inl, inr, List, Option, Some, None, length, get_or, map, refl, sym, ap, ◌∙◌, subst, arith}
 use Rattle.zarr_words.specs.Words.{Elements, CellsOf, Written}
 use Rattle.zarr_parts.specs.Numbering.{count_of}
 use Rattle.zarr_parts.specs.Grid.{grid_of}
 use Rattle.zarr_parts.specs.Geo.{Geo, IsArrayOf}
 use Rattle.object_handles.specs.Writes.{bytes_of}
-use Rattle.shard_format.specs.Index.{slot_at, data_start, data_end, index_geo}
+use Rattle.shard_format.specs.Index.{slot_at, data_start, data_end, index_geo, numbers_in_index}
 use Rattle.shard_format.specs.Laws.{numbers_of_index}
 use Rattle.shard_format.specs.Laying.{IsLaid}
 use Rattle.shard_format.specs.declared.location.ShardingIndexLocation.{ShardingIndexLocation}
@@ -13,7 +13,7 @@ use Rattle.shard_format.specs.declared.slot.Slot.{Slot}
 use Rattle.shard_format.specs.declared.slot.Slot.TheVariants.{Absent, InRange, Bad}
 use Rattle.shard_format.proofs.EncodingLemmas.{shifted, shifted_pair}
 use Rattle.shard_index.specs.DataPart.{LiesBetween}
-use Rattle.shard_writing.specs.Writing.{AreAbsent, AreLaid, HasPairs, HasPut, IsSettled, place_behind, HoldsNumbers, IsHeld}
+use Rattle.shard_writing.specs.Writing.{AreAbsent, AreLaid, HasPairs, HasPut, IsSettled, place_behind, HoldsNumbers, IsHeld, HasSlice}
 use Rattle.zarr_boxes.proofs.GridLaws.{over_first}
 use Rattle.shard_writing.proofs.AnewLemmas.{pair_absent, in_list, absent_pair, cleared_absent}
 use Rattle.shard_writing.proofs.WriteLemmas.{absent_slot, inside_data}
@@ -22,12 +22,34 @@ use Rattle.shard_writing.proofs.MadeLemmas.{kept_slot, before_place}
 absent_lies : (start end : ℕ) (s : Slot) → s ≡ Absent → LiesBetween start end s
 absent_lies start end s is = rw is tt
 
+-- the length of an object whose index is held
+pub told_len : (index_in : List ℕ → Option (List ℕ)) (contents : Option (List ℕ)) (len : ℕ) (numbers : List ℕ) → HoldsNumbers index_in contents len numbers → length (bytes_of contents) ≡ len
+told_len index_in None len numbers h = sym h.0
+told_len index_in (Some bytes) len numbers h = h.0
+
+slice_there : (location : ShardingIndexLocation) (size len : ℕ) (bytes : List ℕ) (s : Slot) → length bytes ≡ len → LiesBetween (data_start location size) (data_end location size len) s → HasSlice (Some bytes) s
+slice_there location size len bytes Absent long h = tt
+slice_there location size len bytes (InRange o m) long h = omega (arith, long, inside_data location size len (o + m) h.1)
+slice_there location size len bytes Bad long h = tt
+
+no_slice : (s : Slot) → s ≡ Absent → HasSlice None s
+no_slice s is = rw is tt
+
+-- its slices lie in it
+pub told_slice : (location : ShardingIndexLocation) (size n len : ℕ) (numbers : List ℕ) (index_in : List ℕ → Option (List ℕ)) (contents : Option (List ℕ)) → IsHeld location size n len numbers
+    → HoldsNumbers index_in contents len numbers → (k : ℕ) → k < n → HasSlice contents (slot_at len numbers k)
+told_slice location size n len numbers index_in None held h k below =
+    let pair = pair_absent numbers n k held.counted h.1 below in
+    no_slice (slot_at len numbers k) (absent_slot len numbers k pair.0 pair.1)
+told_slice location size n len numbers index_in (Some bytes) held h k below = slice_there location size len bytes (slot_at len numbers k) h.0 (held.placed k below)
+
 -- all pairs are absent
 pub none_held : (location : ShardingIndexLocation) (size len n : ℕ) (numbers : List ℕ) → length numbers ≡ 2 * n → AreAbsent numbers → len + 1 < 2 ^ 64
     → IsHeld location size n len numbers
 none_held location size len n numbers counted absent room = record {
   counted = counted;
   room = room;
+  long_enough = λ some. absurd (some absent);
   placed = λ k below.
       let pair = pair_absent numbers n k counted absent below in
       absent_lies _ _ _ (absent_slot len numbers k pair.0 pair.1);
@@ -57,6 +79,7 @@ module _ (inner_written : Written) (fill : List ℕ) (location : ShardingIndexLo
     held_put others = record {
       counted = put.pairs.counted ∙ clear.counted ∙ counted;
       room = omega (arith, put.small);
+      long_enough = λ some. put.index.long_enough;
       placed = λ k below. elim (in_list touched k) [
         | inl found ↦ subst (λ m. LiesBetween (data_start location size) (data_end location size (length new)) (slot_at (length new) new_numbers m)) found.2
             (rw (new_slot found.0 found.1) (shifted_lies place (data_start location size) (data_end location size (length new)) (e found.0) (get_or slots found.0 Bad) (laid.laid found.0 found.1) put.after_start put.before_end))
@@ -129,11 +152,11 @@ module _ (index_cells : CellsOf) (index_written : Written) (sub : List ℕ) (g :
     (touched : List ℕ) (slots : List Slot) (slices numbers : List ℕ) (counted : length numbers ≡ 2 * count_of (grid_of g.shape sub)) (old : Option (List ℕ)) (new_numbers : List ℕ) (new_len : ℕ)
     (enough : ¬ (AreAbsent numbers) → size ≤ length (bytes_of old)) where
   told_put : (cleared : List ℕ) (place : ℕ) (new : List ℕ) → HasPairs touched (λ i. Absent) 0 numbers cleared (length touched)
-      → HasPut index_written location size touched slots slices cleared place new new_numbers → length new ≡ new_len → HoldsNumbers index_cells location size (Some new) new_len new_numbers
+      → HasPut index_written location size touched slots slices cleared place new new_numbers → length new ≡ new_len → HoldsNumbers (numbers_in_index index_cells location size) (Some new) new_len new_numbers
   told_put cleared place new clear put long =
       (long, numbers_of_index index_cells index_written sub g location size new new_numbers law put.index.long_enough (put.pairs.counted ∙ clear.counted ∙ counted) put.below put.index.written)
 
-  told_there : (new : List ℕ) → IsSettled index_written location size touched slots slices numbers old (Some new) new_numbers new_len → HoldsNumbers index_cells location size (Some new) new_len new_numbers
+  told_there : (new : List ℕ) → IsSettled index_written location size touched slots slices numbers old (Some new) new_numbers new_len → HoldsNumbers (numbers_in_index index_cells location size) (Some new) new_len new_numbers
   told_there new settled =
       elim settled [
         | inl erased ↦ cc
@@ -146,7 +169,7 @@ module _ (index_cells : CellsOf) (index_written : Written) (sub : List ℕ) (g :
         ]
       ]
 
-  told_none : IsSettled index_written location size touched slots slices numbers old None new_numbers new_len → HoldsNumbers index_cells location size None new_len new_numbers
+  told_none : IsSettled index_written location size touched slots slices numbers old None new_numbers new_len → HoldsNumbers (numbers_in_index index_cells location size) None new_len new_numbers
   told_none settled =
       elim settled [
         | inl erased ↦ (erased.1, erased.2.absent)
@@ -156,6 +179,6 @@ module _ (index_cells : CellsOf) (index_written : Written) (sub : List ℕ) (g :
         ]
       ]
 
-  pub told_settled : (new : Option (List ℕ)) → IsSettled index_written location size touched slots slices numbers old new new_numbers new_len → HoldsNumbers index_cells location size new new_len new_numbers
+  pub told_settled : (new : Option (List ℕ)) → IsSettled index_written location size touched slots slices numbers old new new_numbers new_len → HoldsNumbers (numbers_in_index index_cells location size) new new_len new_numbers
   told_settled None settled = told_none settled
   told_settled (Some new) settled = told_there new settled

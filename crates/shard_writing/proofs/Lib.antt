@@ -1,5 +1,4 @@
 pub mod OldLemmas
-pub mod MeetingLemmas
 pub mod CellLemmas
 pub mod ChangedLemmas
 pub mod LaidLemmas
@@ -11,3 +10,4 @@ pub mod AnewLemmas
 pub mod RefusalLemmas
 pub mod MadeLemmas
 pub mod HeldLemmas
+pub mod OverlayLemmas

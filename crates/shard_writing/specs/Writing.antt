@@ -2,11 +2,12 @@
 use Rattle.std.specs.Prelude.{◌≡◌, ◌≢◌, ◌≤◌, ◌<◌, ◌^◌, ◌⊎◌, ⊤, ℕ, ◌+◌, ◌-◌, ◌*◌, ◌/◌, max, List, Option, Some, None}
 use Rattle.std.specs.Prelude.{[], length, map, fold, slice_index, slice_index_or}
 use Rattle.std.specs.List.{All, range_with_len, sum_by}
-use Rattle.zarr_words.specs.Words.{Bytes, Elements, CellsOf, Written, Refusals}
+use Rattle.zarr_words.specs.Words.{Bytes, Elements, CellList, CellsOf, Written, Refusals}
 use Rattle.zarr_words.specs.declared.error.CodecError.{CodecError}
 use Rattle.zarr_words.specs.declared.error.CodecError.TheVariants.{TooLarge}
-use Rattle.zarr_parts.specs.Numbering.{count_of}
-use Rattle.zarr_parts.specs.Boxes.{Region, IsBox, LiesIn, number_in}
+use Rattle.zarr_parts.specs.Numbering.{count_of, number_of}
+use Rattle.zarr_parts.specs.Boxes.{Region, number_in}
+use Rattle.zarr_parts.specs.Pieces.{IsUpdated}
 use Rattle.zarr_parts.specs.Grid.{grid_of, cell_number}
 use Rattle.zarr_parts.specs.Touched.{Touches, AreTouched}
 use Rattle.zarr_parts.specs.Geo.{Geo, IsArrayOf}
@@ -16,7 +17,7 @@ use Rattle.object_handles.specs.Objects.{HasInterval}
 use Rattle.object_handles.specs.Writes.{bytes_of}
 use Rattle.codec_laws.specs.Meanings.{Meaning}
 use Rattle.shard_format.specs.Index.{absent_number, slot_at, slice_at, index_part, data_start, data_end}
-use Rattle.shard_format.specs.Index.{element_of_number, numbers_in_index}
+use Rattle.shard_format.specs.Index.{element_of_number}
 use Rattle.shard_format.specs.Cells.{Layout, cell_in}
 use Rattle.shard_format.specs.Encoding.{StandsAt, slot_size, BeginsAt}
 use Rattle.shard_format.specs.Laying.{IsLaid, taken, offset_number, size_number}
@@ -32,11 +33,11 @@ use Rattle.shard_format.specs.declared.slot.Slot.TheVariants.{Absent, InRange, B
 abbrev pub AreAbsent : List ℕ → Type 0
 AreAbsent numbers = All (λ n. n ≡ absent_number) numbers
 
--- the held numbers and length are those of the object: without one each pair is absent
-abbrev pub HoldsNumbers : CellsOf → ShardingIndexLocation → (index_size : ℕ) → Option Bytes → (len : ℕ) → List ℕ → Type 0
-HoldsNumbers index_cells location index_size None len numbers = (len ≡ 0) × AreAbsent numbers
-HoldsNumbers index_cells location index_size (Some bytes) len numbers =
-    (length bytes ≡ len) × (numbers_in_index index_cells location index_size bytes ≡ Some numbers)
+-- the held length and numbers are those of the object: without one each pair is absent; `index_in` says which numbers the index of
+-- some bytes has
+abbrev pub HoldsNumbers : (index_in : Bytes → Option (List ℕ)) → Option Bytes → (len : ℕ) → List ℕ → Type 0
+HoldsNumbers index_in None len numbers = (len ≡ 0) × AreAbsent numbers
+HoldsNumbers index_in (Some bytes) len numbers = (length bytes ≡ len) × (index_in bytes ≡ Some numbers)
 
 -- no cell of the box is at place p of subchunk k
 abbrev pub IsUncovered : (shape sub : List ℕ) → Region → (k p : ℕ) → Type 0
@@ -148,17 +149,20 @@ pub record IsWriteOf (inner index : Meaning) (l : Layout) (sub_g : Geo) (box : R
   pub kept : (k : ℕ) → k < count_of (grid_of l.shape l.sub) → ¬ (Touches l.shape l.sub box k)
       → IsKept (bytes_of old) numbers (bytes_of new) new_numbers k
 
--- a part of a box and of subchunk k, seen from either's start, has the cells that both have
-pub record IsMeeting (shape sub : List ℕ) (box : Region) (k : ℕ) (in_sub in_box : Region) : Type 0 where
-  pub sub_inside : LiesIn in_sub sub
-  pub box_inside : LiesIn in_box box.shape
-  pub sub_well_formed : IsBox in_sub.start in_sub.shape
-  pub box_well_formed : IsBox in_box.start in_box.shape
-  pub same_shape : in_sub.shape ≡ in_box.shape
-  pub one_cell : (r : ℕ) → r < count_of in_sub.shape
-      → cell_number shape sub k (number_in in_sub sub r) ≡ number_in box shape (number_in in_box box.shape r)
-  pub met : (p q : ℕ) → p < count_of sub → q < count_of box.shape → cell_number shape sub k p ≡ number_in box shape q
-      → (r : ℕ) × (r < count_of in_sub.shape) × (number_in in_sub sub r ≡ p) × (number_in in_box box.shape r ≡ q)
+-- the new cells are those of an update at the numbers of a box's points, in their order, and the old ones everywhere else
+abbrev pub AreOverlaid : (shape : List ℕ) → Region → (update : Elements) → (old new : CellList) → Type 0
+AreOverlaid shape box update old new =
+    IsUpdated (count_of box.shape) (number_in box shape)
+    (λ i. slice_index_or old i None) (λ k. Some (slice_index_or update k [])) (λ i. slice_index_or new i None)
+
+-- elements that were read at some coordinates after a write: in the box those of the update, and elsewhere what the cell was before
+pub record AreReadAfter (shape : List ℕ) (box : Region) (update : Elements) (old : CellList) (points : List (List ℕ))
+    (elements : Elements) : Type 0 where
+  pub written : (j q : ℕ) → j < length points → q < count_of box.shape
+      → number_in box shape q ≡ number_of (slice_index_or points j []) shape → slice_index_or elements j [] ≡ slice_index_or update q []
+  pub kept : (j : ℕ) → j < length points
+      → ((q : ℕ) → q < count_of box.shape → number_in box shape q ≢ number_of (slice_index_or points j []) shape)
+      → slice_index_or old (number_of (slice_index_or points j []) shape) None ≡ Some (slice_index_or elements j [])
 
 -- a slot's slice lies in an object, which is there
 abbrev pub HasSlice : Option Bytes → Slot → Type 0
@@ -299,8 +303,10 @@ abbrev pub layout_from : List ℕ → Geo → ShardingIndexLocation → (index_s
 layout_from shape sub_g location index_size =
     record { shape = shape; sub = sub_g.shape; fill = sub_g.fill; location = location; index_size = index_size; order = Unordered }
 
--- what is held of a shard of so many bytes and n subchunks: its length can be counted, and each pair is absent or in the data part
+-- what is held of a shard of so many bytes and n subchunks: its length can be counted; where some subchunk is stored it has room for
+-- the index; and each pair is absent or in the data part
 pub record IsHeld (location : ShardingIndexLocation) (index_size n len : ℕ) (numbers : List ℕ) : Type 0 where
   pub counted : length numbers ≡ 2 * n
   pub room : len + 1 < 2 ^ 64
+  pub long_enough : ¬ (AreAbsent numbers) → index_size ≤ len
   pub placed : (k : ℕ) → k < n → IsInDataPart location index_size len (slot_at len numbers k)

@@ -20,6 +20,7 @@ use crate::old::old_cells;
 use crate::writing::Writing;
 use codec_laws::ArrayToBytesCodecTraits;
 use object_handles::BytesPartialDecoderTraits;
+use shard_cells::meeting_of;
 use shard_format::Slot;
 use std::alloc::Global;
 use zarr_parts::{ArrayBytes, ArraySubset, ChunkShape, CodecError, update_array_bytes};
@@ -75,7 +76,15 @@ impl<I: ArrayToBytesCodecTraits, X> Writing<'_, I, X> {
             IfErr result (RefusedBy (ObjectTests (H.state handle.old) (H.state handle.new) (λ e.
             Straddles self.now.shape.now s.shape.now subset.now number × RefusesOld inner (count_of s.shape.now) s.fill_value.now bytes slot number e))) }
     {
-        let meeting = self.meeting(alloc, number, subset)?;
+        let grid = &self.plan.grid;
+        let meeting = meeting_of(
+            alloc,
+            number,
+            subset,
+            grid,
+            self.shape,
+            self.subchunks.shape,
+        )?;
         let data_type = self.subchunks.data_type;
         let part = update.extract_array_subset(alloc, &meeting.in_box, subset.shape(), data_type)?;
         if is_whole(&meeting.in_sub, self.subchunks.shape) {

@@ -5,7 +5,6 @@ mod cells;
 mod change;
 mod changed;
 mod encoded;
-mod meeting;
 mod numbers;
 mod old;
 mod place;
@@ -15,6 +14,5 @@ mod settle;
 mod writing;
 
 pub use change::{Change, Prepared};
-pub use meeting::Meeting;
 pub use old::old_cells;
 pub use writing::Writing;

@@ -1,5 +1,5 @@
 // All of a write that stands before its one writing call.
-ghost use Rattle.std.specs.Prelude.{◌≡◌, ◌≤◌, ◌*◌, ◌^◌, ◌<◌, ℕ, IsTrue, IfOk, IfErr, All, length};
+ghost use Rattle.std.specs.Prelude.{◌≡◌, ◌^◌, ◌<◌, IsTrue, IfOk, IfErr, All, length};
 ghost use Rattle.zarr_parts.specs.Order.{RefusedBy};
 ghost use Rattle.zarr_parts.specs.Numbering.{AllPositive, count_of};
 ghost use Rattle.zarr_parts.specs.Boxes.{IsBox, LiesIn};
@@ -8,11 +8,10 @@ ghost use Rattle.zarr_parts.specs.Types.{size_of, HasElements, FitsKind};
 ghost use Rattle.object_handles.specs.Handles.{IsRead, IsCounted};
 ghost use Rattle.object_handles.specs.Objects.{ObjectTests};
 ghost use Rattle.object_handles.specs.Writes.{bytes_of};
-ghost use Rattle.shard_format.specs.Index.{slot_at};
+ghost use Rattle.shard_format.specs.Index.{numbers_in_index};
 ghost use Rattle.shard_subchunks.specs.Inner.{subchunk_geo, inner_meaning};
-ghost use Rattle.shard_index.specs.DataPart.{IsInDataPart};
 ghost use Rattle.shard_index.specs.Indexes.{index_meaning, IsIndexPlan};
-ghost use Rattle.shard_writing.specs.Writing.{HasSlice, AreAbsent, HoldsNumbers, IsHeld, IsMade, IsWriteOf, layout_from};
+ghost use Rattle.shard_writing.specs.Writing.{HoldsNumbers, IsHeld, IsMade, IsWriteOf, layout_from};
 ghost use Rattle.shard_writing.specs.WriteTests.{WriteTests};
 ghost use Rattle.shard_writing.specs.Changes.{object_after};
 
@@ -44,7 +43,10 @@ impl<I: ArrayToBytesCodecTraits, X: ArrayToBytesCodecTraits> Writing<'_, I, X> {
         requires divides { Divides self.now.subchunks.shape.now self.now.shape.now }
         requires grid { self.now.plan.now.grid ≡ grid_of self.now.shape.now self.now.subchunks.shape.now }
         requires inside { LiesIn subset.now self.now.shape.now }
-        requires counted { length numbers.now ≡ 2 * count_of self.now.plan.now.grid }
+        requires held { IsHeld self.now.index_codec.location self.now.plan.now.size (count_of self.now.plan.now.grid) len numbers.now }
+        requires told { let index = index_meaning X.meaning self.now.index_codec.codec.now self.now.plan.now.grid in
+            IsTrue (H.state handle.old).tells
+            → HoldsNumbers (numbers_in_index index.cells self.now.index_codec.location self.now.plan.now.size) (H.state handle.old).contents len numbers.now }
         requires serves { (inner_meaning I.meaning self.now.subchunks).serves }
         requires supported { HasElements self.now.subchunks.data_type.now }
         requires fill { FitsKind (size_of self.now.subchunks.data_type.now) self.now.subchunks.fill_value.now }
@@ -52,10 +54,6 @@ impl<I: ArrayToBytesCodecTraits, X: ArrayToBytesCodecTraits> Writing<'_, I, X> {
         requires kind { update.now.kind ≡ size_of self.now.subchunks.data_type.now }
         requires fitting { All (FitsKind (size_of self.now.subchunks.data_type.now)) update.now.elements }
         requires all { length update.now.elements ≡ count_of subset.now.shape }
-        requires len { IsTrue (H.state handle.old).tells → length (bytes_of (H.state handle.old).contents) ≡ len }
-        requires there { IsTrue (H.state handle.old).tells → (k : ℕ) → k < count_of self.now.plan.now.grid → HasSlice (H.state handle.old).contents (slot_at len numbers.now k) }
-        requires lies { (k : ℕ) → k < count_of self.now.plan.now.grid → IsInDataPart self.now.index_codec.location self.now.plan.now.size len (slot_at len numbers.now k) }
-        requires index { ¬ (AreAbsent numbers.now) → self.now.plan.now.size ≤ len }
         ensures read { IsRead (H.state handle.old) (H.state handle.new) }
         ensures made { let s = self.now.subchunks in let inner = inner_meaning I.meaning s in let index = index_meaning X.meaning self.now.index_codec.codec.now self.now.plan.now.grid in
             IfOk result (λ p. IsTrue (H.state handle.old).tells
@@ -68,7 +66,7 @@ impl<I: ArrayToBytesCodecTraits, X: ArrayToBytesCodecTraits> Writing<'_, I, X> {
         ensures held { IfOk result (λ p. IsHeld self.now.index_codec.location self.now.plan.now.size (count_of self.now.plan.now.grid) p.len p.numbers.items) }
         ensures told { let index = index_meaning X.meaning self.now.index_codec.codec.now self.now.plan.now.grid in
             IfOk result (λ p. IsTrue (H.state handle.old).tells
-            → HoldsNumbers index.cells self.now.index_codec.location self.now.plan.now.size (object_after p.change (H.state handle.old).contents) p.len p.numbers.items) }
+            → HoldsNumbers (numbers_in_index index.cells self.now.index_codec.location self.now.plan.now.size) (object_after p.change (H.state handle.old).contents) p.len p.numbers.items) }
         ensures fault { IfErr result (IsCounted (H.state handle.old) (H.state handle.new)) }
         ensures refused { let s = self.now.subchunks in let inner = inner_meaning I.meaning s in let index = index_meaning X.meaning self.now.index_codec.codec.now self.now.plan.now.grid in
             IfErr result (RefusedBy (ObjectTests (H.state handle.old) (H.state handle.new) (

@@ -1,6 +1,7 @@
 -- A session of a shard, by what it holds.
-use Rattle.std.proofs.Common.{◌≡◌, ℕ, ◌+◌, ◌*◌, ◌/◌, ◌^◌, ◌<◌, Bool, false, IsTrue, List, Option, Some, None, IfSome, IfNone, inr, length, replicate, refl, sym, ap, ◌∙◌, subst, arith, Vec, Global}
+use Rattle.std.proofs.Common.{◌≡◌, ℕ, ◌+◌, ◌*◌, ◌/◌, ◌^◌, ◌<◌, ◌≤◌, Bool, false, IsTrue, List, Option, Some, None, IfSome, IfNone, inr, length, replicate, refl, sym, ap, ◌∙◌, subst, arith, Vec, Global}
 use Rattle.std.proofs.lemmas.List.{get_or-replicate, length-replicate}
+use Rattle.std.proofs.lemmas.List.Elements.{All-replicate}
 use Rattle.zarr_parts.specs.Numbering.{count_of}
 use Rattle.zarr_parts.specs.Grid.{grid_of}
 use Rattle.zarr_parts.specs.Geo.{Geo, geo}
@@ -19,7 +20,8 @@ use Rattle.shard_index.specs.DataPart.{IsInDataPart, PairTests}
 use Rattle.shard_index.specs.Indexes.{IsIndexPlan}
 use Rattle.sharding_core.specs.declared.codec.ShardingCodec.{ShardingCodec}
 use Rattle.sharding_core.specs.Decoders.{HoldsIndex, held_len, held_numbers, index_in, IsKnown}
-use Rattle.sharding_core.specs.Sessions.{absent_index, subchunks_of, index_size_of, HoldsNumbers, numbers_held, IsHeldOpen, SessionTests}
+use Rattle.sharding_core.specs.Sessions.{absent_index, subchunks_of, index_size_of, numbers_held, IsHeldOpen, SessionTests}
+use Rattle.shard_writing.specs.Writing.{AreAbsent, HoldsNumbers}
 use Rattle.sharding_core.specs.declared.state.OpenSession.{OpenSession}
 
 no_numbers : (ns : List ℕ) → Some ns ≡ None → ⊥
@@ -63,10 +65,13 @@ absent_placed location size len n k numbers blank h =
     let same : slot_at len numbers k ≡ Absent = ap (λ ns. slot_at len ns k) blank ∙ absent_slot len n k h in
     rw same tt
 
+blank_absent : (n : ℕ) (numbers : List ℕ) → numbers ≡ absent_index n → AreAbsent numbers
+blank_absent n numbers is = rw is (All-replicate (λ x. x ≡ absent_number) (2 * n) absent_number refl)
+
 -- what a decoder holds of the object, or else a blank index, is what a session holds of it
 pub holds_numbers : (index_of : List ℕ → Option (List ℕ)) (contents : Option (List ℕ)) (held : Option ShardIndex) (blank : List ℕ) (n : ℕ)
     → HoldsIndex index_of contents (held_len held) (held_numbers held) → IfNone held (blank ≡ absent_index n) → HoldsNumbers index_of contents (held_len held) (numbers_held held blank)
-holds_numbers index_of None None blank n holds is = (refl, is ∙ ap (λ m. replicate m absent_number) (sym (ap length is ∙ length-replicate (2 * n) absent_number)))
+holds_numbers index_of None None blank n holds is = (refl, blank_absent n blank is)
 holds_numbers index_of None (Some index) blank n holds is = absurd (no_numbers index.numbers.items holds)
 holds_numbers index_of (Some b) None blank n holds is = absurd holds
 holds_numbers index_of (Some b) (Some index) blank n holds is = holds
@@ -85,6 +90,15 @@ placed_held : (location : ShardingIndexLocation) (size : ℕ) (held : Option Sha
 placed_held location size None blank n tested counted is k h = absent_placed location size 0 n k blank is h
 placed_held location size (Some index) blank n tested counted is k h = tested k (omega arith)
 
+-- an object of which some subchunk is stored has room for its index
+abbrev pub HasRoom : (index_size : ℕ) → Option ShardIndex → Type 0
+HasRoom size held = IfSome held (λ index. ¬ (AreAbsent index.numbers.items) → size ≤ index.len)
+
+enough_held : (size : ℕ) (held : Option ShardIndex) (blank : List ℕ) (n : ℕ) → HasRoom size held → IfNone held (blank ≡ absent_index n)
+    → ¬ (AreAbsent (numbers_held held blank)) → size ≤ held_len held
+enough_held size None blank n enough is some = absurd (some (blank_absent n blank is))
+enough_held size (Some index) blank n enough is some = enough some
+
 -- what a session that is not failed holds of a shard
 pub held_open : {I X H : Type 0} (meaning : ShardingCodec I X → Geo → Meaning) (index_meaning : X → Geo → Meaning) (state : H → HandleState)
     (codec : ShardingCodec I X) (handle : H) (failed : Bool) (opened : OpenSession)
@@ -93,8 +107,9 @@ pub held_open : {I X H : Type 0} (meaning : ShardingCodec I X → Geo → Meanin
     → opened.plan.grid ≡ grid_of opened.shard.shape codec.subchunk_shape
     → IfNone opened.shard.held (opened.blank.items ≡ absent_index (count_of (grid_of opened.shard.shape codec.subchunk_shape)))
     → AreTested codec.location opened.plan.size opened.shard.held
+    → HasRoom opened.plan.size opened.shard.held
     → IsHeldOpen meaning index_meaning state codec handle failed opened
-held_open meaning index_meaning state codec handle failed opened known plan grid blank tested =
+held_open meaning index_meaning state codec handle failed opened known plan grid blank tested enough =
     let held = opened.shard.held in
     let g = geo opened.shard.shape opened.shard.data_type opened.shard.fill_value in
     let n = subchunks_of codec g in
@@ -102,9 +117,12 @@ held_open meaning index_meaning state codec handle failed opened known plan grid
     record {
       in_step = record {
         serves = known.is_open.serves;
-        room = known.is_open.room;
-        counted = counted_held held opened.blank.items n known.is_open.counted blank;
-        placed = placed_held codec.location (index_size_of index_meaning codec g) held opened.blank.items n (rw (← sized) tested) known.is_open.counted blank;
+        index = record {
+          counted = counted_held held opened.blank.items n known.is_open.counted blank;
+          room = known.is_open.room;
+          long_enough = enough_held (index_size_of index_meaning codec g) held opened.blank.items n (rw (← sized) enough) blank;
+          placed = placed_held codec.location (index_size_of index_meaning codec g) held opened.blank.items n (rw (← sized) tested) known.is_open.counted blank;
+        };
         held = λ usable t. holds_numbers (index_in index_meaning codec g) (state handle).contents held opened.blank.items n (known.is_open.held t) blank;
       };
       known = λ usable. known;
@@ -140,4 +158,4 @@ blank_open meaning index_meaning state codec old new failed opened blank usable 
       grid = known.grid;
       subchunks = known.subchunks;
     })
-    h.plan h.grid is tt
+    h.plan h.grid is tt tt

@@ -15,6 +15,7 @@ use Rattle.shard_format.specs.Serves.{fixed_size}
 use Rattle.shard_format.specs.declared.index.ShardIndex.{ShardIndex}
 use Rattle.shard_index.specs.Indexes.{IsIndexPlan}
 use Rattle.shard_index.specs.DataPart.{IsInDataPart, PairTests}
+use Rattle.shard_writing.specs.Writing.{HoldsNumbers, IsHeld}
 use Rattle.sharding_core.specs.Decoders.{index_in, held_len, IsKnown, OpeningTests}
 use Rattle.sharding_core.specs.declared.codec.ShardingCodec.{ShardingCodec}
 use Rattle.sharding_core.specs.declared.state.OpenSession.{OpenSession}
@@ -41,20 +42,12 @@ subchunks_of codec g = count_of (grid_of g.shape codec.subchunk_shape)
 abbrev pub index_size_of : {I X : Type 0} → (X → Geo → Meaning) → ShardingCodec I X → Geo → ℕ
 index_size_of meaning codec g = fixed_size (meaning codec.index_codec (index_geo (grid_of g.shape codec.subchunk_shape))).representation
 
--- the held length and numbers are those of the object; `index_in` says which numbers the index of some bytes has
-abbrev pub HoldsNumbers : (List ℕ → Option (List ℕ)) → Option (List ℕ) → ℕ → List ℕ → Type 0
-HoldsNumbers index_in None len numbers = (len ≡ 0) × (numbers ≡ replicate (length numbers) absent_number)
-HoldsNumbers index_in (Some bytes) len numbers = (length bytes ≡ len) × (index_in bytes ≡ Some numbers)
-
 -- the codec serves what the session reads and writes; each held pair is absent or lies in the data part; and where no write failed and the
 -- handle tells its bytes, the held length and numbers are those of the object
 pub record IsInStep {I X H : Type 0} (meaning : ShardingCodec I X → Geo → Meaning) (index_meaning : X → Geo → Meaning)
     (state : H → HandleState) (s : Session (ShardingCodec I X) H) : Type 0 where
   pub serves : (meaning s.codec s.geo).serves
-  pub room : s.len + 1 < 2 ^ 64
-  pub counted : length s.index ≡ 2 * subchunks_of s.codec s.geo
-  pub placed : (k : ℕ) → k < subchunks_of s.codec s.geo
-      → IsInDataPart s.codec.location (index_size_of index_meaning s.codec s.geo) s.len (slot_at s.len s.index k)
+  pub index : IsHeld s.codec.location (index_size_of index_meaning s.codec s.geo) (subchunks_of s.codec s.geo) s.len s.index
   pub held : s.failed ≡ false → IsTrue (state s.handle).tells
       → HoldsNumbers (index_in index_meaning s.codec s.geo) (state s.handle).contents s.len s.index
 

@@ -6,6 +6,7 @@ mod capabilities;
 mod check;
 mod codec;
 mod compact;
+mod configuration;
 mod encode;
 mod functional;
 mod index;

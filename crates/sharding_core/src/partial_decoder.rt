@@ -1,5 +1,5 @@
 // A shard that is read in part through a handle, by its index, which is read once.
-ghost use Rattle.std.specs.Prelude.{◌≡◌, ◌+◌, ◌^◌, ◌<◌, ◌*◌, IsTrue, IfOk, IfErr, IfSome, is_some, length};
+ghost use Rattle.std.specs.Prelude.{◌≡◌, ◌≤◌, ◌+◌, ◌^◌, ◌<◌, ◌*◌, IsTrue, IfOk, IfErr, IfSome, is_some, length};
 ghost use Rattle.zarr_parts.specs.Order.{◌or_as◌then◌, RefusedBy};
 ghost use Rattle.zarr_parts.specs.Numbering.{count_of};
 ghost use Rattle.zarr_parts.specs.Grid.{grid_of};
@@ -84,6 +84,7 @@ impl<I, X: ArrayToBytesCodecTraits> ShardingCodec<I, X> {
         requires { IsIndexPlan (index_meaning X.meaning self.now.index_codec) plan.now }
         ensures read { IsRead (H.state handle.old) (H.state handle.new) }
         ensures room { IfOk result (λ held. held_len held + 1 < 2 ^ 64) }
+        ensures enough { IfOk result (λ held. IfSome held (λ index. plan.now.size ≤ index.len)) }
         ensures counted { IfOk result (λ held. IfSome (held_numbers held) (λ numbers. length numbers ≡ 2 * count_of plan.now.grid)) }
         ensures held { IfOk result (λ held. IsTrue (H.state handle.old).tells
             → HoldsIndex (numbers_in_index (X.meaning self.now.index_codec (index_geo plan.now.grid)).cells self.now.location plan.now.size)
@@ -125,6 +126,7 @@ impl<I: ArrayToBytesCodecTraits, X: ArrayToBytesCodecTraits> ShardingCodec<I, X>
         ensures known { IfOk result (λ o. IsKnown ⟦<Self as ArrayToBytesCodecTraits>⟧.meaning (index_in X.meaning) H.state self.now handle.new o.0) }
         ensures plan { IfOk result (λ o. IsIndexPlan (index_meaning X.meaning self.now.index_codec) o.1) }
         ensures grid { IfOk result (λ o. o.1.grid ≡ grid_of asked.now.shape.now self.now.subchunk_shape) }
+        ensures enough { IfOk result (λ o. IfSome o.0.held (λ index. o.1.size ≤ index.len)) }
         ensures fault { IfErr result (IsCounted (H.state handle.old) (H.state handle.new)) }
         ensures refused { let codec = ⟦<Self as ArrayToBytesCodecTraits>⟧ in let s = self.now in let g = asked_geo asked.now in
             IfErr result (RefusedBy (

@@ -18,7 +18,7 @@ use object_handles::{BytesPartialDecoderTraits, Interval, check_interval};
 use shard_index::IndexCodec;
 use shard_subchunks::Subchunks;
 use std::alloc::Global;
-use zarr_parts::{ArrayBytes, CodecError, CodecOptions, Indexer, point_numbers};
+use zarr_parts::{ArrayBytes, CodecError, CodecOptions, Indexer};
 
 impl<I: ArrayToBytesCodecTraits, X: ArrayToBytesCodecTraits> ShardingCodec<I, X> {
     // The cells that an indexer asks of a shard that stands in an interval of an object, after the tests of the shard and of
@@ -50,7 +50,6 @@ impl<I: ArrayToBytesCodecTraits, X: ArrayToBytesCodecTraits> ShardingCodec<I, X>
             IntervalTests interval (H.state handle.old).contents (λ b. (codec.meaning self.now g).read_tests b (N.selection indexer.now).points)))) }
     {
         check_interval(handle, interval)?;
-        let numbers = point_numbers(alloc, indexer, count, asked.shape)?;
         let index_codec = IndexCodec {
             codec: &self.index_codec,
             location: self.location,
@@ -63,15 +62,15 @@ impl<I: ArrayToBytesCodecTraits, X: ArrayToBytesCodecTraits> ShardingCodec<I, X>
             fill_value: asked.fill_value,
             options,
         };
-        let array = subchunks.read_cells(
+        let array = subchunks.read_asked(
             alloc,
             handle,
             interval,
             &index,
-            &numbers,
+            indexer,
+            count,
             asked.shape,
             plan.cells,
-            plan.subchunks,
         )?;
         Ok(array)
     }

@@ -11,6 +11,7 @@ ghost use Rattle.sharding_core.specs.Sessions.{IsInStep, IsLeft, IsDone, IsLeftO
 
 mod opening;
 mod reads;
+mod writes;
 
 use crate::codec::ShardingCodec;
 use crate::partial_decoder::OpenShard;

@@ -2,6 +2,9 @@ pub use Rattle.sharding_core.specs.Meanings
 pub use Rattle.sharding_core.specs.ShardLaws
 pub use Rattle.sharding_core.specs.Decoders
 pub use Rattle.sharding_core.specs.Sessions
+pub use Rattle.sharding_core.specs.SessionWrites
+pub use Rattle.shard_writing.specs.Writing
+pub use Rattle.shard_writing.specs.WriteTests
 pub use Rattle.shard_index.specs.DataPart
 pub use Rattle.shard_format.specs.Index
 pub use Rattle.shard_format.specs.Cells
@@ -23,3 +26,9 @@ pub use Rattle.shard_format.specs.Reading
 pub use Rattle.shard_format.specs.Serves
 pub use Rattle.shard_cells.specs.Grouping
 pub use Rattle.shard_cells.specs.Gathering
+pub use Rattle.sharding_core.specs.ShardMetadata
+pub use Rattle.sharding_core.specs.ShardMetadataLaws
+pub use Rattle.shard_configuration.specs.Configuration
+pub use Rattle.shard_configuration.specs.Configurations
+pub use Rattle.shard_configuration.specs.CodecLists
+pub use Rattle.shard_cells.specs.Updates

@@ -15,12 +15,19 @@ ghost use Rattle.shard_format.specs.Compacting.{IsCompact};
 ghost use Rattle.shard_format.specs.Serves.{sub_geo};
 ghost use Rattle.sharding_core.specs.Meanings.{layout_in};
 ghost use Rattle.shard_format.specs.DecodeTests.{IsLowestBad};
-ghost use Rattle.sharding_core.specs.Decoders.{index_in};
+ghost use Rattle.object_handles.specs.Handles.{seen};
+ghost use Rattle.object_handles.specs.Objects.{ObjectTests};
+ghost use Rattle.codec_laws.specs.Reads.{AskedTests};
+ghost use Rattle.shard_writing.specs.Writing.{AreOverlaid, AreReadAfter};
+ghost use Rattle.sharding_core.specs.Decoders.{index_in, object_cells, ObjectCellsTests, Unmoved};
 
 use codec_laws::{ArrayToBytesCodecTraits, FunctionalCodec};
-use sharding_core::ShardingCodec;
+use object_handles::BytesPartialDecoderTraits;
+use sharding_core::{ShardingCodec, ShardingPartialDecoder};
 use std::alloc::Global;
-use zarr_parts::{ArrayBytes, ChunkShape, CodecError, CodecOptions, DataType, FillValue};
+use zarr_parts::{
+    ArrayBytes, ArraySubset, ChunkShape, CodecError, CodecOptions, DataType, FillValue, Indexer,
+};
 
 /// Decodes a shard that the codec serves and whose cells are all there, of elements of one length: the answer has these
 /// cells. Refused only as out of memory.
@@ -156,4 +163,37 @@ pub fn compact_again<I: ArrayToBytesCodecTraits, X: ArrayToBytesCodecTraits>(
     ensures refused { IfErr result (λ e. e ≡ OutOfMemory) }
 {
     codec.compact(alloc, compacted, shape, data_type, fill_value, options)
+}
+
+/// Reads some cells of an object into which an update was written over the cells of a subset, by a decoder that was opened after
+/// it: what is read in the subset are the update's elements, and elsewhere what the cells of the object were before. Refused as
+/// the decoder's `partial_decode` refuses.
+pub fn read_after_write<
+    I: ArrayToBytesCodecTraits,
+    X: ArrayToBytesCodecTraits,
+    H: BytesPartialDecoderTraits,
+    N: Indexer,
+>(
+    decoder: &mut ShardingPartialDecoder<'_, I, X, H>,
+    alloc: Global,
+    _before: Option<&[u8]>,
+    _subset: &ArraySubset,
+    _update: &ArrayBytes,
+    indexer: &N,
+    options: &CodecOptions,
+) -> Result<ArrayBytes<'static>, CodecError>
+    requires told { IsTrue (H.state decoder.old.handle).tells }
+    requires written { let codec = ⟦<ShardingCodec<I, X> as ArrayToBytesCodecTraits>⟧ in let s = decoder.old.codec in let g = decoder.old.geo in
+        AreOverlaid g.shape _subset.now _update.now.elements (object_cells (codec.meaning s g).cells g (seen (λ bytes. bytes.now) _before))
+        (object_cells (codec.meaning s g).cells g (H.state decoder.old.handle).contents) }
+    ensures unmoved { Unmoved H.state decoder.old decoder.new }
+    ensures agree { let codec = ⟦<ShardingCodec<I, X> as ArrayToBytesCodecTraits>⟧ in let s = decoder.old.codec in let g = decoder.old.geo in
+        IfOk result (λ array. AreReadAfter g.shape _subset.now _update.now.elements
+        (object_cells (codec.meaning s g).cells g (seen (λ bytes. bytes.now) _before.entry)) (N.selection indexer.now).points array.elements) }
+    ensures refused { let codec = ⟦<ShardingCodec<I, X> as ArrayToBytesCodecTraits>⟧ in let s = decoder.old.codec in let g = decoder.old.geo in
+        IfErr result (RefusedBy (AskedTests g (N.selection indexer.now) (codec.meaning s g).answerable (
+        ObjectTests (H.state decoder.old.handle) (H.state decoder.new.handle) (
+        ObjectCellsTests I.meaning X.meaning s g (H.state decoder.old.handle).contents (N.selection indexer.now).points)))) }
+{
+    decoder.partial_decode(alloc, indexer, options)
 }

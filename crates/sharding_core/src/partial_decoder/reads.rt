@@ -21,7 +21,7 @@ use shard_cells::{check_asked, filled};
 use shard_format::ShardIndex;
 use shard_subchunks::Subchunks;
 use std::alloc::Global;
-use zarr_parts::{ArrayBytes, CodecError, CodecOptions, FixedTarget, Indexer, point_numbers};
+use zarr_parts::{ArrayBytes, CodecError, CodecOptions, FixedTarget, Indexer};
 
 impl<I: ArrayToBytesCodecTraits, X: ArrayToBytesCodecTraits> ShardingCodec<I, X> {
     // The cells that an indexer asks of a shard that is open and has this index.
@@ -50,7 +50,6 @@ impl<I: ArrayToBytesCodecTraits, X: ArrayToBytesCodecTraits> ShardingCodec<I, X>
             IfErr result (RefusedBy (ObjectTests (H.state handle.old) (H.state handle.new) (
             ObjectCellsTests I.meaning X.meaning self.now g (H.state handle.old).contents (N.selection indexer.now).points))) }
     {
-        let numbers = point_numbers(alloc, indexer, count, &shard.shape)?;
         let whole = Interval {
             offset: 0,
             size: index.len,
@@ -62,15 +61,15 @@ impl<I: ArrayToBytesCodecTraits, X: ArrayToBytesCodecTraits> ShardingCodec<I, X>
             fill_value: &shard.fill_value,
             options,
         };
-        let array = subchunks.read_cells(
+        let array = subchunks.read_asked(
             alloc,
             handle,
             whole,
             index,
-            &numbers,
+            indexer,
+            count,
             &shard.shape,
             shard.cells,
-            shard.subchunks,
         )?;
         Ok(array)
     }

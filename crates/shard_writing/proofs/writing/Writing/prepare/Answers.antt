@@ -3,7 +3,7 @@ use Rattle.std.proofs.lemmas.List.{length-replicate}
 use Rattle.zarr_parts.specs.Numbering.{count_of}
 use Rattle.zarr_parts.specs.Geo.{geo}
 use Rattle.shard_format.specs.Index.{index_geo}
-use Rattle.shard_writing.proofs.HeldLemmas.{held_settled, told_settled}
+use Rattle.shard_writing.proofs.HeldLemmas.{held_settled, told_settled, told_len, told_slice}
 use Rattle.shard_subchunks.specs.Inner.{subchunk_geo, inner_meaning}
 use Rattle.object_handles.specs.Writes.{bytes_of}
 use Rattle.codec_laws.specs.RefusalLaws.{passed_on}
@@ -14,6 +14,15 @@ use Rattle.shard_writing.proofs.PutLemmas.{laid_inside}
 use Rattle.shard_writing.proofs.RefusalLemmas.{old_first, new_tests, last_tests}
 use Rattle.shard_writing.proofs.writing.Writing.prepare.Goals as goal
 
+pub changed-requires-clause-counted : goal.changed-requires-clause-counted
+changed-requires-clause-counted g c = c.requires.held.counted
+
+pub changed-requires-clause-len : goal.changed-requires-clause-len
+changed-requires-clause-len g c = λ t. told_len _ _ _ _ (c.requires.told t)
+
+pub changed-requires-clause-there : goal.changed-requires-clause-there
+changed-requires-clause-there g c = λ t k below. told_slice _ _ _ _ _ _ _ c.requires.held (c.requires.told t) k below
+
 pub settle-requires-clause-same : goal.settle-requires-clause-same
 settle-requires-clause-same g c =
     rw c.deref-3.ensures.value
@@ -22,7 +31,7 @@ settle-requires-clause-same g c =
 pub settle-requires-clause-below : goal.settle-requires-clause-below
 settle-requires-clause-below g c = rw c.deref-3.ensures.value (λ j d lt.
     let below = rw (← c.requires.grid) at (c.in_ok-touched.ensures.below j d lt) in
-    omega (arith, below, c.requires.counted))
+    omega (arith, below, c.requires.held.counted))
 
 pub settle-requires-clause-rising : goal.settle-requires-clause-rising
 settle-requires-clause-rising g c = rw c.deref-3.ensures.value c.in_ok-touched.ensures.touched.rising
@@ -43,7 +52,7 @@ returns-clause-made g c = λ t.
     let counted : length arrays ≡ length touched = c.in_ok-arrays.ensures.counted ∙ ap length c.deref.ensures.value in
     let cells = rw c.deref.ensures.value at (c.in_ok-arrays.ensures.cells t) in
     let laid = rw (c.deref-2.ensures.value, counted) at c.in_ok-laid.ensures.laid in
-    let settled = rw c.deref-3.ensures.value at (c.in_ok-prepared.ensures.settled contents (c.requires.len t)) in
+    let settled = rw c.deref-3.ensures.value at (c.in_ok-prepared.ensures.settled contents (told_len _ _ _ _ (c.requires.told t))) in
     record {
       touched = touched;
       are_touched = c.in_ok-touched.ensures.touched;
@@ -63,10 +72,10 @@ returns-clause-written g c = λ t.
     let inner = inner_meaning g.I.ArrayToBytesCodecTraits.meaning s in
     let index = index_meaning g.X.ArrayToBytesCodecTraits.meaning a.self.now.index_codec.codec.now a.self.now.plan.now.grid in
     let contents = (g.H.BytesPartialDecoderTraits.state a.handle.now).contents in
-    let len = c.requires.len t in
-    let counted = rw c.requires.grid at c.requires.counted in
-    let lies = rw (← len, c.requires.grid) at c.requires.lies in
-    let enough = rw (← len) at c.requires.index in
+    let len = told_len _ _ _ _ (c.requires.told t) in
+    let counted = rw c.requires.grid at c.requires.held.counted in
+    let lies = rw (← len, c.requires.grid) at c.requires.held.placed in
+    let enough = rw (← len) at c.requires.held.long_enough in
     made_is_write inner index a.self.now.shape.now (subchunk_geo s) a.self.now.index_codec.location a.self.now.plan.now.size a.subset.now a.update.now.elements a.numbers.now contents
     c.in_ok-prepared.prepared.numbers.items c.in_ok-prepared.prepared.len counted lies enough _ (returns-clause-made g c t)
 
@@ -84,8 +93,8 @@ returns-clause-held g c =
     let laid = rw (c.deref-2.ensures.value, counted) at c.in_ok-laid.ensures.laid in
     let settled = rw c.deref-3.ensures.value at (c.in_ok-prepared.ensures.settled (Some blank) long) in
     held_settled inner.written s.fill_value.now a.self.now.index_codec.location a.self.now.plan.now.size touched c.in_ok-laid.laid.slots.items c.in_ok-laid.laid.bytes.items
-    (λ j. (array_at arrays j).elements) laid (count_of a.self.now.plan.now.grid) a.numbers.now c.requires.counted index.written (Some blank) c.in_ok-prepared.prepared.numbers.items
-    c.in_ok-prepared.prepared.len (rw long c.requires.lies) (rw long c.requires.index) _ settled
+    (λ j. (array_at arrays j).elements) laid (count_of a.self.now.plan.now.grid) a.numbers.now c.requires.held.counted index.written (Some blank) c.in_ok-prepared.prepared.numbers.items
+    c.in_ok-prepared.prepared.len (rw long c.requires.held.placed) (rw long c.requires.held.long_enough) _ settled
 
 pub returns-clause-told : goal.returns-clause-told
 returns-clause-told g c = λ t.
@@ -95,14 +104,14 @@ returns-clause-told g c = λ t.
     let codec = a.self.now.index_codec.codec.now in
     let index = index_meaning g.X.ArrayToBytesCodecTraits.meaning codec plan.grid in
     let contents = (g.H.BytesPartialDecoderTraits.state a.handle.now).contents in
-    let len = c.requires.len t in
+    let len = told_len _ _ _ _ (c.requires.told t) in
     let touched = c.in_ok-touched.touched.items in
     let settled = rw c.deref-3.ensures.value at (c.in_ok-prepared.ensures.settled contents len) in
     let law = g.met.X.ArrayToBytesCodecTraits.lawful codec (index_geo plan.grid) in
     told_settled index.cells index.written s.shape.now (geo a.self.now.shape.now s.data_type.now s.fill_value.now) a.self.now.index_codec.location plan.size
     (rw (← c.requires.grid) (λ e bytes array written. law.written_cells e bytes c.requires.plan.serves.served array written))
-    touched c.in_ok-laid.laid.slots.items c.in_ok-laid.laid.bytes.items a.numbers.now (rw (← c.requires.grid) c.requires.counted) contents c.in_ok-prepared.prepared.numbers.items
-    c.in_ok-prepared.prepared.len (rw len c.requires.index) _ settled
+    touched c.in_ok-laid.laid.slots.items c.in_ok-laid.laid.bytes.items a.numbers.now (rw (← c.requires.grid) c.requires.held.counted) contents c.in_ok-prepared.prepared.numbers.items
+    c.in_ok-prepared.prepared.len (rw len c.requires.held.long_enough) _ settled
 
 pub returns-in_err-arrays-clause-refused : goal.returns-in_err-arrays-clause-refused
 returns-in_err-arrays-clause-refused g c =
@@ -155,9 +164,9 @@ returns-in_err-prepared-clause-refused g c =
       | inr tests ↦ inr (λ t.
           let cells = rw c.deref.ensures.value at (c.in_ok-arrays.ensures.cells t) in
           let passed = rw c.requires.grid at (c.in_ok-arrays.ensures.passed t) in
-          let numbers_counted = rw c.requires.grid at c.requires.counted in
+          let numbers_counted = rw c.requires.grid at c.requires.held.counted in
           inr (last_tests inner index (layout_from a.self.now.shape.now (subchunk_geo s) a.self.now.index_codec.location a.self.now.plan.now.size) (subchunk_geo s) a.subset.now a.update.now.elements
           (bytes_of contents) a.numbers.now touched (λ j. (array_at arrays j).elements) c.in_ok-touched.ensures.touched (λ j lt. c.in_ok-touched.ensures.below j 0 lt)
           passed (λ j lt. cells j (omega (arith, lt, counted))) c.in_ok-laid.laid.slots.items c.in_ok-laid.laid.bytes.items laid numbers_counted c.in_err-prepared.field-0.0
-          (rw (c.requires.len t, ← c.requires.grid) tests)))
+          (rw (told_len _ _ _ _ (c.requires.told t), ← c.requires.grid) tests)))
     ])

@@ -18,7 +18,7 @@ returns-in_default-clause-held g c =
     let opened = c.in_ok-shard.ensures in
     held_open (λ codec g. shard_meaning codec (inner.meaning codec.inner (sub_geo codec.subchunk_shape g)) (outer.meaning codec.index_codec (index_geo (grid_of g.shape codec.subchunk_shape))) g)
     outer.meaning g.H.BytesPartialDecoderTraits.state s c.open_shard.new.handle false (record { shard = c.in_ok-shard.shard; plan = c.in_ok-shard.plan; blank = c.in_ok-blank.blank })
-    opened.known opened.plan (opened.grid ∙ ap (λ g. grid_of g.shape s.subchunk_shape) (sym opened.asked)) (rw c.in_default.is (c.in_ok-blank.ensures.items_if_clones_equal (λ y h. h) ∙ ap (λ n. replicate (2 * n) absent_number) opened.known.subchunks)) (rw c.in_default.is tt)
+    opened.known opened.plan (opened.grid ∙ ap (λ g. grid_of g.shape s.subchunk_shape) (sym opened.asked)) (rw c.in_default.is (c.in_ok-blank.ensures.items_if_clones_equal (λ y h. h) ∙ ap (λ n. replicate (2 * n) absent_number) opened.known.subchunks)) (rw c.in_default.is tt) (rw c.in_default.is tt)
 
 pub returns-in_err-check_pairs-clause-refused : goal.returns-in_err-check_pairs-clause-refused
 returns-in_err-check_pairs-clause-refused g c =

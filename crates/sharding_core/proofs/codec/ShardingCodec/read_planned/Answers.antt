@@ -1,10 +1,10 @@
-use Rattle.std.proofs.Common.{◌∙◌, inl, inr, arith}
+use Rattle.std.proofs.Common.{◌∙◌, inl, inr, refl, arith}
 use Rattle.sharding_core.specs.Plans.{asked_geo}
 use Rattle.zarr_parts.specs.Grid.{grid_of}
 use Rattle.object_handles.specs.Objects.{interval_part}
 use Rattle.shard_format.specs.Index.{index_geo}
 use Rattle.shard_format.specs.Serves.{sub_geo, layout}
-use Rattle.shard_format.specs.ReadTests.{AnswerTests}
+use Rattle.shard_format.specs.ReadTests.{numbers_of, AnswerTests}
 use Rattle.codec_laws.specs.RefusalLaws.{passed_on}
 use Rattle.shard_format.proofs.ReadLemmas.{asked_cells, cells_refused}
 use Rattle.shard_cells.proofs.ReadGroupLemmas.{read_then}
@@ -47,12 +47,12 @@ returns-in_err-array-clause-refused g c =
     let then = c.read.ensures.read in
     let plan = c.requires.plan in
     let e = c.in_err-array.field-0.0 in
-    let refused = rw (c.deref.ensures.value, then.contents_same, before.contents_same) at c.in_err-array.ensures.refused in
+    let refused = rw (then.contents_same, before.contents_same) at c.in_err-array.ensures.refused in
     passed_on _ e _ c.from_residual-in_err-array.ensures.1
-    (cells_refused (h.state a.handle.now) (h.state c.read.new.handle) (h.state c.read_cells.new.handle) a.interval (inner.meaning s.inner sub_g) (outer.meaning s.index_codec index_g) l
-    c.in_ok-index.index.numbers.items c.in_ok-numbers.numbers.items points e
+    (cells_refused (h.state a.handle.now) (h.state c.read.new.handle) (h.state c.read_asked.new.handle) a.interval (inner.meaning s.inner sub_g) (outer.meaning s.index_codec index_g) l
+    c.in_ok-index.index.numbers.items (numbers_of a.asked.now.shape.now points) points e
     (read_then _ _ _ before then) c.in_ok-check_interval.ensures.inside
-    (λ t. rw (plan.index.size, plan.grid, before.contents_same) at (c.in_ok-index.ensures.numbers (rw before.tells_same t))) c.requires.points c.in_ok-numbers.ensures.numbers refused)
+    (λ t. rw (plan.index.size, plan.grid, before.contents_same) at (c.in_ok-index.ensures.numbers (rw before.tells_same t))) c.requires.points refl refused)
 
 pub returns-clause-cells : goal.returns-clause-cells
 returns-clause-cells g c = λ t.
@@ -70,7 +70,7 @@ returns-clause-cells g c = λ t.
     let plan = c.requires.plan in
     let told = rw (plan.index.size, plan.grid, before.contents_same) at (c.in_ok-index.ensures.numbers (rw before.tells_same t)) in
     let contents = then.contents_same ∙ before.contents_same in
-    let read = rw (c.deref.ensures.value, contents, c.in_ok-numbers.ensures.numbers) at (c.in_ok-array.ensures.cells (rw (then.tells_same ∙ before.tells_same) t)) in
+    let read = rw contents at (c.in_ok-array.ensures.cells (rw (then.tells_same ∙ before.tells_same) t)) in
     record {
       inside = c.in_ok-check_interval.ensures.inside t;
       read = asked_cells (g.I.ArrayToBytesCodecTraits.meaning s.inner sub_g) (g.X.ArrayToBytesCodecTraits.meaning s.index_codec index_g) l bytes c.in_ok-index.index.numbers.items points told c.requires.points ∙ read;

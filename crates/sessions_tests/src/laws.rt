@@ -1,0 +1,128 @@
+// What is read of an object after a write into it, by the law that says so.
+ghost use Rattle.std.specs.Prelude.{Some};
+ghost use Rattle.zarr_parts.specs.Geo.{geo};
+ghost use Rattle.zarrs_sharding.specs.Decoders.{object_cells};
+ghost use Rattle.zarrs_sharding.specs.Writing.{AreOverlaid};
+
+use crate::shards::{seven, shape_of, subset_of};
+use std::alloc::Global;
+use zarr_codecs::{ArrayToBytesCodecTraits, BytesCodec, MemoryHandle};
+use zarr_parts::{
+    ArrayBytes, ArraySubset, ChunkShape, CodecError, CodecOptions, DataType, FillValue,
+};
+use zarrs_sharding::{ShardingCodec, ShardingIndexLocation, read_after_write};
+
+type Codec = ShardingCodec<BytesCodec, BytesCodec>;
+
+// What a codec is asked to serve.
+#[derive(Drop)]
+struct Asked {
+    shape: ChunkShape,
+    data_type: DataType,
+    fill: FillValue,
+}
+
+// What a decoder that is opened anew reads of an object into which an update was written, and which had other bytes before.
+fn read_written(
+    alloc: Global,
+    codec: &Codec,
+    asked: &Asked,
+    before: &[u8],
+    after: MemoryHandle,
+    subset: &ArraySubset,
+    update: &ArrayBytes,
+    all: &ArraySubset,
+) -> Result<ArrayBytes<'static>, CodecError>
+    requires { let c = ⟦<Codec as ArrayToBytesCodecTraits>⟧ in let g = geo asked.now.shape asked.now.data_type asked.now.fill in
+        AreOverlaid g.shape subset.now update.now.elements (object_cells (c.meaning codec.now g).cells g (Some before.now)) (object_cells (c.meaning codec.now g).cells g after) }
+{
+    let options = CodecOptions::default();
+    let opened = codec.partial_decoder(
+        alloc,
+        after,
+        &asked.shape,
+        &asked.data_type,
+        &asked.fill,
+        &options,
+    );
+    match opened {
+        Ok(mut decoder) => read_after_write(
+            &mut decoder,
+            alloc,
+            Some(before),
+            subset,
+            update,
+            all,
+            &options,
+        ),
+        Err((_, error)) => Err(error),
+    }
+}
+
+// What is read of an object after a write into it.
+fn written_and_read(
+    alloc: Global,
+    codec: &Codec,
+    asked: &Asked,
+    before: &[u8],
+    subset: &ArraySubset,
+    update: &ArrayBytes,
+    all: &ArraySubset,
+) -> Result<ArrayBytes<'static>, CodecError> {
+    let handle = MemoryHandle::new(Some(before.to_vec(alloc)?));
+    let options = CodecOptions::default();
+    let opened = codec.open_state(
+        alloc,
+        handle,
+        &asked.shape,
+        &asked.data_type,
+        &asked.fill,
+        &options,
+    );
+    match opened {
+        Ok(mut session) => {
+            session.partial_encode(alloc, subset, update, &options)?;
+            let after = session.close();
+            read_written(alloc, codec, asked, before, after, subset, update, all)
+        }
+        Err((_, error)) => Err(error),
+    }
+}
+
+fn four_cells(alloc: Global) -> Result<Asked, CodecError> {
+    Ok(Asked {
+        shape: shape_of(alloc, &[4])?,
+        data_type: DataType::UInt8,
+        fill: FillValue::from_number(alloc, 0u8)?,
+    })
+}
+
+fn codec(alloc: Global) -> Result<Codec, CodecError> {
+    let (inner, index) = (BytesCodec::little(), BytesCodec::little());
+    let sub = shape_of(alloc, &[2])?;
+    Ok(ShardingCodec::new(sub, inner, index, ShardingIndexLocation::End))
+}
+
+// The cells 0, 7, 0, 0 after 5 was written over the first.
+fn five_and_seven(alloc: Global) -> Result<Vec<u8>, CodecError> {
+    let update = ArrayBytes::from_numbers(alloc, &[5u8])?;
+    let cells = written_and_read(
+        alloc,
+        &codec(alloc)?,
+        &four_cells(alloc)?,
+        &seven(alloc)?,
+        &subset_of(alloc, 0..1)?,
+        &update,
+        &subset_of(alloc, 0..4)?,
+    )?;
+    cells.to_numbers(alloc)
+}
+
+#[test]
+fn a_read_after_a_write_has_its_cells(rt: HostRuntime) {
+    let found = five_and_seven(rt.alloc());
+    assert_eq!(rt;
+        found.as_ref().map(Vec::as_slice),
+        Ok([5u8, 7, 0, 0].as_slice())
+    );
+}

@@ -1,0 +1,74 @@
+use Rattle.std.proofs.Common.{◌≡◌, ◌∙◌, ap, sym, IsTrue}
+use Rattle.zarr_parts.specs.Boxes.{Region}
+use Rattle.zarr_parts.specs.Geo.{geo}
+use Rattle.zarr_parts.specs.Grid.{grid_of}
+use Rattle.zarr_words.specs.declared.error.CodecError.{CodecError}
+use Rattle.shard_format.specs.Index.{index_geo}
+use Rattle.shard_format.specs.Serves.{sub_geo}
+use Rattle.codec_laws.specs.RefusalLaws.{passed_on}
+use Rattle.shard_writing.specs.Changes.{object_after}
+use Rattle.sharding_core.specs.Meanings.{shard_meaning}
+use Rattle.sharding_core.specs.Sessions.{numbers_held}
+use Rattle.sharding_core.specs.SessionWrites.{WrittenTests}
+use Rattle.sharding_core.proofs.WriteLemmas.{write_open, update_refused, written_after}
+use Rattle.sharding_core.proofs.state.ShardState.partial_encode.Goals as goal
+
+pub returns-in_err-prepared-clause-refused : goal.returns-in_err-prepared-clause-refused
+returns-in_err-prepared-clause-refused g c =
+    let inner = g.I.ArrayToBytesCodecTraits in
+    let outer = g.X.ArrayToBytesCodecTraits in
+    let h = g.H.BytesPartialDecoderTraits in
+    let s = c.self.inside in
+    let shard = s.opened.shard in
+    let asked = geo shard.shape shard.data_type shard.fill_value in
+    let update = c.args.bytes.now in
+    let e = c.in_err-prepared.field-0.0 in
+    rw (← c.self.view_is) (passed_on _ e _ c.from_residual-in_err-prepared.ensures.1
+    (update_refused s.failed shard.shape shard.data_type (g.N.Indexer.selection c.args.indexer.now) c.in_ok-subset.subset.now update (h.state s.handle) (h.state c.prepare_write.new.handle)
+    (λ (box : Region). WrittenTests inner.meaning outer.meaning s.codec.now asked box update.elements (h.state s.handle).contents (numbers_held shard.held s.opened.blank.items))
+    e c.if-self.false c.in_ok-subset.ensures.update c.in_ok-subset.ensures.subset c.in_err-prepared.ensures.refused))
+
+pub invariant_of-self-2 : goal.invariant_of-self-2
+invariant_of-self-2 g c =
+    let inner = g.I.ArrayToBytesCodecTraits in
+    let outer = g.X.ArrayToBytesCodecTraits in
+    let h = g.H.BytesPartialDecoderTraits in
+    let s = c.self.inside in
+    let p = c.in_ok-prepared.prepared in
+    let read = c.prepare_write.ensures.read in
+    write_open (λ codec g. shard_meaning codec (inner.meaning codec.inner (sub_geo codec.subchunk_shape g)) (outer.meaning codec.index_codec (index_geo (grid_of g.shape codec.subchunk_shape))) g)
+    outer.meaning h.state s.codec.now s.handle c.make.new.handle s.failed s.opened c.hold.new.opened p.change p.len p.numbers
+    c.if-self.false c.self.invariant c.in_ok-prepared.ensures.held c.in_ok-prepared.ensures.told
+    (λ t. let told : IsTrue (h.state c.prepare_write.new.handle).tells = rw c.make.ensures.writing.tells_same at t in
+    (rw read.tells_same at told, c.in_default.ensures.made told ∙ ap (λ o. object_after p.change o) read.contents_same))
+    c.hold.ensures.shard c.hold.ensures.plan c.hold.ensures.blank
+
+pub returns-clause-in_step : goal.returns-clause-in_step
+returns-clause-in_step g c = (invariant_of-self-2 g c).in_step
+
+pub returns-clause-written : goal.returns-clause-written
+returns-clause-written g c =
+    let inner = g.I.ArrayToBytesCodecTraits in
+    let outer = g.X.ArrayToBytesCodecTraits in
+    let h = g.H.BytesPartialDecoderTraits in
+    let s = c.self.inside in
+    let shard = s.opened.shard in
+    let asked = geo shard.shape shard.data_type shard.fill_value in
+    let p = c.in_ok-prepared.prepared in
+    let read = c.prepare_write.ensures.read in
+    rw (← c.self.view_is) (λ t.
+    let told : IsTrue (h.state c.prepare_write.new.handle).tells = rw read.tells_same t in
+    written_after inner.meaning outer.meaning s.codec.now asked (g.N.Indexer.selection c.args.indexer.now) c.in_ok-subset.subset.now c.args.bytes.now.elements
+    (h.state s.handle).contents (h.state c.make.new.handle).contents (numbers_held shard.held s.opened.blank.items) p.change p.len p.numbers c.hold.new.opened.shard.held c.hold.new.opened.blank.items
+    c.in_ok-subset.ensures.subset (c.in_default.ensures.made told ∙ ap (λ o. object_after p.change o) read.contents_same) (ap (λ x. x.held) c.hold.ensures.shard) c.hold.ensures.blank
+    (c.in_ok-prepared.ensures.written t))
+
+pub returns-clause-cells : goal.returns-clause-cells
+returns-clause-cells g c =
+    let h = g.H.BytesPartialDecoderTraits in
+    let p = c.in_ok-prepared.prepared in
+    let read = c.prepare_write.ensures.read in
+    rw (← c.self.view_is) (λ t.
+    let told : IsTrue (h.state c.prepare_write.new.handle).tells = rw read.tells_same t in
+    let now = c.in_default.ensures.made told ∙ ap (λ o. object_after p.change o) read.contents_same in
+    rw (c.in_ok-subset.ensures.subset, now) (c.in_ok-prepared.ensures.cells t))
