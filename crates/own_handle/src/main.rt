@@ -9,9 +9,11 @@ use zarr_codecs::{ArrayToBytesCodecTraits, BytesCodec};
 use zarr_parts::{
     ArrayBytes, ChunkShape, CodecError, CodecOptions, Coordinates, DataType, FillValue,
 };
-use zarrs_sharding::{ShardingCodec, ShardingIndexLocation};
+use zarrs_sharding::{ShardingCodec, ShardingIndexLocation, ShardingPartialDecoder};
 
 type Inner = ShardingCodec<BytesCodec, BytesCodec>;
+
+type Decoder<'a> = ShardingPartialDecoder<'a, Inner, BytesCodec, Counted>;
 
 fn shape(alloc: Global, axes: &[u64]) -> Result<ChunkShape, CodecError> {
     ChunkShape::new(alloc, axes)?.ok_or(CodecError::InvalidSubchunkShape)
@@ -30,34 +32,36 @@ fn codec(alloc: Global) -> Result<ShardingCodec<Inner, BytesCodec>, CodecError> 
     Ok(ShardingCodec::new(outer, inner, BytesCodec::big(), end))
 }
 
-// The numbers 0 to 63 of 16 bits.
-fn cells(alloc: Global) -> Result<ArrayBytes<'static>, CodecError> {
+// The numbers 0 to 63 of 16 bits, as an array of 8 by 8 in that codec's bytes.
+fn store(alloc: Global) -> Result<Vec<u8>, CodecError> {
     let numbers: Vec<u16> = (0..64u16).collect(alloc)?;
-    Ok(ArrayBytes::from_numbers(alloc, &numbers)?)
+    let cells = ArrayBytes::from_numbers(alloc, &numbers)?;
+    let shape = shape(alloc, &[8, 8])?;
+    let fill = FillValue::from_number(alloc, 0u16)?;
+    let options = CodecOptions::default();
+    codec(alloc)?.encode(alloc, &cells, &shape, &DataType::UInt16, &fill, &options)
 }
 
-// Three cells of an array of 8 by 8, and how many ranges were read for them.
+// Three cells, and how many ranges were read for them.
+fn read(alloc: Global, mut decoder: Decoder) -> Result<(ArrayBytes<'static>, u64), CodecError> {
+    let asked = Coordinates::new(2, 3, [0, 1, 7, 7, 0, 1].to_vec(alloc)?);
+    let asked = asked.ok_or(CodecError::IncompatibleDimensionality)?;
+    let cells = decoder.partial_decode(alloc, &asked, &CodecOptions::default())?;
+    Ok((cells, decoder.close().reads))
+}
+
+// Three cells of the stored array.
 fn read_three(alloc: Global) -> Result<(ArrayBytes<'static>, u64), CodecError> {
     let codec = codec(alloc)?;
     let shape = shape(alloc, &[8, 8])?;
     let fill = FillValue::from_number(alloc, 0u16)?;
     let options = CodecOptions::default();
-    let bytes = codec.encode(
-        alloc,
-        &cells(alloc)?,
-        &shape,
-        &DataType::UInt16,
-        &fill,
-        &options,
-    )?;
-    let handle = Counted { bytes, reads: 0 };
-    let asked = Coordinates::new(2, 3, [0, 1, 7, 7, 0, 1].to_vec(alloc)?);
-    let asked = asked.ok_or(CodecError::IncompatibleDimensionality)?;
+    let handle = Counted {
+        bytes: store(alloc)?,
+        reads: 0,
+    };
     match codec.partial_decoder(alloc, handle, &shape, &DataType::UInt16, &fill, &options) {
-        Ok(mut decoder) => {
-            let cells = decoder.partial_decode(alloc, &asked, &options)?;
-            Ok((cells, decoder.close().reads))
-        }
+        Ok(decoder) => read(alloc, decoder),
         Err((_handle, error)) => Err(error),
     }
 }

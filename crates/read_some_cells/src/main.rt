@@ -7,7 +7,9 @@ use zarr_codecs::{ArrayToBytesCodecTraits, BytesCodec, MemoryHandle};
 use zarr_parts::{
     ArrayBytes, ArraySubset, ChunkShape, CodecError, CodecOptions, Coordinates, DataType, FillValue,
 };
-use zarrs_sharding::{ShardingCodec, ShardingIndexLocation};
+use zarrs_sharding::{ShardingCodec, ShardingIndexLocation, ShardingPartialDecoder};
+
+type Decoder<'a> = ShardingPartialDecoder<'a, BytesCodec, BytesCodec, MemoryHandle>;
 
 fn shape(alloc: Global, axes: &[u64]) -> Result<ChunkShape, CodecError> {
     ChunkShape::new(alloc, axes)?.ok_or(CodecError::InvalidSubchunkShape)
@@ -30,7 +32,22 @@ fn store(alloc: Global) -> Result<Vec<u8>, CodecError> {
     codec(alloc)?.encode(alloc, &cells, &shape, &DataType::UInt16, &fill, &options)
 }
 
-// Those of a box of 2 by 3, and then of three cells.
+// Those of a box of 2 by 3.
+fn read_box(alloc: Global, decoder: &mut Decoder) -> Result<Vec<u16>, CodecError> {
+    let asked = ArraySubset::from_ranges(alloc, &[1..3, 3..6])?;
+    let cells = decoder.partial_decode(alloc, &asked, &CodecOptions::default())?;
+    cells.to_numbers(alloc)
+}
+
+// Those of three cells.
+fn read_three(alloc: Global, decoder: &mut Decoder) -> Result<Vec<u16>, CodecError> {
+    let asked = Coordinates::new(2, 3, [7, 7, 0, 0, 7, 7].to_vec(alloc)?);
+    let asked = asked.ok_or(CodecError::IncompatibleDimensionality)?;
+    let cells = decoder.partial_decode(alloc, &asked, &CodecOptions::default())?;
+    cells.to_numbers(alloc)
+}
+
+// Both of a stored shard.
 fn read(alloc: Global, shard: Vec<u8>) -> Result<[Vec<u16>; 2], CodecError> {
     let codec = codec(alloc)?;
     let shape = shape(alloc, &[8, 8])?;
@@ -38,19 +55,10 @@ fn read(alloc: Global, shard: Vec<u8>) -> Result<[Vec<u16>; 2], CodecError> {
     let options = CodecOptions::default();
     let handle = MemoryHandle::new(Some(shard));
     match codec.partial_decoder(alloc, handle, &shape, &DataType::UInt16, &fill, &options) {
-        Ok(mut decoder) => {
-            let subset = ArraySubset::from_ranges(alloc, &[1..3, 3..6])?;
-            let three = Coordinates::new(2, 3, [7, 7, 0, 0, 7, 7].to_vec(alloc)?);
-            let three = three.ok_or(CodecError::IncompatibleDimensionality)?;
-            Ok([
-                decoder
-                    .partial_decode(alloc, &subset, &options)?
-                    .to_numbers(alloc)?,
-                decoder
-                    .partial_decode(alloc, &three, &options)?
-                    .to_numbers(alloc)?,
-            ])
-        }
+        Ok(mut decoder) => Ok([
+            read_box(alloc, &mut decoder)?,
+            read_three(alloc, &mut decoder)?,
+        ]),
         Err((_handle, error)) => Err(error),
     }
 }

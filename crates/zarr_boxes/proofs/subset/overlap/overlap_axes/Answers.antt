@@ -1,7 +1,22 @@
-use Rattle.std.proofs.Common.{arith, refl}
+use Rattle.std.proofs.Common.{◌+◌, ◌^◌, ◌<◌, arith, refl}
+use Rattle.std.proofs.lemmas.List.Elements.{length_all_zip}
 use Rattle.zarr_boxes.specs.Boxes.{Region}
 use Rattle.zarr_boxes.proofs.OverlapLaws.{HaveSameAxes, overlap_more, overlap_whole}
 use Rattle.zarr_boxes.proofs.subset.overlap.overlap_axes.Goals as goal
+
+pub bounds-other_start-axis : goal.bounds-other_start-axis
+bounds-other_start-axis c = omega (arith, c.requires.same_axes)
+
+pub bounds-shape-axis : goal.bounds-shape-axis
+bounds-shape-axis c =
+    omega (arith, length_all_zip (λ first len. first + len < 2 ^ 64) c.args.start.now c.args.shape.now c.requires.well_formed)
+
+pub bounds-other_start-axis-in-loop-axis : goal.bounds-other_start-axis-in-loop-axis
+bounds-other_start-axis-in-loop-axis c = omega (arith, c.requires.same_axes)
+
+pub bounds-other_shape-axis : goal.bounds-other_shape-axis
+bounds-other_shape-axis c =
+    omega (arith, c.requires.same_axes, length_all_zip (λ first len. first + len < 2 ^ 64) c.args.other_start.now c.args.other_shape.now c.requires.other_well_formed)
 
 pub loop-axis-preserved : goal.loop-axis-preserved
 loop-axis-preserved c =

@@ -1,6 +1,17 @@
-use Rattle.std.proofs.Common.{arith, refl}
+use Rattle.std.proofs.Common.{◌+◌, ◌^◌, ◌<◌, arith, refl}
+use Rattle.std.proofs.lemmas.List.Elements.{length_all_zip}
 use Rattle.zarr_boxes.proofs.TouchedLaws.{touched_more, touched_whole}
 use Rattle.zarr_boxes.proofs.subset.touched.touched_box.Goals as goal
+
+pub bounds-sub-axis : goal.bounds-sub-axis
+bounds-sub-axis c = omega (arith, c.requires.axes)
+
+pub bounds-sub-axis-in-loop-axis : goal.bounds-sub-axis-in-loop-axis
+bounds-sub-axis-in-loop-axis c = omega (arith, c.requires.axes)
+
+pub bounds-len-axis : goal.bounds-len-axis
+bounds-len-axis c =
+    omega (arith, length_all_zip (λ first len. first + len < 2 ^ 64) c.args.start.now c.args.len.now c.requires.well_formed)
 
 pub loop-axis-preserved : goal.loop-axis-preserved
 loop-axis-preserved c =
