@@ -1,5 +1,5 @@
 # make run    proves shard_tool and what it stands on, builds it, and feeds it the example script
-# make try    runs the same script in seconds, with no proof
+# make try    runs the same script with no proof
 # make test   the whole gate: every proof from nothing, the must-fail edits, the tests and the program
 .PHONY: run try test
 
