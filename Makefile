@@ -1,7 +1,8 @@
 # make run    proves shard_tool and what it stands on, builds it, and feeds it the example script
 # make try    runs the same script with no proof
+# make refuse refuses each allocation of an example in turn: whichever is refused, the answers stay (two minutes, no proof)
 # make test   the whole gate: every proof from nothing, the must-fail edits, the tests and the program
-.PHONY: run try test
+.PHONY: run try refuse test
 
 SCRIPT := $(CURDIR)/crates/shard_tool/stdin
 
@@ -13,6 +14,9 @@ run:
 try:
 	@echo "Running the example script with no proof."
 	@cd crates/shard_tool && rt try < $(SCRIPT)
+
+refuse:
+	@crates/refused_memory/refuse_each.sh
 
 test:
 	rt ci

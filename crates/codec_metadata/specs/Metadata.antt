@@ -32,10 +32,10 @@ is_metadata_member key d =
     if bytes_eq key (codes "must_understand") then is_some (as_bool d) else false
 
 -- the codec of metadata, for a codec that has some names and reads its configuration so
-abbrev pub codec_of : {Codec : Type 0} → (Bytes → Bool) → (Option Data → Reading Codec) → Data → Reading Codec
+abbrev pub codec_of : {Codec : Type 0} → (Bytes → Bool) → (Bytes → Option Data → Reading Codec) → Data → Reading Codec
 codec_of named configured d =
     or_refused (name_in d) (bad_field (codes "name")) (λ name.
-    if named name then unless_refused (first_refused is_metadata_member (members_in d)) (configured (get (codes "configuration") d))
+    if named name then unless_refused (first_refused is_metadata_member (members_in d)) (configured name (get (codes "configuration") d))
     else Err (unsupported_codec name))
 
 -- the metadata that is written, with a configuration or without one

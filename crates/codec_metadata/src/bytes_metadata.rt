@@ -51,9 +51,9 @@ impl CodecTraitsV3 for BytesCodec {
 
     ghost named = { is_bytes_name };
 
-    ghost own_name = { codes "bytes" };
+    ghost own_name = { λ codec. codes "bytes" };
 
-    ghost configured = { bytes_configured };
+    ghost configured = { λ name. bytes_configured };
 
     ghost written = { bytes_written };
 
@@ -67,7 +67,7 @@ impl CodecTraitsV3 for BytesCodec {
     }
 
     /// `bytes`.
-    fn written_name() -> &'static str {
+    fn written_name(&self) -> &'static str {
         "bytes"
     }
 
@@ -75,6 +75,7 @@ impl CodecTraitsV3 for BytesCodec {
     /// `BadField` with the first key, in the order of keys, that is another or has another value; or as `OutOfMemory`.
     fn from_configuration(
         alloc: Global,
+        _name: &str,
         configuration: Option<&Value>,
     ) -> Result<Self, PluginCreateError> {
         let Some(configuration) = configuration else {
@@ -97,7 +98,7 @@ impl CodecTraitsV3 for BytesCodec {
 
     ghost remembers = { λ codec valid. bytes_remembers codec };
 
-    ghost names_itself = { refl };
+    ghost names_itself = { λ codec. refl };
 
-    ghost told_again = { λ codec. refl };
+    ghost told_again = { λ codec. (refl, refl) };
 }

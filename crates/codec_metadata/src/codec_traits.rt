@@ -47,10 +47,10 @@ pub trait CodecTraitsV3: Sized {
     ghost named: { Bytes → Bool };
 
     // the name that is written
-    ghost own_name: { Bytes };
+    ghost own_name: { Self → Bytes };
 
-    // the codec of a configuration, or of none
-    ghost configured: { Option Data → Reading Self };
+    // the codec of a name and a configuration, or of none
+    ghost configured: { Bytes → Option Data → Reading Self };
 
     // the members of the configuration that is written, where there is one
     ghost written: { Self → Option Members };
@@ -66,16 +66,18 @@ pub trait CodecTraitsV3: Sized {
         ensures { result ≡ named name.now };
 
     /// The name that is written.
-    fn written_name() -> &'static str
-        ensures { result.now ≡ own_name };
+    fn written_name(&self) -> &'static str
+        ensures { result.now ≡ own_name self.now };
 
-    /// The codec of the configuration under "configuration", where there is one. Each codec says why it refuses.
+    /// The codec of one of its names and the configuration under "configuration", where there is one. Each codec says why it
+    /// refuses.
     fn from_configuration(
         alloc: Global,
+        name: &str,
         configuration: Option<&Value>,
     ) -> Result<Self, PluginCreateError>
-        ensures made { IfOk result (λ codec. configured (option_map (λ v. view v.now) configuration.entry) ≡ Ok codec) }
-        ensures refused { IfErr result (RefusedAs (configured (option_map (λ v. view v.now) configuration.entry))) };
+        ensures made { IfOk result (λ codec. configured name.now (option_map (λ v. view v.now) configuration.entry) ≡ Ok codec) }
+        ensures refused { IfErr result (RefusedAs (configured name.now (option_map (λ v. view v.now) configuration.entry))) };
 
     /// The configuration that is written under "configuration"; `None` where it would be empty.
     fn to_configuration(&self, alloc: Global) -> Result<Option<Map<String, Value>>, AllocError>
@@ -97,12 +99,12 @@ pub trait CodecTraitsV3: Sized {
             return Err(PluginCreateError::unsupported_codec(alloc, name));
         }
         test_members::<MetadataMembers>(alloc, metadata)?;
-        Self::from_configuration(alloc, metadata.get("configuration"))
+        Self::from_configuration(alloc, name, metadata.get("configuration"))
     }
 
     /// The codec's metadata: an object with `configuration`, where it would not be empty, and `name`.
     fn metadata(&self, alloc: Global) -> Result<Value, AllocError>
-        ensures written { IfOk result (λ v. view v ≡ metadata_of own_name (written self.now)) }
+        ensures written { IfOk result (λ v. view v ≡ metadata_of (own_name self.now) (written self.now)) }
         ensures valid { OnOk result (valid self.now) }
     {
         let mut members = Map::new(alloc);
@@ -114,17 +116,17 @@ pub trait CodecTraitsV3: Sized {
                 Value::Object(configuration),
             )?;
         }
-        let name = Value::try_from_str(alloc, Self::written_name())?;
+        let name = Value::try_from_str(alloc, self.written_name())?;
         put(&mut members, alloc, "name", name)?;
         Ok(Value::Object(members))
     }
 
     // what is written is read as the codec, but for what metadata does not tell
-    ghost remembers: { (codec : Self) → valid codec → configured (option_map object (written codec)) ≡ Ok (told codec) };
+    ghost remembers: { (codec : Self) → valid codec → configured (own_name codec) (option_map object (written codec)) ≡ Ok (told codec) };
 
     // the name that is written is one of the codec's names
-    ghost names_itself: { named own_name ≡ true };
+    ghost names_itself: { (codec : Self) → named (own_name codec) ≡ true };
 
-    // what metadata does not tell is not written
-    ghost told_again: { (codec : Self) → written (told codec) ≡ written codec };
+    // what metadata does not tell is not written, nor is it in the name
+    ghost told_again: { (codec : Self) → (own_name (told codec) ≡ own_name codec) × (written (told codec) ≡ written codec) };
 }

@@ -16,7 +16,7 @@ pub fn create_after_metadata<C: CodecTraitsV3>(
     metadata: &Value,
 ) -> Result<C, PluginCreateError>
     requires valid { C.valid _codec.now }
-    requires written { view metadata.now ≡ metadata_of C.own_name (C.written _codec.now) }
+    requires written { view metadata.now ≡ metadata_of (C.own_name _codec.now) (C.written _codec.now) }
     ensures same { IfOk result (λ created. created ≡ C.told _codec.now) }
     ensures refused { IfErr result (λ e. e ≡ OutOfMemory) }
 {

@@ -14,10 +14,14 @@ mod faults;
 #[cfg(test)]
 mod handles;
 #[cfg(test)]
+mod inverted;
+#[cfg(test)]
 mod laws;
 #[cfg(test)]
 mod reads;
 #[cfg(test)]
 mod targets;
+#[cfg(test)]
+mod variable;
 #[cfg(test)]
 mod writes;

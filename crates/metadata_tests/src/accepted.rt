@@ -3,7 +3,9 @@ use crate::examples::{Shards, ShardsOfShards, codec_of, configured, created};
 use serde_json::Value;
 use std::alloc::Global;
 use std::test::Fail;
-use zarr_codecs::{ArrayToBytesCodecTraits, BytesCodec, CodecTraitsV3};
+use zarr_codecs::{
+    ArrayToBytesCodecTraits, BytesCodec, CodecTraitsV3, DefaultArrayToBytesCodec, VlenCodec,
+};
 use zarr_parts::{ChunkShape, CodecError, DataType, FillValue};
 
 const LITTLE: &str =
@@ -59,6 +61,47 @@ fn metadata_is_written_in_one_form(rt: HostRuntime) -> Result<(), Fail> {
         ),
     ] {
         let found = created::<BytesCodec>(rt.alloc(), text)?;
+        assert_eq!(rt; found.as_str(), want, "of {text}");
+    }
+    Ok(())
+}
+
+// The codec of variable elements is its name alone.
+#[test]
+fn an_empty_configuration_is_not_written(rt: HostRuntime) -> Result<(), Fail> {
+    for text in [
+        r#""zarr_parts.vlen""#,
+        r#"{"name":"zarr_parts.vlen"}"#,
+        r#"{"name":"zarr_parts.vlen","configuration":{}}"#,
+    ] {
+        let found = created::<VlenCodec>(rt.alloc(), text)?;
+        assert_eq!(rt;
+            found.as_str(),
+            r#"{"name":"zarr_parts.vlen"}"#,
+            "of {text}"
+        );
+    }
+    Ok(())
+}
+
+// The default codec is named by either of its codecs.
+#[test]
+fn the_default_codec_has_the_names_of_both(rt: HostRuntime) -> Result<(), Fail> {
+    for (text, want) in [
+        (r#""endian""#, r#"{"name":"bytes"}"#),
+        (r#""zarr_parts.vlen""#, r#"{"name":"zarr_parts.vlen"}"#),
+        (
+            r#"{"name":"bytes","configuration":{"endian":"big"}}"#,
+            r#"{"configuration":{"endian":"big"},"name":"bytes"}"#,
+        ),
+        (
+            r#"{"name":"zarr_parts.vlen","configuration":{"endian":"big"}}"#,
+            "BadField endian",
+        ),
+        (r#""gzip""#, "UnsupportedCodec gzip"),
+        ("1", "BadField name"),
+    ] {
+        let found = created::<DefaultArrayToBytesCodec>(rt.alloc(), text)?;
         assert_eq!(rt; found.as_str(), want, "of {text}");
     }
     Ok(())

@@ -1,18 +1,23 @@
 // Sharding codecs that are put together part by part.
 use std::alloc::Global;
-use zarr_codecs::{ArrayToBytesCodecTraits, BytesCodec};
+use std::borrow::CowSlice;
+use std::test::Fail;
+use zarr_codecs::{
+    ArrayToBytesCodecTraits, BytesCodec, BytesRepresentation, CodecTraitsV3,
+    DefaultArrayToBytesCodec,
+};
 use zarr_crc32c::Crc32cCodec;
 use zarr_parts::{ArrayBytes, ChunkShape, CodecError, CodecOptions, DataType, FillValue};
 use zarrs_sharding::{ShardingCodecBuilder, ShardingIndexLocation};
 
-type Bytes = ShardingCodecBuilder<BytesCodec, BytesCodec>;
+type Pairs = ShardingCodecBuilder<DefaultArrayToBytesCodec, BytesCodec>;
 
 fn shape_of(alloc: Global, axes: &[u64]) -> Result<ChunkShape, CodecError> {
     ChunkShape::new(alloc, axes)?.ok_or(CodecError::OutOfBounds)
 }
 
 // A builder of shards of subchunks of two cells.
-fn pairs(alloc: Global) -> Result<Bytes, CodecError> {
+fn pairs(alloc: Global) -> Result<Pairs, CodecError> {
     Ok(ShardingCodecBuilder::new(shape_of(alloc, &[2])?, &DataType::UInt16))
 }
 
@@ -49,6 +54,27 @@ fn with_checksums(alloc: Global) -> Result<Vec<u8>, CodecError> {
     encoded(alloc, &builder.build())
 }
 
+// Four elements that have lengths of their own, of which the last two are the fill value.
+fn words(alloc: Global) -> Result<Vec<u8>, CodecError> {
+    let codec = ShardingCodecBuilder::new(shape_of(alloc, &[2])?, &DataType::Bytes).build();
+    let offsets = [0, 1, 1, 1, 1].to_vec(alloc)?;
+    let cells = ArrayBytes::new_vlen(CowSlice::Borrowed(b"a"), offsets).ok_or(CodecError::Fault)?;
+    let shape = shape_of(alloc, &[4])?;
+    let none = FillValue::new(Vec::new(alloc));
+    let options = CodecOptions::default();
+    codec.encode(alloc, &cells, &shape, &DataType::Bytes, &none, &options)
+}
+
+// The text of the first two words, then the index: its slice, and no other.
+#[test]
+fn the_type_chooses_the_codec(rt: HostRuntime) {
+    let mut want = [0xFF; 45];
+    want[..13].copy_from_slice(&[2, 0, 0, 0, 1, 0, 0, 0, 97, 0, 0, 0, 0]);
+    want[13..29].copy_from_slice(&[0, 0, 0, 0, 0, 0, 0, 0, 13, 0, 0, 0, 0, 0, 0, 0]);
+    let found = words(rt.alloc());
+    assert!(rt; found.is_ok_and(|shard| shard.as_slice() == want.as_slice()));
+}
+
 // Codecs that are replaced take along what was put behind them.
 fn replaced(alloc: Global) -> Result<Vec<u8>, CodecError> {
     let builder = pairs(alloc)?
@@ -66,4 +92,67 @@ fn a_codec_is_built_part_by_part(rt: HostRuntime) {
     assert_eq!(rt; index_first(rt.alloc()).map(start_of), Ok((32, 40)));
     assert_eq!(rt; with_checksums(rt.alloc()).map(start_of), Ok((1, 52)));
     assert_eq!(rt; replaced(rt.alloc()).map(start_of), Ok((0, 40)));
+}
+
+// A shared codec for subchunks of 2 by 2, its index at the start: its configuration, and its metadata.
+fn told(alloc: Global, data_type: &DataType) -> Result<(String, String), Fail> {
+    let shape = ChunkShape::new(alloc, &[2, 2])?.unwrap_or(ChunkShape::from_positive(Vec::new(
+        alloc,
+    )));
+    let codec = ShardingCodecBuilder::new(shape, data_type)
+        .index_location(ShardingIndexLocation::Start)
+        .build_arc(alloc)?;
+    Ok((
+        codec.configuration(alloc)?.to_string(alloc)?,
+        codec.metadata(alloc)?.to_string(alloc)?,
+    ))
+}
+
+#[test]
+fn a_built_codec_has_metadata(rt: HostRuntime) -> Result<(), Fail> {
+    let little = r#"{"configuration":{"endian":"little"},"name":"bytes"}"#;
+    for (data_type, inner) in [
+        (DataType::UInt8, little),
+        (DataType::Bytes, r#"{"name":"zarr_parts.vlen"}"#),
+    ] {
+        let (configuration, metadata) = told(rt.alloc(), &data_type)?;
+        let wanted = format!(in rt.alloc();
+            "{{\"chunk_shape\":[2,2],\"codecs\":[{inner}],\"index_codecs\":[{little}],\"index_location\":\"start\"}}"
+        )?;
+        assert_eq!(rt; configuration.as_str(), wanted.as_str());
+        let whole = format!(in rt.alloc();
+            "{{\"configuration\":{wanted},\"name\":\"sharding_indexed\"}}"
+        )?;
+        assert_eq!(rt; metadata.as_str(), whole.as_str());
+    }
+    Ok(())
+}
+
+// What shards of 4 by 4 in subchunks of 2 by 2 are encoded to.
+fn represented(
+    alloc: Global,
+    data_type: &DataType,
+    fill: &[u8],
+) -> Result<BytesRepresentation, CodecError> {
+    let codec = ShardingCodecBuilder::new(shape_of(alloc, &[2, 2])?, data_type).build();
+    let fill = FillValue::new(fill.to_vec(alloc)?);
+    codec.encoded_representation(alloc, &shape_of(alloc, &[4, 4])?, data_type, &fill)
+}
+
+#[test]
+fn elements_with_lengths_of_their_own_have_no_bound(rt: HostRuntime) {
+    for (data_type, fill, wanted) in [
+        (
+            DataType::UInt16,
+            [0, 0].as_slice(),
+            BytesRepresentation::BoundedSize(96),
+        ),
+        (
+            DataType::Bytes,
+            [].as_slice(),
+            BytesRepresentation::UnboundedSize,
+        ),
+    ] {
+        assert_eq!(rt; represented(rt.alloc(), &data_type, fill), Ok(wanted));
+    }
 }

@@ -2,7 +2,9 @@
 use crate::examples::Shards;
 use std::alloc::Global;
 use std::test::Fail;
-use zarr_codecs::{BytesCodec, CodecTraitsV3, create_after_metadata};
+use zarr_codecs::{
+    BytesCodec, CodecTraitsV3, DefaultArrayToBytesCodec, VlenCodec, create_after_metadata,
+};
 use zarr_parts::ChunkShape;
 use zarrs_sharding::{ShardingCodec, ShardingIndexLocation, new_after_configuration};
 
@@ -13,6 +15,34 @@ fn metadata_gives_the_codec_back(rt: HostRuntime) -> Result<(), Fail> {
         BytesCodec::new(None),
         BytesCodec::little(),
         BytesCodec::big(),
+    ] {
+        let metadata = codec.metadata(rt.alloc())?;
+        assert_eq!(rt;
+            create_after_metadata(rt.alloc(), &codec, &metadata)?,
+            codec
+        );
+    }
+    Ok(())
+}
+
+// So does that of a codec that has no configuration.
+#[test]
+fn a_name_gives_the_codec_back(rt: HostRuntime) -> Result<(), Fail> {
+    let metadata = VlenCodec.metadata(rt.alloc())?;
+    assert_eq!(rt;
+        create_after_metadata(rt.alloc(), &VlenCodec, &metadata)?,
+        VlenCodec
+    );
+    Ok(())
+}
+
+// So does that of the default codec, whichever it holds.
+#[test]
+fn the_default_codec_is_given_back(rt: HostRuntime) -> Result<(), Fail> {
+    for codec in [
+        DefaultArrayToBytesCodec::Bytes(BytesCodec::new(None)),
+        DefaultArrayToBytesCodec::Bytes(BytesCodec::big()),
+        DefaultArrayToBytesCodec::Vlen(VlenCodec),
     ] {
         let metadata = codec.metadata(rt.alloc())?;
         assert_eq!(rt;

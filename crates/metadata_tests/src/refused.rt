@@ -1,7 +1,7 @@
 // Metadata and configurations that are refused, and as what: the first test that fails.
 use crate::examples::{ShardsOfShards, configured, created};
 use std::test::Fail;
-use zarr_codecs::BytesCodec;
+use zarr_codecs::{BytesCodec, VlenCodec};
 
 // What is no configuration: another key comes before a missing one, and the form of a list before its members.
 const CONFIGURATIONS: [(&str, &str); 47] = [
@@ -326,6 +326,32 @@ const METADATA: [(&str, &str); 35] = [
 fn metadata_is_refused_in_order(rt: HostRuntime) -> Result<(), Fail> {
     for (text, want) in METADATA {
         let found = created::<BytesCodec>(rt.alloc(), text)?;
+        assert_eq!(rt; found.as_str(), want, "of {text}");
+    }
+    Ok(())
+}
+
+// Metadata of another codec than that of variable elements, which has no member in its configuration.
+const VARIABLE: [(&str, &str); 4] = [
+    (r#""bytes""#, "UnsupportedCodec bytes"),
+    (
+        r#"{"name":"zarr_parts.vlen","endian":"big"}"#,
+        "BadField endian",
+    ),
+    (
+        r#"{"name":"zarr_parts.vlen","configuration":{"z":1,"a":1}}"#,
+        "BadField a",
+    ),
+    (
+        r#"{"name":"zarr_parts.vlen","configuration":{"a":1},"x":1}"#,
+        "BadField x",
+    ),
+];
+
+#[test]
+fn a_member_that_no_configuration_has_is_refused(rt: HostRuntime) -> Result<(), Fail> {
+    for (text, want) in VARIABLE {
+        let found = created::<VlenCodec>(rt.alloc(), text)?;
         assert_eq!(rt; found.as_str(), want, "of {text}");
     }
     Ok(())

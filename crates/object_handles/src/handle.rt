@@ -90,7 +90,7 @@ pub fn copy_range<H: BytesPartialDecoderTraits>(
     let mut room = Vec::new(alloc);
     match read_range(handle, &mut room, alloc, range)? {
         Some(bytes) => {
-            let copy = bytes.to_vec(alloc)?;
+            let copy = Vec::from_slice(alloc, bytes)?;
             Ok(Some(copy))
         }
         None => Ok(None),

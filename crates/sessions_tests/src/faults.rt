@@ -32,20 +32,30 @@ fn refused_by_all(
     }
 }
 
-// Writes over a cell and reads it, erases, and calls a session that failed once more: how these are refused, or which cell is
-// read.
+// Two cells that are read, or twice how the read is refused.
+fn two_cells(
+    alloc: Global,
+    session: &mut Session<'_, FaultingHandle>,
+    cells: &ArraySubset,
+) -> [u8; 2] {
+    match read(alloc, session, cells) {
+        Ok(bytes) => bytes.first_chunk::<2>().copied().unwrap_or([0; 2]),
+        Err(error) => [error.number(); 2],
+    }
+}
+
+// Writes 1 over the first cell and reads two, erases, and calls a session that failed once more: how these are refused, or which
+// cells are read.
 fn run_calls(
     alloc: Global,
     session: &mut Session<'_, FaultingHandle>,
     cells: &ArraySubset,
-) -> [u8; 4] {
-    let write = number(write(alloc, session, 1..2, &[9]).err());
-    let cell = match read(alloc, session, cells) {
-        Ok(bytes) => bytes.first().copied().unwrap_or(0),
-        Err(error) => error.number(),
-    };
+) -> [u8; 5] {
+    let write = number(write(alloc, session, 0..1, &[1]).err());
+    let [first, second] = two_cells(alloc, session, cells);
     let erase = number(session.erase().err());
-    [write, cell, erase, refused_by_all(alloc, session, cells)]
+    let again = refused_by_all(alloc, session, cells);
+    [write, first, second, erase, again]
 }
 
 // Whether a handle has an object, whose call of a session's may have failed.
@@ -55,28 +65,36 @@ fn is_there(handle: FaultingHandle) -> u8 {
 
 // A run over an object, of which the call with this number fails: it is opened, written, read and erased. How these are refused,
 // with the cell that is read, and what comes after them in a session that failed; and whether there is an object then.
-fn run(alloc: Global, fails_at: u64) -> Result<[u8; 6], CodecError> {
+fn run(alloc: Global, fails_at: u64) -> Result<[u8; 7], CodecError> {
     let shards = Shards::new(alloc, ShardingIndexLocation::End)?;
-    let cells = subset_of(alloc, 1..2)?;
+    let cells = subset_of(alloc, 0..2)?;
     let handle = FaultingHandle::new(Some(seven(alloc)?), fails_at);
     match shards.open(alloc, handle) {
         Ok(mut session) => {
-            let [write, cell, erase, again] = run_calls(alloc, &mut session, &cells);
-            Ok([0, write, cell, erase, again, is_there(session.close())])
+            let [write, first, second, erase, again] = run_calls(alloc, &mut session, &cells);
+            Ok([
+                0,
+                write,
+                first,
+                second,
+                erase,
+                again,
+                is_there(session.close()),
+            ])
         }
-        Err((handle, error)) => Ok([error.number(), 0, 0, 0, 0, is_there(handle)]),
+        Err((handle, error)) => Ok([error.number(), 0, 0, 0, 0, 0, is_there(handle)]),
     }
 }
 
-// A fault at the opening leaves the object. One where the write reads leaves the session and the cell 7, and where it writes the
-// session fails. One at the read leaves the session; by one at the erasure it fails.
-const STAGES: [[u8; 6]; 6] = [
-    [16, 0, 0, 0, 0, 1],
-    [0, 16, 7, 0, 0, 0],
-    [0, 16, 17, 17, 17, 1],
-    [0, 0, 16, 0, 0, 0],
-    [0, 0, 9, 16, 17, 1],
-    [0, 0, 9, 0, 0, 0],
+// A fault at the opening leaves the object. One where the write reads leaves the session and the cells 0 and 7, and where it writes
+// the session fails. One at the read leaves the session; by one at the erasure it fails.
+const STAGES: [[u8; 7]; 6] = [
+    [16, 0, 0, 0, 0, 0, 1],
+    [0, 16, 0, 7, 0, 0, 0],
+    [0, 16, 17, 17, 17, 17, 1],
+    [0, 0, 16, 16, 0, 0, 0],
+    [0, 0, 1, 7, 16, 17, 1],
+    [0, 0, 1, 7, 0, 0, 0],
 ];
 
 // Each run is one of these stages, which come in this order.

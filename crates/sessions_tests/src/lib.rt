@@ -6,6 +6,8 @@ mod faults;
 #[cfg(test)]
 mod laws;
 #[cfg(test)]
+mod locked;
+#[cfg(test)]
 mod nested;
 #[cfg(test)]
 mod opening;

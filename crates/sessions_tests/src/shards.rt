@@ -5,9 +5,12 @@ use zarr_codecs::{ArrayToBytesCodecTraits, BytesCodec, BytesPartialEncoderTraits
 use zarr_parts::{
     ArrayBytes, ArraySubset, ChunkShape, CodecError, CodecOptions, DataType, FillValue, Indexer,
 };
-use zarrs_sharding::{ShardState, ShardingCodec, ShardingIndexLocation};
+use zarrs_sharding::{ShardState, ShardingCodec, ShardingIndexLocation, ShardingPartialEncoder};
 
 pub(crate) type Session<'a, H> = ShardState<'a, BytesCodec, BytesCodec, H>;
+
+// A session that threads share.
+pub(crate) type Shared<'a, H> = ShardingPartialEncoder<'a, BytesCodec, BytesCodec, H>;
 
 pub(crate) const ABSENT: u64 = u64::MAX;
 
@@ -41,6 +44,21 @@ impl Shards {
         handle: H,
     ) -> Result<Session<'_, H>, (H, CodecError)> {
         self.codec.open_state(
+            alloc,
+            handle,
+            &self.shape,
+            &DataType::UInt8,
+            &self.fill,
+            &CodecOptions::default(),
+        )
+    }
+
+    pub(crate) fn share<H: BytesPartialEncoderTraits>(
+        &self,
+        alloc: Global,
+        handle: H,
+    ) -> Result<Shared<'_, H>, (H, CodecError)> {
+        self.codec.partial_encoder(
             alloc,
             handle,
             &self.shape,

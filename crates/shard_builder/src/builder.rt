@@ -1,11 +1,14 @@
 // The parts of a sharding codec.
 ghost use Rattle.std.specs.Prelude.{◌≡◌, Some, IfOk};
+ghost use Rattle.default_codec.specs.DefaultCodec.{default_codec_of};
 ghost use Rattle.std.specs.Arc.{arc_value};
 ghost use Rattle.small_codecs.specs.declared.bytes_codec.Endianness.TheVariants.{Little};
 ghost use Rattle.shard_format.specs.declared.location.ShardingIndexLocation.TheVariants.{End};
 ghost use Rattle.shard_format.specs.declared.order.SubchunkWriteOrder.TheVariants.{Unordered};
 
+use array_chains::ArrayChain;
 use codec_chains::BytesChain;
+use default_codec::{DefaultArrayToBytesCodec, default_array_to_bytes_codec};
 use shard_format::ShardingIndexLocation;
 use sharding_core::ShardingCodec;
 use small_codecs::BytesCodec;
@@ -28,15 +31,19 @@ pub struct ShardingCodecBuilder<I, X> {
     pub location: ShardingIndexLocation,
 }
 
-impl ShardingCodecBuilder<BytesCodec, BytesCodec> {
-    /// Both codecs `bytes`, little endian, and the index at the end. The data type does not change that: each type of fixed size
-    /// is served by `bytes`.
-    pub fn new(subchunk_shape: ChunkShape, _data_type: &DataType) -> Self
-        ensures { result ≡ record { subchunk_shape = subchunk_shape; inner = Some Little; index_codec = Some Little; location = End } }
+impl ShardingCodecBuilder<DefaultArrayToBytesCodec, BytesCodec> {
+    /// The default codec of the data type inside, the codec `bytes`, little endian, for the index, and the index at the end.
+    pub fn new(subchunk_shape: ChunkShape, data_type: &DataType) -> Self
+        ensures { result ≡ record {
+          subchunk_shape = subchunk_shape;
+          inner = default_codec_of data_type.now;
+          index_codec = Some Little;
+          location = End;
+        } }
     {
         ShardingCodecBuilder {
             subchunk_shape,
-            inner: BytesCodec::little(),
+            inner: default_array_to_bytes_codec(data_type),
             index_codec: BytesCodec::little(),
             location: ShardingIndexLocation::End,
         }
@@ -100,6 +107,29 @@ impl<I, X> ShardingCodecBuilder<I, X> {
         ShardingCodecBuilder {
             subchunk_shape,
             inner: BytesChain::new(inner, codec),
+            index_codec,
+            location,
+        }
+    }
+
+    /// A codec from arrays to arrays before the inner codec that stands.
+    pub fn array_to_array_codecs<A>(self, codec: A) -> ShardingCodecBuilder<ArrayChain<A, I>, X>
+        ensures { result ≡ record {
+          subchunk_shape = self.subchunk_shape;
+          inner = record { array_to_array = codec; array_to_bytes = self.inner };
+          index_codec = self.index_codec;
+          location = self.location;
+        } }
+    {
+        let ShardingCodecBuilder {
+            subchunk_shape,
+            inner,
+            index_codec,
+            location,
+        } = self;
+        ShardingCodecBuilder {
+            subchunk_shape,
+            inner: ArrayChain::new(codec, inner),
             index_codec,
             location,
         }

@@ -58,7 +58,7 @@ map-one f true x = refl
 map-one f false x = refl
 
 -- the places in a subchunk of one more cell, which lies in it or doesn't
-places_more : (shape sub numbers : List ℕ) (n k : ℕ) (b : Bool) → n < length numbers → eqb (subchunk_number shape sub (get_or numbers n 0)) k ≡ b
+pub places_more : (shape sub numbers : List ℕ) (n k : ℕ) (b : Bool) → n < length numbers → eqb (subchunk_number shape sub (get_or numbers n 0)) k ≡ b
     → places_in shape sub (take (n + 1) numbers) k ≡ places_in shape sub (take n numbers) k ++ cond b (place_number shape sub (get_or numbers n 0) ∷ []) []
 places_more shape sub numbers n k b lt is =
     let test : ℕ → Bool = λ i. eqb (subchunk_number shape sub i) k in

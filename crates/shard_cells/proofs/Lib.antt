@@ -5,3 +5,6 @@ pub mod LayingLaws
 pub mod MeetingLemmas
 pub mod MetPlaces
 pub mod BoxReadLemmas
+pub mod LocatingLemmas
+pub mod SortingLemmas
+pub mod SortedReads

@@ -1,4 +1,5 @@
 pub mod Grouping
+pub mod Sorting
 pub mod Gathering
 pub mod Updates
 pub mod Meetings

@@ -7,6 +7,7 @@ mod gathering;
 mod grouping;
 mod laying;
 mod meeting;
+mod sorted;
 mod update;
 
 pub use asked::{check_asked, put_together};
@@ -15,4 +16,5 @@ pub use gathering::{check_lengths, gathered};
 pub use grouping::{Grouping, Places, Standing, grouped};
 pub use laying::{put_part, room_for};
 pub use meeting::{Meeting, meeting_of};
+pub use sorted::{AskedCell, list_places, put_cells, run_length, sorted_cells};
 pub use update::check_update;

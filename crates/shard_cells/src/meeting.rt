@@ -1,21 +1,90 @@
 // Where a box and a subchunk that it touches meet.
-ghost use Rattle.std.specs.Prelude.{◌≡◌, ◌^◌, ◌<◌, IfOk, IfErr};
+ghost use Rattle.std.specs.Prelude.{◌≡◌, ◌+◌, ◌-◌, ◌^◌, ◌<◌, max, min, IfOk, IfErr, length};
 ghost use Rattle.zarr_parts.specs.Numbering.{count_of};
-ghost use Rattle.zarr_parts.specs.Boxes.{LiesIn};
-ghost use Rattle.zarr_parts.specs.Grid.{Divides, grid_of};
+ghost use Rattle.zarr_parts.specs.Boxes.{IsBox, LiesIn};
+ghost use Rattle.zarr_parts.specs.Overlaps.{overlap_of, relative_box};
+ghost use Rattle.zarr_parts.specs.Grid.{Divides, grid_of, grid_box};
 ghost use Rattle.zarr_parts.specs.Touched.{Touches};
 ghost use Rattle.zarr_words.specs.declared.error.CodecError.TheVariants.{OutOfMemory};
 ghost use Rattle.shard_cells.specs.Meetings.{IsMeeting};
 
-use shard_format::subchunk_subset;
-use std::alloc::Global;
-use zarr_parts::{ArraySubset, ChunkShape, CodecError};
+use std::alloc::{AllocError, Global};
+use zarr_parts::{ArraySubset, ChunkShape, CodecError, number_along};
 
 /// The cells that a box and a subchunk both have, seen from the subchunk's start and from the box's.
 #[derive(Drop)]
 pub struct Meeting {
     pub in_sub: ArraySubset,
     pub in_box: ArraySubset,
+}
+
+// What a box and a subchunk both have along an axis: the first as either counts it, and how many there are.
+#[derive(Clone, Copy)]
+struct Span {
+    in_sub: u64,
+    in_box: u64,
+    len: u64,
+}
+
+// What a box and a subchunk both have along each axis.
+#[derive(Drop)]
+struct Spans {
+    in_sub: Vec<u64>,
+    in_box: Vec<u64>,
+    lengths: Vec<u64>,
+}
+
+// What a range of a box and one of a subchunk both have.
+fn span_of(start: u64, len: u64, origin: u64, part: u64) -> Span
+    requires fits { start + len < 2 ^ 64 }
+    requires part_fits { origin + part < 2 ^ 64 }
+    ensures in_sub { result.in_sub ≡ max start origin - origin }
+    ensures in_box { result.in_box ≡ max start origin - start }
+    ensures len { result.len ≡ min (start + len) (origin + part) - max start origin }
+{
+    let first = start.max(origin);
+    let end = (start + len).min(origin + part);
+    Span {
+        in_sub: first - origin,
+        in_box: first - start,
+        len: end.saturating_sub(first),
+    }
+}
+
+// What a box and a subchunk of a grid both have.
+fn spans_of(
+    alloc: Global,
+    number: u64,
+    start: &[u64],
+    len: &[u64],
+    grid: &[u64],
+    sub: &[u64],
+) -> Result<Spans, AllocError>
+    requires well_formed { IsBox start.now len.now }
+    requires below { number < count_of grid.now }
+    requires axes { length start.now ≡ length sub.now }
+    requires grid_axes { length grid.now ≡ length sub.now }
+    requires fits { IsBox (grid_box grid.now sub.now number).start sub.now }
+    ensures in_sub { let other = grid_box grid.now sub.now number in let both = overlap_of (record { start = start.now; shape = len.now }) other in
+        IfOk result (λ spans. record { start = spans.in_sub.items; shape = spans.lengths.items } ≡ relative_box both other.start) }
+    ensures in_box { let other = grid_box grid.now sub.now number in let both = overlap_of (record { start = start.now; shape = len.now }) other in
+        IfOk result (λ spans. record { start = spans.in_box.items; shape = spans.lengths.items } ≡ relative_box both start.now) }
+{
+    let mut in_sub = Vec::with_capacity(alloc, sub.len())?;
+    let mut in_box = Vec::with_capacity(alloc, sub.len())?;
+    let mut lengths = Vec::with_capacity(alloc, sub.len())?;
+    for axis in 0..sub.len() {
+        let origin = number_along(number, grid, axis) * sub[axis];
+        let span = span_of(start[axis], len[axis], origin, sub[axis]);
+        in_sub.push(span.in_sub)?;
+        in_box.push(span.in_box)?;
+        lengths.push(span.len)?;
+    }
+    Ok(Spans {
+        in_sub,
+        in_box,
+        lengths,
+    })
 }
 
 /// Where a box meets a subchunk that it touches. Refused only as out of memory.
@@ -36,13 +105,25 @@ pub fn meeting_of(
     ensures refused { IfErr result (λ e. e ≡ OutOfMemory) }
     ensures meets { IfOk result (λ meeting. IsMeeting shape.now sub.now subset.now number meeting.in_sub meeting.in_box) }
 {
-    let axes = shape.as_slice();
-    let start = subset.start();
-    let Some(cells) = subchunk_subset(alloc, number, grid, sub)? else {
+    let _axes = shape.as_slice();
+    let Spans {
+        in_sub,
+        in_box,
+        lengths,
+    } = spans_of(
+        alloc,
+        number,
+        subset.start(),
+        subset.shape(),
+        grid.as_slice(),
+        sub.as_slice(),
+    )?;
+    let same_lengths = Vec::from_slice(alloc, &lengths)?;
+    let Some(in_sub) = ArraySubset::new_with_start_shape(in_sub, same_lengths) else {
         unreachable!()
     };
-    let both = subset.overlap(alloc, &cells)?;
-    let in_sub = both.relative_to(alloc, cells.start())?;
-    let in_box = both.relative_to(alloc, start)?;
+    let Some(in_box) = ArraySubset::new_with_start_shape(in_box, lengths) else {
+        unreachable!()
+    };
     Ok(Meeting { in_sub, in_box })
 }

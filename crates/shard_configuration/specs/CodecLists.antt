@@ -30,5 +30,5 @@ abbrev pub listed : {Codec : Type 0} → Option Refusal → Reading Codec → Re
 listed None codec = codec
 listed (Some refusal) codec = Err refusal
 
-abbrev pub codec_in_list : {Codec : Type 0} → Bytes → (Bytes → Bool) → (Option Data → Reading Codec) → Items → Reading Codec
+abbrev pub codec_in_list : {Codec : Type 0} → Bytes → (Bytes → Bool) → (Bytes → Option Data → Reading Codec) → Items → Reading Codec
 codec_in_list key named configured ds = listed (first_unnamed key named ds) (sole_of (codec_of named configured) ds)

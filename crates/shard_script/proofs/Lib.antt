@@ -1,4 +1,2 @@
-pub mod TextLaws
-pub mod ElementLaws
-pub mod HexLaws
 mod OptionLaws
+mod OpenLaws

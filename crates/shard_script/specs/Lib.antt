@@ -1,6 +1,3 @@
-pub mod Text
-pub mod Elements
-pub mod Script
 pub mod Shards
-pub mod Hex
 pub mod Answers
+pub mod Configured

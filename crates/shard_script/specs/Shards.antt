@@ -6,14 +6,23 @@ use Rattle.small_codecs.specs.declared.bytes_codec.Endianness.{Endianness}
 use Rattle.small_codecs.specs.declared.bytes_codec.Endianness.TheVariants.{Little}
 use Rattle.sharding_core.specs.declared.codec.ShardingCodec.{ShardingCodec}
 use Rattle.shard_format.specs.declared.order.SubchunkWriteOrder.TheVariants.{C}
-use Rattle.shard_script.specs.Elements.{type_of}
+use Rattle.default_codec.specs.declared.default_codec.DefaultArrayToBytesCodec.{DefaultArrayToBytesCodec}
+use Rattle.default_codec.specs.DefaultCodec.{default_codec_of}
+use Rattle.script_words.specs.Elements.{type_of}
 use Rattle.shard_script.specs.declared.command.Settings.{Settings}
-use Rattle.shard_script.specs.declared.tool.Shard.{Shard}
+use Rattle.shard_script.specs.declared.shard.Shard.{Shard}
 use Rattle.shard_script.specs.declared.tool.Tool.{Tool}
 
--- the codec that settings ask for: whole numbers with their least significant byte first, inside and in the index; subchunks in order
-abbrev pub codec_of : Settings → ShardingCodec (Option Endianness) (Option Endianness)
-codec_of s = record { subchunk_shape = s.subchunk_shape; inner = Some Little; index_codec = Some Little; location = s.location; order = C }
+-- the codec that settings ask for: that of the type inside, and in the index whole numbers with their least significant byte first; it
+-- writes subchunks in order
+abbrev pub codec_of : Settings → ShardingCodec DefaultArrayToBytesCodec (Option Endianness)
+codec_of s = record {
+  subchunk_shape = s.subchunk_shape;
+  inner = default_codec_of (type_of s.element_type);
+  index_codec = Some Little;
+  location = s.location;
+  order = C;
+}
 
 -- the arrays that settings ask for
 abbrev pub asked_by : Settings → Geo
@@ -25,7 +34,7 @@ geo_of s = geo s.shape (type_of s.element_type) s.fill_value
 
 -- what a shard is: its codec, the arrays that it is asked for, its grid of subchunks, and the bytes of its object
 pub record ShardState : Type 0 where
-  pub codec : ShardingCodec (Option Endianness) (Option Endianness)
+  pub codec : ShardingCodec DefaultArrayToBytesCodec (Option Endianness)
   pub geo : Geo
   pub grid : List ℕ
   pub object : Option (List ℕ)

@@ -16,7 +16,7 @@ pub enum Answer<'a> {
     NoObject,
     /// The numbers of the object's index.
     Index(Vec<u64>),
-    /// Elements: whole numbers, their least significant byte first.
+    /// Elements: whole numbers, their least significant byte first, or bytes.
     Cells(ArrayBytes<'a>),
     /// The object's bytes.
     Object(&'a [u8]),

@@ -1,11 +1,9 @@
 // The commands of a script, and how a line is read as one.
-use crate::element_type::ElementType;
-use crate::elements::{array_of, fill_value_of};
-use crate::parse::{number_mistake, parse_bytes, parse_number, parse_numbers};
-use crate::pieces::Pieces;
-use crate::reason::Mistake;
-use crate::selections::{next_word, parse_coordinates, parse_subset};
-use crate::stop::Stop;
+use script_words::{
+    ElementType, Mistake, NumberType, Pieces, Stop, array_of, bytes_array_of, fill_value_of,
+    next_word, number_mistake, parse_bytes, parse_coordinates, parse_number, parse_numbers,
+    parse_subset,
+};
 use std::alloc::Global;
 use zarr_parts::{ArrayBytes, ArraySubset, ChunkShape, Coordinates, FillValue};
 use zarrs_sharding::ShardingIndexLocation;
@@ -52,9 +50,11 @@ pub enum Look {
 
 /// A command of a script.
 #[derive(Debug, Drop)]
-pub enum Command {
-    /// Takes another codec; there is no object then.
+pub enum Command<'a> {
+    /// Takes another codec for other arrays; there is no object then.
     Shard(Settings),
+    /// Takes the codec of this configuration, a text of JSON, for the same arrays; there is no object then.
+    Configure(&'a str),
     /// Works on the object; only this can change it.
     Work(Work),
     /// Tells of the object.
@@ -73,11 +73,26 @@ fn parse_element_type<'a>(word: &'a [u8]) -> Result<ElementType, Stop<'a>> {
 }
 
 // A number of a type.
-fn parse_element<'a>(word: &'a [u8], element_type: ElementType) -> Result<u64, Stop<'a>> {
-    let greatest = element_type.greatest();
+fn parse_element<'a>(word: &'a [u8], number_type: NumberType) -> Result<u64, Stop<'a>> {
+    let greatest = number_type.greatest();
     match parse_number(word, greatest) {
         Some(number) => Ok(number),
         None => Err(Stop::malformed(number_mistake(word, greatest), word)),
+    }
+}
+
+// A fill value of a type.
+fn parse_fill<'a>(
+    alloc: Global,
+    word: &'a [u8],
+    element_type: ElementType,
+) -> Result<FillValue, Stop<'a>> {
+    match element_type {
+        ElementType::Number(number_type) => {
+            let number = parse_element(word, number_type)?;
+            Ok(fill_value_of(alloc, number, number_type)?)
+        }
+        ElementType::Bytes => Ok(FillValue::new(parse_bytes(alloc, word)?)),
     }
 }
 
@@ -95,13 +110,13 @@ fn parse_settings<'a>(alloc: Global, words: &mut Pieces<'a>) -> Result<Settings,
     let shape = parse_shape(alloc, next_word(words)?)?;
     let subchunk_shape = parse_shape(alloc, next_word(words)?)?;
     let element_type = parse_element_type(next_word(words)?)?;
-    let fill = parse_element(next_word(words)?, element_type)?;
+    let fill_value = parse_fill(alloc, next_word(words)?, element_type)?;
     let location = parse_location(next_word(words)?)?;
     Ok(Settings {
         shape,
         subchunk_shape,
         element_type,
-        fill_value: fill_value_of(alloc, fill, element_type)?,
+        fill_value,
         location,
     })
 }
@@ -112,13 +127,28 @@ fn parse_elements<'a>(
     word: &'a [u8],
     element_type: ElementType,
 ) -> Result<ArrayBytes<'static>, Stop<'a>> {
-    let numbers = parse_numbers(alloc, word, element_type.greatest())?;
-    let elements = array_of(alloc, &numbers, element_type)?;
-    Ok(elements)
+    match element_type {
+        ElementType::Number(number_type) => {
+            let numbers = parse_numbers(alloc, word, number_type.greatest())?;
+            Ok(array_of(alloc, &numbers, number_type)?)
+        }
+        ElementType::Bytes => bytes_array_of(alloc, word),
+    }
+}
+
+// The text behind `config`, to the end of the line.
+fn parse_configuration<'a>(words: &mut Pieces<'a>) -> Result<Command<'a>, Stop<'a>> {
+    let Some(text) = words.rest() else {
+        return Err(Stop::malformed(Mistake::WordMissing, b""));
+    };
+    match str::from_utf8(text) {
+        Ok(json) if json.is_ascii() => Ok(Command::Configure(json)),
+        _ => Err(Stop::malformed(Mistake::NoAscii, text)),
+    }
 }
 
 // The words behind `object`: none, or the bytes of another object.
-fn parse_object<'a>(alloc: Global, words: &mut Pieces<'a>) -> Result<Command, Stop<'a>> {
+fn parse_object<'a>(alloc: Global, words: &mut Pieces<'a>) -> Result<Command<'a>, Stop<'a>> {
     match words.next() {
         Some(word) => Ok(Command::Work(Work::Store(parse_bytes(alloc, word)?))),
         None => Ok(Command::Look(Look::Object)),
@@ -131,8 +161,9 @@ fn parse_for_shard<'a>(
     name: &'a [u8],
     words: &mut Pieces<'a>,
     element_type: ElementType,
-) -> Result<Command, Stop<'a>> {
+) -> Result<Command<'a>, Stop<'a>> {
     match name {
+        b"config" => parse_configuration(words),
         b"encode" => {
             let elements = parse_elements(alloc, next_word(words)?, element_type)?;
             Ok(Command::Work(Work::Encode(elements)))
@@ -163,7 +194,8 @@ fn parse_for_shard<'a>(
 fn asks_for_shard(name: &[u8]) -> bool {
     matches!(
         name,
-        b"encode"
+        b"config"
+            | b"encode"
             | b"index"
             | b"decode"
             | b"object"
@@ -184,14 +216,14 @@ fn mistake_without_shard(name: &[u8]) -> Mistake {
     }
 }
 
-impl Command {
+impl<'a> Command<'a> {
     /// The command that a line is, where the elements of the shard, if there is one, have a type. `Malformed` where
     /// the line is no command's, by its first mistake from the left; all commands but `shard` ask for a shard.
-    pub fn parse<'a>(
+    pub fn parse(
         alloc: Global,
         line: &'a [u8],
         element_type: Option<ElementType>,
-    ) -> Result<Command, Stop<'a>> {
+    ) -> Result<Self, Stop<'a>> {
         let mut words = Pieces::new(line, b' ');
         let name = next_word(&mut words)?;
         let command = if name == b"shard".as_slice() {

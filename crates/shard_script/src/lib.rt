@@ -3,16 +3,10 @@
 
 mod answer;
 mod command;
-mod element_type;
-mod elements;
-mod explain;
-mod parse;
-mod pieces;
+mod configure;
 mod print;
-mod reason;
 mod script;
-mod selections;
-mod stop;
+mod shard;
 mod tool;
 
 pub use script::{run_script, run_script_explained};

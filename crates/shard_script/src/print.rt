@@ -1,15 +1,15 @@
 // The answers of a script, each a line.
-ghost use Rattle.std.specs.Prelude.{◌≡◌, ◌≤◌, IsErr, IfOk, length};
+ghost use Rattle.std.specs.Prelude.{◌≡◌, IsErr, IfOk};
 ghost use Rattle.std.specs.Result.{ForOk};
-ghost use Rattle.std.specs.List.{All};
-ghost use Rattle.shard_script.specs.Answers.{HasShortCells};
+ghost use Rattle.shard_script.specs.Answers.{IsShort, AreShort, HasShortCells};
 ghost use Rattle.shard_script.specs.declared.answer.Outcome.TheVariants.{Refused};
 
 use crate::answer::{Answer, Outcome};
-use crate::elements::number_of;
+use crate::configure::ConfigureError;
+use script_words::number_of;
 use std::io;
 use std::io::Write;
-use zarr_parts::{ArrayBytes, CodecError};
+use zarr_parts::{ArrayBytes, CodecError, DataTypeSize};
 
 // The comma before each member of a list but the first.
 fn write_comma<W: Write>(out: &mut W, place: usize) -> io::Result<()> {
@@ -38,27 +38,45 @@ fn write_index<W: Write>(out: &mut W, numbers: &[u64]) -> io::Result<()> {
     out.write_all(b"\n")
 }
 
-// Writes the elements of an array of whole numbers; `-` where there are none.
+// Writes bytes: `x`, and two hexadecimal digits for each. It takes no memory: `out` is to buffer.
+fn write_bytes<W: Write>(out: &mut W, bytes: &[u8]) -> io::Result<()> {
+    out.write_all(b"x")?;
+    for byte in bytes {
+        write!(out, "{byte:02x}")?;
+    }
+    Ok(())
+}
+
+// Writes an element: a number where its kind has one size, else its bytes.
+fn write_element<W: Write>(out: &mut W, kind: DataTypeSize, element: &[u8]) -> io::Result<()>
+    requires { IsShort kind element.now }
+{
+    match kind {
+        DataTypeSize::Fixed(_) => write!(out, "{}", number_of(element)),
+        DataTypeSize::Variable => write_bytes(out, element),
+    }
+}
+
+// Writes the elements of an array; `-` where there are none.
 fn write_cells<W: Write>(out: &mut W, cells: &ArrayBytes) -> io::Result<()>
-    requires { All (λ element. length element ≤ 8) cells.now.elements }
+    requires { AreShort cells.now }
 {
     out.write_all(b"cells ")?;
     if cells.len() == 0 {
         out.write_all(b"-")?;
     }
+    let kind = cells.kind();
     for place in 0..cells.len() {
         write_comma(out, place)?;
-        write!(out, "{}", number_of(cells.element(place)))?;
+        write_element(out, kind, cells.element(place))?;
     }
     out.write_all(b"\n")
 }
 
-// Writes the length and the bytes of an object, two hexadecimal digits a byte. It takes no memory: `out` is to buffer.
+// Writes the length and the bytes of an object.
 fn write_object<W: Write>(out: &mut W, object: &[u8]) -> io::Result<()> {
-    write!(out, "object {} x", object.len())?;
-    for byte in object {
-        write!(out, "{byte:02x}")?;
-    }
+    write!(out, "object {} ", object.len())?;
+    write_bytes(out, object)?;
     out.write_all(b"\n")
 }
 
@@ -79,6 +97,14 @@ fn write_answer<W: Write>(out: &mut W, answer: &Answer) -> io::Result<()>
     }
 }
 
+// Writes that a command was refused, and why.
+fn write_refused<W: Write>(out: &mut W, number: u8, name: &str) -> io::Result<Outcome>
+    ensures { IfOk result (λ outcome. outcome ≡ Refused) }
+{
+    writeln!(out, "refused {number} {name}")?;
+    Ok(Outcome::Refused)
+}
+
 /// Writes what a command answers, or that it was refused, and why; tells which.
 pub fn write_answered<W: Write>(
     out: &mut W,
@@ -93,12 +119,25 @@ pub fn write_answered<W: Write>(
             write_answer(out, answer)?;
             Ok(Outcome::Answered)
         }
-        Err(error) => {
-            let number = error.number();
-            let name = error.name();
-            writeln!(out, "refused {number} {name}")?;
-            Ok(Outcome::Refused)
+        Err(error) => write_refused(out, error.number(), error.name()),
+    }
+}
+
+/// Writes what the command `config` answers, or that it was refused, and why; tells which.
+pub fn write_configured<W: Write>(
+    out: &mut W,
+    configured: &Result<(), ConfigureError>,
+) -> io::Result<Outcome>
+    ensures refused { IfOk result (λ outcome. outcome ≡ Refused → IsErr configured.now) }
+    ensures told { IsErr configured.now → IfOk result (λ outcome. outcome ≡ Refused) }
+{
+    match configured {
+        Ok(()) => {
+            out.write_all(b"ok\n")?;
+            Ok(Outcome::Answered)
         }
+        Err(ConfigureError::Create(error)) => write_refused(out, error.number(), error.name()),
+        Err(ConfigureError::Codec(error)) => write_refused(out, error.number(), error.name()),
     }
 }
 

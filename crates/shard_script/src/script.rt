@@ -1,13 +1,11 @@
 // Scripts: lines that are read, run and answered.
 ghost use Rattle.std.specs.Prelude.{◌≡◌, ◌≤◌, IfOk, IfErr, IfSome, vec_len};
-ghost use Rattle.shard_script.specs.declared.stop.Stop.TheVariants.{Failed};
+ghost use Rattle.script_words.specs.declared.stop.Stop.TheVariants.{Failed};
 ghost use Rattle.shard_script.specs.declared.script.TheConstants.{MAX_INPUT};
 
-use crate::explain::{Sink, write_reason};
-use crate::pieces::Pieces;
 use crate::print::write_malformed;
-use crate::stop::Stop;
 use crate::tool::Tool;
+use script_words::{Pieces, Sink, Stop, write_reason};
 use std::alloc::Global;
 use std::io;
 use std::io::{BufWriter, ErrorKind, Read, Write};

@@ -6,6 +6,7 @@ ghost use Rattle.zarr_parts.specs.Numbering.{count_of};
 ghost use Rattle.zarr_parts.specs.Grid.{Divides, grid_of};
 ghost use Rattle.zarr_parts.specs.Selections.{IsSelectionOf};
 ghost use Rattle.zarr_parts.specs.Types.{size_of, HasElements, FitsKind};
+ghost use Rattle.zarr_elements.specs.declared.data_type.DataTypeSize.TheVariants.{Fixed};
 ghost use Rattle.object_handles.specs.Handles.{IsRead, IsCounted};
 ghost use Rattle.object_handles.specs.Objects.{interval_part, HasInterval, ObjectTests};
 ghost use Rattle.shard_format.specs.Cells.{indexed_cell};
@@ -23,9 +24,21 @@ use zarr_parts::{
 };
 
 impl<I: ArrayToBytesCodecTraits> Subchunks<'_, I> {
+    // Whether the elements have one size, and a number can say how many bytes so many have together.
+    fn has_room(&self, count: u64) -> bool
+        requires fill { FitsKind (size_of self.now.data_type.now) self.now.fill_value.now }
+        ensures fixed { IsTrue result → size_of self.now.data_type.now ≡ Fixed (length self.now.fill_value.now) }
+        ensures fits { IsTrue result → count * length self.now.fill_value.now < 2 ^ 64 }
+    {
+        match self.data_type.size() {
+            DataTypeSize::Fixed(size) => count.checked_mul(size as u64).is_some(),
+            DataTypeSize::Variable => false,
+        }
+    }
+
     /// The cells that an indexer asks, in its order, of a shard that stands in an interval of an object and has this index;
-    /// the count is theirs, `cells` that of the shape's. A box of elements of one size is read by the subchunks that it
-    /// touches, anything else by the list of its cells. Refused, in this order, as the lowest subchunk in which cells are asked
+    /// the count is theirs, `cells` that of the shape's. Elements of one size are read by the subchunks that are touched, each
+    /// written where it stands, others group by group. Refused, in this order, as the lowest subchunk in which cells are asked
     /// is (`BadIndexEntry` with its number, `Damaged`, `TooLarge`), and as `TooLarge` where the lengths of the cells pass
     /// `usize::MAX`; or as `Fault`, where the handle failed, or `OutOfMemory`.
     pub fn read_asked<H: BytesPartialDecoderTraits, N: Indexer>(
@@ -64,14 +77,16 @@ impl<I: ArrayToBytesCodecTraits> Subchunks<'_, I> {
             ReadByTests inner shape.now self.now.shape.now self.now.fill_value.now bytes index.now.numbers.items
             (numbers_of shape.now (N.selection indexer.now).points)))) }
     {
+        let in_room = self.has_room(count);
         if let Some(subset) = indexer.as_array_subset() {
-            if let DataTypeSize::Fixed(size) = self.data_type.size() {
-                if count.checked_mul(size as u64).is_some() {
-                    return self.read_box(alloc, handle, outer, index, subset, shape, count);
-                }
+            if in_room {
+                return self.read_box(alloc, handle, outer, index, subset, shape, count);
             }
         }
         let numbers = point_numbers(alloc, indexer, count, shape)?;
+        if in_room {
+            return self.read_listed(alloc, handle, outer, index, &numbers, shape);
+        }
         let subchunks = index.subchunks() as u64;
         self.read_cells(
             alloc, handle, outer, index, &numbers, shape, cells, subchunks,

@@ -13,8 +13,9 @@ use std::alloc::Global;
 use zarr_parts::{ArrayBytes, CodecError};
 
 impl<I: ArrayToBytesCodecTraits> Subchunks<'_, I> {
-    // The subchunk that a slot names, decoded, or nothing where it is absent.
-    fn decode_slot<'a>(
+    /// The subchunk that a slot names, decoded, or nothing where it is absent. Refused as `BadIndexEntry` with the subchunk's
+    /// number, `Damaged` or `TooLarge`; or as `OutOfMemory`.
+    pub fn decode_slot<'a>(
         &self,
         alloc: Global,
         bytes: &'a [u8],

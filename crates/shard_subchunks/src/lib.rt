@@ -6,6 +6,7 @@ mod boxes;
 mod cells;
 mod decoded;
 mod encoded;
+mod listed;
 mod read;
 mod subchunks;
 

@@ -78,7 +78,7 @@ impl<I: ArrayToBytesCodecTraits> Subchunks<'_, I> {
     }
 
     // The cells at some places of the subchunk that a slot names, or nothing where it is absent.
-    fn read_slot<H: BytesPartialDecoderTraits>(
+    pub(crate) fn read_slot<H: BytesPartialDecoderTraits>(
         &self,
         alloc: Global,
         handle: &mut H,

@@ -11,3 +11,4 @@ pub mod RefusalLemmas
 pub mod MadeLemmas
 pub mod HeldLemmas
 pub mod OverlayLemmas
+pub mod InPlaceLemmas

@@ -17,13 +17,14 @@ ghost use Rattle.shard_writing.specs.Writing.{AreNewCells, HasSlice};
 ghost use Rattle.shard_writing.specs.WriteTests.{Straddles, RefusesOld};
 
 use crate::old::old_cells;
+use crate::overlay::overlaid;
 use crate::writing::Writing;
 use codec_laws::ArrayToBytesCodecTraits;
 use object_handles::BytesPartialDecoderTraits;
 use shard_cells::meeting_of;
 use shard_format::Slot;
 use std::alloc::Global;
-use zarr_parts::{ArrayBytes, ArraySubset, ChunkShape, CodecError, update_array_bytes};
+use zarr_parts::{ArrayBytes, ArraySubset, ChunkShape, CodecError};
 
 // Whether a part of a subchunk is all of it.
 fn is_whole(part: &ArraySubset, sub: &ChunkShape) -> bool
@@ -92,7 +93,7 @@ impl<I: ArrayToBytesCodecTraits, X> Writing<'_, I, X> {
         }
         let old = old_cells(&self.subchunks, alloc, handle, places, number, slot)?;
         let sub = self.subchunks.shape.as_slice();
-        let new = update_array_bytes(alloc, &old, sub, &meeting.in_sub, &part, data_type)?;
+        let new = overlaid(alloc, old, sub, &meeting.in_sub, &part, data_type)?;
         Ok(new)
     }
 }

@@ -13,6 +13,15 @@ use shard_subchunks::Subchunks;
 use std::alloc::Global;
 use zarr_parts::{ArrayBytes, CodecError};
 
+// How many bytes arrays have together, as far as a number can say it.
+fn total_len(arrays: &[ArrayBytes<'static>]) -> usize {
+    let mut total = 0usize;
+    for array in arrays {
+        total = total.saturating_add(array.byte_len());
+    }
+    total
+}
+
 // Each of these subchunks that isn't all fill encoded, one after the other. The first that the inner codec refuses gives the
 // refusal: `CannotEncode`, `TooLarge`; or `OutOfMemory`.
 pub fn laid_out<I: ArrayToBytesCodecTraits>(
@@ -28,7 +37,7 @@ pub fn laid_out<I: ArrayToBytesCodecTraits>(
     ensures refused { let inner = inner_meaning I.meaning subchunks.now in
         IfErr result (RefusedBy (StoreTests inner subchunks.now.fill_value.now (λ j. (array_at arrays.now j).elements) (length arrays.now) done)) }
 {
-    let mut bytes: Vec<u8> = Vec::new(alloc);
+    let mut bytes: Vec<u8> = Vec::with_capacity(alloc, total_len(arrays))?;
     let mut slots = Vec::with_capacity(alloc, arrays.len())?;
     for j in 0..arrays.len() {
         let stored = subchunks.stored_of(alloc, &arrays[j])?;

@@ -7,6 +7,7 @@ mod changed;
 mod encoded;
 mod numbers;
 mod old;
+mod overlay;
 mod place;
 mod prepare;
 mod put;

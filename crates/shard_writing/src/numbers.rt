@@ -24,7 +24,7 @@ pub fn cleared(alloc: Global, numbers: &[u64], touched: &[u64]) -> Result<Vec<u6
     ensures refused { IfErr result (λ e. e ≡ OutOfMemory) }
     ensures cleared { IfOk result (λ new. HasPairs touched.now (λ i. Absent) 0 numbers.now new.items (length touched.now)) }
 {
-    let mut new = numbers.to_vec(alloc)?;
+    let mut new = Vec::from_slice(alloc, numbers)?;
     for j in 0..touched.len() {
         let k = touched[j] as usize;
         new[2 * k] = u64::MAX;

@@ -1,3 +1,3 @@
-pub mod DecoderLemmas
+pub mod AnswerLemmas
 pub mod SessionLemmas
 pub mod WriteLemmas

@@ -1,8 +1,8 @@
 pub mod Meanings
 pub mod ShardLaws
-pub mod Plans
 pub mod Decoders
 pub mod Sessions
 pub mod SessionWrites
+pub mod LockedSessions
 pub mod ShardMetadata
 pub mod ShardMetadataLaws

@@ -1,7 +1,6 @@
 -- A shard that is held open for reading and writing, by its index, which stays in step with the object.
 use Rattle.std.specs.Prelude.{◌≡◌, ◌<◌, ◌^◌, ◌⊎◌, ℕ, ◌+◌, ◌-◌, ◌*◌, min, Bool, true, false, IsTrue}
-use Rattle.std.specs.Prelude.{List, Option, Some, None, IfNone, length, replicate}
-use Rattle.zarr_parts.specs.Order.{done}
+use Rattle.std.specs.Prelude.{List, Option, length}
 use Rattle.zarr_parts.specs.Numbering.{count_of}
 use Rattle.zarr_parts.specs.Grid.{grid_of}
 use Rattle.zarr_parts.specs.Geo.{Geo, geo}
@@ -10,15 +9,15 @@ use Rattle.zarr_words.specs.declared.error.CodecError.TheVariants.{Fault}
 use Rattle.object_handles.specs.Handles.{HandleState, IsRead}
 use Rattle.object_handles.specs.Writes.{IsWriting}
 use Rattle.codec_laws.specs.Meanings.{Meaning}
-use Rattle.shard_format.specs.Index.{absent_number, index_geo, slot_at}
+use Rattle.shard_format.specs.Index.{index_geo}
 use Rattle.shard_format.specs.Serves.{fixed_size}
-use Rattle.shard_format.specs.declared.index.ShardIndex.{ShardIndex}
-use Rattle.shard_index.specs.Indexes.{IsIndexPlan}
-use Rattle.shard_index.specs.DataPart.{IsInDataPart, PairTests}
 use Rattle.shard_writing.specs.Writing.{HoldsNumbers, IsHeld}
-use Rattle.sharding_core.specs.Decoders.{index_in, held_len, IsKnown, OpeningTests}
+use Rattle.shard_opening.specs.Held.{held_len}
+pub use Rattle.shard_held.specs.OpenSessions.{absent_index, numbers_held}
+use Rattle.shard_held.specs.OpenSessions.{IsOpenSession, SessionIndexTests}
+use Rattle.shard_held.specs.declared.session.OpenSession.{OpenSession}
+use Rattle.sharding_core.specs.Decoders.{index_in}
 use Rattle.sharding_core.specs.declared.codec.ShardingCodec.{ShardingCodec}
-use Rattle.sharding_core.specs.declared.state.OpenSession.{OpenSession}
 
 -- what contracts see of a session: its codec, what it is asked to serve, its handle, whether a write failed in it, and what it holds of
 -- the object: its length, and the numbers of its index; without an object no bytes, and each subchunk absent
@@ -29,10 +28,6 @@ pub record Session (C H : Type 0) : Type 0 where
   pub failed : Bool
   pub len : ℕ
   pub index : List ℕ
-
--- the numbers of an index of n subchunks, each of them absent
-abbrev pub absent_index : ℕ → List ℕ
-absent_index n = replicate (2 * n) absent_number
 
 -- the subchunks of the shards of a session
 abbrev pub subchunks_of : {I X : Type 0} → ShardingCodec I X → Geo → ℕ
@@ -51,11 +46,6 @@ pub record IsInStep {I X H : Type 0} (meaning : ShardingCodec I X → Geo → Me
   pub held : s.failed ≡ false → IsTrue (state s.handle).tells
       → HoldsNumbers (index_in index_meaning s.codec s.geo) (state s.handle).contents s.len s.index
 
--- the numbers that a session holds: of the index of the object, or where there is none of a blank one
-abbrev pub numbers_held : Option ShardIndex → List ℕ → List ℕ
-numbers_held None blank = blank
-numbers_held (Some index) blank = index.numbers.items
-
 -- the session of a codec and a handle that holds this of a shard
 abbrev pub session_of : {C H : Type 0} → C → H → Bool → OpenSession → Session C H
 session_of codec handle failed opened =
@@ -68,15 +58,12 @@ session_of codec handle failed opened =
       index = numbers_held opened.shard.held opened.blank.items;
     }
 
--- what is known of what a session holds: it is in step; what it reads by is that of an open decoder, where no write failed; the index codec
--- serves its grid; and without an object the blank index has each subchunk absent
+-- what is known of what a session holds: it is in step; and where no write failed, what it holds is known of a session that is open
 pub record IsHeldOpen {I X H : Type 0} (meaning : ShardingCodec I X → Geo → Meaning) (index_meaning : X → Geo → Meaning)
     (state : H → HandleState) (codec : ShardingCodec I X) (handle : H) (failed : Bool) (opened : OpenSession) : Type 0 where
   pub in_step : IsInStep meaning index_meaning state (session_of codec handle failed opened)
-  pub known : failed ≡ false → IsKnown meaning (index_in index_meaning) state codec handle opened.shard
-  pub plan : IsIndexPlan (λ grid. index_meaning codec.index_codec (index_geo grid)) opened.plan
-  pub grid : opened.plan.grid ≡ grid_of opened.shard.shape codec.subchunk_shape
-  pub blank : IfNone opened.shard.held (opened.blank.items ≡ absent_index (count_of (grid_of opened.shard.shape codec.subchunk_shape)))
+  pub is_open : failed ≡ false → IsOpenSession (meaning codec) (λ grid. index_meaning codec.index_codec (index_geo grid)) codec.location
+      codec.subchunk_shape state handle opened
 
 -- a call leaves all but the handle, and of this the object
 pub record IsLeft {C H : Type 0} (state : H → HandleState) (old new : Session C H) : Type 0 where
@@ -114,6 +101,4 @@ bytes_of_session handle numbers = min (handle + 8 * length numbers) (2 ^ 64 - 1)
 
 -- the tests of an object that is opened for writing too: as for reading, and then those of the pairs of its index
 abbrev pub SessionTests : {I X : Type 0} → (X → Geo → Meaning) → ShardingCodec I X → Geo → Option (List ℕ) → CodecError → Type 0
-SessionTests meaning codec g contents =
-    OpeningTests meaning codec (grid_of g.shape codec.subchunk_shape) contents (λ bytes.
-    PairTests codec.location (index_size_of meaning codec g) (length bytes) (index_in meaning codec g bytes) (subchunks_of codec g) done)
+SessionTests meaning codec = SessionIndexTests (λ grid. meaning codec.index_codec (index_geo grid)) codec.location codec.subchunk_shape

@@ -2,7 +2,7 @@
 use Rattle.std.specs.Prelude.{◌≡◌, Bool, true, Option, Some, Ok, codes, option_map, refl}
 use Rattle.zarr_words.specs.Words.{Bytes}
 use Rattle.zarr_parts.specs.Numbering.{AllPositive}
-use Rattle.serde_json.specs.Data.{Data, Members, object, item, no_items}
+use Rattle.serde_json.specs.Data.{Data, Members, object}
 use Rattle.codec_metadata.specs.CreateErrors.{Reading}
 use Rattle.codec_metadata.specs.Metadata.{metadata_of}
 use Rattle.shard_configuration.specs.CodecLists.{codec_in_list}
@@ -12,11 +12,11 @@ use Rattle.sharding_core.specs.declared.codec.ShardingCodec.{ShardingCodec}
 use Rattle.sharding_core.specs.ShardMetadata.{shard_configured, configured_by, shard_written, shard_told}
 
 pub shard_remembers : {I X : Type 0} (I_named X_named : Bytes → Bool)
-    (I_configured : Option Data → Reading I) (X_configured : Option Data → Reading X) (I_name X_name : Bytes)
+    (I_configured : Bytes → Option Data → Reading I) (X_configured : Bytes → Option Data → Reading X) (I_name X_name : Bytes)
     (I_written X_written : Option Members) (codec : ShardingCodec I X) (inner : I) (index : X)
     → AllPositive codec.subchunk_shape
-    → I_named I_name ≡ true → I_configured (option_map object I_written) ≡ Ok inner
-    → X_named X_name ≡ true → X_configured (option_map object X_written) ≡ Ok index
+    → I_named I_name ≡ true → I_configured I_name (option_map object I_written) ≡ Ok inner
+    → X_named X_name ≡ true → X_configured X_name (option_map object X_written) ≡ Ok index
     → shard_configured (codec_in_list (codes "codecs") I_named I_configured) (codec_in_list (codes "index_codecs") X_named X_configured)
     (Some (object (shard_written (metadata_of I_name I_written) (metadata_of X_name X_written) codec)))
     ≡ Ok (shard_told inner index codec)
@@ -28,9 +28,13 @@ shard_remembers I_named X_named I_configured X_configured I_name X_name I_writte
       codec_in_list-written (codes "index_codecs") X_named X_configured X_name X_written index X_known X_made,
     )
 
-pub shard_told_again : {I X : Type 0} (I_name X_name : Bytes) (I_written : I → Option Members) (X_written : X → Option Members)
+pub shard_told_again : {I X : Type 0} (I_name : I → Bytes) (X_name : X → Bytes)
+    (I_written : I → Option Members) (X_written : X → Option Members)
     (codec : ShardingCodec I X) (inner : I) (index : X)
-    → I_written inner ≡ I_written codec.inner → X_written index ≡ X_written codec.index_codec
-    → Some (shard_written (metadata_of I_name (I_written inner)) (metadata_of X_name (X_written index)) (shard_told inner index codec))
-    ≡ Some (shard_written (metadata_of I_name (I_written codec.inner)) (metadata_of X_name (X_written codec.index_codec)) codec)
-shard_told_again I_name X_name I_written X_written codec inner index I_same X_same = rw (I_same, X_same) refl
+    → (I_name inner ≡ I_name codec.inner) × (I_written inner ≡ I_written codec.inner)
+    → (X_name index ≡ X_name codec.index_codec) × (X_written index ≡ X_written codec.index_codec)
+    → Some (shard_written (metadata_of (I_name inner) (I_written inner))
+    (metadata_of (X_name index) (X_written index)) (shard_told inner index codec))
+    ≡ Some (shard_written (metadata_of (I_name codec.inner) (I_written codec.inner))
+    (metadata_of (X_name codec.index_codec) (X_written codec.index_codec)) codec)
+shard_told_again I_name X_name I_written X_written codec inner index I_same X_same = rw (I_same.0, I_same.1, X_same.0, X_same.1) refl

@@ -2,23 +2,8 @@
 ghost use Rattle.std.specs.Prelude.{◌≡◌, true};
 
 use crate::codec::ShardingCodec;
+use shard_asked::{PartialDecoderCapability, PartialEncoderCapability};
 use zarr_parts::ChunkShape;
-
-/// What a codec's partial decoder can spare.
-#[derive(Debug, Clone, Copy, PartialEq, Eq)]
-pub struct PartialDecoderCapability {
-    /// Whether it reads only a part of the bytes.
-    pub partial_read: bool,
-    /// Whether it decodes only a part of the array.
-    pub partial_decode: bool,
-}
-
-/// What a codec's partial encoder can spare.
-#[derive(Debug, Clone, Copy, PartialEq, Eq)]
-pub struct PartialEncoderCapability {
-    /// Whether it encodes only a part of the array.
-    pub partial_encode: bool,
-}
 
 impl<I, X> ShardingCodec<I, X> {
     /// The least part of an array that is decoded by itself: the subchunk shape.

@@ -1,32 +1,20 @@
 // The sharding codec, as a codec from arrays to bytes.
-ghost use Rattle.std.specs.Prelude.{IfSome, IfNone, ◌≡◌, ◌<◌, ◌^◌, ◌*◌, Some, IfOk, IfErr, OnOk, SomeIff, length};
+ghost use Rattle.std.specs.Prelude.{IfSome, IfNone, ◌≡◌, ◌<◌, ◌^◌, IfOk, IfErr, OnOk, SomeIff, length};
 ghost use Rattle.zarr_parts.specs.Order.{RefusedBy};
 ghost use Rattle.zarr_parts.specs.Numbering.{count_of};
 ghost use Rattle.zarr_parts.specs.Grid.{grid_of, grid_box};
-ghost use Rattle.zarr_parts.specs.Types.{size_of, byte_size};
-ghost use Rattle.shard_format.specs.Index.{index_geo};
-ghost use Rattle.sharding_core.specs.Meanings.{shard_meaning};
-ghost use Rattle.shard_format.specs.Cells.{shard_cells};
-ghost use Rattle.shard_format.specs.Encoding.{IsEncoding};
-ghost use Rattle.shard_format.specs.Serves.{HasPlan, sub_geo, fixed_size, layout, ShardServes, ShardEncodable, ShardFits, shard_representation, CheckTests};
-ghost use Rattle.sharding_core.specs.Meanings.{layout_in};
-ghost use Rattle.shard_format.specs.DecodeTests.{DecodeTests};
-ghost use Rattle.shard_format.specs.EncodeTests.{EncodeTests};
-ghost use Rattle.shard_format.specs.ReadTests.{AnswerTests, ReadTests};
-ghost use Rattle.shard_format.specs.Grids.{SubsetTests, EndsFit, IsCut, ConcurrencyTests};
-ghost use Rattle.shard_format.specs.Compacting.{IsCompacted, IsCompact, CompactTests};
-ghost use Rattle.codec_laws.specs.Refusals.{MayRefuseCompact};
 ghost use Rattle.zarr_parts.specs.Geo.{geo};
+ghost use Rattle.codec_laws.specs.Refusals.{MayRefuseCompact};
+ghost use Rattle.shard_format.specs.Index.{index_geo};
+ghost use Rattle.shard_format.specs.Serves.{HasPlan, sub_geo};
+ghost use Rattle.shard_format.specs.Grids.{SubsetTests, EndsFit, IsCut, ConcurrencyTests};
+ghost use Rattle.shard_format.specs.Compacting.{IsCompact};
 ghost use Rattle.shard_format.specs.declared.order.SubchunkWriteOrder.TheVariants.{Unordered};
+ghost use Rattle.sharding_core.specs.Meanings.{layout_in, shard_meaning};
 
-use crate::asked::Asked;
 use codec_laws::{ArrayToBytesCodecTraits, BytesRepresentation, RecommendedConcurrency};
 use object_handles::{BytesPartialDecoderTraits, Interval};
-use shard_cells::{check_asked, gathered};
-use shard_format::{ShardingIndexLocation, SubchunkWriteOrder, count_subchunks, subchunk_subset};
-use shard_index::IndexCodec;
-use shard_layout::{compact_size, present_slots};
-use shard_subchunks::Subchunks;
+use shard_format::{ShardingIndexLocation, SubchunkWriteOrder, subchunk_subset};
 use std::alloc::Global;
 use zarr_parts::{
     ArrayBytes, ArraySubset, ChunkShape, CodecError, CodecOptions, DataType, FillValue, Indexer,
@@ -48,6 +36,23 @@ pub struct ShardingCodec<I, X> {
     /// In which order subchunks are written; the standard leaves it open.
     pub order: SubchunkWriteOrder,
 }
+
+// The codec, lent to the steps: written out where it is lent, so that a proof sees what each field is.
+macro_rules! lent {
+    ($codec:expr) => {
+        shard_steps::Sharding {
+            subchunk_shape: &$codec.subchunk_shape,
+            inner: &$codec.inner,
+            index_codec: shard_index::IndexCodec {
+                codec: &$codec.index_codec,
+                location: $codec.location,
+            },
+            order: $codec.order,
+        }
+    };
+}
+
+pub(crate) use lent;
 
 impl<I, X> ShardingCodec<I, X> {
     /// The codec of these parts, which writes subchunks in the order `Unordered`.
@@ -139,13 +144,7 @@ impl<I: ArrayToBytesCodecTraits, X: ArrayToBytesCodecTraits> ArrayToBytesCodecTr
         data_type: &DataType,
         fill_value: &FillValue,
     ) -> Result<(), CodecError> {
-        let asked = Asked {
-            shape,
-            data_type,
-            fill_value,
-        };
-        let _ = self.prepared(alloc, &asked)?;
-        Ok(())
+        lent!(self).check(alloc, shape, data_type, fill_value)
     }
 
     /// Stores each subchunk that is not wholly the fill value. Refused as `check` refuses, then as `WrongElementKind`,
@@ -160,13 +159,7 @@ impl<I: ArrayToBytesCodecTraits, X: ArrayToBytesCodecTraits> ArrayToBytesCodecTr
         fill_value: &FillValue,
         options: &CodecOptions,
     ) -> Result<Vec<u8>, CodecError> {
-        let asked = Asked {
-            shape,
-            data_type,
-            fill_value,
-        };
-        let plan = self.prepared(alloc, &asked)?;
-        self.encode_planned(alloc, bytes, &asked, &plan, options)
+        lent!(self).encode(alloc, bytes, shape, data_type, fill_value, options)
     }
 
     /// Refused as `check` refuses, then as `ShardTooShort`, as `Damaged` where the index does not decode, as the lowest
@@ -181,35 +174,7 @@ impl<I: ArrayToBytesCodecTraits, X: ArrayToBytesCodecTraits> ArrayToBytesCodecTr
         fill_value: &FillValue,
         options: &CodecOptions,
     ) -> Result<ArrayBytes<'a>, CodecError> {
-        let asked = Asked {
-            shape,
-            data_type,
-            fill_value,
-        };
-        let plan = self.prepared(alloc, &asked)?;
-        let index_codec = IndexCodec {
-            codec: &self.index_codec,
-            location: self.location,
-        };
-        let index = index_codec.decode(alloc, bytes, &plan.index, options)?;
-        let inner = Subchunks {
-            codec: &self.inner,
-            shape: &self.subchunk_shape,
-            data_type,
-            fill_value,
-            options,
-        };
-        let subchunks = inner.decode(alloc, bytes, &index)?;
-        let array = gathered(
-            alloc,
-            &subchunks,
-            plan.cells,
-            shape,
-            &self.subchunk_shape,
-            data_type.size(),
-            fill_value.as_ne_bytes(),
-        )?;
-        Ok(array)
+        lent!(self).decode(alloc, bytes, shape, data_type, fill_value, options)
     }
 
     /// The index and the present slices in ascending subchunk number without gaps, each copied for itself; `None` exactly
@@ -240,22 +205,7 @@ impl<I: ArrayToBytesCodecTraits, X: ArrayToBytesCodecTraits> ArrayToBytesCodecTr
         ensures refused { let g = geo shape.now data_type.now fill_value.now in
             IfErr result (RefusedBy ((⟦<Self as ArrayToBytesCodecTraits>⟧.meaning self.now g).compact_tests bytes.now)) }
     {
-        let plan = self.planned(alloc, shape, 0)?;
-        let index_codec = IndexCodec {
-            codec: &self.index_codec,
-            location: self.location,
-        };
-        let index = index_codec.decode(alloc, bytes, &plan.index, options)?;
-        let len = bytes.len() as u64;
-        let slots = present_slots(alloc, &index)?;
-        let Some(total) = compact_size(&slots, plan.index.size) else {
-            return Err(CodecError::TooLarge);
-        };
-        if total == len {
-            return Ok(None);
-        }
-        let shard = self.rewritten(alloc, bytes, &slots, total, &plan.index, options)?;
-        Ok(Some(shard))
+        lent!(self).compact(alloc, bytes, shape, data_type, fill_value, options)
     }
 
     /// As many workers as the shard has subchunks. Refused, in this order, as `IncompatibleDimensionality`,
@@ -263,10 +213,9 @@ impl<I: ArrayToBytesCodecTraits, X: ArrayToBytesCodecTraits> ArrayToBytesCodecTr
     fn recommended_concurrency(
         &self,
         shape: &ChunkShape,
-        _data_type: &DataType,
+        data_type: &DataType,
     ) -> Result<RecommendedConcurrency, CodecError> {
-        let subchunks = count_subchunks(shape.as_slice(), self.subchunk_shape.as_slice())?;
-        Ok(RecommendedConcurrency::new_maximum(subchunks as usize))
+        lent!(self).recommended_concurrency(shape, data_type)
     }
 
     /// Reads the index and, of each subchunk in which cells are asked, these cells; the others are not looked at. Refused as
@@ -286,17 +235,9 @@ impl<I: ArrayToBytesCodecTraits, X: ArrayToBytesCodecTraits> ArrayToBytesCodecTr
         indexer: &N,
         options: &CodecOptions,
     ) -> Result<ArrayBytes<'static>, CodecError> {
-        let asked = Asked {
-            shape,
-            data_type,
-            fill_value,
-        };
-        let plan = self.prepared(alloc, &asked)?;
-        let count = check_asked(indexer, shape, data_type)?;
-        let cells = self.read_planned(
-            alloc, handle, interval, &asked, &plan, count, indexer, options,
-        )?;
-        Ok(cells)
+        lent!(self).partial_decode(
+            alloc, handle, interval, shape, data_type, fill_value, indexer, options,
+        )
     }
 
     /// `BoundedSize` of as many times the inner codec's size as there are subchunks, and the index; `UnboundedSize`
@@ -308,26 +249,6 @@ impl<I: ArrayToBytesCodecTraits, X: ArrayToBytesCodecTraits> ArrayToBytesCodecTr
         data_type: &DataType,
         fill_value: &FillValue,
     ) -> Result<BytesRepresentation, CodecError> {
-        let asked = Asked {
-            shape,
-            data_type,
-            fill_value,
-        };
-        let plan = self.prepared(alloc, &asked)?;
-        let told = self
-            .inner
-            .encoded_representation(alloc, &self.subchunk_shape, data_type, fill_value)?;
-        let size = match told {
-            BytesRepresentation::FixedSize(size) => size,
-            BytesRepresentation::BoundedSize(size) => size,
-            BytesRepresentation::UnboundedSize => return Ok(BytesRepresentation::UnboundedSize),
-        };
-        let Some(all) = plan.subchunks.checked_mul(size) else {
-            return Err(CodecError::TooLarge);
-        };
-        let Some(total) = all.checked_add(plan.index.size) else {
-            return Err(CodecError::TooLarge);
-        };
-        Ok(BytesRepresentation::BoundedSize(total))
+        lent!(self).encoded_representation(alloc, shape, data_type, fill_value)
     }
 }

@@ -43,8 +43,8 @@ impl<I: CodecTraitsV3, X: CodecTraitsV3> ShardingCodec<I, X> {
     /// The codec's configuration: "chunk_shape", "codecs", "index_codecs" and "index_location". The order in which subchunks
     /// are written is no part of it. Refused only as out of memory.
     pub fn configuration(&self, alloc: Global) -> Result<Value, AllocError>
-        ensures written { IfOk result (λ value. view value ≡ object (shard_written (metadata_of I.own_name (I.written self.now.inner))
-            (metadata_of X.own_name (X.written self.now.index_codec)) self.now)) }
+        ensures written { IfOk result (λ value. view value ≡ object (shard_written (metadata_of (I.own_name self.now.inner) (I.written self.now.inner))
+            (metadata_of (X.own_name self.now.index_codec) (X.written self.now.index_codec)) self.now)) }
         ensures valid { OnOk result (AllPositive self.now.subchunk_shape × I.valid self.now.inner × X.valid self.now.index_codec) }
     {
         Ok(Value::Object(self.configuration_members(alloc)?))
@@ -52,8 +52,8 @@ impl<I: CodecTraitsV3, X: CodecTraitsV3> ShardingCodec<I, X> {
 
     // The members of the codec's configuration.
     fn configuration_members(&self, alloc: Global) -> Result<Map<String, Value>, AllocError>
-        ensures written { IfOk result (λ members. members_view members.entries ≡ shard_written (metadata_of I.own_name (I.written self.now.inner))
-            (metadata_of X.own_name (X.written self.now.index_codec)) self.now) }
+        ensures written { IfOk result (λ members. members_view members.entries ≡ shard_written (metadata_of (I.own_name self.now.inner) (I.written self.now.inner))
+            (metadata_of (X.own_name self.now.index_codec) (X.written self.now.index_codec)) self.now) }
         ensures valid { OnOk result (AllPositive self.now.subchunk_shape × I.valid self.now.inner × X.valid self.now.index_codec) }
     {
         let _positive = self.subchunk_shape.as_slice();
@@ -75,12 +75,12 @@ impl<I: CodecTraitsV3 + Drop, X: CodecTraitsV3 + Drop> CodecTraitsV3 for Shardin
 
     ghost named = { λ name. bytes_eq name (codes "sharding_indexed") };
 
-    ghost own_name = { codes "sharding_indexed" };
+    ghost own_name = { λ s. codes "sharding_indexed" };
 
-    ghost configured = { shard_configured (codec_in_list (codes "codecs") I.named I.configured)
+    ghost configured = { λ name. shard_configured (codec_in_list (codes "codecs") I.named I.configured)
         (codec_in_list (codes "index_codecs") X.named X.configured) };
 
-    ghost written = { λ s. Some (shard_written (metadata_of I.own_name (I.written s.inner)) (metadata_of X.own_name (X.written s.index_codec)) s) };
+    ghost written = { λ s. Some (shard_written (metadata_of (I.own_name s.inner) (I.written s.inner)) (metadata_of (X.own_name s.index_codec) (X.written s.index_codec)) s) };
 
     ghost valid = { λ s. AllPositive s.subchunk_shape × I.valid s.inner × X.valid s.index_codec };
 
@@ -92,7 +92,7 @@ impl<I: CodecTraitsV3 + Drop, X: CodecTraitsV3 + Drop> CodecTraitsV3 for Shardin
     }
 
     /// `sharding_indexed`.
-    fn written_name() -> &'static str {
+    fn written_name(&self) -> &'static str {
         "sharding_indexed"
     }
 
@@ -100,6 +100,7 @@ impl<I: CodecTraitsV3 + Drop, X: CodecTraitsV3 + Drop> CodecTraitsV3 for Shardin
     /// `new_with_configuration` refuse; or as `OutOfMemory`.
     fn from_configuration(
         alloc: Global,
+        _name: &str,
         configuration: Option<&Value>,
     ) -> Result<Self, PluginCreateError> {
         let Some(value) = configuration else {
@@ -114,11 +115,14 @@ impl<I: CodecTraitsV3 + Drop, X: CodecTraitsV3 + Drop> CodecTraitsV3 for Shardin
         Ok(Some(self.configuration_members(alloc)?))
     }
 
-    ghost remembers = { λ s valid. shard_remembers I.named X.named I.configured X.configured I.own_name X.own_name (I.written s.inner) (X.written s.index_codec)
-        s (I.told s.inner) (X.told s.index_codec) valid.0 I.names_itself (I.remembers s.inner valid.1) X.names_itself (X.remembers s.index_codec valid.2) };
+    ghost remembers = { λ s valid. shard_remembers I.named X.named I.configured X.configured (I.own_name s.inner) (X.own_name s.index_codec) (I.written s.inner) (X.written s.index_codec)
+        s (I.told s.inner) (X.told s.index_codec) valid.0 (I.names_itself s.inner) (I.remembers s.inner valid.1) (X.names_itself s.index_codec) (X.remembers s.index_codec valid.2) };
 
-    ghost names_itself = { refl };
+    ghost names_itself = { λ s. refl };
 
-    ghost told_again = { λ s. shard_told_again I.own_name X.own_name I.written X.written s (I.told s.inner) (X.told s.index_codec)
-        (I.told_again s.inner) (X.told_again s.index_codec) };
+    ghost told_again = { λ s. (
+      refl,
+      shard_told_again I.own_name X.own_name I.written X.written s (I.told s.inner) (X.told s.index_codec)
+          (I.told_again s.inner) (X.told_again s.index_codec),
+    ) };
 }

@@ -14,21 +14,11 @@ mod reads;
 mod writes;
 
 use crate::codec::ShardingCodec;
-use crate::partial_decoder::OpenShard;
 use codec_laws::ArrayToBytesCodecTraits;
 use object_handles::BytesPartialEncoderTraits;
-use shard_index::{IndexPlan, without_pairs};
+use shard_held::OpenSession;
 use std::marker::Model;
 use zarr_parts::{CodecError, DataType};
-
-/// What a session holds of a shard.
-#[derive(Drop)]
-pub(crate) struct OpenSession {
-    pub shard: OpenShard,
-    pub plan: IndexPlan,
-    /// The index of no object, where there is none.
-    pub blank: Vec<u64>,
-}
 
 /// A shard that is held open for reading and writing: a session. It holds the shard's index, which was read when it was
 /// opened and is the stored object's after each call. Without an object each cell is the fill value. Where a writing call of
@@ -93,13 +83,10 @@ impl<
         ensures held { result ≡ bytes_of_session (H.state self.now.handle).held self.now.index }
         ensures in_step { IsInStep ⟦<ShardingCodec<I, X> as ArrayToBytesCodecTraits>⟧.meaning X.meaning H.state self.now }
     {
-        let numbers = match &self.opened.shard.held {
-            Some(index) => index.numbers.len(),
-            None => self.opened.blank.len(),
-        };
+        let (_, numbers) = self.opened.held_index();
         self.handle
             .size_held()
-            .saturating_add(numbers.saturating_mul(8))
+            .saturating_add(numbers.len().saturating_mul(8))
     }
 
     /// Whether the handle can be read in part.
@@ -121,6 +108,7 @@ impl<
     /// Whether there is an object. Refused only as `SessionFailed`, or as `Fault`, where the handle failed.
     pub fn exists(&mut self) -> Result<bool, CodecError>
         ensures left { IsLeft H.state self.old self.new }
+        ensures was_in_step { IsInStep ⟦<ShardingCodec<I, X> as ArrayToBytesCodecTraits>⟧.meaning X.meaning H.state self.old }
         ensures in_step { IsInStep ⟦<ShardingCodec<I, X> as ArrayToBytesCodecTraits>⟧.meaning X.meaning H.state self.new }
         ensures usable { OnOk result (self.old.failed ≡ false) }
         ensures told { IfOk result (λ there. IsTrue (H.state self.old.handle).tells → there ≡ is_some (H.state self.old.handle).contents) }
@@ -137,6 +125,7 @@ impl<
     /// Lets the object go; each subchunk is absent then. Takes no memory. Refused only as `SessionFailed`, or as `Fault`,
     /// where the handle failed, and then the session is failed.
     pub fn erase(&mut self) -> Result<(), CodecError>
+        ensures was_in_step { IsInStep ⟦<ShardingCodec<I, X> as ArrayToBytesCodecTraits>⟧.meaning X.meaning H.state self.old }
         ensures in_step { IsInStep ⟦<ShardingCodec<I, X> as ArrayToBytesCodecTraits>⟧.meaning X.meaning H.state self.new }
         ensures done { OnOk result (IsDone H.state self.old self.new) }
         ensures erased { OnOk result (IsTrue (H.state self.old.handle).tells → (H.state self.new.handle).contents ≡ None) }
@@ -153,9 +142,7 @@ impl<
             self.failed = true;
             return Err(error);
         }
-        if let Some(index) = self.opened.shard.held.take() {
-            self.opened.blank = without_pairs(index.numbers);
-        }
+        self.opened.hold_none();
         Ok(())
     }
 
@@ -164,12 +151,7 @@ impl<
         ensures handle { result ≡ self.entry.handle }
         ensures in_step { IsInStep ⟦<ShardingCodec<I, X> as ArrayToBytesCodecTraits>⟧.meaning X.meaning H.state self.entry }
     {
-        let ShardState {
-            codec: _,
-            handle,
-            failed: _,
-            opened: _,
-        } = self;
+        let ShardState { handle, .. } = self;
         handle
     }
 }

@@ -49,11 +49,11 @@ fn read_at(alloc: Global, flat: &[u64]) -> Result<Vec<u8>, CodecError> {
     read(alloc, &codec, SliceHandle::new(&object), &[4, 4], &asked)
 }
 
-// Cells are read in the order in which they are asked, one of them twice.
+// Cells of several subchunks are read in the order in which they are asked, one of them twice.
 #[test]
 fn coordinates_are_read(rt: HostRuntime) {
-    let cells = read_at(rt.alloc(), &[3, 3, 0, 0, 3, 3]);
-    assert_eq!(rt; said(&cells), Ok([15u8, 0, 15].as_slice()));
+    let cells = read_at(rt.alloc(), &[3, 3, 0, 0, 1, 3, 3, 3, 0, 1]);
+    assert_eq!(rt; said(&cells), Ok([15u8, 0, 7, 15, 1].as_slice()));
 }
 
 // Reads two cells into a box of a target of 3 by 3.

@@ -188,7 +188,7 @@ fn copied(alloc: Global, bytes: &[u8], size: usize, reversed: bool) -> Result<Ve
     requires { IsWhole size bytes.now }
     ensures { IfOk result (λ copy. copy.items ≡ concat (map (swapped reversed) (fixed_array size bytes.now).elements)) }
 {
-    let mut copy = bytes.to_vec(alloc)?;
+    let mut copy = Vec::from_slice(alloc, bytes)?;
     if reversed {
         reverse_elements(&mut copy, size);
     }

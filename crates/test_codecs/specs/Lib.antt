@@ -1,1 +1,3 @@
 pub mod Marked
+pub mod Inverted
+pub mod InvertedLaws

@@ -1,8 +1,11 @@
 // Codecs for tests.
 #![tactic(auto)]
 
+mod inverted;
+
 use codec_chains::BytesToBytesCodecTraits;
 use codec_laws::BytesRepresentation;
+pub use inverted::InvertedCodec;
 use std::alloc::Global;
 use std::borrow::CowSlice;
 use zarr_words::CodecError;

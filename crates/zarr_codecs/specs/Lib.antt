@@ -21,3 +21,12 @@ pub use Rattle.codec_metadata.specs.CreateErrors
 pub use Rattle.codec_metadata.specs.Metadata
 pub use Rattle.codec_metadata.specs.BytesMetadata
 pub use Rattle.codec_metadata.specs.BytesMetadataLaws
+pub use Rattle.whole_arrays.specs.WholeArrays
+pub use Rattle.variable_codec.specs.Text
+pub use Rattle.variable_codec.specs.VlenCodec
+pub use Rattle.variable_codec.specs.VlenLaws
+pub use Rattle.variable_codec.specs.VlenMetadata
+pub use Rattle.default_codec.specs.DefaultCodec
+pub use Rattle.array_chains.specs.ArrayCodings
+pub use Rattle.array_chains.specs.ArrayChains
+pub use Rattle.array_chains.specs.ArrayChainLaws

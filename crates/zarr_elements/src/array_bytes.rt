@@ -19,8 +19,8 @@ mod update;
 
 use crate::data_type::{DataType, DataTypeSize};
 use crate::fill_value::FillValue;
-use crate::pieces::{piece_at, run_at};
 pub use builder::ArrayBuilder;
+use byte_rows::{piece_at, run_at};
 pub use fill::repeated;
 pub use owned::VariableParts;
 use std::alloc::{AllocError, Global};

@@ -5,13 +5,11 @@ mod array_bytes;
 mod data_type;
 mod fill_value;
 mod numbers;
-mod pieces;
-mod rows;
 mod target;
 
 pub use array_bytes::{ArrayBuilder, ArrayBytes, VariableParts, repeated, update_array_bytes};
+pub use byte_rows::{gather_into, scatter};
 pub use data_type::{DataType, DataTypeSize};
 pub use fill_value::FillValue;
 pub use numbers::Number;
-pub use rows::{gather_into, scatter};
 pub use target::FixedTarget;

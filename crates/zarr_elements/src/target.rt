@@ -12,8 +12,7 @@ ghost use Rattle.zarr_words.specs.declared.error.CodecError.TheVariants.{Invalid
 use crate::array_bytes::ArrayBytes;
 use crate::data_type::DataTypeSize;
 use crate::fill_value::FillValue;
-use crate::pieces::fill_box;
-use crate::rows::scatter;
+use byte_rows::{fill_box, scatter};
 use zarr_boxes::{ArraySubset, check_box, points_in};
 use zarr_words::CodecError;
 

@@ -36,8 +36,9 @@ passes_on (Ok x) e P is h = tt
 passes_on (Err x) e P is h = subst P (sym is) h
 
 -- a codec that is told has the configuration of the codec that it is told of
-pub written_again : {I X : Type 0} (I_name X_name : Bytes) (I_written : I → Option Members) (X_written : X → Option Members) (s made : ShardingCodec I X) (inner : I) (index : X)
-    → made ≡ shard_told inner index s → I_written inner ≡ I_written s.inner → X_written index ≡ X_written s.index_codec
-    → object (shard_written (metadata_of I_name (I_written s.inner)) (metadata_of X_name (X_written s.index_codec)) s)
-    ≡ object (shard_written (metadata_of I_name (I_written made.inner)) (metadata_of X_name (X_written made.index_codec)) made)
-written_again I_name X_name I_written X_written s made inner index same I_same X_same = rw (same, I_same, X_same) refl
+pub written_again : {I X : Type 0} (I_name : I → Bytes) (X_name : X → Bytes) (I_written : I → Option Members) (X_written : X → Option Members) (s made : ShardingCodec I X) (inner : I) (index : X)
+    → made ≡ shard_told inner index s → (I_name inner ≡ I_name s.inner) × (I_written inner ≡ I_written s.inner)
+    → (X_name index ≡ X_name s.index_codec) × (X_written index ≡ X_written s.index_codec)
+    → object (shard_written (metadata_of (I_name s.inner) (I_written s.inner)) (metadata_of (X_name s.index_codec) (X_written s.index_codec)) s)
+    ≡ object (shard_written (metadata_of (I_name made.inner) (I_written made.inner)) (metadata_of (X_name made.index_codec) (X_written made.index_codec)) made)
+written_again I_name X_name I_written X_written s made inner index same I_same X_same = rw (same, I_same.0, I_same.1, X_same.0, X_same.1) refl

@@ -3,6 +3,11 @@ pub use Rattle.sharding_core.specs.ShardLaws
 pub use Rattle.sharding_core.specs.Decoders
 pub use Rattle.sharding_core.specs.Sessions
 pub use Rattle.sharding_core.specs.SessionWrites
+pub use Rattle.sharding_core.specs.LockedSessions
+pub use Rattle.shard_held.specs.OpenSessions
+pub use Rattle.shard_held.specs.PreparedWrites
+pub use Rattle.shard_opening.specs.Held
+pub use Rattle.shard_opening.specs.Slices
 pub use Rattle.shard_writing.specs.Writing
 pub use Rattle.shard_writing.specs.WriteTests
 pub use Rattle.shard_index.specs.DataPart

@@ -20,11 +20,11 @@ pub fn new_after_configuration<I: CodecTraitsV3 + Drop, X: CodecTraitsV3 + Drop>
     value: &Value,
 ) -> Result<ShardingCodec<I, X>, PluginCreateError>
     requires valid { ⟦<ShardingCodec<I, X> as CodecTraitsV3>⟧.valid _codec.now }
-    requires written { view value.now ≡ object (shard_written (metadata_of I.own_name (I.written _codec.now.inner))
-        (metadata_of X.own_name (X.written _codec.now.index_codec)) _codec.now) }
+    requires written { view value.now ≡ object (shard_written (metadata_of (I.own_name _codec.now.inner) (I.written _codec.now.inner))
+        (metadata_of (X.own_name _codec.now.index_codec) (X.written _codec.now.index_codec)) _codec.now) }
     ensures same { IfOk result (λ made. made ≡ shard_told (I.told _codec.now.inner) (X.told _codec.now.index_codec) _codec.now) }
-    ensures again { IfOk result (λ made. view value.now ≡ object (shard_written (metadata_of I.own_name (I.written made.inner))
-        (metadata_of X.own_name (X.written made.index_codec)) made)) }
+    ensures again { IfOk result (λ made. view value.now ≡ object (shard_written (metadata_of (I.own_name made.inner) (I.written made.inner))
+        (metadata_of (X.own_name made.index_codec) (X.written made.index_codec)) made)) }
     ensures refused { IfErr result (λ e. e ≡ OutOfMemory) }
 {
     let configuration = ShardingCodecConfiguration::from_value(alloc, value)?;

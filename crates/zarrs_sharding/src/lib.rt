@@ -14,7 +14,8 @@ pub use shard_configuration::{ShardingCodecConfiguration, ShardingCodecConfigura
 pub use shard_format::{
     ShardingIndexLocation, SubchunkWriteOrder, calculate_chunks_per_shard, sharding_index_shape,
 };
+pub use shard_workers::{Gate, NoGate};
 pub use sharding_core::{
     PartialDecoderCapability, PartialEncoderCapability, ShardState, ShardingCodec,
-    ShardingCodecOptions, ShardingPartialDecoder,
+    ShardingCodecOptions, ShardingPartialDecoder, ShardingPartialEncoder,
 };

@@ -69,7 +69,7 @@ impl BytesPartialEncoderTraits for MemoryHandle {
     }
 
     fn replace(&mut self, alloc: Global, bytes: &[u8]) -> Result<(), CodecError> {
-        self.object = Some(bytes.to_vec(alloc)?);
+        self.object = Some(Vec::from_slice(alloc, bytes)?);
         Ok(())
     }
 

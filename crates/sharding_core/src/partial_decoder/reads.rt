@@ -1,110 +1,24 @@
 // Reads of some cells of a shard that is open.
 ghost use Rattle.std.specs.Prelude.{◌≡◌, ℕ, List, [], IsTrue, Some, IfOk, IfErr, OnOk, OnErr, map, length, slice_index_or};
-ghost use Rattle.std.specs.List.{All};
 ghost use Rattle.zarr_parts.specs.Order.{RefusedBy};
-ghost use Rattle.zarr_parts.specs.Numbering.{count_of, IsInside};
-ghost use Rattle.zarr_parts.specs.Geo.{geo};
+ghost use Rattle.zarr_parts.specs.Numbering.{count_of};
 ghost use Rattle.zarr_parts.specs.Types.{size_of};
 ghost use Rattle.zarr_parts.specs.Selections.{IsSelectionOf};
 ghost use Rattle.zarr_parts.specs.Targets.{IsWritten, TargetTests};
 ghost use Rattle.zarr_elements.specs.declared.data_type.DataTypeSize.TheVariants.{Fixed};
-ghost use Rattle.object_handles.specs.Handles.{IsRead, IsCounted};
+ghost use Rattle.object_handles.specs.Handles.{IsCounted};
 ghost use Rattle.codec_laws.specs.Reads.{cells_at, IsAnswer, IsDecodedInto, AskedTests};
 ghost use Rattle.object_handles.specs.Objects.{ObjectTests};
-ghost use Rattle.sharding_core.specs.Decoders.{index_in, IsOpen, IsKnown, Unmoved, object_cells, ObjectCellsTests};
+ghost use Rattle.shard_opening.specs.Held.{object_cells};
+ghost use Rattle.sharding_core.specs.Decoders.{index_in, IsOpen, Unmoved, ObjectCellsTests};
 
-use super::{OpenShard, ShardingPartialDecoder};
-use crate::codec::ShardingCodec;
+use super::ShardingPartialDecoder;
+use crate::codec::{ShardingCodec, lent};
 use codec_laws::{ArrayToBytesCodecTraits, check_target};
-use object_handles::{BytesPartialDecoderTraits, Interval};
-use shard_cells::{check_asked, filled};
-use shard_format::ShardIndex;
-use shard_subchunks::Subchunks;
+use object_handles::BytesPartialDecoderTraits;
+use shard_cells::check_asked;
 use std::alloc::Global;
 use zarr_parts::{ArrayBytes, CodecError, CodecOptions, FixedTarget, Indexer};
-
-impl<I: ArrayToBytesCodecTraits, X: ArrayToBytesCodecTraits> ShardingCodec<I, X> {
-    // The cells that an indexer asks of a shard that is open and has this index.
-    fn read_stored<H: BytesPartialDecoderTraits, N: Indexer>(
-        &self,
-        alloc: Global,
-        handle: &mut H,
-        shard: &OpenShard,
-        index: &ShardIndex,
-        count: u64,
-        indexer: &N,
-        options: &CodecOptions,
-    ) -> Result<ArrayBytes<'static>, CodecError>
-        requires known { IsKnown ⟦<Self as ArrayToBytesCodecTraits>⟧.meaning (index_in X.meaning) H.state self.now handle.old shard.now }
-        requires index { shard.now.held ≡ Some index.now }
-        requires selection { IsSelectionOf shard.now.shape (N.selection indexer.now) }
-        requires points { All (λ point. IsInside point shard.now.shape) (N.selection indexer.now).points }
-        requires count { count ≡ length (N.selection indexer.now).points }
-        ensures read { IsRead (H.state handle.old) (H.state handle.new) }
-        ensures answer { IfOk result (IsAnswer (geo shard.now.shape shard.now.data_type shard.now.fill_value) (N.selection indexer.now)) }
-        ensures cells { let codec = ⟦<Self as ArrayToBytesCodecTraits>⟧ in let g = geo shard.now.shape shard.now.data_type shard.now.fill_value in
-            IfOk result (λ array. IsTrue (H.state handle.old).tells
-            → cells_at (object_cells (codec.meaning self.now g).cells g (H.state handle.old).contents) g.shape (N.selection indexer.now).points ≡ map Some array.elements) }
-        ensures fault { IfErr result (IsCounted (H.state handle.old) (H.state handle.new)) }
-        ensures refused { let g = geo shard.now.shape shard.now.data_type shard.now.fill_value in
-            IfErr result (RefusedBy (ObjectTests (H.state handle.old) (H.state handle.new) (
-            ObjectCellsTests I.meaning X.meaning self.now g (H.state handle.old).contents (N.selection indexer.now).points))) }
-    {
-        let whole = Interval {
-            offset: 0,
-            size: index.len,
-        };
-        let subchunks = Subchunks {
-            codec: &self.inner,
-            shape: &self.subchunk_shape,
-            data_type: &shard.data_type,
-            fill_value: &shard.fill_value,
-            options,
-        };
-        let array = subchunks.read_asked(
-            alloc,
-            handle,
-            whole,
-            index,
-            indexer,
-            count,
-            &shard.shape,
-            shard.cells,
-        )?;
-        Ok(array)
-    }
-
-    // The cells that an indexer asks of a shard that is open.
-    pub(crate) fn read_open<H: BytesPartialDecoderTraits, N: Indexer>(
-        &self,
-        alloc: Global,
-        handle: &mut H,
-        shard: &OpenShard,
-        count: u64,
-        indexer: &N,
-        options: &CodecOptions,
-    ) -> Result<ArrayBytes<'static>, CodecError>
-        requires known { IsKnown ⟦<Self as ArrayToBytesCodecTraits>⟧.meaning (index_in X.meaning) H.state self.now handle.old shard.now }
-        requires selection { IsSelectionOf shard.now.shape (N.selection indexer.now) }
-        requires points { All (λ point. IsInside point shard.now.shape) (N.selection indexer.now).points }
-        requires count { count ≡ length (N.selection indexer.now).points }
-        ensures read { IsRead (H.state handle.old) (H.state handle.new) }
-        ensures answer { IfOk result (IsAnswer (geo shard.now.shape shard.now.data_type shard.now.fill_value) (N.selection indexer.now)) }
-        ensures cells { let codec = ⟦<Self as ArrayToBytesCodecTraits>⟧ in let g = geo shard.now.shape shard.now.data_type shard.now.fill_value in
-            IfOk result (λ array. IsTrue (H.state handle.old).tells
-            → cells_at (object_cells (codec.meaning self.now g).cells g (H.state handle.old).contents) g.shape (N.selection indexer.now).points ≡ map Some array.elements) }
-        ensures fault { IfErr result (IsCounted (H.state handle.old) (H.state handle.new)) }
-        ensures refused { let g = geo shard.now.shape shard.now.data_type shard.now.fill_value in
-            IfErr result (RefusedBy (ObjectTests (H.state handle.old) (H.state handle.new) (
-            ObjectCellsTests I.meaning X.meaning self.now g (H.state handle.old).contents (N.selection indexer.now).points))) }
-    {
-        let Some(index) = &shard.held else {
-            let array = filled(alloc, &shard.data_type, count, &shard.fill_value)?;
-            return Ok(array);
-        };
-        self.read_stored(alloc, handle, shard, index, count, indexer, options)
-    }
-}
 
 impl<
     'a,
@@ -138,10 +52,10 @@ impl<
             ObjectCellsTests I.meaning X.meaning s g (H.state self.old.handle).contents (N.selection indexer.now).points)))) }
     {
         let count = check_asked(indexer, &self.shard.shape, &self.shard.data_type)?;
-        let array = self.codec.read_open(
+        let array = self.shard.read(
+            &lent!(self.codec),
             alloc,
             &mut self.handle,
-            &self.shard,
             count,
             indexer,
             options,

@@ -1,62 +1,21 @@
 // Subchunks of a shard that is read in part, by their coordinates in the grid.
-ghost use Rattle.std.specs.Prelude.{◌≡◌, ◌+◌, ◌^◌, ◌<◌, ◌*◌, IfOk, IfErr, IfSome, OnOk, length};
+ghost use Rattle.std.specs.Prelude.{IfOk, IfErr, OnOk};
 ghost use Rattle.zarr_parts.specs.Order.{done, RefusedBy};
-ghost use Rattle.zarr_parts.specs.Numbering.{count_of, number_of, IsInside};
+ghost use Rattle.zarr_parts.specs.Numbering.{number_of, IsInside};
 ghost use Rattle.zarr_parts.specs.Grid.{grid_of};
 ghost use Rattle.std.specs.Cow.{cow_slice_items};
 ghost use Rattle.object_handles.specs.Handles.{IsCounted, seen};
 ghost use Rattle.object_handles.specs.Objects.{ObjectTests};
-ghost use Rattle.shard_format.specs.Decoding.{FitsSlot};
-ghost use Rattle.sharding_core.specs.Decoders.{held_len, held_numbers, index_in, IsOpen, Unmoved, held_slot, IsRangeOf, IsSliceRead, SlotTests};
+ghost use Rattle.shard_opening.specs.Slices.{held_slot, IsRangeOf, IsSliceRead, SlotTests};
+ghost use Rattle.sharding_core.specs.Decoders.{index_in, IsOpen, Unmoved};
 
 use super::ShardingPartialDecoder;
 use crate::codec::ShardingCodec;
 use codec_laws::ArrayToBytesCodecTraits;
 use object_handles::{ByteRange, BytesPartialDecoderTraits, copy_range};
-use shard_format::{ShardIndex, Slot};
 use std::alloc::Global;
 use std::borrow::CowSlice;
-use zarr_parts::{CodecError, ravel_indices};
-
-// What the held index says of a subchunk. Without an object each is absent.
-fn slot_in(held: &Option<ShardIndex>, number: u64) -> Slot
-    requires { IfSome (held_numbers held.now) (λ numbers. 2 * number + 1 < length numbers) }
-    ensures slot { result ≡ held_slot (held_len held.now) (held_numbers held.now) number }
-    ensures fits { FitsSlot (held_len held.now) result }
-{
-    match held {
-        Some(index) => index.slot(number as usize),
-        None => Slot::Absent,
-    }
-}
-
-// The range of the bytes of a subchunk of a grid.
-fn range_in(
-    held: &Option<ShardIndex>,
-    grid: &[u64],
-    subchunk: &[u64],
-) -> Result<Option<ByteRange>, CodecError>
-    requires counted { IfSome (held_numbers held.now) (λ numbers. length numbers ≡ 2 * count_of grid.now) }
-    requires fits { count_of grid.now < 2 ^ 64 }
-    ensures axes { OnOk result (length subchunk.now ≡ length grid.now) }
-    ensures inside { OnOk result (IsInside subchunk.now grid.now) }
-    ensures range { IfOk result (IsRangeOf (held_slot (held_len held.now) (held_numbers held.now) (number_of subchunk.now grid.now))) }
-    ensures fits { OnOk result (FitsSlot (held_len held.now) (held_slot (held_len held.now) (held_numbers held.now) (number_of subchunk.now grid.now))) }
-    ensures refused { IfErr result (SlotTests grid.now subchunk.now
-        (held_slot (held_len held.now) (held_numbers held.now) (number_of subchunk.now grid.now)) done) }
-{
-    if subchunk.len() != grid.len() {
-        return Err(CodecError::IncompatibleDimensionality);
-    }
-    let Some(number) = ravel_indices(subchunk, grid) else {
-        return Err(CodecError::OutOfBounds);
-    };
-    match slot_in(held, number) {
-        Slot::Absent => Ok(None),
-        Slot::InRange { offset, size } => Ok(Some(ByteRange::FromStart(offset, Some(size)))),
-        Slot::Bad => Err(CodecError::BadIndexEntry { number }),
-    }
-}
+use zarr_parts::CodecError;
 
 impl<
     'a,
@@ -75,7 +34,7 @@ impl<
             IfErr result (SlotTests grid subchunk.now (held_slot self.now.len self.now.index (number_of subchunk.now grid)) done) }
         ensures is_open { IsOpen ⟦<ShardingCodec<I, X> as ArrayToBytesCodecTraits>⟧.meaning (index_in X.meaning) H.state self.now }
     {
-        range_in(&self.shard.held, self.shard.grid.as_slice(), subchunk)
+        self.shard.byte_range(subchunk)
     }
 
     /// The bytes of a subchunk as they are stored, by its coordinate in the grid of subchunks and by the held index; `None`
@@ -98,7 +57,7 @@ impl<
             IfErr result (RefusedBy (SlotTests grid subchunk.now (held_slot self.old.len self.old.index (number_of subchunk.now grid)) (
             ObjectTests (H.state self.old.handle) (H.state self.new.handle) done))) }
     {
-        let range = range_in(&self.shard.held, self.shard.grid.as_slice(), subchunk)?;
+        let range = self.shard.byte_range(subchunk)?;
         let Some(range) = range else {
             return Ok(None);
         };

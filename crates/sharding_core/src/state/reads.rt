@@ -5,11 +5,12 @@ ghost use Rattle.zarr_words.specs.declared.error.CodecError.TheVariants.{Session
 ghost use Rattle.object_handles.specs.Handles.{IsCounted};
 ghost use Rattle.object_handles.specs.Objects.{ObjectTests};
 ghost use Rattle.codec_laws.specs.Reads.{cells_at, IsAnswer, AskedTests};
-ghost use Rattle.sharding_core.specs.Decoders.{object_cells, ObjectCellsTests};
+ghost use Rattle.shard_opening.specs.Held.{object_cells};
+ghost use Rattle.sharding_core.specs.Decoders.{ObjectCellsTests};
 ghost use Rattle.sharding_core.specs.Sessions.{IsInStep, IsLeft};
 
 use super::ShardState;
-use crate::codec::ShardingCodec;
+use crate::codec::{ShardingCodec, lent};
 use codec_laws::ArrayToBytesCodecTraits;
 use object_handles::BytesPartialEncoderTraits;
 use shard_cells::check_asked;
@@ -31,6 +32,7 @@ impl<
         options: &CodecOptions,
     ) -> Result<ArrayBytes<'static>, CodecError>
         ensures left { IsLeft H.state self.old self.new }
+        ensures was_in_step { IsInStep ⟦<ShardingCodec<I, X> as ArrayToBytesCodecTraits>⟧.meaning X.meaning H.state self.old }
         ensures in_step { IsInStep ⟦<ShardingCodec<I, X> as ArrayToBytesCodecTraits>⟧.meaning X.meaning H.state self.new }
         ensures usable { OnOk result (self.old.failed ≡ false) }
         ensures answer { IfOk result (IsAnswer self.old.geo (N.selection indexer.now)) }
@@ -54,10 +56,10 @@ impl<
             &self.opened.shard.shape,
             &self.opened.shard.data_type,
         )?;
-        let array = self.codec.read_open(
+        let array = self.opened.shard.read(
+            &lent!(self.codec),
             alloc,
             &mut self.handle,
-            &self.opened.shard,
             count,
             indexer,
             options,

@@ -1,125 +1,22 @@
 // Writes into a session.
-ghost use Rattle.std.specs.Prelude.{◌≡◌, false, IsTrue, IfOk, IfErr, IfSome, IfNone, OnOk, All, length, replicate};
+ghost use Rattle.std.specs.Prelude.{◌≡◌, false, IsTrue, IfErr, IfSome, OnOk};
 ghost use Rattle.zarr_parts.specs.Order.{◌or◌then◌, RefusedBy};
-ghost use Rattle.zarr_parts.specs.Numbering.{AllPositive, count_of};
-ghost use Rattle.zarr_parts.specs.Boxes.{IsBox, LiesIn};
-ghost use Rattle.zarr_parts.specs.Grid.{grid_of};
-ghost use Rattle.zarr_parts.specs.Geo.{geo};
-ghost use Rattle.zarr_parts.specs.Types.{size_of, FitsKind};
 ghost use Rattle.zarr_words.specs.declared.error.CodecError.TheVariants.{SessionFailed};
-ghost use Rattle.object_handles.specs.Handles.{IsRead, IsCounted};
+ghost use Rattle.object_handles.specs.Handles.{IsCounted};
 ghost use Rattle.object_handles.specs.Objects.{ObjectTests};
-ghost use Rattle.shard_format.specs.Index.{absent_number};
 ghost use Rattle.shard_cells.specs.Updates.{UpdateTests, IsUpdateOf};
-ghost use Rattle.shard_writing.specs.Changes.{object_after};
-ghost use Rattle.shard_writing.specs.Writing.{HoldsNumbers, IsHeld, AreOverlaid};
-ghost use Rattle.sharding_core.specs.Decoders.{held_len, index_in, object_cells};
-ghost use Rattle.sharding_core.specs.Sessions.{IsHeldOpen, IsInStep, IsDone, IsLeftOrFailed, numbers_held};
-ghost use Rattle.sharding_core.specs.SessionWrites.{IsWritten, WrittenTests, BoxTested, held_after};
+ghost use Rattle.shard_writing.specs.Writing.{AreOverlaid};
+ghost use Rattle.shard_opening.specs.Held.{object_cells};
+ghost use Rattle.sharding_core.specs.Sessions.{IsInStep, IsDone, IsLeftOrFailed};
+ghost use Rattle.sharding_core.specs.SessionWrites.{IsWritten, WrittenTests, BoxTested};
 
-use super::{OpenSession, ShardState};
-use crate::codec::ShardingCodec;
+use super::ShardState;
+use crate::codec::{ShardingCodec, lent};
 use codec_laws::ArrayToBytesCodecTraits;
-use object_handles::{BytesPartialDecoderTraits, BytesPartialEncoderTraits};
+use object_handles::BytesPartialEncoderTraits;
 use shard_cells::check_update;
-use shard_format::ShardIndex;
-use shard_index::{IndexCodec, without_pairs};
-use shard_subchunks::Subchunks;
-use shard_writing::{Change, Prepared, Writing};
 use std::alloc::Global;
-use zarr_parts::{ArrayBytes, ArraySubset, CodecError, CodecOptions, Indexer};
-
-// Holds what a write left.
-fn hold(opened: &mut OpenSession, prepared: Prepared)
-    ensures shard { opened.new.shard ≡ record opened.old.shard { held = held_after prepared.change prepared.len prepared.numbers } }
-    ensures plan { opened.new.plan ≡ opened.old.plan }
-    ensures blank { IfNone opened.new.shard.held (opened.new.blank.items ≡ replicate (length prepared.numbers.items) absent_number) }
-{
-    let Prepared {
-        change,
-        len,
-        numbers,
-    } = prepared;
-    match change {
-        Change::Erase => {
-            opened.shard.held = None;
-            opened.blank = without_pairs(numbers);
-        }
-        Change::Replace(_) => opened.shard.held = Some(ShardIndex { len, numbers }),
-        Change::Append { .. } => opened.shard.held = Some(ShardIndex { len, numbers }),
-    }
-}
-
-// The length of the object of which an index is held, and the index's numbers: without an object the blank ones.
-fn held_index(opened: &OpenSession) -> (u64, &[u64])
-    ensures len { result.0 ≡ held_len opened.now.shard.held }
-    ensures numbers { result.1.now ≡ numbers_held opened.now.shard.held opened.now.blank.items }
-{
-    match &opened.shard.held {
-        Some(index) => (index.len, &index.numbers),
-        None => (0, &opened.blank),
-    }
-}
-
-impl<I: ArrayToBytesCodecTraits, X: ArrayToBytesCodecTraits> ShardingCodec<I, X> {
-    // All that a write reads, grows and encodes before its one writing call.
-    fn prepare_write<H: BytesPartialDecoderTraits>(
-        &self,
-        alloc: Global,
-        handle: &mut H,
-        opened: &OpenSession,
-        subset: &ArraySubset,
-        update: &ArrayBytes,
-        options: &CodecOptions,
-    ) -> Result<Prepared, CodecError>
-        requires held { IsHeldOpen ⟦<Self as ArrayToBytesCodecTraits>⟧.meaning X.meaning H.state self.now handle.old false opened.now }
-        requires well_formed { IsBox subset.now.start subset.now.shape }
-        requires positive { AllPositive opened.now.shard.shape }
-        requires inside { LiesIn subset.now opened.now.shard.shape }
-        requires kind { update.now.kind ≡ size_of opened.now.shard.data_type }
-        requires fitting { All (FitsKind update.now.kind) update.now.elements }
-        requires counted { length update.now.elements ≡ count_of subset.now.shape }
-        ensures read { IsRead (H.state handle.old) (H.state handle.new) }
-        ensures held { IfOk result (λ p. IsHeld self.now.location opened.now.plan.size (count_of (grid_of opened.now.shard.shape self.now.subchunk_shape)) p.len p.numbers.items) }
-        ensures told { let g = geo opened.now.shard.shape opened.now.shard.data_type opened.now.shard.fill_value in
-            IfOk result (λ p. IsTrue (H.state handle.old).tells
-            → HoldsNumbers (index_in X.meaning self.now g) (object_after p.change (H.state handle.old).contents) p.len p.numbers.items) }
-        ensures written { let g = geo opened.now.shard.shape opened.now.shard.data_type opened.now.shard.fill_value in
-            IfOk result (λ p. IsTrue (H.state handle.old).tells
-            → IsWritten I.meaning X.meaning self.now g subset.now update.now.elements (H.state handle.old).contents
-            (numbers_held opened.now.shard.held opened.now.blank.items) (object_after p.change (H.state handle.old).contents) p.numbers.items) }
-        ensures cells { let codec = ⟦<Self as ArrayToBytesCodecTraits>⟧ in let g = geo opened.now.shard.shape opened.now.shard.data_type opened.now.shard.fill_value in
-            IfOk result (λ p. IsTrue (H.state handle.old).tells
-            → AreOverlaid g.shape subset.now update.now.elements (object_cells (codec.meaning self.now g).cells g (H.state handle.old).contents)
-            (object_cells (codec.meaning self.now g).cells g (object_after p.change (H.state handle.old).contents))) }
-        ensures fault { IfErr result (IsCounted (H.state handle.old) (H.state handle.new)) }
-        ensures refused { let g = geo opened.now.shard.shape opened.now.shard.data_type opened.now.shard.fill_value in
-            IfErr result (RefusedBy (ObjectTests (H.state handle.old) (H.state handle.new) (
-            WrittenTests I.meaning X.meaning self.now g subset.now update.now.elements (H.state handle.old).contents
-            (numbers_held opened.now.shard.held opened.now.blank.items)))) }
-    {
-        let shard = &opened.shard;
-        let writing = Writing {
-            subchunks: Subchunks {
-                codec: &self.inner,
-                shape: &self.subchunk_shape,
-                data_type: &shard.data_type,
-                fill_value: &shard.fill_value,
-                options,
-            },
-            index_codec: IndexCodec {
-                codec: &self.index_codec,
-                location: self.location,
-            },
-            plan: &opened.plan,
-            shape: &shard.shape,
-        };
-        let places = shard.cells / shard.subchunks;
-        let (len, numbers) = held_index(opened);
-        let prepared = writing.prepare(alloc, handle, places, len, numbers, subset, update)?;
-        Ok(prepared)
-    }
-}
+use zarr_parts::{ArrayBytes, CodecError, CodecOptions, Indexer};
 
 impl<
     'a,
@@ -143,6 +40,7 @@ impl<
         bytes: &ArrayBytes,
         options: &CodecOptions,
     ) -> Result<(), CodecError>
+        ensures was_in_step { IsInStep ⟦<ShardingCodec<I, X> as ArrayToBytesCodecTraits>⟧.meaning X.meaning H.state self.old }
         ensures in_step { IsInStep ⟦<ShardingCodec<I, X> as ArrayToBytesCodecTraits>⟧.meaning X.meaning H.state self.new }
         ensures done { OnOk result (IsDone H.state self.old self.new) }
         ensures update { OnOk result (IsUpdateOf self.old.geo.shape self.old.geo.data_type (N.selection indexer.now) bytes.now) }
@@ -167,10 +65,10 @@ impl<
         }
         let shard = &self.opened.shard;
         let subset = check_update(indexer, &shard.shape, &shard.data_type, bytes)?;
-        let prepared = self.codec.prepare_write(
+        let prepared = self.opened.prepare_write(
+            &lent!(self.codec),
             alloc,
             &mut self.handle,
-            &self.opened,
             subset,
             bytes,
             options,
@@ -179,7 +77,7 @@ impl<
             self.failed = error == CodecError::Fault;
             return Err(error);
         }
-        hold(&mut self.opened, prepared);
+        self.opened.hold(prepared);
         Ok(())
     }
 }

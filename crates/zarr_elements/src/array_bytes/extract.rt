@@ -9,7 +9,7 @@ ghost use Rattle.zarr_elements.specs.Refusals.{ValidTests, IsValid};
 
 use super::{ArrayBytes, Held, part_at};
 use crate::data_type::DataType;
-use crate::rows::gather;
+use byte_rows::gather;
 use std::alloc::{AllocError, Global};
 use std::borrow::CowSlice;
 use zarr_boxes::{ArraySubset, check_box, points_in};

@@ -11,7 +11,7 @@ ghost use Rattle.zarr_elements.specs.declared.data_type.DataTypeSize.TheVariants
 use super::{ArrayBytes, Held, part_at};
 use crate::data_type::{DataType, DataTypeSize};
 use crate::fill_value::FillValue;
-use crate::pieces::fill_run;
+use byte_rows::fill_run;
 use std::alloc::{AllocError, Global};
 use std::borrow::CowSlice;
 use zarr_words::CodecError;

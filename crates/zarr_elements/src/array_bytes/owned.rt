@@ -54,10 +54,10 @@ impl ArrayBytes<'_> {
     {
         let held = match &self.held {
             Held::Fixed(size) => Held::Fixed(*size),
-            Held::Variable(offsets) => Held::Variable(offsets.as_slice().to_vec(alloc)?),
+            Held::Variable(offsets) => Held::Variable(Vec::from_slice(alloc, offsets)?),
         };
         Ok(ArrayBytes {
-            bytes: CowSlice::Owned(self.bytes.as_slice().to_vec(alloc)?),
+            bytes: CowSlice::Owned(Vec::from_slice(alloc, &self.bytes)?),
             held,
         })
     }
@@ -67,8 +67,12 @@ impl ArrayBytes<'_> {
         ensures { IfOk result (λ owned. owned ≡ self.entry) }
     {
         let ArrayBytes { bytes, held } = self;
+        let owned = match bytes {
+            CowSlice::Borrowed(lent) => Vec::from_slice(alloc, lent)?,
+            CowSlice::Owned(owned) => owned,
+        };
         Ok(ArrayBytes {
-            bytes: CowSlice::Owned(bytes.into_owned(alloc)?),
+            bytes: CowSlice::Owned(owned),
             held,
         })
     }

@@ -10,7 +10,7 @@ ghost use Rattle.zarr_elements.specs.Refusals.{ValidTests, IsValid};
 use super::extract::check_whole;
 use super::{ArrayBytes, Held, part_at};
 use crate::data_type::DataType;
-use crate::rows::scatter;
+use byte_rows::scatter;
 use std::alloc::{AllocError, Global};
 use std::borrow::CowSlice;
 use zarr_boxes::{ArraySubset, points_in};
@@ -33,7 +33,7 @@ fn update_fixed(
     ensures { IfOk result (λ new. IsOverlaid subset.now shape.now
         (fixed_array size bytes.now) (fixed_array size update.now) new) }
 {
-    let mut output = bytes.to_vec(alloc)?;
+    let mut output = Vec::from_slice(alloc, bytes)?;
     scatter(&mut output, size, subset, shape, update);
     Ok(ArrayBytes {
         bytes: CowSlice::Owned(output),

@@ -1,63 +1,51 @@
-use Rattle.std.proofs.Common.{◌%◌, ◌≡◌, ◌∙◌, ap, length, sym}
+use Rattle.std.proofs.Common.{◌≡◌, ◌∙◌, ◌+◌, ◌%◌, ◌^◌, ◌<◌, sym}
 use Rattle.std.proofs.lemmas.List.Elements.{length_all_zip}
-use Rattle.zarr_parts.specs.Boxes.{Region}
-use Rattle.codec_laws.specs.RefusalLaws.{passed_on}
-use Rattle.shard_format.proofs.BoxLemmas.{box_refused}
-use Rattle.shard_cells.proofs.MeetingLemmas.{same_axes, axes_refused, origin_in_box, origin_in_sub, meets}
+use Rattle.zarr_boxes.proofs.BoxLaws.{lies_in_length}
+use Rattle.zarr_boxes.proofs.GridLaws.{length-grid}
+use Rattle.zarr_boxes.proofs.MeetingLaws.{subchunk_well_formed}
+use Rattle.shard_cells.proofs.MeetingLemmas.{spans_meet}
 use Rattle.shard_cells.proofs.meeting.meeting_of.Goals as goal
 
-pub returns-in_err-cells-clause-refused : goal.returns-in_err-cells-clause-refused
-returns-in_err-cells-clause-refused c =
+pub spans_of-requires-clause-axes : goal.spans_of-requires-clause-axes
+spans_of-requires-clause-axes c =
+    let box = c.args.subset.now in
     let shape = c.args.shape.now in
     let sub = c.args.sub.now in
-    let e = c.in_err-cells.field-0.0 in
-    let below = rw c.requires.grid at c.requires.below in
-    let refused = rw c.requires.grid at c.in_err-cells.ensures.refused in
-    let axes = sym (length_all_zip (λ part axis. axis % part ≡ 0) sub shape c.requires.divides) in
-    passed_on _ e _ c.from_residual.ensures.1 (box_refused shape sub c.args.number c.as_slice-axes.ensures.positive c.requires.divides c.requires.fits below e axes refused)
+    rw (c.start.ensures.value, c.as_slice-2.ensures.value)
+    (lies_in_length box.start box.shape shape (length_all_zip (λ first len. first + len < 2 ^ 64) box.start box.shape c.start.ensures.well_formed) c.requires.inside
+    ∙ sym (length_all_zip (λ part axis. axis % part ≡ 0) sub shape c.requires.divides))
 
-pub returns-in_err-both-clause-refused : goal.returns-in_err-both-clause-refused
-returns-in_err-both-clause-refused c =
+pub spans_of-requires-clause-grid_axes : goal.spans_of-requires-clause-grid_axes
+spans_of-requires-clause-grid_axes c =
     let shape = c.args.shape.now in
     let sub = c.args.sub.now in
-    let box = c.args.subset.now in
-    let e = c.in_err-both.field-0.0 in
-    let below = rw c.requires.grid at c.requires.below in
-    let found = (rw (c.in-Some.is, c.requires.grid) at c.in_ok-cells.ensures.subset).1 in
-    let axes = same_axes shape sub c.args.number box c.as_slice-axes.ensures.positive c.requires.fits c.requires.divides below c.start-start.ensures.well_formed c.requires.inside ∙ sym (ap (λ (r : Region). length r.start) found) in
-    passed_on _ e _ c.from_residual-in_err-both.ensures.1 (axes_refused box c.in-Some.cells e axes c.in_err-both.ensures.refused)
+    rw (c.as_slice.ensures.value, c.as_slice-2.ensures.value, c.requires.grid)
+    (length-grid shape sub c.requires.divides ∙ sym (length_all_zip (λ part axis. axis % part ≡ 0) sub shape c.requires.divides))
 
-pub returns-in_err-in_sub-clause-refused : goal.returns-in_err-in_sub-clause-refused
-returns-in_err-in_sub-clause-refused c =
-    let box = c.args.subset.now in
-    let e = c.in_err-in_sub.field-0.0 in
-    let below = rw c.requires.grid at c.requires.below in
-    let found = (rw (c.in-Some.is, c.requires.grid) at c.in_ok-cells.ensures.subset).1 in
-    let both = rw found at c.in_ok-both.ensures.overlap in
-    let refused = rw c.start.ensures.value at c.in_err-in_sub.ensures.refused in
-    passed_on _ e _ c.from_residual-in_err-in_sub.ensures.1
-    (origin_in_sub c.args.shape.now c.args.sub.now c.args.number box c.as_slice-axes.ensures.positive c.requires.fits c.requires.divides below c.start-start.ensures.well_formed c.requires.inside c.requires.touches
-    c.in_ok-both.both c.in-Some.cells e both found refused)
+pub spans_of-requires-clause-fits : goal.spans_of-requires-clause-fits
+spans_of-requires-clause-fits c =
+    rw (c.as_slice.ensures.value, c.as_slice-2.ensures.value, c.requires.grid)
+    (subchunk_well_formed c.args.shape.now c.args.sub.now c.args.number c.args.subset.now c.as_slice-axes.ensures.positive c.requires.fits c.requires.divides
+    (rw c.requires.grid at c.requires.below) c.start.ensures.well_formed c.requires.inside)
 
-pub returns-in_err-in_box-clause-refused : goal.returns-in_err-in_box-clause-refused
-returns-in_err-in_box-clause-refused c =
-    let box = c.args.subset.now in
-    let e = c.in_err-in_box.field-0.0 in
-    let below = rw c.requires.grid at c.requires.below in
-    let found = (rw (c.in-Some.is, c.requires.grid) at c.in_ok-cells.ensures.subset).1 in
-    let both = rw found at c.in_ok-both.ensures.overlap in
-    let refused = rw c.start-start.ensures.value at c.in_err-in_box.ensures.refused in
-    passed_on _ e _ c.from_residual-in_err-in_box.ensures.1
-    (origin_in_box c.args.shape.now c.args.sub.now c.args.number box c.as_slice-axes.ensures.positive c.requires.fits c.requires.divides below c.start-start.ensures.well_formed c.requires.inside c.requires.touches
-    c.in_ok-both.both e both refused)
+pub unreachable-requires : goal.unreachable-requires
+unreachable-requires c =
+    let m = spans_meet c.args.shape.now c.args.sub.now c.args.number c.args.subset.now c.as_slice-axes.ensures.positive c.requires.fits c.requires.divides
+    (rw c.requires.grid at c.requires.below) c.start.ensures.well_formed c.requires.inside c.requires.touches _ _ _ _ _ _
+    c.start.ensures.value c.shape.ensures.value (c.as_slice.ensures.value ∙ c.requires.grid) c.as_slice-2.ensures.value c.in_ok-in_sub.ensures.in_sub c.in_ok-in_sub.ensures.in_box in
+    c.in_default.ensures (rw (c.in_ok-same_lengths.ensures.items ∙ c.deref.ensures.value) m.sub_well_formed)
+
+pub unreachable-requires-in_default-new_with_start_shape : goal.unreachable-requires-in_default-new_with_start_shape
+unreachable-requires-in_default-new_with_start_shape c =
+    let m = spans_meet c.args.shape.now c.args.sub.now c.args.number c.args.subset.now c.as_slice-axes.ensures.positive c.requires.fits c.requires.divides
+    (rw c.requires.grid at c.requires.below) c.start.ensures.well_formed c.requires.inside c.requires.touches _ _ _ _ _ _
+    c.start.ensures.value c.shape.ensures.value (c.as_slice.ensures.value ∙ c.requires.grid) c.as_slice-2.ensures.value c.in_ok-in_sub.ensures.in_sub c.in_ok-in_sub.ensures.in_box in
+    c.in_default-new_with_start_shape.ensures m.box_well_formed
 
 pub returns-clause-meets : goal.returns-clause-meets
 returns-clause-meets c =
-    let box = c.args.subset.now in
-    let below = rw c.requires.grid at c.requires.below in
-    let found = (rw (c.in-Some.is, c.requires.grid) at c.in_ok-cells.ensures.subset).1 in
-    let both = rw found at c.in_ok-both.ensures.overlap in
-    let in_sub = rw (c.start.ensures.value, both, found) at c.in_ok-in_sub.ensures.relative in
-    let in_box = rw (c.start-start.ensures.value, both) at c.in_ok-in_box.ensures.relative in
-    meets c.args.shape.now c.args.sub.now c.args.number box c.as_slice-axes.ensures.positive c.requires.fits c.requires.divides below c.start-start.ensures.well_formed c.requires.inside c.requires.touches
-    c.in_ok-in_sub.in_sub c.in_ok-in_box.in_box in_sub in_box
+    let m = spans_meet c.args.shape.now c.args.sub.now c.args.number c.args.subset.now c.as_slice-axes.ensures.positive c.requires.fits c.requires.divides
+    (rw c.requires.grid at c.requires.below) c.start.ensures.well_formed c.requires.inside c.requires.touches _ _ _ _ _ _
+    c.start.ensures.value c.shape.ensures.value (c.as_slice.ensures.value ∙ c.requires.grid) c.as_slice-2.ensures.value c.in_ok-in_sub.ensures.in_sub c.in_ok-in_sub.ensures.in_box in
+    let same = c.in_ok-same_lengths.ensures.items ∙ c.deref.ensures.value in
+    rw (c.in-Some.ensures.1, c.in-Some-new_with_start_shape.ensures.1, same) m

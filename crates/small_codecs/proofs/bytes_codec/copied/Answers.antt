@@ -6,7 +6,7 @@ use Rattle.small_codecs.proofs.bytes_codec.copied.Goals.{then-reversed, else-rev
 
 pub returns : goal.returns
 returns c =
-    let copy : c.in_ok-copy.copy.items ≡ c.args.bytes.now = c.in_ok-copy.ensures.items_if_clones_equal (λ x y h. h) in
+    let copy = c.in_ok-copy.ensures.items in
     elim c.if-reversed.branch [
       | then-reversed w ↦
           rw (w.if-reversed.true, w.copy-is)

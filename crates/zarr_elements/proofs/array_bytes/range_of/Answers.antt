@@ -1,4 +1,4 @@
-use Rattle.std.proofs.Common.{◌+◌, ◌*◌, ◌/◌, ◌≤◌, length, arith}
+use Rattle.std.proofs.Common.{◌+◌, ◌/◌, length, arith}
 use Rattle.std.proofs.lemmas.Nat.{mul-le}
 use Rattle.zarr_elements.proofs.ArrayLaws.{whole_bytes}
 use Rattle.zarr_elements.proofs.TakenLaws.{range_taken}

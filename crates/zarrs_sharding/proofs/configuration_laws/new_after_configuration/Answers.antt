@@ -16,11 +16,11 @@ returns-in_err-configuration-clause-refused g c =
     let x = g.X.CodecTraitsV3 in
     let s = c.args._codec.now in
     let told = shard_told (i.told s.inner) (x.told s.index_codec) s in
-    let first = configuration_in (object (shard_written (metadata_of i.own_name (i.written s.inner)) (metadata_of x.own_name (x.written s.index_codec)) s)) in
+    let first = configuration_in (object (shard_written (metadata_of (i.own_name s.inner) (i.written s.inner)) (metadata_of (x.own_name s.index_codec) (x.written s.index_codec)) s)) in
     let later = shard_of (codec_in_list (codes "codecs") i.named i.configured) (codec_in_list (codes "index_codecs") x.named x.configured) in
-    let whole = shard_remembers i.named x.named i.configured x.configured i.own_name x.own_name (i.written s.inner) (x.written s.index_codec)
-    s (i.told s.inner) (x.told s.index_codec) c.requires.valid.0 g.met.I.CodecTraitsV3.names_itself (g.met.I.CodecTraitsV3.remembers s.inner c.requires.valid.1)
-    g.met.X.CodecTraitsV3.names_itself (g.met.X.CodecTraitsV3.remembers s.index_codec c.requires.valid.2) in
+    let whole = shard_remembers i.named x.named i.configured x.configured (i.own_name s.inner) (x.own_name s.index_codec) (i.written s.inner) (x.written s.index_codec)
+    s (i.told s.inner) (x.told s.index_codec) c.requires.valid.0 (g.met.I.CodecTraitsV3.names_itself s.inner) (g.met.I.CodecTraitsV3.remembers s.inner c.requires.valid.1)
+    (g.met.X.CodecTraitsV3.names_itself s.index_codec) (g.met.X.CodecTraitsV3.remembers s.index_codec c.requires.valid.2) in
     let refused = rw c.requires.written at c.in_err-configuration.ensures.refused in
     passes_on _ c.in_err-configuration.field-0.0 _ c.from_residual.ensures.1
     (first_unrefused first later told c.in_err-configuration.field-0.0 whole refused)
@@ -31,11 +31,11 @@ returns-clause-same g c =
     let x = g.X.CodecTraitsV3 in
     let s = c.args._codec.now in
     let told = shard_told (i.told s.inner) (x.told s.index_codec) s in
-    let first = configuration_in (object (shard_written (metadata_of i.own_name (i.written s.inner)) (metadata_of x.own_name (x.written s.index_codec)) s)) in
+    let first = configuration_in (object (shard_written (metadata_of (i.own_name s.inner) (i.written s.inner)) (metadata_of (x.own_name s.index_codec) (x.written s.index_codec)) s)) in
     let later = shard_of (codec_in_list (codes "codecs") i.named i.configured) (codec_in_list (codes "index_codecs") x.named x.configured) in
-    let whole = shard_remembers i.named x.named i.configured x.configured i.own_name x.own_name (i.written s.inner) (x.written s.index_codec)
-    s (i.told s.inner) (x.told s.index_codec) c.requires.valid.0 g.met.I.CodecTraitsV3.names_itself (g.met.I.CodecTraitsV3.remembers s.inner c.requires.valid.1)
-    g.met.X.CodecTraitsV3.names_itself (g.met.X.CodecTraitsV3.remembers s.index_codec c.requires.valid.2) in
+    let whole = shard_remembers i.named x.named i.configured x.configured (i.own_name s.inner) (x.own_name s.index_codec) (i.written s.inner) (x.written s.index_codec)
+    s (i.told s.inner) (x.told s.index_codec) c.requires.valid.0 (g.met.I.CodecTraitsV3.names_itself s.inner) (g.met.I.CodecTraitsV3.remembers s.inner c.requires.valid.1)
+    (g.met.X.CodecTraitsV3.names_itself s.index_codec) (g.met.X.CodecTraitsV3.remembers s.index_codec c.requires.valid.2) in
     let read = rw c.requires.written at c.in_ok-configuration.ensures.read in
     let is = read_later first later told (configuration_of c.in_ok-configuration.configuration) whole read in
     IfOk-weaker _ _ _ (λ codec other. read_same (later (configuration_of c.in_ok-configuration.configuration)) told codec is other)
@@ -47,11 +47,11 @@ returns-clause-again g c =
     let x = g.X.CodecTraitsV3 in
     let s = c.args._codec.now in
     let told = shard_told (i.told s.inner) (x.told s.index_codec) s in
-    let first = configuration_in (object (shard_written (metadata_of i.own_name (i.written s.inner)) (metadata_of x.own_name (x.written s.index_codec)) s)) in
+    let first = configuration_in (object (shard_written (metadata_of (i.own_name s.inner) (i.written s.inner)) (metadata_of (x.own_name s.index_codec) (x.written s.index_codec)) s)) in
     let later = shard_of (codec_in_list (codes "codecs") i.named i.configured) (codec_in_list (codes "index_codecs") x.named x.configured) in
-    let whole = shard_remembers i.named x.named i.configured x.configured i.own_name x.own_name (i.written s.inner) (x.written s.index_codec)
-    s (i.told s.inner) (x.told s.index_codec) c.requires.valid.0 g.met.I.CodecTraitsV3.names_itself (g.met.I.CodecTraitsV3.remembers s.inner c.requires.valid.1)
-    g.met.X.CodecTraitsV3.names_itself (g.met.X.CodecTraitsV3.remembers s.index_codec c.requires.valid.2) in
+    let whole = shard_remembers i.named x.named i.configured x.configured (i.own_name s.inner) (x.own_name s.index_codec) (i.written s.inner) (x.written s.index_codec)
+    s (i.told s.inner) (x.told s.index_codec) c.requires.valid.0 (g.met.I.CodecTraitsV3.names_itself s.inner) (g.met.I.CodecTraitsV3.remembers s.inner c.requires.valid.1)
+    (g.met.X.CodecTraitsV3.names_itself s.index_codec) (g.met.X.CodecTraitsV3.remembers s.index_codec c.requires.valid.2) in
     let read = rw c.requires.written at c.in_ok-configuration.ensures.read in
     let is = read_later first later told (configuration_of c.in_ok-configuration.configuration) whole read in
     IfOk-weaker _ _ _ (λ codec other.
@@ -66,11 +66,11 @@ returns-clause-refused g c =
     let x = g.X.CodecTraitsV3 in
     let s = c.args._codec.now in
     let told = shard_told (i.told s.inner) (x.told s.index_codec) s in
-    let first = configuration_in (object (shard_written (metadata_of i.own_name (i.written s.inner)) (metadata_of x.own_name (x.written s.index_codec)) s)) in
+    let first = configuration_in (object (shard_written (metadata_of (i.own_name s.inner) (i.written s.inner)) (metadata_of (x.own_name s.index_codec) (x.written s.index_codec)) s)) in
     let later = shard_of (codec_in_list (codes "codecs") i.named i.configured) (codec_in_list (codes "index_codecs") x.named x.configured) in
-    let whole = shard_remembers i.named x.named i.configured x.configured i.own_name x.own_name (i.written s.inner) (x.written s.index_codec)
-    s (i.told s.inner) (x.told s.index_codec) c.requires.valid.0 g.met.I.CodecTraitsV3.names_itself (g.met.I.CodecTraitsV3.remembers s.inner c.requires.valid.1)
-    g.met.X.CodecTraitsV3.names_itself (g.met.X.CodecTraitsV3.remembers s.index_codec c.requires.valid.2) in
+    let whole = shard_remembers i.named x.named i.configured x.configured (i.own_name s.inner) (x.own_name s.index_codec) (i.written s.inner) (x.written s.index_codec)
+    s (i.told s.inner) (x.told s.index_codec) c.requires.valid.0 (g.met.I.CodecTraitsV3.names_itself s.inner) (g.met.I.CodecTraitsV3.remembers s.inner c.requires.valid.1)
+    (g.met.X.CodecTraitsV3.names_itself s.index_codec) (g.met.X.CodecTraitsV3.remembers s.index_codec c.requires.valid.2) in
     let read = rw c.requires.written at c.in_ok-configuration.ensures.read in
     let is = read_later first later told (configuration_of c.in_ok-configuration.configuration) whole read in
     IfErr-weaker _ _ _ (λ e refused. unrefused (later (configuration_of c.in_ok-configuration.configuration)) told e is refused)

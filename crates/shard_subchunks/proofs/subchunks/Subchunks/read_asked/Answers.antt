@@ -7,11 +7,14 @@ use Rattle.shard_subchunks.proofs.subchunks.Subchunks.read_asked.Goals as goal
 pub read_box-requires-clause-count : goal.read_box-requires-clause-count
 read_box-requires-clause-count g c = c.requires.count ∙ (ap (λ (s : Selection). length s.points) c.in-Some.ensures.some ∙ length-points_of c.in-Some.subset.now)
 
-pub returns-then-is_some-clause-cells : goal.returns-then-is_some-clause-cells
-returns-then-is_some-clause-cells g c = rw c.in-Some.ensures.some (rw (numbers_of-points_of c.in-Some.subset.now c.args.shape.now) at c.read_box.ensures.cells)
+pub returns-then-in_room-clause-cells : goal.returns-then-in_room-clause-cells
+returns-then-in_room-clause-cells g c = rw c.in-Some.ensures.some (rw (numbers_of-points_of c.in-Some.subset.now c.args.shape.now) at c.read_box.ensures.cells)
 
-pub returns-then-is_some-clause-refused : goal.returns-then-is_some-clause-refused
-returns-then-is_some-clause-refused g c = rw c.in-Some.ensures.some (rw (numbers_of-points_of c.in-Some.subset.now c.args.shape.now) at c.read_box.ensures.refused)
+pub returns-then-in_room-clause-refused : goal.returns-then-in_room-clause-refused
+returns-then-in_room-clause-refused g c = rw c.in-Some.ensures.some (rw (numbers_of-points_of c.in-Some.subset.now c.args.shape.now) at c.read_box.ensures.refused)
 
 pub returns-clause-refused : goal.returns-clause-refused
-returns-clause-refused g c = rw (c.deref.ensures.value, c.in_ok-numbers.ensures.numbers) at c.read_cells.ensures.refused
+returns-clause-refused g c = rw (c.deref-2.ensures.value, c.in_ok-numbers.ensures.numbers) at c.read_cells.ensures.refused
+
+pub returns-then-in_room-2-clause-refused : goal.returns-then-in_room-2-clause-refused
+returns-then-in_room-2-clause-refused g c = rw (c.deref.ensures.value, c.in_ok-numbers.ensures.numbers) at c.read_listed.ensures.refused

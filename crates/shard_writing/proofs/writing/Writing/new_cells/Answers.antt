@@ -4,7 +4,7 @@ use Rattle.object_handles.specs.Writes.{bytes_of}
 use Rattle.shard_format.specs.Cells.{cell_in}
 use Rattle.codec_laws.specs.RefusalLaws.{passed_on}
 use Rattle.shard_subchunks.specs.Inner.{subchunk_geo, inner_meaning}
-use Rattle.shard_writing.proofs.CellLemmas.{axes_of, no_straddle, covered_array, covered_cells, overlaid_array, overlaid_part, straddles, taken_refused, put_refused}
+use Rattle.shard_writing.proofs.CellLemmas.{axes_of, counted_part, no_straddle, covered_array, covered_cells, overlaid_array, overlaid_part, straddles, taken_refused, put_refused}
 use Rattle.shard_writing.proofs.writing.Writing.new_cells.Goals as goal
 
 pub returns-in_err-part-clause-refused : goal.returns-in_err-part-clause-refused
@@ -93,3 +93,11 @@ returns-clause-array g c =
     let updated = rw c.as_slice-sub.ensures.value at c.in_ok-new.ensures.updated in
     overlaid_array s.shape.now (subchunk_geo s.subchunks) a.subset.now a.number meeting.in_sub meeting.in_box c.in_ok-meeting.ensures.meets
     a.update.now c.in_ok-part.part c.in_ok-old.old c.in_ok-new.new part c.requires.all c.requires.fitting updated c.in_ok-old.ensures.array
+
+pub overlaid-requires-clause-all_part : goal.overlaid-requires-clause-all_part
+overlaid-requires-clause-all_part g c =
+    let a = c.args in
+    let s = a.self.now in
+    let meeting = c.in_ok-meeting.meeting in
+    let part = rw c.shape.ensures.value at c.in_ok-part.ensures.extracted in
+    counted_part s.shape.now (subchunk_geo s.subchunks) a.subset.now a.number meeting.in_sub meeting.in_box c.in_ok-meeting.ensures.meets a.update.now c.in_ok-part.part part

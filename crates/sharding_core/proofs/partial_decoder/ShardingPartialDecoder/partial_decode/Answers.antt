@@ -4,7 +4,7 @@ use Rattle.zarr_parts.specs.Types.{size_of, byte_size}
 use Rattle.object_handles.specs.Objects.{ObjectTests}
 use Rattle.sharding_core.specs.Decoders.{ObjectCellsTests}
 use Rattle.codec_laws.specs.RefusalLaws.{passed_on}
-use Rattle.sharding_core.proofs.DecoderLemmas.{asked_refused}
+use Rattle.shard_opening.proofs.HeldLemmas.{asked_refused}
 use Rattle.sharding_core.proofs.partial_decoder.ShardingPartialDecoder.partial_decode.Goals as goal
 
 pub returns-in_err-array-clause-refused : goal.returns-in_err-array-clause-refused
@@ -19,6 +19,6 @@ returns-in_err-array-clause-refused g c =
     let e = c.in_err-array.field-0.0 in
     rw (← c.self.view_is) (passed_on _ e _ c.from_residual-in_err-array.ensures.1
     (asked_refused asked selection (λ n. n * byte_size (size_of d.shard.data_type) < 2 ^ 64)
-    (ObjectTests (h.state d.handle) (h.state c.read_open.new.handle)
+    (ObjectTests (h.state d.handle) (h.state c.read.new.handle)
     (ObjectCellsTests inner.meaning outer.meaning s asked (h.state d.handle).contents selection.points))
     e c.in_ok-count.ensures.selection c.in_ok-count.ensures.fits c.in_err-array.ensures.refused))

@@ -1,16 +1,16 @@
-use Rattle.std.proofs.Common.{◌≡◌, ◌∙◌, ap, sym, IsTrue}
+use Rattle.std.proofs.Common.{◌∙◌, ap, IsTrue}
 use Rattle.zarr_parts.specs.Boxes.{Region}
 use Rattle.zarr_parts.specs.Geo.{geo}
 use Rattle.zarr_parts.specs.Grid.{grid_of}
-use Rattle.zarr_words.specs.declared.error.CodecError.{CodecError}
 use Rattle.shard_format.specs.Index.{index_geo}
 use Rattle.shard_format.specs.Serves.{sub_geo}
 use Rattle.codec_laws.specs.RefusalLaws.{passed_on}
 use Rattle.shard_writing.specs.Changes.{object_after}
-use Rattle.sharding_core.specs.Meanings.{shard_meaning}
 use Rattle.sharding_core.specs.Sessions.{numbers_held}
 use Rattle.sharding_core.specs.SessionWrites.{WrittenTests}
-use Rattle.sharding_core.proofs.WriteLemmas.{write_open, update_refused, written_after}
+use Rattle.shard_held.proofs.WriteLemmas.{write_open, written_after}
+use Rattle.sharding_core.proofs.SessionLemmas.{meant, session_open}
+use Rattle.sharding_core.proofs.WriteLemmas.{update_refused}
 use Rattle.sharding_core.proofs.state.ShardState.partial_encode.Goals as goal
 
 pub returns-in_err-prepared-clause-refused : goal.returns-in_err-prepared-clause-refused
@@ -34,14 +34,15 @@ invariant_of-self-2 g c =
     let outer = g.X.ArrayToBytesCodecTraits in
     let h = g.H.BytesPartialDecoderTraits in
     let s = c.self.inside in
+    let codec = s.codec.now in
     let p = c.in_ok-prepared.prepared in
     let read = c.prepare_write.ensures.read in
-    write_open (λ codec g. shard_meaning codec (inner.meaning codec.inner (sub_geo codec.subchunk_shape g)) (outer.meaning codec.index_codec (index_geo (grid_of g.shape codec.subchunk_shape))) g)
-    outer.meaning h.state s.codec.now s.handle c.make.new.handle s.failed s.opened c.hold.new.opened p.change p.len p.numbers
-    c.if-self.false c.self.invariant c.in_ok-prepared.ensures.held c.in_ok-prepared.ensures.told
+    session_open (meant inner.meaning outer.meaning) outer.meaning h.state codec c.make.new.handle s.failed c.hold.new.self
+    (write_open (meant inner.meaning outer.meaning codec) (λ grid. outer.meaning codec.index_codec (index_geo grid)) codec.location codec.subchunk_shape h.state s.handle c.make.new.handle s.opened c.hold.new.self p.change p.len p.numbers
+    (c.self.invariant.is_open c.if-self.false) c.in_ok-prepared.ensures.held c.in_ok-prepared.ensures.told
     (λ t. let told : IsTrue (h.state c.prepare_write.new.handle).tells = rw c.make.ensures.writing.tells_same at t in
     (rw read.tells_same at told, c.in_default.ensures.made told ∙ ap (λ o. object_after p.change o) read.contents_same))
-    c.hold.ensures.shard c.hold.ensures.plan c.hold.ensures.blank
+    c.hold.ensures.shard c.hold.ensures.plan c.hold.ensures.blank)
 
 pub returns-clause-in_step : goal.returns-clause-in_step
 returns-clause-in_step g c = (invariant_of-self-2 g c).in_step
@@ -52,14 +53,17 @@ returns-clause-written g c =
     let outer = g.X.ArrayToBytesCodecTraits in
     let h = g.H.BytesPartialDecoderTraits in
     let s = c.self.inside in
+    let codec = s.codec.now in
     let shard = s.opened.shard in
     let asked = geo shard.shape shard.data_type shard.fill_value in
+    let sub_g = sub_geo codec.subchunk_shape asked in
     let p = c.in_ok-prepared.prepared in
     let read = c.prepare_write.ensures.read in
     rw (← c.self.view_is) (λ t.
     let told : IsTrue (h.state c.prepare_write.new.handle).tells = rw read.tells_same t in
-    written_after inner.meaning outer.meaning s.codec.now asked (g.N.Indexer.selection c.args.indexer.now) c.in_ok-subset.subset.now c.args.bytes.now.elements
-    (h.state s.handle).contents (h.state c.make.new.handle).contents (numbers_held shard.held s.opened.blank.items) p.change p.len p.numbers c.hold.new.opened.shard.held c.hold.new.opened.blank.items
+    written_after (inner.meaning codec.inner sub_g) (outer.meaning codec.index_codec (index_geo (grid_of asked.shape codec.subchunk_shape))) codec.location sub_g asked
+    (g.N.Indexer.selection c.args.indexer.now) c.in_ok-subset.subset.now c.args.bytes.now.elements
+    (h.state s.handle).contents (h.state c.make.new.handle).contents (numbers_held shard.held s.opened.blank.items) p.change p.len p.numbers c.hold.new.self.shard.held c.hold.new.self.blank.items
     c.in_ok-subset.ensures.subset (c.in_default.ensures.made told ∙ ap (λ o. object_after p.change o) read.contents_same) (ap (λ x. x.held) c.hold.ensures.shard) c.hold.ensures.blank
     (c.in_ok-prepared.ensures.written t))
 

@@ -1,7 +1,4 @@
-use Rattle.std.proofs.Common.{◌≡◌, ◌+◌, ◌/◌, ◌∙◌, ℕ, List, length, map, ap, arith, refl}
-use Rattle.std.specs.List.{range_with_len}
-use Rattle.zarr_boxes.specs.Pieces.{piece}
-use Rattle.zarr_elements.specs.Arrays.{Array, element_of, fixed_array}
+use Rattle.std.proofs.Common.{◌∙◌, ℕ, List, ap}
 use Rattle.zarr_elements.specs.declared.data_type.DataTypeSize.TheVariants.{Fixed}
 use Rattle.zarr_elements.proofs.ArrayLaws.{length-fixed_array}
 use Rattle.zarr_elements.proofs.TakenLaws.{range_elements}

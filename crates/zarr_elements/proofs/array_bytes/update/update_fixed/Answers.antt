@@ -5,7 +5,7 @@ use Rattle.zarr_elements.proofs.array_bytes.update.update_fixed.Goals as goal
 
 pub returns : goal.returns
 returns c =
-    let same = c.in_ok-output.ensures.items_if_clones_equal (λ x y e. e) in
+    let same = c.in_ok-output.ensures.items in
     let items = c.in_ok-output.output.items in
     let long : length c.scatter.new.output ≡ length items = omega (arith, c.scatter.auto.output, ap length c.deref_mut.ensures.value) in
     let after = whole_after c.in_ok-output.output.len c.scatter.new.output items long (omega (arith, c.in_ok-output.output.ok.0)) in

@@ -1,0 +1,10 @@
+use Rattle.std.proofs.Common.{◌≡◌, ◌*◌, length}
+use Rattle.zarr_boxes.specs.Boxes.{number_in}
+use Rattle.zarr_boxes.specs.Pieces.{piece, IsUpdated}
+use Rattle.byte_rows.proofs.rows.scatter.Given as goal
+
+abbrev pub invariant-loop-q : goal.invariant-loop-q
+invariant-loop-q l = record {
+  whole : length l.output ≡ length l.initial.output;
+  so_far : IsUpdated (l.q * (l.set.rows * l.set.run)) (number_in l.subset l.shape) (piece l.size l.initial.output) (piece l.size l.update) (piece l.size l.output);
+}

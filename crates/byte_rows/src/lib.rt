@@ -1,0 +1,8 @@
+// Elements of one size, one after the other in bytes: runs and boxes of them, filled and copied.
+#![tactic(auto)]
+
+mod pieces;
+mod rows;
+
+pub use pieces::{fill_box, fill_run, piece_at, run_at};
+pub use rows::{gather, gather_into, scatter};

@@ -1,0 +1,112 @@
+// A codec from arrays to arrays before the codec `bytes`: one that takes each byte from 255.
+use crate::examples::{fill, fixed, shape, subset};
+use std::alloc::Global;
+use test_codecs::InvertedCodec;
+use zarr_codecs::{
+    ArrayChain, ArrayToBytesCodecTraits, BytesCodec, FunctionalCodec, Interval, MemoryHandle,
+};
+use zarr_parts::{ArrayBytes, ChunkShape, CodecError, CodecOptions, DataType, FillValue};
+
+// An array of two bytes.
+#[derive(Drop)]
+struct Cells {
+    axes: ChunkShape,
+    zero: FillValue,
+}
+
+fn two_cells(alloc: Global) -> Result<Cells, CodecError> {
+    let axes = shape(alloc, &[2])?;
+    let zero = fill(alloc, &[0])?;
+    Ok(Cells { axes, zero })
+}
+
+fn inverted() -> ArrayChain<InvertedCodec, BytesCodec> {
+    ArrayChain::new(InvertedCodec, BytesCodec::little())
+}
+
+fn encoded(alloc: Global, elements: &[u8]) -> Result<Vec<u8>, CodecError> {
+    let Cells { axes, zero } = two_cells(alloc)?;
+    let array = fixed(elements, 1)?;
+    let options = CodecOptions::default();
+    inverted().encode(alloc, &array, &axes, &DataType::UInt8, &zero, &options)
+}
+
+// What an answer says, for a comparison.
+fn said(answer: &Result<Vec<u8>, CodecError>) -> Result<&[u8], CodecError> {
+    match answer {
+        Ok(bytes) => Ok(bytes.as_slice()),
+        Err(error) => Err(*error),
+    }
+}
+
+// The first codec encodes first, and the second is not given what is no array of the shape.
+#[test]
+fn an_array_is_encoded_before_it_is_laid_out(rt: HostRuntime) {
+    let few = Err(CodecError::InvalidNumberOfElements);
+    for (elements, want) in [([1, 2].as_slice(), Ok([254, 253].as_slice())), (&[1], few)] {
+        assert_eq!(rt; said(&encoded(rt.alloc(), elements)), want);
+    }
+}
+
+fn decoded(alloc: Global, bytes: &[u8]) -> Result<ArrayBytes<'_>, CodecError> {
+    let Cells { axes, zero } = two_cells(alloc)?;
+    let options = CodecOptions::default();
+    inverted().decode(alloc, bytes, &axes, &DataType::UInt8, &zero, &options)
+}
+
+// Whether bytes are decoded as the elements 1 and 2, lent or owned; or the refusal.
+fn is_one_two(alloc: Global, bytes: &[u8]) -> Result<bool, CodecError> {
+    let array = decoded(alloc, bytes)?;
+    let same = array == fixed(&[1, 2], 1)?;
+    let copy = array.try_clone(alloc)?;
+    Ok(same && array.into_owned(alloc)? == copy)
+}
+
+#[test]
+fn an_array_is_decoded_after_its_bytes(rt: HostRuntime) {
+    let damaged = Err(CodecError::Damaged);
+    for (bytes, want) in [
+        ([254, 253].as_slice(), Ok(true)),
+        (&[254, 254], Ok(false)),
+        (&[254], damaged),
+        (&[], damaged),
+    ] {
+        assert_eq!(rt; is_one_two(rt.alloc(), bytes), want, "{bytes:?}");
+    }
+}
+
+// Whether the second cell, read of an interval of 7, 254, 253, 7, is 2; or the refusal.
+fn reads_two(alloc: Global, offset: u64, size: u64) -> Result<bool, CodecError> {
+    let Cells { axes, zero } = two_cells(alloc)?;
+    let second = subset(alloc, &[1..2])?;
+    let mut handle = MemoryHandle::new(Some([7, 254, 253, 7].to_vec(alloc)?));
+    let cells = inverted().partial_decode(
+        alloc,
+        &mut handle,
+        Interval { offset, size },
+        &axes,
+        &DataType::UInt8,
+        &zero,
+        &second,
+        &CodecOptions::default(),
+    )?;
+    Ok(cells == fixed(&[2], 1)?)
+}
+
+// The bytes of an interval are decoded whole.
+#[test]
+fn an_array_is_read_whole(rt: HostRuntime) {
+    assert!(rt; inverted().is_functional());
+    for (offset, size, want) in [
+        (1, 2, Ok(true)),
+        (2, 2, Ok(false)),
+        (1, 3, Err(CodecError::Damaged)),
+        (3, 2, Err(CodecError::OutOfBounds)),
+    ] {
+        assert_eq!(rt;
+            reads_two(rt.alloc(), offset, size),
+            want,
+            "{offset} {size}"
+        );
+    }
+}

@@ -1,0 +1,219 @@
+// The codec for elements that have lengths of their own.
+use crate::examples::{done, fill, fixed, shape, subset};
+use std::alloc::Global;
+use std::borrow::CowSlice;
+use zarr_codecs::{
+    ArrayToBytesCodecTraits, BytesRepresentation, FunctionalCodec, Interval, MemoryHandle,
+    VlenCodec,
+};
+use zarr_parts::{ArrayBytes, ChunkShape, CodecError, CodecOptions, DataType, FillValue};
+
+// The text of the elements "a" and "".
+const TEXT: [u8; 13] = [2, 0, 0, 0, 1, 0, 0, 0, 97, 0, 0, 0, 0];
+
+// An array of two elements.
+#[derive(Drop)]
+struct Pair {
+    axes: ChunkShape,
+    none: FillValue,
+}
+
+fn pair_of(alloc: Global) -> Result<Pair, CodecError> {
+    let axes = shape(alloc, &[2])?;
+    let none = fill(alloc, &[])?;
+    Ok(Pair { axes, none })
+}
+
+// The elements that lie between offsets.
+fn variable<'a>(
+    alloc: Global,
+    bytes: &'a [u8],
+    offsets: &[usize],
+) -> Result<ArrayBytes<'a>, CodecError> {
+    let offsets = offsets.to_vec(alloc)?;
+    ArrayBytes::new_vlen(CowSlice::Borrowed(bytes), offsets).ok_or(CodecError::Fault)
+}
+
+fn encoded(alloc: Global, array: &ArrayBytes, data_type: DataType) -> Result<Vec<u8>, CodecError> {
+    let Pair { axes, none } = pair_of(alloc)?;
+    VlenCodec.encode(
+        alloc,
+        array,
+        &axes,
+        &data_type,
+        &none,
+        &CodecOptions::default(),
+    )
+}
+
+// Whether the elements are encoded as this text.
+fn has_text(
+    alloc: Global,
+    bytes: &[u8],
+    offsets: &[usize],
+    text: &[u8],
+) -> Result<bool, CodecError> {
+    let array = variable(alloc, bytes, offsets)?;
+    let found = encoded(alloc, &array, DataType::Bytes)?;
+    Ok(found.as_slice() == text)
+}
+
+// The count stands before the elements, and each behind its length.
+#[test]
+fn elements_stand_behind_their_lengths(rt: HostRuntime) {
+    for (bytes, offsets, text) in [
+        (b"a".as_slice(), [0, 1, 1], TEXT.as_slice()),
+        (
+            b"bc",
+            [0, 0, 2],
+            &[2, 0, 0, 0, 0, 0, 0, 0, 2, 0, 0, 0, 98, 99],
+        ),
+    ] {
+        let found = has_text(rt.alloc(), bytes, &offsets, text);
+        assert_eq!(rt; found, Ok(true), "{bytes:?}");
+    }
+}
+
+fn refused_encoding(alloc: Global) -> Result<[Result<(), CodecError>; 3], CodecError> {
+    let one = variable(alloc, b"a", &[0, 1])?;
+    let bytes = fixed(&[1, 2], 1)?;
+    Ok([
+        done(encoded(alloc, &one, DataType::UInt8)),
+        done(encoded(alloc, &bytes, DataType::Bytes)),
+        done(encoded(alloc, &one, DataType::Bytes)),
+    ])
+}
+
+// Another type, elements of one size, another number of elements.
+#[test]
+fn what_has_no_text_is_refused(rt: HostRuntime) {
+    let want = [
+        Err(CodecError::UnsupportedDataType),
+        Err(CodecError::WrongElementKind),
+        Err(CodecError::InvalidNumberOfElements),
+    ];
+    assert_eq!(rt; refused_encoding(rt.alloc()), Ok(want));
+}
+
+fn decoded(alloc: Global, text: &[u8]) -> Result<ArrayBytes<'_>, CodecError> {
+    let Pair { axes, none } = pair_of(alloc)?;
+    VlenCodec.decode(
+        alloc,
+        text,
+        &axes,
+        &DataType::Bytes,
+        &none,
+        &CodecOptions::default(),
+    )
+}
+
+fn is_read_again(alloc: Global) -> Result<bool, CodecError> {
+    Ok(decoded(alloc, &TEXT)? == variable(alloc, b"a", &[0, 1, 1])?)
+}
+
+#[test]
+fn a_text_gives_its_elements(rt: HostRuntime) {
+    assert_eq!(rt; is_read_again(rt.alloc()), Ok(true));
+}
+
+// The text with one bit of a byte turned over.
+fn with_bit(alloc: Global, place: usize, bit: u8) -> Result<Vec<u8>, CodecError> {
+    let mut text = TEXT.to_vec(alloc)?;
+    if let Some(byte) = text.get_mut(place) {
+        *byte ^= bit;
+    }
+    Ok(text)
+}
+
+fn refusal_with_bit(alloc: Global, place: usize, bit: u8) -> Result<(), CodecError> {
+    done(decoded(alloc, &with_bit(alloc, place, bit)?))
+}
+
+// Each bit of the count and of both lengths is needed, and no text that claims more than it has is believed.
+#[test]
+fn a_changed_number_is_damaged(rt: HostRuntime) {
+    for place in [0, 1, 2, 3, 4, 5, 6, 7, 9, 10, 11, 12] {
+        for bit in [1, 2, 4, 8, 16, 32, 64, 128] {
+            let found = refusal_with_bit(rt.alloc(), place, bit);
+            assert_eq!(rt; found, Err(CodecError::Damaged), "{place} {bit}");
+        }
+    }
+}
+
+fn refusal_of_front(alloc: Global, len: usize) -> Result<(), CodecError> {
+    done(decoded(alloc, TEXT.get(..len).unwrap_or(&TEXT)))
+}
+
+// Each byte is needed.
+#[test]
+fn a_shorter_text_is_damaged(rt: HostRuntime) {
+    for len in 0..13 {
+        let found = refusal_of_front(rt.alloc(), len);
+        assert_eq!(rt; found, Err(CodecError::Damaged), "{len}");
+    }
+}
+
+// Texts that claim more than they have, and one with a byte behind it.
+#[test]
+fn a_text_of_other_elements_is_damaged(rt: HostRuntime) {
+    for text in [
+        [255, 255, 255, 255].as_slice(),
+        &[2, 0, 0, 0, 255, 255, 255, 255],
+        &[2, 0, 0, 0, 1, 0, 0, 0, 97, 0, 0, 0, 0, 0],
+        &[2, 0, 0, 0, 0, 0, 0, 0],
+        &[1, 0, 0, 0, 1, 0, 0, 0, 97],
+        &[3, 0, 0, 0, 0, 0, 0, 0, 0, 0, 0, 0, 0, 0, 0, 0],
+    ] {
+        let found = done(decoded(rt.alloc(), text));
+        assert_eq!(rt; found, Err(CodecError::Damaged), "{text:?}");
+    }
+}
+
+// Whether the first element, read of an interval of a longer object, is "a"; or the refusal.
+fn read_first(alloc: Global, offset: u64, size: u64) -> Result<bool, CodecError> {
+    let Pair { axes, none } = pair_of(alloc)?;
+    let first = subset(alloc, &[0..1])?;
+    let mut object = [7].to_vec(alloc)?;
+    object.extend_from_slice(&TEXT)?;
+    object.push(7)?;
+    let mut handle = MemoryHandle::new(Some(object));
+    let cells = VlenCodec.partial_decode(
+        alloc,
+        &mut handle,
+        Interval { offset, size },
+        &axes,
+        &DataType::Bytes,
+        &none,
+        &first,
+        &CodecOptions::default(),
+    )?;
+    Ok(cells == variable(alloc, b"a", &[0, 1])?)
+}
+
+// The whole text of the interval is walked, also behind the asked element.
+#[test]
+fn a_text_is_read_whole(rt: HostRuntime) {
+    for (offset, size, want) in [
+        (1, 13, Ok(true)),
+        (1, 12, Err(CodecError::Damaged)),
+        (1, 14, Err(CodecError::Damaged)),
+        (2, 14, Err(CodecError::OutOfBounds)),
+    ] {
+        assert_eq!(rt;
+            read_first(rt.alloc(), offset, size),
+            want,
+            "{offset} {size}"
+        );
+    }
+}
+
+fn told(alloc: Global) -> Result<BytesRepresentation, CodecError> {
+    let Pair { axes, none } = pair_of(alloc)?;
+    VlenCodec.encoded_representation(alloc, &axes, &DataType::Bytes, &none)
+}
+
+#[test]
+fn a_text_may_have_any_length(rt: HostRuntime) {
+    assert!(rt; VlenCodec.is_functional());
+    assert_eq!(rt; told(rt.alloc()), Ok(BytesRepresentation::UnboundedSize));
+}

@@ -1,0 +1,3 @@
+pub mod DefaultCodec
+pub mod DefaultMetadata
+pub mod DefaultMetadataLaws

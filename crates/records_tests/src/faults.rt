@@ -1,0 +1,71 @@
+// Recorded sessions of which one call of the handle fails: at each call in turn, until a run meets no failure.
+ghost use Rattle.std.specs.Prelude.{◌≡◌, Some};
+ghost use Rattle.zarr_parts.specs.Geo.{geo};
+ghost use Rattle.zarr_elements.specs.declared.data_type.DataType.TheVariants.{UInt8};
+
+use crate::shards::{ABSENT, Answer, Call, Shards, called, how_it_ended, object_of};
+use shard_sessions::Naming;
+use std::alloc::Global;
+use std::marker::Brand;
+use std::sync::Wait;
+use std::test::Fail;
+use zarr_codecs::{BytesCodec, FaultingHandle};
+use zarr_parts::CodecError;
+
+// What a run answers to a write and to a read after it, by the numbers of their refusals, 0 where there is none; and its end.
+type Stage = (u8, u8, &'static str);
+
+fn number(answer: &Answer) -> u8 {
+    match answer {
+        Ok(_) => 0,
+        Err(error) => error.number(),
+    }
+}
+
+fn run<J: Naming<BytesCodec, BytesCodec>, R: Wait>(
+    rt: &R,
+    alloc: Global,
+    shards: &Shards,
+    fails_at: u64,
+) -> Result<Stage, CodecError>
+    requires codec_named { Some shards.now.codec ≡ J.codec }
+    requires geo_named { geo shards.now.shape UInt8 shards.now.fill ≡ J.geo }
+{
+    let object = object_of(alloc, &[0, 7], &[0, 2, ABSENT, ABSENT])?;
+    let handle = FaultingHandle::new(Some(object), fails_at);
+    let Ok((encoder, seat)) = shards.recorded::<J>(alloc, handle) else {
+        return Ok((0, 0, "refused"));
+    };
+    let write = Call::Write { cell: 0, value: 1 };
+    let (seat, written) = called(rt, alloc, &encoder, seat, write)?;
+    let (seat, read) = called(rt, alloc, &encoder, seat, Call::Read { first: 0, end: 2 })?;
+    let mut seats = Vec::new(alloc);
+    seats.push(seat)?;
+    let end = how_it_ended(alloc, encoder.close(seats))?;
+    Ok((number(&written), number(&read), end.how))
+}
+
+// A fault at the opening refuses it. One where the write reads, or where the read does, is no event, and the session ends as ever. By one
+// where the write writes the session fails.
+const STAGES: [Stage; 5] = [
+    (0, 0, "refused"),
+    (16, 0, "closed"),
+    (16, 17, "failed"),
+    (0, 16, "closed"),
+    (0, 0, "closed"),
+];
+
+#[test]
+fn a_fault_is_no_event(rt: HostRuntime) -> Result<(), Fail> {
+    let shards = Shards::new(rt.alloc(), 4)?;
+    let mut stage = 0;
+    for fails_at in 0..100 {
+        let ran = run::<Brand, _>(&rt, rt.alloc(), &shards, fails_at)?;
+        if stage < 4 && ran == STAGES[stage + 1] {
+            stage += 1;
+        }
+        assert_eq!(rt; ran, STAGES[stage], "at call {fails_at}");
+    }
+    assert_eq!(rt; stage, 4);
+    Ok(())
+}

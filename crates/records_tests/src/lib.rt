@@ -1,0 +1,11 @@
+// Tests of recorded sessions, over their public calls alone.
+#![tactic(auto)]
+
+#[cfg(test)]
+mod faults;
+#[cfg(test)]
+mod rows;
+#[cfg(test)]
+mod shards;
+#[cfg(test)]
+mod threads;

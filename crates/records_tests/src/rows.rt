@@ -1,0 +1,121 @@
+// Worked examples of recorded sessions by two seats.
+ghost use Rattle.std.specs.Prelude.{◌≡◌, Some};
+ghost use Rattle.zarr_parts.specs.Geo.{geo};
+ghost use Rattle.zarr_elements.specs.declared.data_type.DataType.TheVariants.{UInt8};
+
+use crate::shards::{ABSENT, Answer, Call, Ended, Shards, called, how_it_ended, object_of};
+use shard_sessions::Naming;
+use std::alloc::Global;
+use std::marker::Brand;
+use std::sync::Wait;
+use std::test::Fail;
+use zarr_codecs::{BytesCodec, FaultingHandle};
+use zarr_parts::CodecError;
+
+// What a session of four cells answers, whose calls come by the second of two seats, and how it ends with both or the first alone.
+fn played<J: Naming<BytesCodec, BytesCodec>, R: Wait>(
+    rt: &R,
+    alloc: Global,
+    shards: &Shards,
+    object: Vec<u8>,
+    calls: &[Call],
+    with_both: bool,
+) -> Result<(Vec<Answer>, Ended), CodecError>
+    requires codec_named { Some shards.now.codec ≡ J.codec }
+    requires geo_named { geo shards.now.shape UInt8 shards.now.fill ≡ J.geo }
+{
+    let handle = FaultingHandle::new(Some(object), u64::MAX);
+    let mut answers = Vec::new(alloc);
+    let (encoder, first) = match shards.recorded::<J>(alloc, handle) {
+        Ok(opened) => opened,
+        Err((handle, error)) => return Ok((answers, Ended::refused(alloc, handle, error))),
+    };
+    let (first, mut second) = encoder.split_seat(first);
+    for call in calls {
+        let (seat, answer) = called(rt, alloc, &encoder, second, *call)?;
+        second = seat;
+        answers.push(answer)?;
+    }
+    let mut seats = Vec::new(alloc);
+    seats.push(first)?;
+    if with_both {
+        seats.push(second)?;
+    }
+    Ok((answers, how_it_ended(alloc, encoder.close(seats))?))
+}
+
+// The object of the cells 0, 7, 0, 0.
+fn seven(alloc: Global) -> Result<Vec<u8>, CodecError> {
+    object_of(alloc, &[0, 7], &[0, 2, ABSENT, ABSENT])
+}
+
+// The object of the cells 3, 7, 0, 0.
+fn three_and_seven(alloc: Global) -> Result<Vec<u8>, CodecError> {
+    object_of(alloc, &[3, 7], &[0, 2, ABSENT, ABSENT])
+}
+
+#[test]
+fn a_seat_that_is_missing_is_told_and_the_handle_comes_back(rt: HostRuntime) -> Result<(), Fail> {
+    let alloc = rt.alloc();
+    let shards = Shards::new(alloc, 4)?;
+    let calls = [Call::Write { cell: 0, value: 3 }];
+    let (answers, end) = played::<Brand, _>(&rt, alloc, &shards, seven(alloc)?, &calls, false)?;
+    assert_eq!(rt; answers.as_slice(), [Ok((0, 0))].as_slice());
+    assert_eq!(rt; end.how, "seats missing");
+    assert_eq!(rt; end.object, Some(three_and_seven(alloc)?));
+    Ok(())
+}
+
+#[test]
+fn a_refused_call_is_no_event(rt: HostRuntime) -> Result<(), Fail> {
+    let alloc = rt.alloc();
+    let shards = Shards::new(alloc, 4)?;
+    let calls = [
+        Call::Write { cell: 0, value: 3 },
+        Call::Read { first: 3, end: 5 },
+    ];
+    let (answers, end) = played::<Brand, _>(&rt, alloc, &shards, seven(alloc)?, &calls, true)?;
+    assert_eq!(rt;
+        answers.as_slice(),
+        [Ok((0, 0)), Err(CodecError::OutOfBounds)].as_slice()
+    );
+    assert_eq!(rt; end.how, "closed");
+    assert_eq!(rt; end.events, 1);
+    assert_eq!(rt; end.opening.as_slice(), [0, 7, 0, 0].as_slice());
+    Ok(())
+}
+
+#[test]
+fn an_erased_shard_is_read_and_written_anew(rt: HostRuntime) -> Result<(), Fail> {
+    let alloc = rt.alloc();
+    let shards = Shards::new(alloc, 4)?;
+    let calls = [
+        Call::Erase,
+        Call::Read { first: 1, end: 2 },
+        Call::Write { cell: 1, value: 7 },
+        Call::Read { first: 1, end: 2 },
+    ];
+    let (answers, end) = played::<Brand, _>(&rt, alloc, &shards, seven(alloc)?, &calls, true)?;
+    assert_eq!(rt;
+        answers.as_slice(),
+        [Ok((0, 0)), Ok((1, 0)), Ok((2, 0)), Ok((3, 7))].as_slice()
+    );
+    assert_eq!(rt; end.how, "closed");
+    assert_eq!(rt; end.events, 4);
+    assert_eq!(rt; end.object, Some(seven(alloc)?));
+    Ok(())
+}
+
+#[test]
+fn a_damaged_object_is_refused_and_comes_back(rt: HostRuntime) -> Result<(), Fail> {
+    let alloc = rt.alloc();
+    let shards = Shards::new(alloc, 4)?;
+    let damaged = object_of(alloc, &[5], &[0, 1, ABSENT, ABSENT])?;
+    let same = object_of(alloc, &[5], &[0, 1, ABSENT, ABSENT])?;
+    let (answers, end) = played::<Brand, _>(&rt, alloc, &shards, damaged, &[], true)?;
+    assert_eq!(rt; answers.len(), 0);
+    assert_eq!(rt; end.how, "refused");
+    assert_eq!(rt; end.error, Some(CodecError::Damaged));
+    assert_eq!(rt; end.object, Some(same));
+    Ok(())
+}

@@ -1,0 +1,12 @@
+use Rattle.std.proofs.Common.{◌≡◌, map, ◌++◌}
+use Rattle.zarr_elements.specs.declared.data_type.DataTypeSize.TheVariants.{Variable}
+use Rattle.script_words.specs.Hex.{hex_word}
+use Rattle.script_words.specs.Text.{members_of, pieces_left}
+use Rattle.script_words.proofs.elements.bytes_members.Given as goal
+
+-- what was taken and what is left are the members of the text
+abbrev pub invariant-loop-member : goal.invariant-loop-member
+invariant-loop-member l = record {
+  kind : l.array.kind ≡ Variable;
+  elements : map hex_word l.array.elements ++ pieces_left l.member-iterator ≡ members_of l.text;
+}

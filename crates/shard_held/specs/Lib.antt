@@ -1,0 +1,2 @@
+pub mod OpenSessions
+pub mod PreparedWrites

@@ -1,0 +1,9 @@
+// A shard that is opened through a handle: what is held of its object, and reads by it.
+#![tactic(auto)]
+
+mod held;
+mod reads;
+mod shard;
+mod subchunks;
+
+pub use shard::OpenShard;

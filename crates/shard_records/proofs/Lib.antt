@@ -1,0 +1,5 @@
+pub mod EqualityLemmas
+pub mod HistoryLemmas
+pub mod OpeningLemmas
+pub mod ReceiptLemmas
+pub mod WholeLemmas

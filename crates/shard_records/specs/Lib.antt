@@ -1,0 +1,5 @@
+pub mod Histories
+pub mod Recorded
+pub mod Receipts
+pub mod Marks
+pub mod Closing

@@ -1,0 +1,222 @@
+// A session with a history of what was done in it.
+ghost use Rattle.std.specs.Prelude.{◌≡◌, ◌++◌, ◌∷◌, [], false, Some, IsTrue, IfOk, IfErr, OnOk, OnErr, length, replicate};
+ghost use Rattle.zarr_parts.specs.Order.{◌or◌then◌, RefusedBy};
+ghost use Rattle.zarr_parts.specs.Boxes.{points_of};
+ghost use Rattle.zarr_parts.specs.Selections.{box_selection};
+ghost use Rattle.zarr_words.specs.declared.error.CodecError.TheVariants.{SessionFailed};
+ghost use Rattle.object_handles.specs.Handles.{IsCounted, MayFault};
+ghost use Rattle.object_handles.specs.Objects.{ObjectTests};
+ghost use Rattle.codec_laws.specs.Reads.{AskedTests, IsAnswer};
+ghost use Rattle.shard_cells.specs.Updates.{UpdateTests, IsUpdateOf};
+ghost use Rattle.sharding_core.specs.Decoders.{ObjectCellsTests};
+ghost use Rattle.sharding_core.specs.Sessions.{IsInStep, IsLeft, IsDone, IsLeftOrFailed};
+ghost use Rattle.sharding_core.specs.SessionWrites.{WrittenTests};
+ghost use Rattle.shard_runs.specs.Objects.{shards_of};
+ghost use Rattle.shard_records.specs.Histories.{IsCellsOf};
+ghost use Rattle.shard_records.specs.Recorded.{IsRecorded};
+ghost use Rattle.shard_records.specs.declared.event.Event.TheVariants.{Write, Read, Erase};
+
+use crate::event::{Event, Seat};
+use crate::naming::Naming;
+use crate::room::{Copies, put, take_room};
+use codec_laws::ArrayToBytesCodecTraits;
+use object_handles::BytesPartialEncoderTraits;
+use sharding_core::{ShardState, ShardingCodec};
+use std::alloc::Global;
+use std::marker::{Model, PhantomData};
+use zarr_parts::{ArrayBytes, ArraySubset, CodecError, CodecOptions};
+
+/// A session, the cells that it opened with, and what was done since, in order. Of a session that is not failed the history is
+/// legal: it leads from the opening cells to those of the handle's object, where the handle tells its bytes. Codec and arrays
+/// are those of the name `J`.
+#[derive(Drop)]
+pub struct RecordedShard<
+    'a,
+    I: ArrayToBytesCodecTraits,
+    X: ArrayToBytesCodecTraits,
+    H: BytesPartialEncoderTraits,
+    J: Naming<I, X>,
+> {
+    state: ShardState<'a, I, X, H>,
+    opening: ArrayBytes<'static>,
+    events: Vec<Event>,
+    // for the end of the session, which takes no memory: for each event a mark whether its receipt was seen
+    seen: Vec<bool>,
+    of: PhantomData<J>,
+}
+
+impl<
+    'a,
+    I: ArrayToBytesCodecTraits,
+    X: ArrayToBytesCodecTraits,
+    H: BytesPartialEncoderTraits,
+    J: Naming<I, X>,
+> Model for RecordedShard<'a, I, X, H, J> {
+    ghost use Rattle.std.specs.Prelude.{◌≡◌, length, replicate, false};
+    ghost use Rattle.sharding_core.specs.declared.codec.ShardingCodec.{ShardingCodec};
+    ghost use Rattle.shard_records.specs.Recorded.{Recorded, IsRecorded, recorded_of};
+
+    // the session, its opening cells, and its events
+    ghost Value = { Recorded (ShardingCodec I X) H };
+
+    ghost view = { λ s. recorded_of s.state s.opening s.events.items };
+
+    ghost invariant = { λ s. IsRecorded I.meaning X.meaning H.state J.codec J.geo (recorded_of s.state s.opening s.events.items)
+        × (s.seen.items ≡ replicate (length s.events.items) false) };
+}
+
+impl<
+    'a,
+    I: ArrayToBytesCodecTraits,
+    X: ArrayToBytesCodecTraits,
+    H: BytesPartialEncoderTraits,
+    J: Naming<I, X>,
+> RecordedShard<'a, I, X, H, J> {
+    // A session in which nothing was done yet, with the cells of its object.
+    #[tactic(auto, using(crate::proofs::HistoryLemmas::recorded_none))]
+    pub(crate) fn new(
+        alloc: Global,
+        state: ShardState<'a, I, X, H>,
+        opening: ArrayBytes<'static>,
+    ) -> Self
+        requires codec_named { Some state.codec ≡ J.codec }
+        requires geo_named { state.geo ≡ J.geo }
+        requires in_step { IsInStep ⟦<ShardingCodec<I, X> as ArrayToBytesCodecTraits>⟧.meaning X.meaning H.state state }
+        requires opening { IsTrue (H.state state.handle).tells
+            → IsCellsOf (shards_of I.meaning X.meaning state.codec state.geo) (H.state state.handle).contents opening.elements }
+        ensures opening { result.opening ≡ opening.entry }
+        ensures none { result.events ≡ [] }
+    {
+        RecordedShard {
+            state,
+            opening,
+            events: Vec::new(alloc),
+            seen: Vec::new(alloc),
+            of: PhantomData,
+        }
+    }
+
+    /// Whether a writing call of the handle failed.
+    pub fn is_failed(&self) -> bool
+        ensures failed { result ≡ self.now.state.failed }
+        ensures recorded { IsRecorded I.meaning X.meaning H.state J.codec J.geo self.now }
+    {
+        self.state.is_failed()
+    }
+
+    /// Writes elements over the cells of a subset, in row-major order of this, as the session's `partial_encode`, and puts a
+    /// receipt into the seat. The number is the event's place in the history. A refused call is no event. Refused as
+    /// `partial_encode` refuses; room for the event and its receipt is taken before.
+    pub fn write(
+        &mut self,
+        alloc: Global,
+        seat: &mut Seat,
+        subset: &ArraySubset,
+        bytes: &ArrayBytes,
+    ) -> Result<u64, CodecError>
+        ensures recorded { IsRecorded I.meaning X.meaning H.state J.codec J.geo self.new }
+        ensures opening { self.new.opening ≡ self.old.opening }
+        ensures place { IfOk result (λ place. place ≡ length self.old.events) }
+        ensures event { OnOk result (self.new.events ≡ self.old.events ++ Write subset.now bytes.now ∷ []) }
+        ensures receipt { IfOk result (λ place. seat.new ≡ seat.old ++ record { place = place; event = Write subset.now bytes.now } ∷ []) }
+        ensures done { OnOk result (IsDone H.state self.old.state self.new.state) }
+        ensures update { OnOk result (IsUpdateOf self.old.state.geo.shape self.old.state.geo.data_type (box_selection subset.now) bytes.now) }
+        ensures no_event { OnErr result ((self.new.events ≡ self.old.events) × (seat.new ≡ seat.old)) }
+        ensures failed { IfErr result (IsLeftOrFailed H.state self.old.state self.new.state) }
+        ensures fault { IfErr result (IsCounted (H.state self.old.state.handle) (H.state self.new.state.handle)) }
+        ensures refused { let s = self.old.state.codec in let g = self.old.state.geo in let old = H.state self.old.state.handle in
+            IfErr result (RefusedBy (
+            self.old.state.failed ≡ false or SessionFailed then
+            UpdateTests g.shape g.data_type (box_selection subset.now) bytes.now (
+            ObjectTests old (H.state self.new.state.handle) (
+            WrittenTests I.meaning X.meaning s g subset.now bytes.now.elements old.contents self.old.state.index)))) }
+    {
+        take_room(&mut self.events, &mut self.seen, &mut seat.receipts)?;
+        let copies = Copies::of_write(alloc, subset, bytes)?;
+        match self
+            .state
+            .partial_encode(alloc, subset, bytes, &CodecOptions::default())
+        {
+            Ok(()) => Ok(put(&mut self.events, &mut self.seen, &mut seat.receipts, copies)),
+            Err(error) => Err(copies.refused(error)),
+        }
+    }
+
+    /// Reads the cells of a subset, in row-major order of this, as the session's `partial_decode`, and puts a receipt into the
+    /// seat. The number is the event's place in the history. A refused call is no event. Refused as `partial_decode` refuses;
+    /// room for the event and its receipt is taken before, that for copies of the cells after.
+    pub fn read(
+        &mut self,
+        alloc: Global,
+        seat: &mut Seat,
+        subset: &ArraySubset,
+    ) -> Result<(u64, ArrayBytes<'static>), CodecError>
+        ensures recorded { IsRecorded I.meaning X.meaning H.state J.codec J.geo self.new }
+        ensures opening { self.new.opening ≡ self.old.opening }
+        ensures place { IfOk result (λ answer. answer.0 ≡ length self.old.events) }
+        ensures event { IfOk result (λ answer. self.new.events ≡ self.old.events ++ Read subset.now answer.1 ∷ []) }
+        ensures receipt { IfOk result (λ answer. seat.new ≡ seat.old ++ record { place = answer.0; event = Read subset.now answer.1 } ∷ []) }
+        ensures left { IsLeft H.state self.old.state self.new.state }
+        ensures usable { OnOk result (self.old.state.failed ≡ false) }
+        ensures answer { IfOk result (λ answer. IsAnswer self.old.state.geo (box_selection subset.now) answer.1) }
+        ensures no_event { OnErr result ((self.new.events ≡ self.old.events) × (seat.new ≡ seat.old)) }
+        ensures fault { IfErr result (IsCounted (H.state self.old.state.handle) (H.state self.new.state.handle)) }
+        ensures refused { let codec = ⟦<ShardingCodec<I, X> as ArrayToBytesCodecTraits>⟧ in let s = self.old.state.codec in let g = self.old.state.geo in
+            IfErr result (RefusedBy (
+            self.old.state.failed ≡ false or SessionFailed then
+            AskedTests g (box_selection subset.now) (codec.meaning s g).answerable (
+            ObjectTests (H.state self.old.state.handle) (H.state self.new.state.handle) (
+            ObjectCellsTests I.meaning X.meaning s g (H.state self.old.state.handle).contents (points_of subset.now))))) }
+    {
+        take_room(&mut self.events, &mut self.seen, &mut seat.receipts)?;
+        let cells = self
+            .state
+            .partial_decode(alloc, subset, &CodecOptions::default())?;
+        let (copies, cells) = Copies::of_read(alloc, subset, cells)?;
+        let place = put(&mut self.events, &mut self.seen, &mut seat.receipts, copies);
+        Ok((place, cells))
+    }
+
+    /// Lets the object go, as the session's `erase`, and puts a receipt into the seat. The number is the event's place in the
+    /// history. A refused call is no event. Refused as `OutOfMemory`, where there is no room for the event and its receipt, which
+    /// is taken before, or as `erase` refuses.
+    pub fn erase(&mut self, seat: &mut Seat) -> Result<u64, CodecError>
+        ensures recorded { IsRecorded I.meaning X.meaning H.state J.codec J.geo self.new }
+        ensures opening { self.new.opening ≡ self.old.opening }
+        ensures place { IfOk result (λ place. place ≡ length self.old.events) }
+        ensures event { OnOk result (self.new.events ≡ self.old.events ++ Erase ∷ []) }
+        ensures receipt { IfOk result (λ place. seat.new ≡ seat.old ++ record { place = place; event = Erase } ∷ []) }
+        ensures done { OnOk result (IsDone H.state self.old.state self.new.state) }
+        ensures no_event { OnErr result ((self.new.events ≡ self.old.events) × (seat.new ≡ seat.old)) }
+        ensures failed { IfErr result (IsLeftOrFailed H.state self.old.state self.new.state) }
+        ensures refused { IfErr result (RefusedBy (
+            self.old.state.failed ≡ false or SessionFailed then
+            MayFault (H.state self.old.state.handle) (H.state self.new.state.handle))) }
+    {
+        take_room(&mut self.events, &mut self.seen, &mut seat.receipts)?;
+        self.state.erase()?;
+        let copies = Copies {
+            event: Event::Erase,
+            told: Event::Erase,
+        };
+        Ok(put(&mut self.events, &mut self.seen, &mut seat.receipts, copies))
+    }
+
+    /// Ends the session: the handle, the opening cells, the history, and a mark for each of its events, which is not set.
+    pub(crate) fn into_parts(self) -> (H, ArrayBytes<'static>, Vec<Event>, Vec<bool>)
+        ensures handle { result.0 ≡ self.entry.state.handle }
+        ensures opening { result.1 ≡ self.entry.opening }
+        ensures events { result.2.items ≡ self.entry.events }
+        ensures seen { result.3.items ≡ replicate (length self.entry.events) false }
+        ensures recorded { IsRecorded I.meaning X.meaning H.state J.codec J.geo self.entry }
+    {
+        let RecordedShard {
+            state,
+            opening,
+            events,
+            seen,
+            of: _,
+        } = self;
+        (state.close(), opening, events, seen)
+    }
+}

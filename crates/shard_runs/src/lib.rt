@@ -1,0 +1,12 @@
+// Runs of commands on a shard.
+#![tactic(auto)]
+
+mod command;
+mod compact;
+mod run;
+mod serve;
+mod served;
+mod step;
+
+pub use command::{Command, CommandRun, Reply};
+pub use run::run_commands;

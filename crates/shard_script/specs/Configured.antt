@@ -1,0 +1,35 @@
+-- The codec that a script's configuration makes.
+use Rattle.std.specs.Prelude.{◌≡◌, ◌⊎◌, Option, Ok, Err, codes}
+use Rattle.zarr_words.specs.Words.{Bytes, Refusals}
+use Rattle.zarr_parts.specs.Order.{RefusedBy}
+use Rattle.serde_json.specs.Read.{read as read_text}
+use Rattle.small_codecs.specs.declared.bytes_codec.Endianness.{Endianness}
+use Rattle.codec_metadata.specs.CreateErrors.{Reading, RefusedAs, or_refused, and_then, bad_field}
+use Rattle.codec_metadata.specs.BytesMetadata.{is_bytes_name, bytes_configured}
+use Rattle.default_codec.specs.declared.default_codec.DefaultArrayToBytesCodec.{DefaultArrayToBytesCodec}
+use Rattle.default_codec.specs.DefaultMetadata.{is_default_name, default_configured}
+use Rattle.shard_configuration.specs.CodecLists.{codec_in_list}
+use Rattle.shard_configuration.specs.Configuration.{configuration_in}
+use Rattle.sharding_core.specs.declared.codec.ShardingCodec.{ShardingCodec}
+use Rattle.sharding_core.specs.ShardMetadata.{shard_of}
+use Rattle.shard_format.specs.declared.order.SubchunkWriteOrder.TheVariants.{C}
+use Rattle.shard_script.specs.declared.configure.ConfigureError.{ConfigureError}
+use Rattle.shard_script.specs.declared.configure.ConfigureError.TheVariants.{Create, Codec}
+
+-- the codecs of a script's shards: the default codec inside, whole numbers in the index
+abbrev pub ScriptCodec : Type 0
+ScriptCodec = ShardingCodec DefaultArrayToBytesCodec (Option Endianness)
+
+-- the codec of a text of JSON, which is a configuration; it writes subchunks in order
+abbrev pub configured_by : Bytes → Reading ScriptCodec
+configured_by text =
+    or_refused (read_text text) (bad_field (codes "configuration")) (λ d.
+    and_then (configuration_in d) (λ c.
+    and_then (shard_of (codec_in_list (codes "codecs") is_default_name default_configured)
+    (codec_in_list (codes "index_codecs") is_bytes_name (λ name. bytes_configured)) c) (λ codec.
+    Ok (record codec { order = C }))))
+
+-- a configuration is refused as it is read, and then by the codec that was read
+abbrev pub IsRefusal : Reading ScriptCodec → (ScriptCodec → Refusals) → ConfigureError → Type 0
+IsRefusal reading unserved (Create e) = RefusedAs reading e
+IsRefusal reading unserved (Codec e) = (codec : ScriptCodec) × (reading ≡ Ok codec) × RefusedBy (unserved codec) e

@@ -1,0 +1,10 @@
+pub use Rattle.shard_runs.specs.Maps
+pub use Rattle.shard_runs.specs.Objects
+pub use Rattle.shard_runs.specs.Causes
+pub use Rattle.shard_runs.specs.Runs
+pub use Rattle.shard_runs.specs.Ended
+pub use Rattle.shard_runs.specs.FromScratch
+pub use Rattle.shard_records.specs.Histories
+pub use Rattle.shard_records.specs.Recorded
+pub use Rattle.shard_records.specs.Receipts
+pub use Rattle.shard_records.specs.Closing

@@ -1,0 +1,226 @@
+// How shards are made, as a codec.
+ghost use Rattle.std.specs.Prelude.{IfSome, IfNone, ◌≡◌, IfOk, IfErr, OnOk};
+ghost use Rattle.zarr_parts.specs.Order.{RefusedBy};
+ghost use Rattle.zarr_parts.specs.Numbering.{count_of};
+ghost use Rattle.zarr_parts.specs.Grid.{grid_of};
+ghost use Rattle.zarr_parts.specs.Geo.{geo};
+ghost use Rattle.codec_laws.specs.Refusals.{MayRefuseCompact};
+ghost use Rattle.shard_format.specs.Index.{index_geo};
+ghost use Rattle.shard_format.specs.Serves.{HasPlan, sub_geo};
+ghost use Rattle.shard_format.specs.Grids.{IsCut, ConcurrencyTests};
+ghost use Rattle.shard_format.specs.Compacting.{IsCompact};
+ghost use Rattle.shard_steps.specs.Meanings.{layout_in, inner_of, index_of, meaning_of};
+
+use codec_laws::{ArrayToBytesCodecTraits, BytesRepresentation, RecommendedConcurrency};
+use object_handles::{BytesPartialDecoderTraits, Interval};
+use shard_asked::Asked;
+use shard_cells::{check_asked, gathered};
+use shard_format::{SubchunkWriteOrder, count_subchunks};
+use shard_index::IndexCodec;
+use shard_layout::{compact_size, present_slots};
+use shard_subchunks::Subchunks;
+use std::alloc::Global;
+use zarr_parts::{ArrayBytes, ChunkShape, CodecError, CodecOptions, DataType, FillValue, Indexer};
+
+/// How shards are made (Zarr V3 codec `sharding_indexed`): the shape of a subchunk and the codec that encodes it, the codec that
+/// encodes the index and where it puts it, and in which order subchunks are written.
+#[derive(Clone, Copy)]
+pub struct Sharding<'a, I, X> {
+    pub subchunk_shape: &'a ChunkShape,
+    pub inner: &'a I,
+    pub index_codec: IndexCodec<'a, X>,
+    pub order: SubchunkWriteOrder,
+}
+
+impl<I: ArrayToBytesCodecTraits, X: ArrayToBytesCodecTraits> ArrayToBytesCodecTraits
+    for Sharding<'_, I, X> {
+    ghost meaning = { meaning_of I.meaning X.meaning };
+
+    ghost concurrency = { λ s shape. record {
+      served = IsCut shape s.subchunk_shape.now;
+      workers = count_of (grid_of shape s.subchunk_shape.now);
+      tests = ConcurrencyTests shape s.subchunk_shape.now;
+    } };
+
+    ghost use Rattle.shard_steps.specs.MeaningLaws.{sharded_lawful};
+
+    ghost lawful = { λ s g. let index_g = index_geo (grid_of g.shape s.subchunk_shape.now) in
+        sharded_lawful s.subchunk_shape.now s.index_codec.location s.order (inner_of I.meaning s g) (index_of X.meaning s g) g
+        (I.lawful s.inner.now (sub_geo s.subchunk_shape.now g)) (X.lawful s.index_codec.codec.now index_g) };
+
+    ghost use Rattle.shard_format.specs.Faultless.{concurrency_tests_faultless};
+
+    ghost concurrency_faultless = { λ s shape e h. concurrency_tests_faultless shape s.subchunk_shape.now e h };
+
+    /// Makes the tests of shape, type and fill value, of the index codec, and of the inner codec.
+    fn check(
+        &self,
+        alloc: Global,
+        shape: &ChunkShape,
+        data_type: &DataType,
+        fill_value: &FillValue,
+    ) -> Result<(), CodecError> {
+        let asked = Asked {
+            shape,
+            data_type,
+            fill_value,
+        };
+        let _ = self.prepared(alloc, &asked)?;
+        Ok(())
+    }
+
+    /// Stores each subchunk that is not wholly the fill value.
+    fn encode(
+        &self,
+        alloc: Global,
+        bytes: &ArrayBytes,
+        shape: &ChunkShape,
+        data_type: &DataType,
+        fill_value: &FillValue,
+        options: &CodecOptions,
+    ) -> Result<Vec<u8>, CodecError> {
+        let asked = Asked {
+            shape,
+            data_type,
+            fill_value,
+        };
+        let plan = self.prepared(alloc, &asked)?;
+        self.encode_planned(alloc, bytes, &asked, &plan, options)
+    }
+
+    /// Decodes every subchunk, and gathers them.
+    fn decode<'a>(
+        &self,
+        alloc: Global,
+        bytes: &'a [u8],
+        shape: &ChunkShape,
+        data_type: &DataType,
+        fill_value: &FillValue,
+        options: &CodecOptions,
+    ) -> Result<ArrayBytes<'a>, CodecError> {
+        let asked = Asked {
+            shape,
+            data_type,
+            fill_value,
+        };
+        let plan = self.prepared(alloc, &asked)?;
+        let index = self.index_codec.decode(alloc, bytes, &plan.index, options)?;
+        let inner = Subchunks {
+            codec: self.inner,
+            shape: self.subchunk_shape,
+            data_type,
+            fill_value,
+            options,
+        };
+        let subchunks = inner.decode(alloc, bytes, &index)?;
+        let array = gathered(
+            alloc,
+            &subchunks,
+            plan.cells,
+            shape,
+            self.subchunk_shape,
+            data_type.size(),
+            fill_value.as_ne_bytes(),
+        )?;
+        Ok(array)
+    }
+
+    /// The index and the present slices, ascending and without gaps, or nothing where that has as many bytes.
+    fn compact(
+        &self,
+        alloc: Global,
+        bytes: &[u8],
+        shape: &ChunkShape,
+        data_type: &DataType,
+        fill_value: &FillValue,
+        options: &CodecOptions,
+    ) -> Result<Option<Vec<u8>>, CodecError>
+        ensures compacted { let g = geo shape.now data_type.now fill_value.now in
+            IfOk result (λ answer. IfSome answer (λ new. (meaning_of I.meaning X.meaning self.now g).compacted bytes.now new.items)) }
+        ensures kept { let g = geo shape.now data_type.now fill_value.now in let index = index_of X.meaning self.now g in
+            IfOk result (λ answer. IfNone answer (IsCompact index.cells (layout_in self.now index g) bytes.now)) }
+        ensures served { let g = geo shape.now data_type.now fill_value.now in
+            OnOk result (HasPlan (index_of X.meaning self.now g) shape.now self.now.subchunk_shape.now 0) }
+        ensures lawful { let g = geo shape.now data_type.now fill_value.now in
+            IfErr result (λ e. (meaning_of I.meaning X.meaning self.now g).serves → MayRefuseCompact ((meaning_of I.meaning X.meaning self.now g).cells bytes.now) e) }
+        ensures refused { let g = geo shape.now data_type.now fill_value.now in
+            IfErr result (RefusedBy ((meaning_of I.meaning X.meaning self.now g).compact_tests bytes.now)) }
+    {
+        let plan = self.planned(alloc, shape, 0)?;
+        let index = self.index_codec.decode(alloc, bytes, &plan.index, options)?;
+        let len = bytes.len() as u64;
+        let slots = present_slots(alloc, &index)?;
+        let Some(total) = compact_size(&slots, plan.index.size) else {
+            return Err(CodecError::TooLarge);
+        };
+        if total == len {
+            return Ok(None);
+        }
+        let shard = self.rewritten(alloc, bytes, &slots, total, &plan.index, options)?;
+        Ok(Some(shard))
+    }
+
+    /// As many workers as there are subchunks.
+    fn recommended_concurrency(
+        &self,
+        shape: &ChunkShape,
+        _data_type: &DataType,
+    ) -> Result<RecommendedConcurrency, CodecError> {
+        let subchunks = count_subchunks(shape.as_slice(), self.subchunk_shape.as_slice())?;
+        Ok(RecommendedConcurrency::new_maximum(subchunks as usize))
+    }
+
+    /// Reads the index, and the asked cells of the subchunks in which there are any.
+    fn partial_decode<H: BytesPartialDecoderTraits, N: Indexer>(
+        &self,
+        alloc: Global,
+        handle: &mut H,
+        interval: Interval,
+        shape: &ChunkShape,
+        data_type: &DataType,
+        fill_value: &FillValue,
+        indexer: &N,
+        options: &CodecOptions,
+    ) -> Result<ArrayBytes<'static>, CodecError> {
+        let asked = Asked {
+            shape,
+            data_type,
+            fill_value,
+        };
+        let plan = self.prepared(alloc, &asked)?;
+        let count = check_asked(indexer, shape, data_type)?;
+        let cells = self.read_planned(
+            alloc, handle, interval, &asked, &plan, count, indexer, options,
+        )?;
+        Ok(cells)
+    }
+
+    /// As many times the inner codec's bound as there are subchunks, and the index.
+    fn encoded_representation(
+        &self,
+        alloc: Global,
+        shape: &ChunkShape,
+        data_type: &DataType,
+        fill_value: &FillValue,
+    ) -> Result<BytesRepresentation, CodecError> {
+        let asked = Asked {
+            shape,
+            data_type,
+            fill_value,
+        };
+        let plan = self.prepared(alloc, &asked)?;
+        let told = self.told_of_subchunks(alloc, &asked)?;
+        let size = match told {
+            BytesRepresentation::FixedSize(size) => size,
+            BytesRepresentation::BoundedSize(size) => size,
+            BytesRepresentation::UnboundedSize => return Ok(BytesRepresentation::UnboundedSize),
+        };
+        let Some(all) = plan.subchunks.checked_mul(size) else {
+            return Err(CodecError::TooLarge);
+        };
+        let Some(total) = all.checked_add(plan.index.size) else {
+            return Err(CodecError::TooLarge);
+        };
+        Ok(BytesRepresentation::BoundedSize(total))
+    }
+}

@@ -1,0 +1,71 @@
+use Rattle.std.proofs.Common.{◌∙◌, ℕ, List, Bool, true, false, IfOk, IfErr, length, inl, inr, arith}
+use Rattle.std.specs.declared.result.Result.{Result}
+use Rattle.std.specs.List.{AllZip, range_with_len}
+use Rattle.rayon.proofs.ListFacts.{AllZip-weaken}
+use Rattle.zarr_words.specs.Words.{Written}
+use Rattle.zarr_words.specs.declared.error.CodecError.{CodecError}
+use Rattle.zarr_parts.specs.Order.{RefusedBy}
+use Rattle.zarr_parts.specs.Grid.{subchunk}
+use Rattle.codec_laws.specs.RefusalLaws.{passed_on}
+use Rattle.shard_format.specs.Laying.{IsStored}
+use Rattle.shard_format.specs.Serves.{IsStoredPart}
+use Rattle.shard_format.specs.EncodeTests.{RefusesToStore}
+use Rattle.shard_subchunks.specs.Inner.{inner_meaning}
+use Rattle.shard_subchunks.specs.declared.encoded.Stored.{Stored}
+use Rattle.shard_workers.proofs.OrderLemmas.{taken_counted, taken_at, each_before, refused_below, refused_at}
+use Rattle.shard_workers.proofs.encoded.lay_out_subchunks.Goals as goal
+
+-- what is to be stored is stored
+part_stored : (inner_written : Written) (fill : List ℕ) (e : List (List ℕ)) (present : Bool) (bytes : List ℕ)
+    → IsStored inner_written fill e present bytes → IsStoredPart inner_written fill e bytes
+part_stored inner_written fill e true bytes h = inr h
+part_stored inner_written fill e false bytes h = inl h
+
+pub laid_in_order-requires : goal.laid_in_order-requires
+laid_in_order-requires g c =
+    let s = c.args.subchunks.now in
+    let inner = inner_meaning g.I.ArrayToBytesCodecTraits.meaning s in
+    let fill = s.fill_value.now in
+    let part = subchunk c.args.shape.now s.shape.now c.args.array.now.elements in
+    let Gives : ℕ → Result Stored CodecError → Type 0 = λ k r. IfOk r (λ stored. IsStored inner.written fill (part k) stored.present stored.bytes.items)
+    × IfErr r (RefusedBy (RefusesToStore inner.encodable inner.fits fill (part k))) in
+    let results = c.in_ok-results.results.items in
+    let n = c.args.count in
+    let all : AllZip Gives (range_with_len 0 n) results = AllZip-weaken _ Gives (λ k r p. (p.0, p.1)) _ _ c.in_ok-results.ensures in
+    rw c.deref.ensures.value (λ k d below. (taken_at Gives n results c.in_ok-stored.stored.items all c.in_ok-stored.ensures.taken k d below).0)
+
+pub returns-clause-laid : goal.returns-clause-laid
+returns-clause-laid g c =
+    let counted = taken_counted _ c.args.count c.in_ok-results.results.items c.in_ok-stored.stored.items c.in_ok-results.ensures c.in_ok-stored.ensures.taken in
+    rw (c.deref.ensures.value, counted ∙ c.requires.count) at c.in_ok-laid-2.ensures.laid
+
+pub returns-in_err-stored-clause-refused : goal.returns-in_err-stored-clause-refused
+returns-in_err-stored-clause-refused g c =
+    let s = c.args.subchunks.now in
+    let inner = inner_meaning g.I.ArrayToBytesCodecTraits.meaning s in
+    let fill = s.fill_value.now in
+    let part = subchunk c.args.shape.now s.shape.now c.args.array.now.elements in
+    let Gives : ℕ → Result Stored CodecError → Type 0 = λ k r. IfOk r (λ stored. IsStored inner.written fill (part k) stored.present stored.bytes.items)
+    × IfErr r (RefusedBy (RefusesToStore inner.encodable inner.fits fill (part k))) in
+    let results = c.in_ok-results.results.items in
+    let n = c.args.count in
+    let all : AllZip Gives (range_with_len 0 n) results = AllZip-weaken _ Gives (λ k r p. (p.0, p.1)) _ _ c.in_ok-results.ensures in
+    let e = c.in_err-stored.field-0.0 in
+    passed_on _ e _ c.from_residual-in_err-stored.ensures.1
+    (elim c.in_err-stored.ensures.refused [
+      | inl memory ↦ inl memory
+      | inr first ↦ elim (refused_at Gives n results e all first).1 [
+        | inl memory ↦ inl memory
+        | inr refuses ↦ inr (inl (
+          length first.before,
+          (
+            omega (arith, refused_below Gives n results e all first, c.requires.count),
+            (λ j before.
+                let earlier = each_before Gives n results e all first j before in
+                let stored : Stored = earlier.0 in
+                (stored.bytes.items, part_stored inner.written fill (part j) stored.present stored.bytes.items earlier.1.0)),
+            refuses,
+          ),
+        ))
+      ]
+    ])

@@ -1,0 +1,33 @@
+-- Elements of one size, written over some of an array's in place.
+use Rattle.std.proofs.Common.{◌≡◌, ℕ, ◌*◌, ◌<◌, List, length, ap, sym, ◌∙◌, subst}
+use Rattle.std.specs.List.{All, concat}
+use Rattle.zarr_parts.specs.Numbering.{count_of}
+use Rattle.zarr_parts.specs.Boxes.{Region, number_in}
+use Rattle.zarr_parts.specs.Types.{FitsKind}
+use Rattle.zarr_parts.specs.Pieces.{piece, IsUpdated}
+use Rattle.zarr_parts.specs.Arrays.{Array, IsWhole, fixed_array, IsOverlaid}
+use Rattle.zarr_elements.specs.declared.data_type.DataTypeSize.TheVariants.{Fixed}
+use Rattle.zarr_elements.proofs.ArrayLaws.{whole-concat, fixed_array-concat, overlaid_array}
+use Rattle.zarr_boxes.proofs.PieceLaws.{length-concat}
+
+-- so many elements of one size have so many bytes
+pub many_bytes : (size count : ℕ) (array : Array) → All (FitsKind (Fixed size)) array.elements → length array.elements ≡ count → length (concat array.elements) ≡ count * size
+many_bytes size count array fits counted = length-concat size array.elements fits ∙ ap (λ n. n * size) counted
+
+-- an array is cut back out of its bytes
+cut_back : (size : ℕ) (array : Array) → 0 < size → array.kind ≡ Fixed size → All (FitsKind (Fixed size)) array.elements → fixed_array size (concat array.elements) ≡ array
+cut_back size array some kind fits =
+    fixed_array-concat size array.elements some fits ∙ ap (λ k. record { kind = k; elements = array.elements }) (sym kind)
+
+-- bytes written over are elements written over
+pub overlaid_bytes : (size : ℕ) (old part : Array) (new : List ℕ) (box : Region) (shape : List ℕ) → 0 < size → old.kind ≡ Fixed size → part.kind ≡ Fixed size
+    → All (FitsKind (Fixed size)) old.elements → All (FitsKind (Fixed size)) part.elements → length new ≡ length (concat old.elements)
+    → IsUpdated (count_of box.shape) (number_in box shape) (piece size (concat old.elements)) (piece size (concat part.elements)) (piece size new)
+    → IsOverlaid box shape old part (fixed_array size new)
+overlaid_bytes size old part new box shape some kind part_kind fits part_fits long written =
+    let made = overlaid_array size (concat old.elements) (concat part.elements) new box shape (whole-concat size old.elements some fits) (whole-concat size part.elements some part_fits) long written in
+    subst (λ (a : Array). IsOverlaid box shape a part (fixed_array size new)) (cut_back size old some kind fits)
+    (subst (λ (p : Array). IsOverlaid box shape (fixed_array size (concat old.elements)) p (fixed_array size new)) (cut_back size part some part_kind part_fits) made)
+
+pub whole_new : (size : ℕ) (old : Array) (new : List ℕ) → 0 < size → All (FitsKind (Fixed size)) old.elements → length new ≡ length (concat old.elements) → IsWhole size new
+whole_new size old new some fits long = rw long (whole-concat size old.elements some fits)

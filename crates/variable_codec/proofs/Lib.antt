@@ -1,0 +1,2 @@
+pub mod TextSteps
+pub mod VlenSteps

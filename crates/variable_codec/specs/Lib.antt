@@ -1,0 +1,4 @@
+pub mod Text
+pub mod VlenCodec
+pub mod VlenLaws
+pub mod VlenMetadata

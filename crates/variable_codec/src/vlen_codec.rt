@@ -1,0 +1,173 @@
+// The codec for elements that have lengths of their own.
+ghost use Rattle.std.specs.Prelude.{◌≡◌, ◌<◌, IfOk, IfErr, OnOk, OnErr};
+ghost use Rattle.zarr_parts.specs.Numbering.{count_of};
+ghost use Rattle.zarr_parts.specs.Geo.{geo};
+ghost use Rattle.variable_codec.specs.VlenCodec.{VlenServes, VlenCheckTests};
+
+use crate::text::{read_text, text_len, text_of};
+use codec_laws::{
+    ArrayToBytesCodecTraits, BytesRepresentation, FunctionalCodec, RecommendedConcurrency,
+};
+use object_handles::{ByteRange, BytesPartialDecoderTraits, Interval, check_interval, read_range};
+use std::alloc::Global;
+use whole_arrays::asked_of;
+use zarr_parts::{
+    ArrayBytes, ChunkShape, CodecError, CodecOptions, DataType, DataTypeSize, FillValue, Indexer,
+    check_selection,
+};
+
+/// Lays elements that have lengths of their own one after the other, each behind its length, behind their count: numbers of
+/// four bytes, the least significant first. It serves the type `Bytes`.
+#[derive(Debug, Clone, Copy, PartialEq, Eq)]
+pub struct VlenCodec;
+
+// The tests of `check` in their order, and how many elements there are. What fill value the array has is not looked at.
+fn counted(
+    shape: &ChunkShape,
+    data_type: &DataType,
+    _fill_value: &FillValue,
+) -> Result<u64, CodecError>
+    ensures serves { OnOk result (VlenServes (geo shape.now data_type.now _fill_value.now)) }
+    ensures count { IfOk result (λ count. count ≡ count_of shape.now) }
+    ensures some { OnOk result (0 < count_of shape.now) }
+    ensures unserved { OnErr result (¬ VlenServes (geo shape.now data_type.now _fill_value.now)) }
+    ensures refused { IfErr result (VlenCheckTests (geo shape.now data_type.now _fill_value.now)) }
+{
+    if data_type.size() != DataTypeSize::Variable {
+        return Err(CodecError::UnsupportedDataType);
+    }
+    let Some(count) = shape.num_elements() else {
+        return Err(CodecError::TooLarge);
+    };
+    Ok(count)
+}
+
+impl ArrayToBytesCodecTraits for VlenCodec {
+    ghost use Rattle.std.specs.Prelude.{⊤};
+    ghost use Rattle.zarr_words.specs.Order.{done};
+    ghost use Rattle.variable_codec.specs.VlenCodec.{vlen_meaning};
+    ghost use Rattle.variable_codec.specs.VlenLaws.{vlen_lawful};
+
+    ghost meaning = { λ _. vlen_meaning };
+
+    ghost concurrency = { λ _ _. record { served = ⊤; workers = 1; tests = done } };
+
+    ghost lawful = { λ _. vlen_lawful };
+
+    ghost concurrency_faultless = { λ _ _ e h. absurd h };
+
+    /// Tests whether the codec serves these arrays. Refused, in this order, as `UnsupportedDataType` (any type but `Bytes`) and as
+    /// `TooLarge` where the count passes `u64::MAX`.
+    fn check(
+        &self,
+        _alloc: Global,
+        shape: &ChunkShape,
+        data_type: &DataType,
+        fill_value: &FillValue,
+    ) -> Result<(), CodecError> {
+        let _ = counted(shape, data_type, fill_value)?;
+        Ok(())
+    }
+
+    /// The text of the elements. Refused as `check` refuses, then, in this order, as `WrongElementKind`, `InvalidNumberOfElements`,
+    /// `CannotEncode` (a count or a length of 2^32 or more) and `TooLarge`; or as `OutOfMemory`.
+    fn encode(
+        &self,
+        alloc: Global,
+        bytes: &ArrayBytes,
+        shape: &ChunkShape,
+        data_type: &DataType,
+        fill_value: &FillValue,
+        _options: &CodecOptions,
+    ) -> Result<Vec<u8>, CodecError> {
+        let count = counted(shape, data_type, fill_value)?;
+        if bytes.kind() != DataTypeSize::Variable {
+            return Err(CodecError::WrongElementKind);
+        }
+        if bytes.len() as u64 != count {
+            return Err(CodecError::InvalidNumberOfElements);
+        }
+        let len = text_len(bytes)?;
+        let text = text_of(alloc, bytes, len)?;
+        Ok(text)
+    }
+
+    /// One worker. Never refused.
+    fn recommended_concurrency(
+        &self,
+        _shape: &ChunkShape,
+        _data_type: &DataType,
+    ) -> Result<RecommendedConcurrency, CodecError> {
+        Ok(RecommendedConcurrency::new_maximum(1))
+    }
+
+    /// The elements that the text is of. Nothing grows by what the text says before it was found there. Refused as `check`
+    /// refuses, then as `Damaged` where it is no text of as many elements; or as `OutOfMemory`.
+    fn decode<'a>(
+        &self,
+        alloc: Global,
+        bytes: &'a [u8],
+        shape: &ChunkShape,
+        data_type: &DataType,
+        fill_value: &FillValue,
+        _options: &CodecOptions,
+    ) -> Result<ArrayBytes<'a>, CodecError> {
+        let count = counted(shape, data_type, fill_value)?;
+        let array = read_text(alloc, bytes, count)?;
+        Ok(array)
+    }
+
+    /// Reads the whole interval. Refused as the trait says, then as `Damaged` where its bytes are no text of as many elements as
+    /// the shape has.
+    fn partial_decode<H: BytesPartialDecoderTraits, N: Indexer>(
+        &self,
+        alloc: Global,
+        handle: &mut H,
+        interval: Interval,
+        shape: &ChunkShape,
+        data_type: &DataType,
+        fill_value: &FillValue,
+        indexer: &N,
+        _options: &CodecOptions,
+    ) -> Result<ArrayBytes<'static>, CodecError> {
+        let count = counted(shape, data_type, fill_value)?;
+        let many = check_selection(indexer, shape)?;
+        check_interval(handle, interval)?;
+        let mut room = Vec::new(alloc);
+        let range = ByteRange::FromStart(interval.offset, Some(interval.size));
+        let Some(bytes) = read_range(handle, &mut room, alloc, range)? else {
+            return Err(CodecError::OutOfBounds);
+        };
+        let array = read_text(alloc, bytes, count)?;
+        let asked = asked_of(alloc, &array, indexer, many, shape, data_type)?;
+        Ok(asked)
+    }
+
+    /// Nothing is said of the length of encodings. Refused as `check` refuses.
+    fn encoded_representation(
+        &self,
+        _alloc: Global,
+        shape: &ChunkShape,
+        data_type: &DataType,
+        fill_value: &FillValue,
+    ) -> Result<BytesRepresentation, CodecError> {
+        let _ = counted(shape, data_type, fill_value)?;
+        Ok(BytesRepresentation::UnboundedSize)
+    }
+}
+
+impl FunctionalCodec for VlenCodec {
+    ghost use Rattle.std.specs.Prelude.{true};
+    ghost use Rattle.variable_codec.specs.Text.{vlen_text};
+
+    ghost functional = { λ _. true };
+
+    ghost encoding = { λ _ g elements. vlen_text elements };
+
+    /// Always.
+    fn is_functional(&self) -> bool {
+        true
+    }
+
+    ghost one_encoding = { λ codec g elements b functional serves array written. written.text };
+}

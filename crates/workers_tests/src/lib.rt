@@ -1,0 +1,9 @@
+// Tests of whole shards by workers, over their public calls alone.
+#![tactic(auto)]
+
+#[cfg(test)]
+mod gates;
+#[cfg(test)]
+mod shards;
+#[cfg(test)]
+mod workers;

@@ -1,0 +1,151 @@
+// What workers answer, and that they are there.
+use crate::gates::{Counted, Meeting};
+use crate::shards::{Shards, said};
+use std::alloc::Global;
+use std::test::Fail;
+use std::thread::Threads;
+use zarr_parts::CodecError;
+use zarr_parts::CodecError::{BadIndexEntry, Damaged};
+use zarrs_sharding::NoGate;
+
+const ABSENT: u64 = u64::MAX;
+
+// Cells of one byte, each a subchunk.
+fn many(alloc: Global) -> Result<Shards, CodecError> {
+    Shards::of_bytes(alloc, &[4096], &[1])
+}
+
+fn ones(alloc: Global) -> Result<Vec<u8>, CodecError> {
+    let mut cells = Vec::with_capacity(alloc, 4096)?;
+    for _ in 0..4096 {
+        cells.push(1u8)?;
+    }
+    Ok(cells)
+}
+
+// The shard of 4,096 ones, encoded by two workers that meet at a gate, and who came to it.
+fn met<R: Threads + Sync>(rt: &R, alloc: Global) -> Result<(Vec<u8>, (u64, u64)), CodecError> {
+    let shards = many(alloc)?;
+    let array = shards.array(ones(alloc)?, 1)?;
+    let gate = Meeting::new([0, 4095]);
+    let shard = shards.encoded_by_workers(rt, alloc, &array, &gate, 2)?;
+    Ok((shard, gate.seen()))
+}
+
+// The shard of 4,096 ones: its slices, one after the other, and then its index.
+fn shard_of_ones(alloc: Global) -> Result<Vec<u8>, CodecError> {
+    let mut shard = ones(alloc)?;
+    for k in 0..4096u64 {
+        shard.extend_from_slice(&k.to_le_bytes())?;
+        shard.extend_from_slice(&1u64.to_le_bytes())?;
+    }
+    Ok(shard)
+}
+
+#[test]
+fn two_workers_are_at_work_at_once(rt: HostRuntime) -> Result<(), Fail> {
+    let (shard, seen) = met(&rt, rt.alloc())?;
+    assert_eq!(rt; seen, (2, 0));
+    assert_eq!(rt; shard, shard_of_ones(rt.alloc())?);
+    Ok(())
+}
+
+// A shard of 4,096 ones, in which the pairs 1,000 and 3,000 are others.
+fn hurt(alloc: Global, pairs: [(u64, u64); 2]) -> Result<Vec<u8>, CodecError> {
+    let mut shard = ones(alloc)?;
+    for k in 0..4096u64 {
+        let (offset, size) = match k {
+            1000 => pairs[0],
+            3000 => pairs[1],
+            _ => (k, 1),
+        };
+        shard.extend_from_slice(&offset.to_le_bytes())?;
+        shard.extend_from_slice(&size.to_le_bytes())?;
+    }
+    Ok(shard)
+}
+
+fn decoded_hurt<R: Threads + Sync>(
+    rt: &R,
+    alloc: Global,
+    pairs: [(u64, u64); 2],
+    target: usize,
+) -> Result<Vec<u8>, CodecError> {
+    let shard = hurt(alloc, pairs)?;
+    many(alloc)?.decoded_by_workers(rt, alloc, &shard, &NoGate, target)
+}
+
+#[test]
+fn the_lowest_refused_subchunk_gives_the_refusal(rt: HostRuntime) {
+    for (pairs, want) in [
+        ([(ABSENT, 5), (3000, 2)], BadIndexEntry { number: 1000 }),
+        ([(1000, 2), (ABSENT, 5)], Damaged),
+    ] {
+        for target in [1, 2, 4] {
+            let answer = decoded_hurt(&rt, rt.alloc(), pairs, target);
+            assert_eq!(rt; said(&answer), Err(want), "with {target} at a time");
+        }
+    }
+}
+
+// 4,096 cells of two bytes in 512 subchunks: ones in two boxes, which lie in three of them, and else zeros.
+fn two_boxes(alloc: Global) -> Result<(Shards, Vec<u8>), CodecError> {
+    let mut cells = Vec::with_capacity(alloc, 8192)?;
+    for k in 0..4096u64 {
+        let (plane, row, column) = (k / 256, k / 16 % 16, k % 16);
+        let inside = (plane < 2 || plane == 5 || plane == 6) && row < 2 && column < 2;
+        cells.push(u8::from(inside))?;
+        cells.push(0u8)?;
+    }
+    let shards = Shards::of_pairs(alloc, &[16, 16, 16], &[2, 2, 2])?;
+    Ok((shards, cells))
+}
+
+// The shard of these cells, encoded by so many workers at a time, and how many passed the gate; and by `encode`.
+fn encoded_both<R: Threads + Sync>(
+    rt: &R,
+    alloc: Global,
+    target: usize,
+) -> Result<(Vec<u8>, u64, Vec<u8>), CodecError> {
+    let (shards, cells) = two_boxes(alloc)?;
+    let array = shards.array(cells, 2)?;
+    let gate = Counted::new();
+    let shard = shards.encoded_by_workers(rt, alloc, &array, &gate, target)?;
+    let plain = shards.encoded(alloc, &array)?;
+    Ok((shard, gate.passed(), plain))
+}
+
+#[test]
+fn a_shard_by_workers_is_that_of_encode(rt: HostRuntime) -> Result<(), Fail> {
+    for (target, passed) in [(1, 0), (2, 512), (4, 512)] {
+        let (shard, seen, plain) = encoded_both(&rt, rt.alloc(), target)?;
+        assert_eq!(rt; seen, passed, "with {target} at a time");
+        assert_eq!(rt; shard.len(), 8240);
+        assert_eq!(rt; shard, plain, "with {target} at a time");
+    }
+    Ok(())
+}
+
+// The cells of the shard that `encode` gives, decoded by so many workers at a time, and how many passed the gate.
+fn decoded_again<R: Threads + Sync>(
+    rt: &R,
+    alloc: Global,
+    target: usize,
+) -> Result<(Vec<u8>, u64), CodecError> {
+    let (shards, cells) = two_boxes(alloc)?;
+    let shard = shards.encoded(alloc, &shards.array(cells, 2)?)?;
+    let gate = Counted::new();
+    let decoded = shards.decoded_by_workers(rt, alloc, &shard, &gate, target)?;
+    Ok((decoded, gate.passed()))
+}
+
+#[test]
+fn a_shard_decodes_by_workers(rt: HostRuntime) -> Result<(), Fail> {
+    for (target, passed) in [(1, 0), (2, 512), (4, 512)] {
+        let (decoded, seen) = decoded_again(&rt, rt.alloc(), target)?;
+        let (_, cells) = two_boxes(rt.alloc())?;
+        assert_eq!(rt; seen, passed, "with {target} at a time");
+        assert_eq!(rt; decoded, cells, "with {target} at a time");
+    }
+    Ok(())
+}
