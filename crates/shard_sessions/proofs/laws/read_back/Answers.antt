@@ -18,5 +18,5 @@ returns-in-Cells g c =
     let written = rw c.as_slice.ensures.value at c.written-item.is in
     record {
       written = ap (λ array. array.elements) c.in_ok-try_clone-in-Cells.ensures
-      ∙ replied_back s _ _ _ _ _ _ _ _ _ _ least most written c.in-Done.is read c.in-Cells.is ended.2;
+          ∙ replied_back s _ _ _ _ _ _ _ _ _ _ least most written c.in-Done.is read c.in-Cells.is ended.2;
     }
