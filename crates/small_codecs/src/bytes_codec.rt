@@ -2,13 +2,9 @@
 ghost use Rattle.std.specs.Prelude.{◌≡◌, ◌^◌, ◌<◌, ℕ, Bool, List, Some, IfOk, IfErr, IfSome, IfNone, OnErr, map, length, reverse};
 ghost use Rattle.std.specs.List.{concat};
 ghost use Rattle.std.specs.Cow.{cow_slice_items};
-ghost use Rattle.zarr_parts.specs.Numbering.{count_of, number_of};
-ghost use Rattle.zarr_parts.specs.Selections.{IsSelectionOf};
-ghost use Rattle.zarr_parts.specs.Refusals.{IsValid};
 ghost use Rattle.zarr_parts.specs.Geo.{geo};
 ghost use Rattle.zarr_parts.specs.Types.{size_of, byte_size};
-ghost use Rattle.zarr_parts.specs.Arrays.{IsWhole, fixed_array, element_of};
-ghost use Rattle.zarr_words.specs.declared.error.CodecError.TheVariants.{OutOfMemory};
+ghost use Rattle.zarr_parts.specs.Arrays.{IsWhole, fixed_array};
 ghost use Rattle.zarr_elements.specs.declared.data_type.DataTypeSize.TheVariants.{Fixed};
 ghost use Rattle.small_codecs.specs.BytesCodec.{is_whole_number, swapped, KnowsOrder, SwapsAs, IsMeasured, BytesServes, BytesCheckTests};
 ghost use Rattle.small_codecs.specs.declared.bytes_codec.Endianness.TheVariants.{Little, Big};
@@ -20,9 +16,10 @@ use object_handles::{ByteRange, BytesPartialDecoderTraits, Interval, check_inter
 use std::alloc::{AllocError, Global};
 use std::borrow::CowSlice;
 use std::marker::Model;
+use whole_arrays::asked_of;
 use zarr_parts::{
     ArrayBytes, ChunkShape, CodecError, CodecOptions, DataType, DataTypeSize, FillValue, Indexer,
-    check_selection, point_numbers,
+    check_selection,
 };
 
 /// In which order the bytes of a whole number are stored.
@@ -226,30 +223,6 @@ fn array_of_bytes<'a>(
         Some(array) => Ok(array),
         None => unreachable!(),
     }
-}
-
-// The elements of an array at the cells that an indexer asks, of which there are so many: those of a box row by row.
-fn asked_of<N: Indexer>(
-    alloc: Global,
-    array: &ArrayBytes,
-    indexer: &N,
-    count: u64,
-    shape: &ChunkShape,
-    data_type: &DataType,
-) -> Result<ArrayBytes<'static>, CodecError>
-    requires selection { IsSelectionOf shape.now (N.selection indexer.now) }
-    requires count { count ≡ length (N.selection indexer.now).points }
-    requires fits { count_of shape.now < 2 ^ 64 }
-    requires valid { IsValid array.now (count_of shape.now) data_type.now }
-    ensures asked { IfOk result (λ asked. asked ≡ record { kind = array.now.kind; elements = map (element_of array.now) (map (λ point. number_of point shape.now) (N.selection indexer.now).points) }) }
-    ensures refused { IfErr result (λ e. e ≡ OutOfMemory) }
-{
-    if let Some(subset) = indexer.as_array_subset() {
-        return array.extract_array_subset(alloc, subset, shape.as_slice(), data_type);
-    }
-    let numbers = point_numbers(alloc, indexer, count, shape)?;
-    let asked = array.extract_numbers(alloc, &numbers)?;
-    Ok(asked)
 }
 
 impl ArrayToBytesCodecTraits for BytesCodec {

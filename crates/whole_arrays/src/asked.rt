@@ -7,7 +7,9 @@ ghost use Rattle.zarr_parts.specs.Refusals.{IsValid};
 ghost use Rattle.zarr_parts.specs.Arrays.{element_of};
 
 use std::alloc::Global;
-use zarr_parts::{ArrayBytes, ChunkShape, CodecError, DataType, Indexer, point_numbers};
+use zarr_parts::{
+    ArrayBuilder, ArrayBytes, ChunkShape, CodecError, DataType, Indexer, number_asked,
+};
 
 /// The elements of an array at the cells that an indexer asks, of which there are so many: those of a box row by row. Refused
 /// only as out of memory.
@@ -32,7 +34,11 @@ pub fn asked_of<N: Indexer>(
     if let Some(subset) = indexer.as_array_subset() {
         return array.extract_array_subset(alloc, subset, shape.as_slice(), data_type);
     }
-    let numbers = point_numbers(alloc, indexer, count, shape)?;
-    let asked = array.extract_numbers(alloc, &numbers)?;
-    Ok(asked)
+    let axes = shape.as_slice();
+    let mut asked = ArrayBuilder::new(alloc, array.kind())?;
+    for i in 0..count {
+        let number = number_asked(indexer, i, axes);
+        asked.push(array.element(number as usize))?;
+    }
+    Ok(asked.finish())
 }

@@ -15,6 +15,6 @@ pub use indexer::{Coordinates, Indexer};
 pub use numbering::{count, number_along, ravel_indices, unravel_index};
 pub use rows::BoxRows;
 pub use runs::ContiguousRuns;
-pub use selection::{check_selection, point_numbers};
+pub use selection::{check_selection, number_asked, point_numbers};
 pub use shape::ChunkShape;
 pub use subset::{ArraySubset, check_box, points_in};

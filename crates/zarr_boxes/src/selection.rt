@@ -66,8 +66,9 @@ pub fn check_selection<N: Indexer>(indexer: &N, shape: &ChunkShape) -> Result<u6
     indexer.len().ok_or(CodecError::TooLarge)
 }
 
-// The row-major number in a shape of a coordinate that is asked, from the last axis to the first.
-fn number_asked<N: Indexer>(indexer: &N, i: u64, shape: &[u64]) -> u64
+/// The row-major (C order) number in a shape of one of the coordinates that an indexer asks, which are inside it; the place is
+/// below `len`.
+pub fn number_asked<N: Indexer>(indexer: &N, i: u64, shape: &[u64]) -> u64
     requires axes { (N.selection indexer.now).axes ≡ length shape.now }
     requires place { i < length (N.selection indexer.now).points }
     requires inside { IsInside (slice_index_or (N.selection indexer.now).points i []) shape.now }

@@ -1,7 +1,28 @@
-use Rattle.zarr_boxes.proofs.SelectionLemmas.{numbers_of-points_of}
+use Rattle.std.proofs.Common.{◌≡◌, ◌∙◌, map, sym, arith}
+use Rattle.std.proofs.lemmas.List.{take_all}
+use Rattle.zarr_parts.specs.Numbering.{number_of}
+use Rattle.zarr_parts.specs.Arrays.{element_of}
+use Rattle.zarr_boxes.proofs.PieceLaws.{map-map}
+use Rattle.zarr_boxes.proofs.SelectionLemmas.{numbers_of-points_of, selection_inside, point_inside_at, mapped_more}
 use Rattle.whole_arrays.proofs.asked.asked_of.Goals as goal
 
 pub returns-in-Some-clause-asked : goal.returns-in-Some-clause-asked
 returns-in-Some-clause-asked g c =
     let extracted = rw c.as_slice.ensures.value at c.extract_array_subset.ensures.extracted in
     rw c.in-Some.ensures.some (rw (numbers_of-points_of c.in-Some.subset.now c.args.shape.now) at extracted)
+
+pub number_asked-number-requires-clause-inside : goal.number_asked-number-requires-clause-inside
+number_asked-number-requires-clause-inside g c =
+    let selection = g.N.Indexer.selection c.args.indexer.now in
+    let inside = selection_inside c.args.shape.now selection (g.met.N.Indexer.matches_box c.args.indexer.now) c.requires.selection in
+    rw c.as_slice-axes.ensures.value (point_inside_at c.args.shape.now selection.points c.loop-i.i inside (omega arith))
+
+pub returns-clause-asked : goal.returns-clause-asked
+returns-clause-asked g c =
+    let points = (g.N.Indexer.selection c.args.indexer.now).points in
+    let shape = c.args.shape.now in
+    let array = c.args.array.now in
+    let whole = take_all c.loop-i.i points (omega arith) in
+    let elements : c.loop-i.asked.elements ≡ map (element_of array) (map (λ point. number_of point shape) points) =
+    rw (c.as_slice-axes.ensures.value, whole) at c.loop-i.invariant.so_far ∙ sym (map-map (element_of array) (λ point. number_of point shape) points) in
+    rw (← elements, ← c.loop-i.invariant.kind) c.finish.ensures
