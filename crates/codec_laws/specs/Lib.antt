@@ -5,5 +5,6 @@ pub mod Refusals
 pub mod RefusalLaws
 pub mod Representations
 pub mod Laws
+pub mod Encodings
 pub mod Reads
 pub mod RoundTrip

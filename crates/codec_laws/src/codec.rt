@@ -13,6 +13,7 @@ ghost use Rattle.zarr_words.specs.declared.error.CodecError.TheVariants.{TooLarg
 ghost use Rattle.object_handles.specs.Handles.{IsRead, IsCounted, MayFault};
 ghost use Rattle.codec_laws.specs.Reads.{IsDecodedInto, cells_at, IsAnswer, IsReadOf, MayRefuseRead, AskedTests};
 ghost use Rattle.object_handles.specs.Objects.{interval_part, HasInterval, ObjectTests, IntervalTests};
+ghost use Rattle.codec_laws.specs.Encodings.{IsEncodedOnto};
 ghost use Rattle.codec_laws.specs.Meanings.{Meaning, Concurrency};
 ghost use Rattle.codec_laws.specs.Laws.{IsLawful};
 ghost use Rattle.codec_laws.specs.Refusals.{IsNoFault, RefusesUnserved, MayRefuseEncode, MayRefuseDecode, MayRefuseCompact};
@@ -92,6 +93,37 @@ pub trait ArrayToBytesCodecTraits {
             IfErr result (RefusedBy (
             m.serves or_as RefusesUnserved m then
             m.encode_tests bytes.now)) };
+
+    /// Encodes an array as `encode` does, and puts the encoding behind bytes that are there, which stay. A refusal leaves them.
+    /// Refused as `encode`.
+    fn encode_onto(
+        &self,
+        alloc: Global,
+        bytes: &ArrayBytes,
+        shape: &ChunkShape,
+        data_type: &DataType,
+        fill_value: &FillValue,
+        encoded: &mut Vec<u8>,
+        options: &CodecOptions,
+    ) -> Result<(), CodecError>
+        ensures serves { OnOk result (meaning self.now (geo shape.now data_type.now fill_value.now)).serves }
+        ensures array { let g = geo shape.now data_type.now fill_value.now in
+            OnOk result ((bytes.now.kind ≡ size_of data_type.now) × IsArrayOf g bytes.now.elements) }
+        ensures written { let m = meaning self.now (geo shape.now data_type.now fill_value.now) in
+            OnOk result (IsEncodedOnto m.written bytes.now.elements encoded.old.items encoded.new.items) }
+        ensures kept { OnErr result (encoded.new.items ≡ encoded.old.items) }
+        ensures lawful { let g = geo shape.now data_type.now fill_value.now in let m = meaning self.now g in
+            IfErr result (λ e. m.serves → bytes.now.kind ≡ size_of data_type.now → IsArrayOf g bytes.now.elements
+            → MayRefuseEncode m bytes.now.elements e) }
+        ensures refused { let m = meaning self.now (geo shape.now data_type.now fill_value.now) in
+            IfErr result (RefusedBy (
+            m.serves or_as RefusesUnserved m then
+            m.encode_tests bytes.now)) }
+    {
+        let encoding = self.encode(alloc, bytes, shape, data_type, fill_value, options)?;
+        encoded.extend_from_slice(&encoding)?;
+        Ok(())
+    }
 
     /// Decodes an array. The answer may lend the bytes on. Refused as `check` refuses, then as the codec's
     /// bytes may be bad, or as `TooLarge`.

@@ -20,6 +20,14 @@ abbrev pub placed_slot : Bool → ℕ → ℕ → Slot
 placed_slot true offset size = InRange offset size
 placed_slot false offset size = Absent
 
+-- what is to be stored of a subchunk stands behind the old bytes, which stay, and the slot says where
+pub record IsStoredBehind (inner_written : Written) (fill : List ℕ) (e : List (List ℕ)) (old new : List ℕ) (slot : Slot) : Type 0 where
+  pub present : Bool
+  pub slice : List ℕ
+  pub stored : IsStored inner_written fill e present slice
+  pub behind : new ≡ old ++ slice
+  pub placed : slot ≡ placed_slot present (length old) (length slice)
+
 -- a subchunk stands in the data part where its slot says
 abbrev pub IsLaid : Written → List ℕ → List (List ℕ) → List ℕ → Slot → Type 0
 IsLaid inner_written fill e bytes Absent = IsAllFill fill e

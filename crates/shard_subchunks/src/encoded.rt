@@ -1,17 +1,18 @@
 // Subchunks of an array, encoded and laid end to end.
-ghost use Rattle.std.specs.Prelude.{◌≡◌, ◌<◌, ◌^◌, IfOk, IfErr, length};
+ghost use Rattle.std.specs.Prelude.{◌≡◌, ◌<◌, ◌^◌, IfOk, IfErr, OnErr, length};
 ghost use Rattle.zarr_parts.specs.Order.{done, RefusedBy};
 ghost use Rattle.zarr_parts.specs.Numbering.{count_of};
 ghost use Rattle.zarr_parts.specs.Grid.{Divides, grid_of, subchunk};
 ghost use Rattle.zarr_parts.specs.Geo.{geo, IsArrayOf};
 ghost use Rattle.zarr_parts.specs.Types.{size_of, HasElements};
-ghost use Rattle.shard_format.specs.Laying.{IsStored, IsLaidOut};
+ghost use Rattle.shard_format.specs.Laying.{IsStored, IsStoredBehind, IsLaidOut};
 ghost use Rattle.shard_format.specs.EncodeTests.{RefusesToStore, StoreTests};
 ghost use Rattle.shard_subchunks.specs.Inner.{subchunk_geo, inner_meaning};
 
 use crate::subchunks::Subchunks;
 use codec_laws::ArrayToBytesCodecTraits;
-use shard_layout::{LaidOut, gather_subchunk, placed};
+use shard_format::Slot;
+use shard_layout::{LaidOut, gather_subchunk};
 use std::alloc::Global;
 use zarr_parts::{ArrayBytes, ChunkShape, CodecError};
 
@@ -33,23 +34,47 @@ impl<I: ArrayToBytesCodecTraits> Subchunks<'_, I> {
         ensures refused { let inner = inner_meaning I.meaning self.now in
             IfErr result (RefusedBy (RefusesToStore inner.encodable inner.fits self.now.fill_value.now part.now.elements)) }
     {
+        let mut bytes = Vec::new(alloc);
+        let slot = self.store_behind(alloc, part, &mut bytes)?;
+        Ok(Stored {
+            present: slot != Slot::Absent,
+            bytes,
+        })
+    }
+
+    /// Puts the encoding of a subchunk that isn't all fill behind the slices that are there, and tells where it stands. A refusal
+    /// leaves the slices. Refused as `CannotEncode` or `TooLarge`; or as `OutOfMemory`.
+    pub fn store_behind(
+        &self,
+        alloc: Global,
+        part: &ArrayBytes,
+        slices: &mut Vec<u8>,
+    ) -> Result<Slot, CodecError>
+        requires serves { (inner_meaning I.meaning self.now).serves }
+        requires kind { part.now.kind ≡ size_of self.now.data_type.now }
+        requires array { IsArrayOf (subchunk_geo self.now) part.now.elements }
+        ensures stored { let inner = inner_meaning I.meaning self.now in
+            IfOk result (IsStoredBehind inner.written self.now.fill_value.now part.now.elements slices.old.items slices.new.items) }
+        ensures kept { OnErr result (slices.new.items ≡ slices.old.items) }
+        ensures refused { let inner = inner_meaning I.meaning self.now in
+            IfErr result (RefusedBy (RefusesToStore inner.encodable inner.fits self.now.fill_value.now part.now.elements)) }
+    {
         if part.is_fill_value(self.fill_value) {
-            return Ok(Stored {
-                present: false,
-                bytes: Vec::new(alloc),
-            });
+            return Ok(Slot::Absent);
         }
-        let bytes = self.codec.encode(
+        let offset = slices.len();
+        self.codec.encode_onto(
             alloc,
             part,
             self.shape,
             self.data_type,
             self.fill_value,
+            slices,
             self.options,
         )?;
-        Ok(Stored {
-            present: true,
-            bytes,
+        Ok(Slot::InRange {
+            offset: offset as u64,
+            size: (slices.len() - offset) as u64,
         })
     }
 
@@ -83,13 +108,7 @@ impl<I: ArrayToBytesCodecTraits> Subchunks<'_, I> {
         let mut slots = Vec::with_capacity(alloc, subchunks as usize)?;
         for k in 0..subchunks {
             let part = gather_subchunk(alloc, array, k, shape, grid, self.shape, self.data_type)?;
-            let stored = self.stored_of(alloc, &part)?;
-            let slot = placed(
-                stored.present,
-                bytes.len() as u64,
-                stored.bytes.len() as u64,
-            );
-            bytes.extend_from_slice(&stored.bytes)?;
+            let slot = self.store_behind(alloc, &part, &mut bytes)?;
             slots.push(slot)?;
         }
         Ok(LaidOut { bytes, slots })

@@ -8,7 +8,7 @@ ghost use Rattle.shard_subchunks.specs.Inner.{subchunk_geo, inner_meaning};
 ghost use Rattle.shard_writing.specs.Writing.{AreLaid, array_at};
 
 use codec_laws::ArrayToBytesCodecTraits;
-use shard_layout::{LaidOut, placed};
+use shard_layout::LaidOut;
 use shard_subchunks::Subchunks;
 use std::alloc::Global;
 use zarr_parts::{ArrayBytes, CodecError};
@@ -40,13 +40,7 @@ pub fn laid_out<I: ArrayToBytesCodecTraits>(
     let mut bytes: Vec<u8> = Vec::with_capacity(alloc, total_len(arrays))?;
     let mut slots = Vec::with_capacity(alloc, arrays.len())?;
     for j in 0..arrays.len() {
-        let stored = subchunks.stored_of(alloc, &arrays[j])?;
-        let slot = placed(
-            stored.present,
-            bytes.len() as u64,
-            stored.bytes.len() as u64,
-        );
-        bytes.extend_from_slice(&stored.bytes)?;
+        let slot = subchunks.store_behind(alloc, &arrays[j], &mut bytes)?;
         slots.push(slot)?;
     }
     Ok(LaidOut { bytes, slots })

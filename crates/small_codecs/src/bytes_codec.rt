@@ -1,5 +1,5 @@
 // The codec `bytes`.
-ghost use Rattle.std.specs.Prelude.{◌≡◌, ◌^◌, ◌<◌, ℕ, Bool, List, Some, IfOk, IfErr, IfSome, IfNone, OnErr, map, length, reverse};
+ghost use Rattle.std.specs.Prelude.{◌≡◌, ◌++◌, ◌<◌, ℕ, Bool, List, Some, IfOk, IfErr, IfSome, IfNone, OnOk, OnErr, map, length, reverse};
 ghost use Rattle.std.specs.List.{concat};
 ghost use Rattle.std.specs.Cow.{cow_slice_items};
 ghost use Rattle.zarr_parts.specs.Geo.{geo};
@@ -192,6 +192,26 @@ fn copied(alloc: Global, bytes: &[u8], size: usize, reversed: bool) -> Result<Ve
     Ok(copy)
 }
 
+// Puts a copy of the elements behind bytes that are there, with the bytes of each reversed where that is asked. A refusal
+// leaves them.
+fn append(
+    encoded: &mut Vec<u8>,
+    bytes: &[u8],
+    size: usize,
+    reversed: bool,
+) -> Result<(), AllocError>
+    requires { IsWhole size bytes.now }
+    ensures behind { OnOk result (encoded.new.items ≡ encoded.old.items ++ concat (map (swapped reversed) (fixed_array size bytes.now).elements)) }
+    ensures kept { OnErr result (encoded.new.items ≡ encoded.old.items) }
+{
+    let from = encoded.len();
+    encoded.extend_from_slice(bytes)?;
+    if reversed {
+        reverse_elements(&mut encoded[from..], size);
+    }
+    Ok(())
+}
+
 // The elements as they are in memory, lent on where they are stored so.
 fn in_memory<'a>(
     alloc: Global,
@@ -262,8 +282,32 @@ impl ArrayToBytesCodecTraits for BytesCodec {
         shape: &ChunkShape,
         data_type: &DataType,
         fill_value: &FillValue,
-        _options: &CodecOptions,
+        options: &CodecOptions,
     ) -> Result<Vec<u8>, CodecError> {
+        let mut encoded = Vec::new(alloc);
+        self.encode_onto(
+            alloc,
+            bytes,
+            shape,
+            data_type,
+            fill_value,
+            &mut encoded,
+            options,
+        )?;
+        Ok(encoded)
+    }
+
+    /// Lays the elements one after the other behind the bytes that are there. Refused as `encode`.
+    fn encode_onto(
+        &self,
+        _alloc: Global,
+        bytes: &ArrayBytes,
+        shape: &ChunkShape,
+        data_type: &DataType,
+        fill_value: &FillValue,
+        encoded: &mut Vec<u8>,
+        _options: &CodecOptions,
+    ) -> Result<(), CodecError> {
         let Measure {
             size,
             count,
@@ -279,8 +323,8 @@ impl ArrayToBytesCodecTraits for BytesCodec {
         if bytes.len() as u64 != count {
             return Err(CodecError::InvalidNumberOfElements);
         }
-        let encoded = copied(alloc, elements, size, reversed)?;
-        Ok(encoded)
+        append(encoded, elements, size, reversed)?;
+        Ok(())
     }
 
     /// One worker. Never refused.

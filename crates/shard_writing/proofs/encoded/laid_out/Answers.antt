@@ -6,13 +6,13 @@ use Rattle.shard_writing.proofs.ChangedLemmas.{array_here}
 use Rattle.shard_writing.proofs.LaidLemmas.{one_more, one_refused}
 use Rattle.shard_writing.proofs.encoded.laid_out.Goals as goal
 
-pub stored_of-requires-clause-kind : goal.stored_of-requires-clause-kind
-stored_of-requires-clause-kind g c =
+pub store_behind-requires-clause-kind : goal.store_behind-requires-clause-kind
+store_behind-requires-clause-kind g c =
     let below : c.loop-j.j < length c.args.arrays.now = omega arith in
     rw (array_here c.args.arrays.now c.loop-j.j c.index-arrays-j.result below c.index-arrays-j.is) (c.requires.arrays c.loop-j.j below).0
 
-pub stored_of-requires-clause-array : goal.stored_of-requires-clause-array
-stored_of-requires-clause-array g c =
+pub store_behind-requires-clause-array : goal.store_behind-requires-clause-array
+store_behind-requires-clause-array g c =
     let below : c.loop-j.j < length c.args.arrays.now = omega arith in
     rw (array_here c.args.arrays.now c.loop-j.j c.index-arrays-j.result below c.index-arrays-j.is) (c.requires.arrays c.loop-j.j below).1
 
@@ -20,17 +20,17 @@ pub loop-j-preserved : goal.loop-j-preserved
 loop-j-preserved g c =
     let s = c.args.subchunks.now in
     let here = array_here c.args.arrays.now c.loop-j.j c.index-arrays-j.result (omega arith) c.index-arrays-j.is in
+    let stored = c.in_ok-slot.ensures.stored in
     one_more (inner_meaning g.I.ArrayToBytesCodecTraits.meaning s).written s.fill_value.now (λ i. (array_at c.args.arrays.now i).elements)
-    c.loop-j.bytes.items c.in_ok-stored.stored.bytes.items c.extend_from_slice.new.self.items c.loop-j.slots.items c.push.new.self.items c.loop-j.j c.in_ok-stored.stored.present
-    c.loop-j.invariant (rw here at c.in_ok-stored.ensures.stored) (rw c.deref.ensures.value at c.in_ok-extend_from_slice.ensures.items)
-    (rw (c.placed-slot.ensures, c.len.ensures, c.len-in-loop-j.ensures, c.loop-j.bytes.ok.0, c.in_ok-stored.stored.bytes.ok.0) at c.in_ok-push.ensures.items)
+    c.loop-j.bytes.items stored.slice c.store_behind.new.slices.items c.loop-j.slots.items c.push.new.self.items c.loop-j.j stored.present
+    c.loop-j.invariant (rw here at stored.stored) stored.behind (rw stored.placed at c.in_ok-push.ensures.items)
 
-pub returns-in_err-stored-clause-refused : goal.returns-in_err-stored-clause-refused
-returns-in_err-stored-clause-refused g c =
+pub returns-in_err-slot-clause-refused : goal.returns-in_err-slot-clause-refused
+returns-in_err-slot-clause-refused g c =
     let s = c.args.subchunks.now in
     let below : c.loop-j.j < length c.args.arrays.now = omega arith in
     let here = array_here c.args.arrays.now c.loop-j.j c.index-arrays-j.result below c.index-arrays-j.is in
-    let e = c.in_err-stored.field-0.0 in
-    passed_on _ e _ c.from_residual-in_err-stored.ensures.1
+    let e = c.in_err-slot.field-0.0 in
+    passed_on _ e _ c.from_residual-in_err-slot.ensures.1
     (one_refused (inner_meaning g.I.ArrayToBytesCodecTraits.meaning s) s.fill_value.now (λ i. (array_at c.args.arrays.now i).elements) c.loop-j.bytes.items c.loop-j.slots.items
-    (length c.args.arrays.now) c.loop-j.j e below c.loop-j.invariant (rw here at c.in_err-stored.ensures.refused))
+    (length c.args.arrays.now) c.loop-j.j e below c.loop-j.invariant (rw here at c.in_err-slot.ensures.refused))

@@ -1,4 +1,4 @@
-use Rattle.std.proofs.Common.{◌≡◌, ◌∙◌, ap, arith, length}
+use Rattle.std.proofs.Common.{◌∙◌, ap, arith, length}
 use Rattle.zarr_words.proofs.ListLaws.{whole_after}
 use Rattle.small_codecs.proofs.BytesCodecSteps.{kept_elements, turned_elements}
 use Rattle.small_codecs.proofs.bytes_codec.copied.Goals as goal

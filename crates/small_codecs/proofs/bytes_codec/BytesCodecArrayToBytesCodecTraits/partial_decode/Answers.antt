@@ -1,4 +1,4 @@
-use Rattle.std.proofs.Common.{◌≡◌, ◌∙◌, refl, sym, ap, inl, inr, map, arith}
+use Rattle.std.proofs.Common.{◌∙◌, refl, sym, ap, inl, inr, map, arith}
 use Rattle.zarr_parts.specs.Geo.{geo}
 use Rattle.zarr_parts.specs.Numbering.{number_of}
 use Rattle.zarr_parts.specs.Types.{byte_size}

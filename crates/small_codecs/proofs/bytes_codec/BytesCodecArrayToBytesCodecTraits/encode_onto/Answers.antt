@@ -1,12 +1,15 @@
-use Rattle.std.proofs.Common.{◌≡◌, ◌<◌, ◌∙◌, sym, rules}
+use Rattle.std.proofs.Common.{◌≡◌, ◌<◌, ◌∙◌, map, refl, sym, rules}
+use Rattle.std.specs.List.{concat}
+use Rattle.zarr_parts.specs.Arrays.{fixed_array}
+use Rattle.small_codecs.specs.BytesCodec.{swapped}
 use Rattle.zarr_parts.specs.Geo.{geo}
 use Rattle.zarr_elements.specs.declared.data_type.DataTypeSize.TheVariants.{Fixed}
 use Rattle.zarr_elements.proofs.ArrayLaws.{whole-concat}
 use Rattle.small_codecs.proofs.BytesCodecSteps.{is_array, encoded}
-use Rattle.small_codecs.proofs.bytes_codec.BytesCodecArrayToBytesCodecTraits.encode.Goals as goal
+use Rattle.small_codecs.proofs.bytes_codec.BytesCodecArrayToBytesCodecTraits.encode_onto.Goals as goal
 
-pub copied-requires : goal.copied-requires
-copied-requires c =
+pub append-requires : goal.append-requires
+append-requires c =
     let m = c.in_ok-size.ensures.measured in
     let some : 0 < c.in_ok-size.field-0.size = rw m.size_is m.serves.supported.positive in
     let kind : c.args.bytes.now.kind ≡ Fixed c.in_ok-size.field-0.size = search rules in
@@ -18,4 +21,10 @@ returns-clause-written c =
     let g = geo c.args.shape.now c.args.data_type.now c.args.fill_value.now in
     let kind : c.args.bytes.now.kind ≡ Fixed c.in_ok-size.field-0.size = search rules in
     let array = is_array c.args.self.now g _ _ _ _ c.args.bytes.now m kind c.kind.ensures.fitting (sym c.len.ensures ∙ c.if-len-count.false) in
-    encoded c.args.self.now g _ _ _ _ c.args.bytes.now c.in-Some.elements.now c.in_ok-encoded.encoded.items m array.1 c.in-Some.ensures.some c.in_ok-encoded.ensures
+    let size = c.in_ok-size.field-0.size in
+    let stored = concat (map (swapped c.in_ok-size.field-0.reversed) (fixed_array size c.in-Some.elements.now).elements) in
+    record {
+      encoding = stored;
+      is_encoding = encoded c.args.self.now g _ _ _ _ c.args.bytes.now c.in-Some.elements.now stored m array.1 c.in-Some.ensures.some refl;
+      behind = c.in_ok-append.ensures.behind;
+    }
