@@ -26,7 +26,8 @@ ByRecorded {I} {X} {H} inner_meaning index_meaning state codec g Does =
     × IsRecorded inner_meaning index_meaning state codec g old × IsRecorded inner_meaning index_meaning state codec g new × Does old new
 
 -- it was accepted: its session did this, and its event stands at the end of the history, at a place; the opening cells are as they were
-pub record HasAdded {C H : Type 0} (place : ℕ) (event : Event) (Does : Session C H → Session C H → Type 0) (old new : Recorded C H) : Type 0 where
+pub record HasAdded {C H : Type 0} (place : ℕ) (event : Event) (Does : Session C H → Session C H → Type 0)
+    (old new : Recorded C H) : Type 0 where
   pub session : Does old.state new.state
   pub place_is : place ≡ length old.events
   pub events : new.events ≡ old.events ++ event ∷ []
