@@ -70,6 +70,23 @@ impl Shards {
         Ok(cells.to_vec(alloc)?)
     }
 
+    // An object without what is not needed, or `None` where there is nothing to gain.
+    pub(crate) fn compacted(
+        &self,
+        alloc: Global,
+        object: Option<Vec<u8>>,
+    ) -> Result<Option<Vec<u8>>, CodecError> {
+        let object = object.ok_or(CodecError::OutOfBounds)?;
+        self.codec.compact(
+            alloc,
+            &object,
+            &self.shape,
+            &DataType::UInt8,
+            &self.fill,
+            &CodecOptions::default(),
+        )
+    }
+
     // A recorded session of them.
     pub(crate) fn recorded<J: Naming<BytesCodec, BytesCodec>>(
         &self,

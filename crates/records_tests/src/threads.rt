@@ -14,6 +14,16 @@ use std::thread::Threads;
 use zarr_codecs::{BytesCodec, FaultingHandle};
 use zarr_parts::CodecError;
 
+// What the threads of a test do: so many of them, each in a cell of its own, write values from the first on, so many times, and
+// read the cell after each. The first value of each thread is so far from that of the thread before it.
+#[derive(Clone, Copy)]
+struct Plan {
+    threads: u8,
+    times: u8,
+    first: u8,
+    apart: u8,
+}
+
 // What one thread does: it writes values from the first on into a cell, so many times, and reads the cell after each.
 #[derive(Drop)]
 struct Job {
@@ -51,38 +61,40 @@ fn work<J: Naming<BytesCodec, BytesCodec>, R: Wait>(
     Ok((seat, right))
 }
 
-// So many jobs, each with a seat of its own; and the seat that is left.
+fn job_of(plan: Plan, seat: Seat, thread: u8) -> Job {
+    Job {
+        seat,
+        cell: u64::from(thread),
+        first: plan.first.wrapping_add(plan.apart.wrapping_mul(thread)),
+        times: plan.times,
+    }
+}
+
+// The jobs of a plan, each with a seat of its own: the last one has the seat that the session was opened with.
 fn jobs_for<J: Naming<BytesCodec, BytesCodec>>(
     alloc: Global,
     encoder: &Encoder<'_, J>,
     seat: Seat,
-    jobs: u8,
-    times: u8,
-) -> Result<(Vec<Job>, Seat), CodecError> {
+    plan: Plan,
+) -> Result<Vec<Job>, CodecError> {
     let mut list = Vec::new(alloc);
     let mut rest = seat;
-    for k in 0..jobs {
+    for thread in 1..plan.threads {
         let (kept, seat) = encoder.split_seat(rest);
         rest = kept;
-        list.push(Job {
-            seat,
-            cell: u64::from(k),
-            first: 50u8.wrapping_add(k.wrapping_mul(10)),
-            times,
-        })?;
+        list.push(job_of(plan, seat, thread))?;
     }
-    Ok((list, rest))
+    list.push(job_of(plan, rest, 0))?;
+    Ok(list)
 }
 
 // All seats, and how many reads were right.
 fn counted(
     alloc: Global,
-    rest: Seat,
     done: Vec<Result<(Seat, u64), CodecError>>,
 ) -> Result<(Vec<Seat>, u64), CodecError> {
     let mut seats = Vec::new(alloc);
     let mut right: u64 = 0;
-    seats.push(rest)?;
     for answer in done {
         let (seat, count) = answer?;
         seats.push(seat)?;
@@ -91,38 +103,36 @@ fn counted(
     Ok((seats, right))
 }
 
-// So many jobs, each in a thread; all seats, and how many reads were right.
+// The jobs of a plan, each in a thread; all seats, and how many reads were right.
 fn worked<J: Naming<BytesCodec, BytesCodec> + Send + Sync, R: Threads + Wait + Sync>(
     rt: &R,
     alloc: Global,
     encoder: &Encoder<'_, J>,
     seat: Seat,
-    jobs: u8,
-    times: u8,
+    plan: Plan,
 ) -> Result<(Vec<Seat>, u64), CodecError> {
-    let (list, rest) = jobs_for(alloc, encoder, seat, jobs, times)?;
+    let list = jobs_for(alloc, encoder, seat, plan)?;
     let done = thread::map_vec(rt, list, &|job| work(rt, alloc, encoder, job))?;
-    counted(alloc, rest, done)
+    counted(alloc, done)
 }
 
-// So many jobs on one session of eight cells; how many reads were right, and how the session ended.
+// A plan on one session; how many reads were right, and how the session ended.
 fn shared<J: Naming<BytesCodec, BytesCodec> + Send + Sync, R: Threads + Wait + Sync>(
     rt: &R,
     alloc: Global,
     shards: &Shards,
-    object: Vec<u8>,
-    jobs: u8,
-    times: u8,
+    object: Option<Vec<u8>>,
+    plan: Plan,
 ) -> Result<(u64, Ended), CodecError>
     requires codec_named { Some shards.now.codec ≡ J.codec }
     requires geo_named { geo shards.now.shape UInt8 shards.now.fill ≡ J.geo }
 {
-    let handle = FaultingHandle::new(Some(object), u64::MAX);
+    let handle = FaultingHandle::new(object, u64::MAX);
     let (encoder, seat) = match shards.recorded::<J>(alloc, handle) {
         Ok(opened) => opened,
         Err((handle, error)) => return Ok((0, Ended::refused(alloc, handle, error))),
     };
-    let (seats, right) = worked(rt, alloc, &encoder, seat, jobs, times)?;
+    let (seats, right) = worked(rt, alloc, &encoder, seat, plan)?;
     Ok((right, how_it_ended(alloc, encoder.close(seats))?))
 }
 
@@ -135,7 +145,13 @@ fn eight(alloc: Global) -> Result<Vec<u8>, CodecError> {
 fn two_threads_read_what_they_wrote(rt: HostRuntime) -> Result<(), Fail> {
     let alloc = rt.alloc();
     let shards = Shards::new(alloc, 8)?;
-    let (right, end) = shared::<Brand, _>(&rt, alloc, &shards, eight(alloc)?, 2, 1)?;
+    let plan = Plan {
+        threads: 2,
+        times: 1,
+        first: 50,
+        apart: 10,
+    };
+    let (right, end) = shared::<Brand, _>(&rt, alloc, &shards, Some(eight(alloc)?), plan)?;
     assert_eq!(rt; right, 2);
     assert_eq!(rt; end.how, "closed");
     assert_eq!(rt; end.events, 4);
@@ -145,13 +161,24 @@ fn two_threads_read_what_they_wrote(rt: HostRuntime) -> Result<(), Fail> {
     Ok(())
 }
 
+// From no object each of four threads writes 1 to 50 into its cell: fifty slices of each subchunk, of which a compaction leaves one.
 #[test]
 fn four_threads_leave_one_history(rt: HostRuntime) -> Result<(), Fail> {
     let alloc = rt.alloc();
-    let shards = Shards::new(alloc, 8)?;
-    let (right, end) = shared::<Brand, _>(&rt, alloc, &shards, eight(alloc)?, 4, 50)?;
+    let shards = Shards::new(alloc, 4)?;
+    let plan = Plan {
+        threads: 4,
+        times: 50,
+        first: 1,
+        apart: 0,
+    };
+    let (right, end) = shared::<Brand, _>(&rt, alloc, &shards, None, plan)?;
     assert_eq!(rt; right, 200);
     assert_eq!(rt; end.how, "closed");
     assert_eq!(rt; end.events, 400);
+    assert_eq!(rt; end.opening.as_slice(), [0, 0, 0, 0].as_slice());
+    let compacted = shards.compacted(alloc, end.object)?;
+    let wanted = object_of(alloc, &[50, 50, 50, 50], &[0, 2, 2, 2])?;
+    assert_eq!(rt; compacted, Some(wanted));
     Ok(())
 }

@@ -1,9 +1,11 @@
 -- Why the end of a recorded session is refused.
-use Rattle.std.specs.Prelude.{◌≡◌, ◌≢◌, ◌≤◌, ◌<◌, ◌⊎◌, List, length}
+use Rattle.std.specs.Prelude.{◌≡◌, ◌≢◌, ◌≤◌, ◌<◌, ◌⊎◌, true, false, List, length}
 use Rattle.zarr_parts.specs.Arrays.{Array}
 use Rattle.zarr_words.specs.declared.error.CodecError.TheVariants.{SessionFailed}
 use Rattle.shard_records.specs.Receipts.{receipts_of, IsMismatch}
+use Rattle.shard_records.specs.Recorded.{Recorded}
 use Rattle.shard_records.specs.declared.event.Receipt.{Receipt}
+use Rattle.shard_records.specs.declared.closing.Closed.{Closed}
 use Rattle.shard_records.specs.declared.closing.CloseError.{CloseError}
 use Rattle.shard_records.specs.declared.closing.CloseError.TheVariants.{SeatsMissing, ReceiptMismatch, Session}
 
@@ -16,3 +18,22 @@ IsRefusedClose opening seats (ReceiptMismatch closed seat place) =
     (length closed.history.items ≤ length (receipts_of seats))
     × (((closed.opening ≢ opening) × (seat ≡ 0) × (place ≡ 0))
     ⊎ ((closed.opening ≡ opening) × IsMismatch closed.history.items seats seat place))
+
+-- what a recorded session, in which no write failed, leaves: its handle, its opening cells and its history
+pub record IsClosedOf {C H : Type 0} (r : Recorded C H) (closed : Closed H) : Type 0 where
+  pub usable : r.state.failed ≡ false
+  pub handle : closed.handle ≡ r.state.handle
+  pub opening : closed.opening ≡ r.opening
+  pub history : closed.history.items ≡ r.events
+
+-- what is handed back with a refusal: what such a session leaves, or the handle of one that failed
+abbrev pub IsHandedBack : {C H : Type 0} → Recorded C H → CloseError H → Type 0
+IsHandedBack r (Session handle e) = (r.state.failed ≡ true) × (handle ≡ r.state.handle)
+IsHandedBack r (SeatsMissing closed) = IsClosedOf r closed
+IsHandedBack r (ReceiptMismatch closed seat place) = IsClosedOf r closed
+
+-- a refusal has this with it
+abbrev pub Carries : {H : Type 0} → Closed H → CloseError H → Type 0
+Carries closed (Session handle e) = ⊥
+Carries closed (SeatsMissing carried) = carried ≡ closed
+Carries closed (ReceiptMismatch carried seat place) = carried ≡ closed

@@ -1,7 +1,7 @@
 // What a recorded session leaves, and how its end is tested.
 ghost use Rattle.std.specs.Prelude.{◌≡◌, ◌≤◌, false, length, replicate, IfOk, IfErr};
 ghost use Rattle.shard_records.specs.Receipts.{Agree, receipts_of};
-ghost use Rattle.shard_records.specs.Closing.{IsRefusedClose};
+ghost use Rattle.shard_records.specs.Closing.{IsRefusedClose, Carries};
 
 use crate::event::{Event, Seat, same_elements};
 use crate::receipts::{first_mismatch, have_as_many};
@@ -45,6 +45,7 @@ impl<H> Closed<H> {
         ensures agree { IfOk result (λ closed. Agree closed.history.items seats.now) }
         ensures as_many { IfOk result (λ closed. length (receipts_of seats.now) ≡ length closed.history.items) }
         ensures refused { IfErr result (IsRefusedClose opening.now seats.now) }
+        ensures carried { IfErr result (Carries self) }
     {
         if !have_as_many(seats, self.history.len()) {
             return Err(CloseError::SeatsMissing(self));

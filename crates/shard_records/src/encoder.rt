@@ -1,14 +1,17 @@
 // A recorded session behind a lock, which threads share.
-ghost use Rattle.std.specs.Prelude.{◌≡◌, ◌++◌, ◌∷◌, [], false, Some, IsTrue, IfOk, IfErr, OnErr, length};
+ghost use Rattle.std.specs.Prelude.{◌≡◌, ◌++◌, ◌∷◌, [], false, Some, IsTrue, IfOk, IfErr, OnErr, MatchResult, length};
 ghost use Rattle.zarr_parts.specs.Order.{RefusedBy};
 ghost use Rattle.zarr_parts.specs.Geo.{geo};
+ghost use Rattle.zarr_parts.specs.Selections.{box_selection};
 ghost use Rattle.object_handles.specs.Handles.{IsRead, IsCounted};
 ghost use Rattle.sharding_core.specs.Sessions.{IsInStep, IsLeft};
+ghost use Rattle.sharding_core.specs.LockedSessions.{HasWritten, HasRefusedWrite, HasRead, HasRefusedRead, HasErased};
 ghost use Rattle.shard_runs.specs.Objects.{shards_of};
 ghost use Rattle.shard_records.specs.Histories.{IsCellsOf, Replays};
 ghost use Rattle.shard_records.specs.Recorded.{HoldsNamed, whole_box, WholeReadTests, RecordedTests};
+ghost use Rattle.shard_records.specs.SharedRecords.{OfRecorded, ByRecorded, HasAdded, HasAddedNone, HasRefusedToErase};
 ghost use Rattle.shard_records.specs.Receipts.{Agree, receipts_of};
-ghost use Rattle.shard_records.specs.Closing.{IsRefusedClose};
+ghost use Rattle.shard_records.specs.Closing.{IsRefusedClose, IsClosedOf, IsHandedBack};
 ghost use Rattle.shard_records.specs.declared.event.Event.TheVariants.{Write, Read, Erase};
 
 use crate::closing::{CloseError, Closed};
@@ -169,7 +172,11 @@ impl<
         bytes: &ArrayBytes,
     ) -> (Seat, Result<u64, CodecError>)
         ensures receipt { IfOk result.1 (λ place. result.0 ≡ seat ++ record { place = place; event = Write subset.now bytes.now } ∷ []) }
-        ensures refused { OnErr result.1 (result.0 ≡ seat) }
+        ensures kept { OnErr result.1 (result.0 ≡ seat) }
+        ensures written { IfOk result.1 (λ place. ByRecorded I.meaning X.meaning H.state J.codec J.geo (
+            HasAdded place (Write subset.now bytes.now) (HasWritten ⟦<ShardingCodec<I, X> as ArrayToBytesCodecTraits>⟧.meaning I.meaning X.meaning H.state (box_selection subset.now) bytes.now))) }
+        ensures refused { IfErr result.1 (λ e. ByRecorded I.meaning X.meaning H.state J.codec J.geo (
+            HasAddedNone (HasRefusedWrite I.meaning X.meaning H.state (box_selection subset.now) bytes.now e))) }
     {
         let answer = self.lock.lock(rt).write(alloc, &mut seat, subset, bytes);
         (seat, answer)
@@ -185,7 +192,11 @@ impl<
         subset: &ArraySubset,
     ) -> (Seat, Result<(u64, ArrayBytes<'static>), CodecError>)
         ensures receipt { IfOk result.1 (λ answer. result.0 ≡ seat ++ record { place = answer.0; event = Read subset.now answer.1 } ∷ []) }
-        ensures refused { OnErr result.1 (result.0 ≡ seat) }
+        ensures kept { OnErr result.1 (result.0 ≡ seat) }
+        ensures read { IfOk result.1 (λ answer. ByRecorded I.meaning X.meaning H.state J.codec J.geo (
+            HasAdded answer.0 (Read subset.now answer.1) (HasRead ⟦<ShardingCodec<I, X> as ArrayToBytesCodecTraits>⟧.meaning H.state (box_selection subset.now) answer.1))) }
+        ensures refused { IfErr result.1 (λ e. ByRecorded I.meaning X.meaning H.state J.codec J.geo (
+            HasAddedNone (HasRefusedRead ⟦<ShardingCodec<I, X> as ArrayToBytesCodecTraits>⟧.meaning I.meaning X.meaning H.state (box_selection subset.now) e))) }
     {
         let answer = self.lock.lock(rt).read(alloc, &mut seat, subset);
         (seat, answer)
@@ -200,7 +211,9 @@ impl<
         mut seat: Seat,
     ) -> (Seat, Result<u64, CodecError>)
         ensures receipt { IfOk result.1 (λ place. result.0 ≡ seat ++ record { place = place; event = Erase } ∷ []) }
-        ensures refused { OnErr result.1 (result.0 ≡ seat) }
+        ensures kept { OnErr result.1 (result.0 ≡ seat) }
+        ensures erased { IfOk result.1 (λ place. ByRecorded I.meaning X.meaning H.state J.codec J.geo (HasAdded place Erase (HasErased H.state))) }
+        ensures refused { IfErr result.1 (λ e. ByRecorded I.meaning X.meaning H.state J.codec J.geo (HasAddedNone (HasRefusedToErase H.state e))) }
     {
         let answer = self.lock.lock(rt).erase(&mut seat);
         (seat, answer)
@@ -219,6 +232,7 @@ impl<
         ensures agree { IfOk result (λ closed. Agree closed.history.items seats.items) }
         ensures as_many { IfOk result (λ closed. length (receipts_of seats.items) ≡ length closed.history.items) }
         ensures refused { IfErr result (IsRefusedClose self.entry seats.items) }
+        ensures left { OfRecorded I.meaning X.meaning H.state J.codec J.geo (λ r. MatchResult result (IsClosedOf r) (IsHandedBack r)) }
     {
         let RecordedPartialEncoder {
             lock,

@@ -1,19 +1,12 @@
 // A session with a history of what was done in it.
 ghost use Rattle.std.specs.Prelude.{◌≡◌, ◌++◌, ◌∷◌, [], false, Some, IsTrue, IfOk, IfErr, OnOk, OnErr, length, replicate};
-ghost use Rattle.zarr_parts.specs.Order.{◌or◌then◌, RefusedBy};
-ghost use Rattle.zarr_parts.specs.Boxes.{points_of};
 ghost use Rattle.zarr_parts.specs.Selections.{box_selection};
-ghost use Rattle.zarr_words.specs.declared.error.CodecError.TheVariants.{SessionFailed};
-ghost use Rattle.object_handles.specs.Handles.{IsCounted, MayFault};
-ghost use Rattle.object_handles.specs.Objects.{ObjectTests};
-ghost use Rattle.codec_laws.specs.Reads.{AskedTests, IsAnswer};
-ghost use Rattle.shard_cells.specs.Updates.{UpdateTests, IsUpdateOf};
-ghost use Rattle.sharding_core.specs.Decoders.{ObjectCellsTests};
-ghost use Rattle.sharding_core.specs.Sessions.{IsInStep, IsLeft, IsDone, IsLeftOrFailed};
-ghost use Rattle.sharding_core.specs.SessionWrites.{WrittenTests};
+ghost use Rattle.sharding_core.specs.Sessions.{IsInStep};
+ghost use Rattle.sharding_core.specs.LockedSessions.{HasWritten, HasRefusedWrite, HasRead, HasRefusedRead, HasErased};
 ghost use Rattle.shard_runs.specs.Objects.{shards_of};
 ghost use Rattle.shard_records.specs.Histories.{IsCellsOf};
 ghost use Rattle.shard_records.specs.Recorded.{IsRecorded};
+ghost use Rattle.shard_records.specs.SharedRecords.{HasRefusedToErase};
 ghost use Rattle.shard_records.specs.declared.event.Event.TheVariants.{Write, Read, Erase};
 
 use crate::event::{Event, Seat};
@@ -114,22 +107,15 @@ impl<
         subset: &ArraySubset,
         bytes: &ArrayBytes,
     ) -> Result<u64, CodecError>
+        ensures was_recorded { IsRecorded I.meaning X.meaning H.state J.codec J.geo self.old }
         ensures recorded { IsRecorded I.meaning X.meaning H.state J.codec J.geo self.new }
         ensures opening { self.new.opening ≡ self.old.opening }
         ensures place { IfOk result (λ place. place ≡ length self.old.events) }
         ensures event { OnOk result (self.new.events ≡ self.old.events ++ Write subset.now bytes.now ∷ []) }
         ensures receipt { IfOk result (λ place. seat.new ≡ seat.old ++ record { place = place; event = Write subset.now bytes.now } ∷ []) }
-        ensures done { OnOk result (IsDone H.state self.old.state self.new.state) }
-        ensures update { OnOk result (IsUpdateOf self.old.state.geo.shape self.old.state.geo.data_type (box_selection subset.now) bytes.now) }
+        ensures written { OnOk result (HasWritten ⟦<ShardingCodec<I, X> as ArrayToBytesCodecTraits>⟧.meaning I.meaning X.meaning H.state (box_selection subset.now) bytes.now self.old.state self.new.state) }
         ensures no_event { OnErr result ((self.new.events ≡ self.old.events) × (seat.new ≡ seat.old)) }
-        ensures failed { IfErr result (IsLeftOrFailed H.state self.old.state self.new.state) }
-        ensures fault { IfErr result (IsCounted (H.state self.old.state.handle) (H.state self.new.state.handle)) }
-        ensures refused { let s = self.old.state.codec in let g = self.old.state.geo in let old = H.state self.old.state.handle in
-            IfErr result (RefusedBy (
-            self.old.state.failed ≡ false or SessionFailed then
-            UpdateTests g.shape g.data_type (box_selection subset.now) bytes.now (
-            ObjectTests old (H.state self.new.state.handle) (
-            WrittenTests I.meaning X.meaning s g subset.now bytes.now.elements old.contents self.old.state.index)))) }
+        ensures refused { IfErr result (λ e. HasRefusedWrite I.meaning X.meaning H.state (box_selection subset.now) bytes.now e self.old.state self.new.state) }
     {
         take_room(&mut self.events, &mut self.seen, &mut seat.receipts)?;
         let copies = Copies::of_write(alloc, subset, bytes)?;
@@ -151,22 +137,15 @@ impl<
         seat: &mut Seat,
         subset: &ArraySubset,
     ) -> Result<(u64, ArrayBytes<'static>), CodecError>
+        ensures was_recorded { IsRecorded I.meaning X.meaning H.state J.codec J.geo self.old }
         ensures recorded { IsRecorded I.meaning X.meaning H.state J.codec J.geo self.new }
         ensures opening { self.new.opening ≡ self.old.opening }
         ensures place { IfOk result (λ answer. answer.0 ≡ length self.old.events) }
         ensures event { IfOk result (λ answer. self.new.events ≡ self.old.events ++ Read subset.now answer.1 ∷ []) }
         ensures receipt { IfOk result (λ answer. seat.new ≡ seat.old ++ record { place = answer.0; event = Read subset.now answer.1 } ∷ []) }
-        ensures left { IsLeft H.state self.old.state self.new.state }
-        ensures usable { OnOk result (self.old.state.failed ≡ false) }
-        ensures answer { IfOk result (λ answer. IsAnswer self.old.state.geo (box_selection subset.now) answer.1) }
+        ensures read { IfOk result (λ answer. HasRead ⟦<ShardingCodec<I, X> as ArrayToBytesCodecTraits>⟧.meaning H.state (box_selection subset.now) answer.1 self.old.state self.new.state) }
         ensures no_event { OnErr result ((self.new.events ≡ self.old.events) × (seat.new ≡ seat.old)) }
-        ensures fault { IfErr result (IsCounted (H.state self.old.state.handle) (H.state self.new.state.handle)) }
-        ensures refused { let codec = ⟦<ShardingCodec<I, X> as ArrayToBytesCodecTraits>⟧ in let s = self.old.state.codec in let g = self.old.state.geo in
-            IfErr result (RefusedBy (
-            self.old.state.failed ≡ false or SessionFailed then
-            AskedTests g (box_selection subset.now) (codec.meaning s g).answerable (
-            ObjectTests (H.state self.old.state.handle) (H.state self.new.state.handle) (
-            ObjectCellsTests I.meaning X.meaning s g (H.state self.old.state.handle).contents (points_of subset.now))))) }
+        ensures refused { IfErr result (λ e. HasRefusedRead ⟦<ShardingCodec<I, X> as ArrayToBytesCodecTraits>⟧.meaning I.meaning X.meaning H.state (box_selection subset.now) e self.old.state self.new.state) }
     {
         take_room(&mut self.events, &mut self.seen, &mut seat.receipts)?;
         let cells = self
@@ -181,17 +160,15 @@ impl<
     /// history. A refused call is no event. Refused as `OutOfMemory`, where there is no room for the event and its receipt, which
     /// is taken before, or as `erase` refuses.
     pub fn erase(&mut self, seat: &mut Seat) -> Result<u64, CodecError>
+        ensures was_recorded { IsRecorded I.meaning X.meaning H.state J.codec J.geo self.old }
         ensures recorded { IsRecorded I.meaning X.meaning H.state J.codec J.geo self.new }
         ensures opening { self.new.opening ≡ self.old.opening }
         ensures place { IfOk result (λ place. place ≡ length self.old.events) }
         ensures event { OnOk result (self.new.events ≡ self.old.events ++ Erase ∷ []) }
         ensures receipt { IfOk result (λ place. seat.new ≡ seat.old ++ record { place = place; event = Erase } ∷ []) }
-        ensures done { OnOk result (IsDone H.state self.old.state self.new.state) }
+        ensures erased { OnOk result (HasErased H.state self.old.state self.new.state) }
         ensures no_event { OnErr result ((self.new.events ≡ self.old.events) × (seat.new ≡ seat.old)) }
-        ensures failed { IfErr result (IsLeftOrFailed H.state self.old.state self.new.state) }
-        ensures refused { IfErr result (RefusedBy (
-            self.old.state.failed ≡ false or SessionFailed then
-            MayFault (H.state self.old.state.handle) (H.state self.new.state.handle))) }
+        ensures refused { IfErr result (λ e. HasRefusedToErase H.state e self.old.state self.new.state) }
     {
         take_room(&mut self.events, &mut self.seen, &mut seat.receipts)?;
         self.state.erase()?;

@@ -6,5 +6,6 @@ pub use Rattle.shard_runs.specs.Ended
 pub use Rattle.shard_runs.specs.FromScratch
 pub use Rattle.shard_records.specs.Histories
 pub use Rattle.shard_records.specs.Recorded
+pub use Rattle.shard_records.specs.SharedRecords
 pub use Rattle.shard_records.specs.Receipts
 pub use Rattle.shard_records.specs.Closing

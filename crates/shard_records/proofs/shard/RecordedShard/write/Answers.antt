@@ -42,4 +42,6 @@ invariant_of-self-in-Ok g c =
     )
 
 pub returns-in-Err-clause-refused : goal.returns-in-Err-clause-refused
-returns-in-Err-clause-refused g c = rw (c.refused.ensures, ← c.self.view_is) c.in-Err.ensures.refused
+returns-in-Err-clause-refused g c =
+    let e = c.in-Err.ensures in
+    rw (c.refused.ensures, ← c.self.view_is) (record { failed = e.failed; fault = e.fault; refused = e.refused })

@@ -1,0 +1,47 @@
+-- A recorded session that threads share. What a call finds under the lock no clause can name: so a clause says what a call of some recorded
+-- session of the name did, which left it a recorded session of the name.
+use Rattle.std.specs.Prelude.{◌≡◌, false, ℕ, [], ◌∷◌, ◌++◌, Option, length}
+use Rattle.zarr_words.specs.declared.error.CodecError.{CodecError}
+use Rattle.zarr_words.specs.declared.error.CodecError.TheVariants.{SessionFailed}
+use Rattle.zarr_parts.specs.Order.{◌or◌then◌, RefusedBy}
+use Rattle.zarr_parts.specs.Geo.{Geo}
+use Rattle.object_handles.specs.Handles.{HandleState, MayFault}
+use Rattle.codec_laws.specs.Meanings.{Meaning}
+use Rattle.sharding_core.specs.Sessions.{Session, IsLeftOrFailed}
+use Rattle.sharding_core.specs.declared.codec.ShardingCodec.{ShardingCodec}
+use Rattle.shard_records.specs.Recorded.{Recorded, IsRecorded}
+use Rattle.shard_records.specs.declared.event.Event.{Event}
+
+-- of some recorded session of a name this is so
+abbrev pub OfRecorded : {I X H : Type 0} → (I → Geo → Meaning) → (X → Geo → Meaning) → (H → HandleState) → Option (ShardingCodec I X) → Geo
+    → (Recorded (ShardingCodec I X) H → Type 0) → Type 0
+OfRecorded {I} {X} {H} inner_meaning index_meaning state codec g Is =
+    (r : Recorded (ShardingCodec I X) H) × IsRecorded inner_meaning index_meaning state codec g r × Is r
+
+-- one call of some recorded session of a name did this, and left it a recorded session of the name
+abbrev pub ByRecorded : {I X H : Type 0} → (I → Geo → Meaning) → (X → Geo → Meaning) → (H → HandleState) → Option (ShardingCodec I X) → Geo
+    → (Recorded (ShardingCodec I X) H → Recorded (ShardingCodec I X) H → Type 0) → Type 0
+ByRecorded {I} {X} {H} inner_meaning index_meaning state codec g Does =
+    (old : Recorded (ShardingCodec I X) H) × (new : Recorded (ShardingCodec I X) H)
+    × IsRecorded inner_meaning index_meaning state codec g old × IsRecorded inner_meaning index_meaning state codec g new × Does old new
+
+-- it was accepted: its session did this, and its event stands at the end of the history, at a place; the opening cells are as they were
+pub record HasAdded {C H : Type 0} (place : ℕ) (event : Event) (Does : Session C H → Session C H → Type 0)
+    (old new : Recorded C H) : Type 0 where
+  pub session : Does old.state new.state
+  pub place_is : place ≡ length old.events
+  pub events : new.events ≡ old.events ++ event ∷ []
+  pub opening : new.opening ≡ old.opening
+
+-- it was refused: its session refused so, and history and opening cells are as they were
+pub record HasAddedNone {C H : Type 0} (Refuses : Session C H → Session C H → Type 0) (old new : Recorded C H) : Type 0 where
+  pub session : Refuses old.state new.state
+  pub events : new.events ≡ old.events
+  pub opening : new.opening ≡ old.opening
+
+-- a session refused to let the object go, or there was no memory for the event: it left all else, or it is failed from now on
+pub record HasRefusedToErase {C H : Type 0} (state : H → HandleState) (e : CodecError) (old new : Session C H) : Type 0 where
+  pub failed : IsLeftOrFailed state old new e
+  pub refused : RefusedBy (
+      old.failed ≡ false or SessionFailed then
+      MayFault (state old.handle) (state new.handle)) e
