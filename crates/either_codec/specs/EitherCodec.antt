@@ -14,7 +14,8 @@ either_meaning first second (First codec) g = first codec g
 either_meaning first second (Second codec) g = second codec g
 
 -- how its work is shared: as that of the codec that it holds
-abbrev pub either_concurrency : {A B : Type 0} → (A → List ℕ → Concurrency) → (B → List ℕ → Concurrency) → EitherCodec A B → List ℕ → Concurrency
+abbrev pub either_concurrency : {A B : Type 0} → (A → List ℕ → Concurrency) → (B → List ℕ → Concurrency)
+    → EitherCodec A B → List ℕ → Concurrency
 either_concurrency first second (First codec) shape = first codec shape
 either_concurrency first second (Second codec) shape = second codec shape
 
@@ -29,6 +30,7 @@ either_lawful first second one other (Second codec) g = other codec g
 pub either_faultless : {A B : Type 0} (first : A → List ℕ → Concurrency) (second : B → List ℕ → Concurrency)
     → ((x : A) (shape : List ℕ) (e : CodecError) → (first x shape).tests e → IsNoFault e)
     → ((x : B) (shape : List ℕ) (e : CodecError) → (second x shape).tests e → IsNoFault e)
-    → (codec : EitherCodec A B) (shape : List ℕ) (e : CodecError) → (either_concurrency first second codec shape).tests e → IsNoFault e
+    → (codec : EitherCodec A B) (shape : List ℕ) (e : CodecError)
+    → (either_concurrency first second codec shape).tests e → IsNoFault e
 either_faultless first second one other (First codec) shape e = one codec shape e
 either_faultless first second one other (Second codec) shape e = other codec shape e

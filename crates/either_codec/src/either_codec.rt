@@ -32,12 +32,8 @@ impl<A: ArrayToBytesCodecTraits, B: ArrayToBytesCodecTraits> ArrayToBytesCodecTr
         fill_value: &FillValue,
     ) -> Result<(), CodecError> {
         match self {
-            EitherCodec::First(codec) => {
-                codec.check(alloc, shape, data_type, fill_value)
-            }
-            EitherCodec::Second(codec) => {
-                codec.check(alloc, shape, data_type, fill_value)
-            }
+            EitherCodec::First(codec) => { codec.check(alloc, shape, data_type, fill_value) }
+            EitherCodec::Second(codec) => { codec.check(alloc, shape, data_type, fill_value) }
         }
     }
 
