@@ -1,5 +1,5 @@
 // The codec `bytes`.
-ghost use Rattle.std.specs.Prelude.{◌≡◌, ◌++◌, ◌<◌, ℕ, Bool, List, Some, IfOk, IfErr, IfSome, IfNone, OnOk, OnErr, map, length, reverse};
+ghost use Rattle.std.specs.Prelude.{◌≡◌, ◌++◌, ℕ, Bool, List, Some, IfOk, IfErr, IfSome, IfNone, OnOk, OnErr, map, reverse};
 ghost use Rattle.std.specs.List.{concat};
 ghost use Rattle.std.specs.Cow.{cow_slice_items};
 ghost use Rattle.zarr_parts.specs.Geo.{geo};
