@@ -1,2 +1,2 @@
 pub mod SessionLemmas
-pub mod WriteLemmas
+pub mod PreparedLemmas

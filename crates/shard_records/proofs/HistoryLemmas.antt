@@ -21,7 +21,7 @@ use Rattle.shard_opening.specs.Held.{object_cells}
 use Rattle.sharding_core.specs.Sessions.{Session, IsInStep, IsLeft, IsDone, IsLeftOrFailed}
 use Rattle.sharding_core.specs.SessionWrites.{IsWritten}
 use Rattle.sharding_core.specs.declared.codec.ShardingCodec.{ShardingCodec}
-use Rattle.shard_held.proofs.WriteLemmas.{length-object_cells}
+use Rattle.shard_held.proofs.PreparedLemmas.{length-object_cells}
 use Rattle.shard_runs.specs.Maps.{CellMap, elements_of}
 use Rattle.shard_runs.specs.Objects.{Shards, shards_of, Shows}
 use Rattle.shard_runs.proofs.ShownLemmas.{length-elements_of, get_or-elements_of}

@@ -7,3 +7,4 @@ pub mod ReplaceLemmas
 pub mod StandingLemmas
 pub mod FromScratchLemmas
 pub mod RunLemmas
+pub mod ReadBackLaws

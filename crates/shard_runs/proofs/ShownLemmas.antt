@@ -17,7 +17,7 @@ use Rattle.shard_format.specs.declared.order.SubchunkWriteOrder.{SubchunkWriteOr
 use Rattle.shard_format.specs.declared.slot.Slot.{Slot}
 use Rattle.shard_format.specs.declared.slot.Slot.TheVariants.{Absent, InRange}
 use Rattle.shard_writing.specs.Writing.{HoldsNumbers, IsHeld, cells_in}
-use Rattle.shard_held.proofs.WriteLemmas.{object_cell}
+use Rattle.shard_held.proofs.PreparedLemmas.{object_cell}
 use Rattle.shard_runs.specs.Maps.{CellMap, elements_of}
 use Rattle.shard_runs.specs.Objects.{Shards, subchunks_in, index_numbers, Shows}
 use Rattle.shard_runs.specs.Serving.{IsUsable}

@@ -31,7 +31,7 @@ use Rattle.shard_index.specs.DataPart.{IsInDataPart}
 use Rattle.shard_writing.specs.Writing.{HoldsNumbers, AreAbsent, IsNew, cells_in}
 use Rattle.shard_writing.proofs.AnewLemmas.{in_list, pair_absent}
 use Rattle.shard_writing.proofs.HeldLemmas.{told_len}
-use Rattle.shard_writing.proofs.WriteLemmas.{absent_slot}
+use Rattle.shard_writing.proofs.WrittenLemmas.{absent_slot}
 use Rattle.shard_runs.specs.Maps.{CellMap, filled, IsOverridden, elements_of}
 use Rattle.shard_runs.specs.Objects.{Shards, index_numbers, IsObjectWritten, IsRewritten, written_layout}
 use Rattle.shard_runs.specs.Causes.{subchunk_elements}

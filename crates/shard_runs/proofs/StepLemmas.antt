@@ -30,7 +30,7 @@ use Rattle.shard_cells.specs.Updates.{IsUpdateOf}
 use Rattle.shard_writing.specs.Writing.{AreOverlaid}
 use Rattle.shard_writing.proofs.AnewLemmas.{in_list}
 use Rattle.sharding_core.specs.Decoders.{object_cells}
-use Rattle.shard_held.proofs.WriteLemmas.{length-object_cells}
+use Rattle.shard_held.proofs.PreparedLemmas.{length-object_cells}
 use Rattle.shard_runs.specs.Maps.{CellMap, filled, IsOverridden, elements_at}
 use Rattle.shard_runs.specs.Objects.{Shards, Shows, HasSoundIndex, IsObjectWritten, IsMinimal, IsRewritten}
 use Rattle.shard_runs.specs.Causes.{IsLongCompacted}

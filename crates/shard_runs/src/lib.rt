@@ -3,10 +3,12 @@
 
 mod command;
 mod compact;
+mod laws;
 mod run;
 mod serve;
 mod served;
 mod step;
 
 pub use command::{Command, CommandRun, Reply};
+pub use laws::read_back;
 pub use run::run_commands;

@@ -10,7 +10,7 @@ use Rattle.zarr_parts.specs.Touched.{Touches, AreTouched}
 use Rattle.shard_format.specs.Index.{absent_number, slot_at}
 use Rattle.shard_format.specs.declared.slot.Slot.TheVariants.{Absent, InRange, Bad}
 use Rattle.shard_writing.specs.Writing.{AreAbsent, IsAnew, HasPairs}
-use Rattle.shard_writing.proofs.WriteLemmas.{absent_slot}
+use Rattle.shard_writing.proofs.WrittenLemmas.{absent_slot}
 
 -- both numbers of a pair are the absent one
 abbrev IsPairAbsent : List ℕ → ℕ → Type 0

@@ -16,7 +16,7 @@ use Rattle.shard_index.specs.DataPart.{LiesBetween}
 use Rattle.shard_writing.specs.Writing.{AreAbsent, AreLaid, HasPairs, HasPut, IsSettled, place_behind, HoldsNumbers, IsHeld, HasSlice}
 use Rattle.zarr_boxes.proofs.GridLaws.{over_first}
 use Rattle.shard_writing.proofs.AnewLemmas.{pair_absent, in_list, absent_pair, cleared_absent}
-use Rattle.shard_writing.proofs.WriteLemmas.{absent_slot, inside_data}
+use Rattle.shard_writing.proofs.WrittenLemmas.{absent_slot, inside_data}
 use Rattle.shard_writing.proofs.MadeLemmas.{kept_slot, before_place}
 
 absent_lies : (start end : ℕ) (s : Slot) → s ≡ Absent → LiesBetween start end s

@@ -5,7 +5,7 @@ pub mod LaidLemmas
 pub mod PairLemmas
 pub mod PlaceLemmas
 pub mod PutLemmas
-pub mod WriteLemmas
+pub mod WrittenLemmas
 pub mod AnewLemmas
 pub mod RefusalLemmas
 pub mod MadeLemmas

@@ -23,7 +23,7 @@ use Rattle.shard_writing.specs.Writing.{AreAbsent, AreNewCells, cells_in, IsKept
 use Rattle.zarr_boxes.proofs.GridLaws.{over_first}
 use Rattle.shard_writing.proofs.PlaceLemmas.{last_end_more}
 use Rattle.shard_writing.proofs.AnewLemmas.{pair_absent, all_absent, in_list, absent_pair, cleared_absent, anew_of_absent, absent_of_anew}
-use Rattle.shard_writing.proofs.WriteLemmas.{absent_slot, kept_absent, is_write}
+use Rattle.shard_writing.proofs.WrittenLemmas.{absent_slot, kept_absent, is_write}
 
 -- each slice ends no later than the last one
 pub last_end_covers : (least len : ℕ) (numbers : List ℕ) (n k : ℕ) → k < n → slot_end (slot_at len numbers k) ≤ last_end least len numbers n

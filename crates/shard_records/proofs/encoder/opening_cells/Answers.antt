@@ -11,7 +11,7 @@ use Rattle.codec_laws.specs.Reads.{cells_at, AskedTests}
 use Rattle.shard_format.specs.Cells.{shard_cells}
 use Rattle.shard_opening.specs.Held.{object_cells}
 use Rattle.sharding_core.specs.Decoders.{ObjectCellsTests}
-use Rattle.shard_held.proofs.WriteLemmas.{length-object_cells}
+use Rattle.shard_held.proofs.PreparedLemmas.{length-object_cells}
 use Rattle.shard_runs.specs.Objects.{shards_of}
 use Rattle.shard_runs.proofs.CauseLemmas.{session_first}
 use Rattle.shard_records.specs.Histories.{IsCellsOf}

@@ -8,7 +8,7 @@ use Rattle.shard_steps.specs.Meanings.{inner_of, index_of}
 use Rattle.shard_opening.specs.Held.{held_len}
 use Rattle.shard_opening.specs.OpenShards.{shard_geo}
 use Rattle.shard_held.specs.OpenSessions.{numbers_held}
-use Rattle.shard_held.proofs.WriteLemmas.{cells_after}
+use Rattle.shard_held.proofs.PreparedLemmas.{cells_after}
 use Rattle.shard_held.proofs.session.OpenSession.prepare_write.Goals as goal
 
 pub nonzero_div-places : goal.nonzero_div-places

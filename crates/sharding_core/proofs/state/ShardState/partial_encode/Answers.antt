@@ -8,7 +8,7 @@ use Rattle.codec_laws.specs.RefusalLaws.{passed_on}
 use Rattle.shard_writing.specs.Changes.{object_after}
 use Rattle.sharding_core.specs.Sessions.{numbers_held}
 use Rattle.sharding_core.specs.SessionWrites.{WrittenTests}
-use Rattle.shard_held.proofs.WriteLemmas.{write_open, written_after}
+use Rattle.shard_held.proofs.PreparedLemmas.{write_open, written_after}
 use Rattle.sharding_core.proofs.SessionLemmas.{meant, session_open}
 use Rattle.sharding_core.proofs.WriteLemmas.{update_refused}
 use Rattle.sharding_core.proofs.state.ShardState.partial_encode.Goals as goal

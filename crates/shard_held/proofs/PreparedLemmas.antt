@@ -25,7 +25,7 @@ use Rattle.shard_writing.specs.Changes.{object_after}
 use Rattle.shard_writing.specs.declared.change.Change.{Change}
 use Rattle.shard_writing.specs.declared.change.Change.TheVariants.{Erase, Replace, Append}
 use Rattle.shard_writing.proofs.AnewLemmas.{pair_absent}
-use Rattle.shard_writing.proofs.WriteLemmas.{absent_slot}
+use Rattle.shard_writing.proofs.WrittenLemmas.{absent_slot}
 use Rattle.shard_writing.proofs.OverlayLemmas.{overlaid}
 use Rattle.shard_steps.specs.Meanings.{sharded_meaning}
 use Rattle.shard_opening.specs.Held.{HoldsIndex, held_len, held_numbers, object_cells}

@@ -2,8 +2,8 @@ use Rattle.std.proofs.Common.{refl, ◌∙◌, ap}
 use Rattle.zarr_parts.specs.Geo.{geo}
 use Rattle.shard_runs.specs.Maps.{filled}
 use Rattle.shard_runs.specs.Objects.{shards_of}
-use Rattle.shard_sessions.proofs.ReadBackLaws.{shows_fill, replied_back}
-use Rattle.shard_sessions.proofs.laws.read_back.Goals as goal
+use Rattle.shard_runs.proofs.ReadBackLaws.{shows_fill, replied_back}
+use Rattle.shard_runs.proofs.laws.read_back.Goals as goal
 
 -- the run starts from no object, which shows the fill value in each cell
 pub returns-in-Cells : goal.returns-in-Cells
