@@ -1,7 +1,7 @@
 use Rattle.std.proofs.Common.{◌+◌, ◌^◌, ◌<◌, arith}
 use Rattle.shard_format.specs.Index.{index_geo}
 use Rattle.codec_laws.specs.RefusalLaws.{passed_on}
-use Rattle.shard_opening.proofs.HeldLemmas.{open_refused}
+use Rattle.shard_opening.proofs.OpenLemmas.{open_refused}
 use Rattle.shard_opening.proofs.held.read_held.Goals as goal
 
 pub returns-in_err-index-clause-refused : goal.returns-in_err-index-clause-refused

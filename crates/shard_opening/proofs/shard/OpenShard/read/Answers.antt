@@ -4,7 +4,7 @@ use Rattle.shard_format.specs.ReadTests.{numbers_of}
 use Rattle.codec_laws.specs.RefusalLaws.{passed_on}
 use Rattle.shard_steps.specs.Meanings.{layout_in, inner_of, index_of}
 use Rattle.shard_opening.specs.OpenShards.{shard_geo, numbers_by}
-use Rattle.shard_opening.proofs.HeldLemmas.{no_object_cells, no_object_refused, stored_cells, stored_refused}
+use Rattle.shard_opening.proofs.OpenLemmas.{no_object_cells, no_object_refused, stored_cells, stored_refused}
 use Rattle.shard_opening.proofs.shard.OpenShard.read.Goals as goal
 
 pub returns-in_err-fill-clause-refused : goal.returns-in_err-fill-clause-refused

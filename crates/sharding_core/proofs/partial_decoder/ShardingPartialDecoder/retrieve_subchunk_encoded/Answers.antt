@@ -7,7 +7,7 @@ use Rattle.shard_opening.specs.Held.{held_len, held_numbers}
 use Rattle.shard_opening.specs.Slices.{held_slot}
 use Rattle.sharding_core.specs.Decoders.{index_in}
 use Rattle.codec_laws.specs.RefusalLaws.{passed_on}
-use Rattle.shard_opening.proofs.HeldLemmas.{slot_first, slice_refused}
+use Rattle.shard_opening.proofs.OpenLemmas.{slot_first, slice_refused}
 use Rattle.sharding_core.proofs.partial_decoder.ShardingPartialDecoder.retrieve_subchunk_encoded.Goals as goal
 
 pub returns-in_err-range-clause-refused : goal.returns-in_err-range-clause-refused
