@@ -1,16 +1,15 @@
 -- A codec from arrays to bytes keeps the laws with a codec from arrays to arrays before it.
-use Rattle.std.proofs.Common.{◌≡◌, ◌<◌, ℕ, zero, suc, List, [], ◌∷◌, Option, Some, None, IfSome, length, map, get_or, option_and_then}
-use Rattle.std.proofs.Common.{refl, sym, ap, ◌∙◌, arith}
+use Rattle.std.proofs.Common.{◌≡◌, ◌<◌, ℕ, zero, suc, List, [], ◌∷◌, Option, Some, None, IfSome, length, map, get_or, option_and_then, refl, sym, ap, ◌∙◌, arith}
 use Rattle.std.proofs.lemmas.List.{length-map, get_or-map}
 use Rattle.std.proofs.lemmas.List.Elements.{All-nil, All-cons, All-head, All-tail}
 use Rattle.std.specs.List.{All}
-use Rattle.zarr_words.specs.Words.{Bytes, Elements, CellList}
-use Rattle.zarr_words.specs.declared.error.CodecError.TheVariants.{WrongElementKind, InvalidNumberOfElements}
+use Rattle.zarr_parts.specs.Words.{Bytes, Elements, CellList}
+use Rattle.zarr_parts.specs.CodecError.TheVariants.{WrongElementKind, InvalidNumberOfElements}
 use Rattle.zarr_parts.specs.Numbering.{count_of}
 use Rattle.zarr_parts.specs.Geo.{Geo, IsArrayOf}
 use Rattle.zarr_parts.specs.Types.{size_of, FitsKind}
-use Rattle.zarr_elements.specs.declared.data_type.DataTypeSize.{DataTypeSize}
-use Rattle.zarr_elements.specs.declared.data_type.DataTypeSize.TheVariants.{Fixed, Variable}
+use Rattle.zarr_parts.specs.DataTypeSize.{DataTypeSize}
+use Rattle.zarr_parts.specs.DataTypeSize.TheVariants.{Fixed, Variable}
 use Rattle.codec_laws.specs.Cells.{all_there}
 use Rattle.codec_laws.specs.CellLaws.{all_there-map_some}
 use Rattle.codec_laws.specs.Meanings.{Meaning}

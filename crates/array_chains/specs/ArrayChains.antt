@@ -1,14 +1,14 @@
 -- A codec from arrays to bytes with a codec from arrays to arrays before it.
 use Rattle.std.specs.Prelude.{◌≡◌, ◌<◌, ◌^◌, ⊤, ℕ, Option, IsSome, length, option_and_then}
 use Rattle.std.specs.List.{sum_by}
-use Rattle.zarr_words.specs.Words.{Bytes, Elements, CellList, Refusals}
-use Rattle.zarr_words.specs.Order.{◌or◌then◌, ◌or_as◌then◌, done}
-use Rattle.zarr_words.specs.declared.error.CodecError.TheVariants.{WrongElementKind, InvalidNumberOfElements}
+use Rattle.zarr_parts.specs.Words.{Bytes, Elements, CellList, Refusals}
+use Rattle.zarr_parts.specs.Order.{◌or◌then◌, ◌or_as◌then◌, done}
+use Rattle.zarr_parts.specs.CodecError.TheVariants.{WrongElementKind, InvalidNumberOfElements}
 use Rattle.zarr_parts.specs.Numbering.{count_of}
 use Rattle.zarr_parts.specs.Geo.{Geo}
 use Rattle.zarr_parts.specs.Types.{size_of}
 use Rattle.zarr_parts.specs.Arrays.{Array}
-use Rattle.zarr_elements.specs.declared.data_type.DataTypeSize.{DataTypeSize}
+use Rattle.zarr_parts.specs.DataTypeSize.{DataTypeSize}
 use Rattle.codec_laws.specs.Cells.{all_there}
 use Rattle.codec_laws.specs.Meanings.{Meaning}
 use Rattle.whole_arrays.specs.WholeArrays.{whole_cells, WholeTests}

@@ -1,6 +1,6 @@
 -- What a codec from arrays to arrays means.
 use Rattle.std.specs.Prelude.{◌≡◌, Option, Some, IfSome, length, map}
-use Rattle.zarr_words.specs.Words.{Elements}
+use Rattle.zarr_parts.specs.Words.{Elements}
 use Rattle.zarr_parts.specs.Arrays.{Array}
 
 pub record ArrayCoding : Type 0 where

@@ -1,6 +1,6 @@
 // A codec with a codec from arrays to arrays before it.
 ghost use Rattle.std.specs.Prelude.{◌≡◌, ◌<◌, ◌^◌, Some, IfOk, IfErr, OnOk, length};
-ghost use Rattle.zarr_words.specs.Order.{done, RefusedBy};
+ghost use Rattle.zarr_parts.specs.Order.{done, RefusedBy};
 ghost use Rattle.zarr_parts.specs.Numbering.{count_of};
 ghost use Rattle.zarr_parts.specs.Geo.{geo, IsArrayOf};
 ghost use Rattle.zarr_parts.specs.Types.{size_of};

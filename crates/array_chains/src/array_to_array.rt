@@ -1,7 +1,7 @@
 // Codecs from arrays to arrays.
 ghost use Rattle.std.specs.Prelude.{◌≡◌, Some, IfOk, IfErr, IsSome};
-ghost use Rattle.zarr_words.specs.Order.{◌or◌then◌, done, RefusedBy};
-ghost use Rattle.zarr_words.specs.declared.error.CodecError.TheVariants.{OutOfMemory, Damaged};
+ghost use Rattle.zarr_parts.specs.Order.{◌or◌then◌, done, RefusedBy};
+ghost use Rattle.zarr_parts.specs.CodecError.TheVariants.{OutOfMemory, Damaged};
 ghost use Rattle.array_chains.specs.ArrayCodings.{ArrayCoding, IsInvertible, KeepsLengths, encoded_array};
 
 use std::alloc::Global;

@@ -1,10 +1,10 @@
 -- Steps of what a chain decodes and reads.
 use Rattle.std.proofs.Common.{◌≡◌, ℕ, zero, suc, ◌+◌, ◌<◌, ◌≤◌, ◌⊎◌, List, Option, Some, None, IsSome, length, take, drop, replicate, refl, sym, subst, arith, inl, inr}
 use Rattle.std.proofs.Math.Seq.{take-length}
-use Rattle.zarr_words.specs.Words.{Bytes, CellsOf}
-use Rattle.zarr_words.specs.Order.{◌or◌then◌, done, RefusedBy}
-use Rattle.zarr_words.specs.declared.error.CodecError.{CodecError}
-use Rattle.zarr_words.specs.declared.error.CodecError.TheVariants.{Damaged, Fault}
+use Rattle.zarr_parts.specs.Words.{Bytes, CellsOf}
+use Rattle.zarr_parts.specs.Order.{◌or◌then◌, done, RefusedBy}
+use Rattle.zarr_parts.specs.CodecError.{CodecError}
+use Rattle.zarr_parts.specs.CodecError.TheVariants.{Damaged, Fault}
 use Rattle.codec_laws.specs.Cells.{all_there}
 use Rattle.codec_laws.specs.Refusals.{MayRefuseDecode}
 use Rattle.codec_laws.specs.Reads.{MayRefuseRead, cells_at}

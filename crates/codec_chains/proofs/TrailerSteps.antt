@@ -1,13 +1,12 @@
 -- Steps of a codec that puts a trailer behind bytes, where it decodes.
-use Rattle.std.proofs.Common.{◌≡◌, ◌≢◌, ℕ, ◌+◌, ◌-◌, ◌<◌, ◌++◌, Bool, true, false, not, nat_eq, Option, Some, None, IsSome}
-use Rattle.std.proofs.Common.{length, take, drop, length-drop, take-append-drop, refl, sym, ap, ◌∙◌, arith, inl, inr, rules}
+use Rattle.std.proofs.Common.{◌≡◌, ◌≢◌, ℕ, ◌+◌, ◌-◌, ◌<◌, ◌++◌, Bool, true, false, not, nat_eq, Option, Some, None, IsSome, length, take, drop, length-drop, take-append-drop, refl, sym, ap, ◌∙◌, arith, inl, inr, rules}
 use Rattle.std.proofs.lemmas.List.Prefix.{end_rest}
 use Rattle.std.proofs.lemmas.Bool.Decides.{Decides-eqb}
 use Rattle.std.proofs.Math.Seq.{take-length}
 use Rattle.std.specs.Cmp.Lexicographic.{pointwise, pointwise_decides}
-use Rattle.zarr_words.specs.Words.{Bytes}
-use Rattle.zarr_words.specs.Order.{◌or◌then◌, done, RefusedBy}
-use Rattle.zarr_words.specs.declared.error.CodecError.TheVariants.{Damaged}
+use Rattle.zarr_parts.specs.Words.{Bytes}
+use Rattle.zarr_parts.specs.Order.{◌or◌then◌, done, RefusedBy}
+use Rattle.zarr_parts.specs.CodecError.TheVariants.{Damaged}
 use Rattle.codec_chains.specs.Trailers.{with_trailer, before_trailer, without_trailer}
 use Rattle.codec_chains.specs.TrailerLaws.{length-with_trailer, checked, unchecked}
 

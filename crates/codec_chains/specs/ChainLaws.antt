@@ -2,8 +2,8 @@
 use Rattle.std.proofs.Common.{◌≡◌, ◌<◌, ℕ, List, Option, Some, None, IfSome, length, get_or, ap, ◌∙◌}
 use Rattle.std.proofs.lemmas.List.{length-replicate, get_or-replicate}
 use Rattle.std.specs.Option.{option_map}
-use Rattle.zarr_words.specs.Words.{Bytes, Elements, CellsOf, Written}
-use Rattle.zarr_words.specs.declared.error.CodecError.TheVariants.{TooLarge}
+use Rattle.zarr_parts.specs.Words.{Bytes, Elements, CellsOf, Written}
+use Rattle.zarr_parts.specs.CodecError.TheVariants.{TooLarge}
 use Rattle.zarr_parts.specs.Numbering.{count_of}
 use Rattle.zarr_parts.specs.Geo.{Geo}
 use Rattle.codec_laws.specs.declared.representation.BytesRepresentation.{BytesRepresentation}

@@ -1,9 +1,9 @@
 -- A codec from arrays to bytes with a codec from bytes to bytes behind it.
 use Rattle.std.specs.Prelude.{◌≡◌, ◌<◌, ◌^◌, ⊤, ℕ, Option, Some, None, length, replicate}
 use Rattle.std.specs.Option.{option_map}
-use Rattle.zarr_words.specs.Words.{Bytes, Elements, CellList, CellsOf, Written, Refusals}
-use Rattle.zarr_words.specs.Order.{◌or◌then◌, ◌or_as◌then◌, done}
-use Rattle.zarr_words.specs.declared.error.CodecError.TheVariants.{TooLarge, Damaged}
+use Rattle.zarr_parts.specs.Words.{Bytes, Elements, CellList, CellsOf, Written, Refusals}
+use Rattle.zarr_parts.specs.Order.{◌or◌then◌, ◌or_as◌then◌, done}
+use Rattle.zarr_parts.specs.CodecError.TheVariants.{TooLarge, Damaged}
 use Rattle.zarr_parts.specs.Numbering.{count_of}
 use Rattle.zarr_parts.specs.Geo.{Geo}
 use Rattle.zarr_parts.specs.Arrays.{Array}

@@ -1,6 +1,6 @@
 -- What a codec from bytes to bytes means.
 use Rattle.std.specs.Prelude.{◌≡◌, Option, Some, length}
-use Rattle.zarr_words.specs.Words.{Bytes}
+use Rattle.zarr_parts.specs.Words.{Bytes}
 use Rattle.codec_laws.specs.declared.representation.BytesRepresentation.{BytesRepresentation}
 use Rattle.codec_laws.specs.declared.representation.BytesRepresentation.TheVariants.{UnboundedSize}
 use Rattle.codec_laws.specs.Representations.{IsWithin}

@@ -1,7 +1,7 @@
 // A codec with a codec from bytes to bytes behind it.
 ghost use Rattle.std.specs.Prelude.{◌≡◌, Some, IfOk, IfErr, map};
 ghost use Rattle.std.specs.Cow.{cow_slice_items};
-ghost use Rattle.zarr_words.specs.Order.{RefusedBy};
+ghost use Rattle.zarr_parts.specs.Order.{RefusedBy};
 ghost use Rattle.zarr_parts.specs.Geo.{geo, IsArrayOf};
 ghost use Rattle.zarr_parts.specs.Types.{size_of};
 ghost use Rattle.codec_laws.specs.Refusals.{MayRefuseDecode};

@@ -1,9 +1,9 @@
 -- What follows from the laws of codecs.
 use Rattle.std.proofs.Common.{◌≡◌, inl, inr, ℕ, List, [], ◌∷◌, Option, Some, None, Result, Ok, Err, IfOk, IfErr, map, refl, sym, ap, ◌∙◌}
 use Rattle.zarr_parts.specs.Arrays.{Array}
-use Rattle.zarr_elements.specs.declared.data_type.DataTypeSize.{DataTypeSize}
-use Rattle.zarr_words.specs.declared.error.CodecError.{CodecError}
-use Rattle.zarr_words.specs.declared.error.CodecError.TheVariants.{OutOfMemory, TooLarge, Fault}
+use Rattle.zarr_parts.specs.DataTypeSize.{DataTypeSize}
+use Rattle.zarr_parts.specs.CodecError.{CodecError}
+use Rattle.zarr_parts.specs.CodecError.TheVariants.{OutOfMemory, TooLarge, Fault}
 use Rattle.codec_laws.specs.Cells.{all_there}
 use Rattle.codec_laws.specs.CellLaws.{all_there-map_some}
 use Rattle.codec_laws.specs.Refusals.{AreDamaged, MayRefuseDecode}

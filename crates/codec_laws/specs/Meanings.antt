@@ -1,7 +1,7 @@
 -- What a codec means for the arrays of one shape, type and fill value.
 use Rattle.std.specs.Prelude.{ℕ, List, Option}
 use Rattle.zarr_parts.specs.Arrays.{Array}
-use Rattle.zarr_words.specs.declared.error.CodecError.{CodecError}
+use Rattle.zarr_parts.specs.CodecError.{CodecError}
 use Rattle.codec_laws.specs.declared.representation.BytesRepresentation.{BytesRepresentation}
 
 -- how the work on the arrays of one shape is shared

@@ -7,10 +7,10 @@ use Rattle.zarr_parts.specs.Geo.{Geo}
 use Rattle.zarr_parts.specs.Types.{size_of, FitsKind}
 use Rattle.zarr_parts.specs.Arrays.{Array}
 use Rattle.zarr_parts.specs.Targets.{IsWritten}
-use Rattle.zarr_elements.specs.declared.target.FixedTarget.{FixedTarget}
+use Rattle.zarr_parts.specs.FixedTarget.{FixedTarget}
 use Rattle.zarr_parts.specs.Selections.{Selection, IsSelectionOf, SelectionTests}
-use Rattle.zarr_words.specs.declared.error.CodecError.{CodecError}
-use Rattle.zarr_words.specs.declared.error.CodecError.TheVariants.{OutOfMemory, TooLarge, Fault}
+use Rattle.zarr_parts.specs.CodecError.{CodecError}
+use Rattle.zarr_parts.specs.CodecError.TheVariants.{OutOfMemory, TooLarge, Fault}
 use Rattle.object_handles.specs.declared.bytes.Interval.{Interval}
 use Rattle.object_handles.specs.Objects.{interval_part, HasInterval}
 use Rattle.codec_laws.specs.Refusals.{AreTooLong, AreDamaged}

@@ -1,7 +1,7 @@
 -- Tests that refuse nothing as a fault, and a refusal that is passed on.
 use Rattle.std.proofs.Common.{◌≡◌, Result, Ok, Err, IfErr, IsErrAnd, inl, inr, sym, subst}
 use Rattle.zarr_parts.specs.Order.{◌or◌then◌, ◌or_as◌then◌}
-use Rattle.zarr_words.specs.declared.error.CodecError.{CodecError}
+use Rattle.zarr_parts.specs.CodecError.{CodecError}
 use Rattle.codec_laws.specs.Refusals.{IsNoFault}
 
 -- a test of our own, and the later tests

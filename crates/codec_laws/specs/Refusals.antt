@@ -1,8 +1,8 @@
 -- Why a codec may refuse.
 use Rattle.std.specs.Prelude.{◌≡◌, ◌≤◌, ◌<◌, ◌^◌, ◌⊎◌, ⊤, ℕ, Option, None, List, length, slice_index, slice_index_or}
 use Rattle.std.specs.List.{sum_by}
-use Rattle.zarr_words.specs.declared.error.CodecError.{CodecError}
-use Rattle.zarr_words.specs.declared.error.CodecError.TheVariants.{OutOfMemory, TooLarge, CannotEncode, Fault}
+use Rattle.zarr_parts.specs.CodecError.{CodecError}
+use Rattle.zarr_parts.specs.CodecError.TheVariants.{OutOfMemory, TooLarge, CannotEncode, Fault}
 use Rattle.codec_laws.specs.Meanings.{Meaning}
 use Rattle.codec_laws.specs.Cells.{all_there, cell_length}
 

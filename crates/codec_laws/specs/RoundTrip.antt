@@ -1,7 +1,7 @@
 -- An array that is encoded and decoded again.
 use Rattle.std.specs.Prelude.{⊤, ℕ, List, Some, map}
-use Rattle.zarr_words.specs.declared.error.CodecError.{CodecError}
-use Rattle.zarr_words.specs.declared.error.CodecError.TheVariants.{OutOfMemory, TooLarge}
+use Rattle.zarr_parts.specs.CodecError.{CodecError}
+use Rattle.zarr_parts.specs.CodecError.TheVariants.{OutOfMemory, TooLarge}
 use Rattle.codec_laws.specs.Refusals.{AreTooLong}
 
 -- how the encoding of these elements may be refused where it is decoded

@@ -1,9 +1,9 @@
 -- The codec that an array has where none is asked for.
 use Rattle.std.specs.Prelude.{◌≡◌, Some}
-use Rattle.zarr_words.specs.Words.{Bytes as Text, Elements}
+use Rattle.zarr_parts.specs.Words.{Bytes as Text, Elements}
 use Rattle.zarr_parts.specs.Geo.{Geo}
-use Rattle.zarr_elements.specs.declared.data_type.DataType.{DataType}
-use Rattle.zarr_elements.specs.declared.data_type.DataType.TheVariants as type
+use Rattle.zarr_parts.specs.DataType.{DataType}
+use Rattle.zarr_parts.specs.DataType.TheVariants as type
 use Rattle.codec_laws.specs.Meanings.{Meaning}
 use Rattle.codec_laws.specs.Laws.{IsLawful}
 use Rattle.small_codecs.specs.declared.bytes_codec.Endianness.TheVariants.{Little}

@@ -1,6 +1,6 @@
 -- The metadata of the codec that an array has where none is asked for: that of the codec that it holds.
 use Rattle.std.specs.Prelude.{Bool, ◌||◌, Option, None, Ok, if◌then◌else◌, codes, bytes_eq}
-use Rattle.zarr_words.specs.Words.{Bytes as Text}
+use Rattle.zarr_parts.specs.Words.{Bytes as Text}
 use Rattle.serde_json.specs.Data.{Data, Members}
 use Rattle.codec_metadata.specs.CreateErrors.{Reading, and_then}
 use Rattle.codec_metadata.specs.BytesMetadata.{is_bytes_name, bytes_configured, bytes_written}

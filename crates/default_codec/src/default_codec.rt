@@ -33,7 +33,7 @@ pub fn default_array_to_bytes_codec(data_type: &DataType) -> DefaultArrayToBytes
 
 impl ArrayToBytesCodecTraits for DefaultArrayToBytesCodec {
     ghost use Rattle.std.specs.Prelude.{⊤};
-    ghost use Rattle.zarr_words.specs.Order.{done};
+    ghost use Rattle.zarr_parts.specs.Order.{done};
     ghost use Rattle.default_codec.specs.DefaultCodec.{default_meaning, default_lawful};
 
     ghost meaning = { default_meaning };

@@ -1,10 +1,10 @@
 -- The element types of a script, and the bytes of their elements.
 use Rattle.std.specs.Prelude.{ℕ, ◌≤◌, ⊤, List, take}
 use Rattle.std.specs.Int.{w64, to_le_bytes}
-use Rattle.zarr_elements.specs.declared.data_type.DataType.{DataType}
-use Rattle.zarr_elements.specs.declared.data_type.DataType.TheVariants as data_type
-use Rattle.zarr_elements.specs.declared.data_type.DataTypeSize.{DataTypeSize}
-use Rattle.zarr_elements.specs.declared.data_type.DataTypeSize.TheVariants.{Fixed, Variable}
+use Rattle.zarr_parts.specs.DataType.{DataType}
+use Rattle.zarr_parts.specs.DataType.TheVariants as data_type
+use Rattle.zarr_parts.specs.DataTypeSize.{DataTypeSize}
+use Rattle.zarr_parts.specs.DataTypeSize.TheVariants.{Fixed, Variable}
 use Rattle.script_words.specs.declared.element_type.NumberType.{NumberType}
 use Rattle.script_words.specs.declared.element_type.NumberType.TheVariants.{UInt8, UInt16, UInt32, UInt64}
 use Rattle.script_words.specs.declared.element_type.ElementType.{ElementType}

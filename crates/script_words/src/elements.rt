@@ -1,6 +1,6 @@
 // The elements that numbers and bytes stand for, and back.
 ghost use Rattle.std.specs.Prelude.{◌≡◌, ◌≤◌, [], map, length, codes, IfOk};
-ghost use Rattle.zarr_elements.specs.declared.data_type.DataTypeSize.TheVariants.{Fixed, Variable};
+ghost use Rattle.zarr_parts.specs.DataTypeSize.TheVariants.{Fixed, Variable};
 ghost use Rattle.script_words.specs.Elements.{width_of, element_of_number};
 ghost use Rattle.script_words.specs.Hex.{hex_word};
 ghost use Rattle.script_words.specs.Text.{members_of};

@@ -2,7 +2,7 @@
 ghost use Rattle.std.specs.Prelude.{◌≡◌, IfOk, IfErr, OnOk};
 ghost use Rattle.zarr_parts.specs.Order.{◌or◌then◌, done};
 ghost use Rattle.zarr_parts.specs.Types.{size_of, HasElements, FitsKind, byte_size};
-ghost use Rattle.zarr_words.specs.declared.error.CodecError.TheVariants.{UnsupportedDataType, BadFillValue};
+ghost use Rattle.zarr_parts.specs.CodecError.TheVariants.{UnsupportedDataType, BadFillValue};
 
 use zarr_parts::{CodecError, DataType, DataTypeSize, FillValue};
 

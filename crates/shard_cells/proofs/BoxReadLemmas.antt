@@ -3,8 +3,8 @@ use Rattle.std.proofs.Common.{◌≡◌, ◌≢◌, ℕ, ◌+◌, ◌*◌, ◌/�
 use Rattle.std.proofs.lemmas.Bool.{cases_lt, cases_eq}
 use Rattle.std.specs.List.{range_with_len}
 use Rattle.zarr_parts.specs.Order.{RefusedBy}
-use Rattle.zarr_words.specs.Words.{Refusals}
-use Rattle.zarr_words.specs.declared.error.CodecError.{CodecError}
+use Rattle.zarr_parts.specs.Words.{Refusals}
+use Rattle.zarr_parts.specs.CodecError.{CodecError}
 use Rattle.zarr_parts.specs.Numbering.{count_of}
 use Rattle.zarr_parts.specs.Boxes.{Region, IsBox, LiesIn, number_in, numbers_in}
 use Rattle.zarr_parts.specs.Pieces.{piece, pieces, IsUpdated}

@@ -8,7 +8,7 @@ use Rattle.zarr_parts.specs.Order.{done, RefusedBy}
 use Rattle.zarr_parts.specs.Numbering.{count_of}
 use Rattle.zarr_parts.specs.Grid.{grid_of}
 use Rattle.zarr_parts.specs.Arrays.{Array}
-use Rattle.zarr_words.specs.declared.error.CodecError.{CodecError}
+use Rattle.zarr_parts.specs.CodecError.{CodecError}
 use Rattle.object_handles.specs.declared.bytes.Interval.{Interval}
 use Rattle.object_handles.specs.Handles.{HandleState, IsRead}
 use Rattle.object_handles.specs.Objects.{interval_part, HasInterval, ObjectTests}

@@ -6,8 +6,8 @@ use Rattle.std.proofs.lemmas.List.{ext_get_or, length-take-le, length-drop, leng
 use Rattle.std.proofs.lemmas.List.Elements.{All-from_get_or, All-take, All-drop, All-map}
 use Rattle.std.specs.List.{All}
 use Rattle.zarr_parts.specs.Order.{RefusedBy}
-use Rattle.zarr_words.specs.Words.{Refusals}
-use Rattle.zarr_words.specs.declared.error.CodecError.{CodecError}
+use Rattle.zarr_parts.specs.Words.{Refusals}
+use Rattle.zarr_parts.specs.CodecError.{CodecError}
 use Rattle.zarr_parts.specs.Numbering.{count_of}
 use Rattle.zarr_parts.specs.Pieces.{piece, pieces}
 use Rattle.zarr_parts.specs.Grid.{Divides, grid_of, subchunk_number, place_number}

@@ -1,7 +1,7 @@
 -- The cells of decoded subchunks put together, and the asked cells, from what was read of each subchunk.
 use Rattle.std.specs.Prelude.{◌<◌, ℕ, List, Option, Some, None, length, replicate, slice_index_or}
 use Rattle.std.specs.List.{sum_by, range_with_len}
-use Rattle.zarr_words.specs.Words.{Bytes, Elements}
+use Rattle.zarr_parts.specs.Words.{Bytes, Elements}
 use Rattle.zarr_parts.specs.Arrays.{Array}
 use Rattle.zarr_elements.specs.declared.data_type.DataTypeSize.{DataTypeSize}
 use Rattle.shard_format.specs.Decoding.{element_at, IsChunkOf}

@@ -1,13 +1,12 @@
 -- What is written into an array: elements for the cells of a box.
 use Rattle.std.specs.Prelude.{◌≡◌, ℕ, List, IsSome, length}
-use Rattle.zarr_words.specs.Words.{Refusals}
+use Rattle.zarr_parts.specs.Words.{Refusals}
 use Rattle.zarr_parts.specs.Order.{◌or◌then◌}
 use Rattle.zarr_parts.specs.Arrays.{Array}
 use Rattle.zarr_parts.specs.Types.{size_of}
 use Rattle.zarr_parts.specs.Selections.{Selection, LiesWithin}
 use Rattle.zarr_elements.specs.declared.data_type.DataType.{DataType}
-use Rattle.zarr_words.specs.declared.error.CodecError.TheVariants.{UnsupportedIndexer, IncompatibleDimensionality, OutOfBounds}
-use Rattle.zarr_words.specs.declared.error.CodecError.TheVariants.{WrongElementKind, InvalidNumberOfElements}
+use Rattle.zarr_parts.specs.CodecError.TheVariants.{UnsupportedIndexer, IncompatibleDimensionality, OutOfBounds, WrongElementKind, InvalidNumberOfElements}
 
 -- the tests of elements that are written to the cells that an indexer names: these are a box, which lies in the shape, and there is an
 -- element of the type for each

@@ -6,7 +6,7 @@ ghost use Rattle.zarr_parts.specs.Numbering.{IsInside};
 ghost use Rattle.zarr_parts.specs.Selections.{IsSelectionOf, SelectionTests};
 ghost use Rattle.zarr_parts.specs.Types.{size_of, byte_size, FitsKind};
 ghost use Rattle.zarr_elements.specs.declared.data_type.DataTypeSize.TheVariants.{Fixed};
-ghost use Rattle.zarr_words.specs.declared.error.CodecError.TheVariants.{TooLarge};
+ghost use Rattle.zarr_parts.specs.CodecError.TheVariants.{TooLarge};
 ghost use Rattle.shard_cells.specs.Gathering.{AreRead, element_read, bytes_read};
 
 use crate::gathering::element_of;

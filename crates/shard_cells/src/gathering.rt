@@ -6,7 +6,7 @@ ghost use Rattle.zarr_parts.specs.Numbering.{count_of};
 ghost use Rattle.zarr_parts.specs.Grid.{Divides, grid_of};
 ghost use Rattle.zarr_parts.specs.Types.{FitsKind};
 ghost use Rattle.zarr_elements.specs.declared.data_type.DataTypeSize.TheVariants.{Fixed, Variable};
-ghost use Rattle.zarr_words.specs.declared.error.CodecError.TheVariants.{OutOfMemory, TooLarge};
+ghost use Rattle.zarr_parts.specs.CodecError.TheVariants.{OutOfMemory, TooLarge};
 ghost use Rattle.shard_format.specs.Decoding.{AreChunks, IsChunkOf, element_at, element_in, bytes_in, bytes_gathered};
 
 use crate::laying::laid;

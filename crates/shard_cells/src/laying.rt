@@ -6,7 +6,7 @@ ghost use Rattle.zarr_parts.specs.Boxes.{IsServed, number_in};
 ghost use Rattle.zarr_parts.specs.Grid.{Divides, grid_of, cell_number};
 ghost use Rattle.zarr_parts.specs.Pieces.{piece, IsUpdated};
 ghost use Rattle.zarr_elements.specs.declared.data_type.DataTypeSize.TheVariants.{Fixed};
-ghost use Rattle.zarr_words.specs.declared.error.CodecError.TheVariants.{OutOfMemory};
+ghost use Rattle.zarr_parts.specs.CodecError.TheVariants.{OutOfMemory};
 ghost use Rattle.shard_format.specs.Decoding.{AreChunks, IsPartOf, element_at, element_in};
 ghost use Rattle.shard_cells.specs.Gathering.{elements_in, places_there};
 

@@ -5,7 +5,7 @@ ghost use Rattle.zarr_parts.specs.Boxes.{IsBox, LiesIn};
 ghost use Rattle.zarr_parts.specs.Overlaps.{overlap_of, relative_box};
 ghost use Rattle.zarr_parts.specs.Grid.{Divides, grid_of, grid_box};
 ghost use Rattle.zarr_parts.specs.Touched.{Touches};
-ghost use Rattle.zarr_words.specs.declared.error.CodecError.TheVariants.{OutOfMemory};
+ghost use Rattle.zarr_parts.specs.CodecError.TheVariants.{OutOfMemory};
 ghost use Rattle.shard_cells.specs.Meetings.{IsMeeting};
 
 use std::alloc::{AllocError, Global};

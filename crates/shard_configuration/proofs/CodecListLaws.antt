@@ -1,6 +1,6 @@
 -- A list of the metadata that a codec writes is read as the codec.
 use Rattle.std.proofs.Common.{◌≡◌, Bool, true, Option, Some, None, Ok, option_map}
-use Rattle.zarr_words.specs.Words.{Bytes}
+use Rattle.zarr_parts.specs.Words.{Bytes}
 use Rattle.serde_json.specs.Data.{Data, Members, object, item, no_items}
 use Rattle.codec_metadata.specs.CreateErrors.{Reading}
 use Rattle.codec_metadata.specs.Metadata.{metadata_of}

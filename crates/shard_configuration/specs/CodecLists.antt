@@ -1,6 +1,6 @@
 -- A list of codecs of which one member is taken.
 use Rattle.std.specs.Prelude.{Bool, Option, Some, None, Err, if◌then◌else◌}
-use Rattle.zarr_words.specs.Words.{Bytes}
+use Rattle.zarr_parts.specs.Words.{Bytes}
 use Rattle.serde_json.specs.Data.{Data, Items, no_items, item}
 use Rattle.codec_metadata.specs.CreateErrors.{Reading, Refusal, unsupported_codec, bad_field, unsupported_chain}
 use Rattle.codec_metadata.specs.Metadata.{name_in, codec_of}

@@ -10,13 +10,13 @@ use Rattle.zarr_parts.specs.Types.{size_of, HasElements}
 use Rattle.zarr_parts.specs.Arrays.{Array, extracted}
 use Rattle.zarr_parts.specs.BoxRefusals.{BoxTests}
 use Rattle.zarr_parts.specs.Refusals.{ValidTests}
-use Rattle.zarr_elements.specs.declared.data_type.DataType.{DataType}
-use Rattle.zarr_words.specs.declared.error.CodecError.{CodecError}
-use Rattle.zarr_words.specs.declared.error.CodecError.TheVariants.{OutOfMemory}
+use Rattle.zarr_parts.specs.DataType.{DataType}
+use Rattle.zarr_parts.specs.CodecError.{CodecError}
+use Rattle.zarr_parts.specs.CodecError.TheVariants.{OutOfMemory}
 use Rattle.zarr_boxes.proofs.NumberingLaws.{length-point_of}
 use Rattle.zarr_boxes.proofs.BoxLaws.{length-zip_with, get_or-zip_with}
 use Rattle.zarr_boxes.proofs.GridLaws.{count-positive, count-grid, positive_factor, at_least, length-grid, axis_le_count, subchunk_box-axes, subchunk_box-is_box, subchunk_box-lies_in}
-use Rattle.zarr_elements.proofs.GridArrays.{extracted-subchunk_box}
+use Rattle.zarr_parts.proofs.GridArrays.{extracted-subchunk_box}
 use Rattle.shard_format.specs.Grids.{SubsetTests}
 
 -- two lists joined number by number

@@ -3,8 +3,8 @@ use Rattle.std.proofs.Common.{◌≡◌, ℕ, List, Option, IsSome, Result, Ok, 
 use Rattle.zarr_parts.specs.Numbering.{count_of}
 use Rattle.zarr_parts.specs.Grid.{grid_of}
 use Rattle.zarr_parts.specs.Order.{◌or◌then◌, ◌or_as◌then◌, RefusedBy}
-use Rattle.zarr_words.specs.declared.error.CodecError.{CodecError}
-use Rattle.zarr_words.specs.declared.error.CodecError.TheVariants.{OutOfMemory, TooLarge, Fault, Damaged, BadIndexEntry}
+use Rattle.zarr_parts.specs.CodecError.{CodecError}
+use Rattle.zarr_parts.specs.CodecError.TheVariants.{OutOfMemory, TooLarge, Fault, Damaged, BadIndexEntry}
 use Rattle.codec_laws.specs.Meanings.{Meaning}
 use Rattle.codec_laws.specs.Cells.{all_there}
 use Rattle.codec_laws.specs.Refusals.{AreTooLong, AreDamaged, MayRefuseDecode, RefusesUnserved}

@@ -9,7 +9,7 @@ use Rattle.std.proofs.lemmas.Map.Keys.{IsDistinct-from_apart}
 use Rattle.std.proofs.lemmas.Map.Steps.{length-le_from_distinct_below}
 use Rattle.std.proofs.lemmas.Bool.Decides.{eqb_tells}
 use Rattle.zarr_parts.specs.Types.{FitsKind}
-use Rattle.zarr_elements.specs.declared.data_type.DataTypeSize.TheVariants.{Fixed}
+use Rattle.zarr_parts.specs.DataTypeSize.TheVariants.{Fixed}
 use Rattle.codec_laws.specs.Cells.{all_there, cell_length}
 use Rattle.codec_laws.specs.Refusals.{AreTooLong}
 

@@ -4,8 +4,8 @@ use Rattle.zarr_parts.specs.Geo.{Geo}
 use Rattle.zarr_parts.specs.Numbering.{count_of}
 use Rattle.zarr_parts.specs.Grid.{grid_of}
 use Rattle.zarr_parts.specs.Order.{Each, done, RefusedBy}
-use Rattle.zarr_words.specs.declared.error.CodecError.{CodecError}
-use Rattle.zarr_words.specs.declared.error.CodecError.TheVariants.{TooLarge, BadIndexEntry}
+use Rattle.zarr_parts.specs.CodecError.{CodecError}
+use Rattle.zarr_parts.specs.CodecError.TheVariants.{TooLarge, BadIndexEntry}
 use Rattle.codec_laws.specs.Meanings.{Meaning}
 use Rattle.codec_laws.specs.Refusals.{MayRefuseCompact}
 use Rattle.shard_format.specs.Index.{slot_at, index_part, numbers_in_index}

@@ -1,18 +1,16 @@
 -- The steps of decoding a shard.
 use Rattle.std.proofs.Common.{◌≡◌, ℕ, ◌+◌, ◌<◌, List, [], ◌∷◌, ◌++◌, Option, Some, None, length, map, get_or, refl, sym, ap, ◌∙◌, arith}
 use Rattle.std.proofs.lemmas.List.Elements.{All-get_or, All-from_get_or}
-use Rattle.std.proofs.lemmas.List.FromFn.{map-range_with_len_more}
+use Rattle.std.proofs.lemmas.List.FromFn.{map-range_with_len_more, get_or-map-range_with_len, length-map-range_with_len}
 use Rattle.std.specs.List.{range_with_len}
 use borrow.Author.Count.{below_more}
 use Rattle.std.proofs.Math.ListN.{get_or-append}
-use Rattle.std.proofs.lemmas.List.{get_or_push, length_push}
+use Rattle.std.proofs.lemmas.List.{get_or_push, length_push, ext_get_or, length-map, get_or-map}
 use Rattle.zarr_parts.specs.Numbering.{count_of}
 use Rattle.zarr_parts.specs.Arrays.{Array}
-use Rattle.std.proofs.lemmas.List.{ext_get_or, length-map, get_or-map}
-use Rattle.std.proofs.lemmas.List.FromFn.{get_or-map-range_with_len, length-map-range_with_len}
 use Rattle.zarr_parts.specs.Geo.{Geo, IsArrayOf}
 use Rattle.zarr_parts.specs.Types.{size_of, FitsKind}
-use Rattle.zarr_elements.specs.declared.data_type.DataTypeSize.{DataTypeSize}
+use Rattle.zarr_parts.specs.DataTypeSize.{DataTypeSize}
 use Rattle.shard_format.specs.declared.location.ShardingIndexLocation.{ShardingIndexLocation}
 use Rattle.shard_format.specs.declared.order.SubchunkWriteOrder.{SubchunkWriteOrder}
 use Rattle.shard_format.specs.declared.slot.Slot.{Slot}

@@ -7,7 +7,7 @@ use Rattle.std.proofs.lemmas.List.{get_or_push, length_push, map-id, take-append
 use Rattle.std.proofs.lemmas.List.FromFn.{sum_by-map-range_with_len_more}
 use borrow.Author.Count.{below_more}
 use Rattle.zarr_parts.specs.Order.{done, RefusedBy}
-use Rattle.zarr_words.specs.declared.error.CodecError.{CodecError}
+use Rattle.zarr_parts.specs.CodecError.{CodecError}
 use Rattle.zarr_parts.specs.Grid.{subchunk}
 use Rattle.codec_laws.specs.Meanings.{Meaning}
 use Rattle.shard_format.specs.Serves.{IsStoredPart}

@@ -8,14 +8,14 @@ use Rattle.std.proofs.lemmas.Bool.{cases_lt}
 use Rattle.std.proofs.lemmas.Nat.{div-mul-add, mod-mul-add}
 use Rattle.std.proofs.Math.Nat.{div-lt_iff_lt-mul, div-add-mod}
 use Rattle.zarr_parts.specs.Order.{◌or◌then◌, RefusedBy}
-use Rattle.zarr_words.specs.declared.error.CodecError.{CodecError}
-use Rattle.zarr_words.specs.declared.error.CodecError.TheVariants.{OutOfMemory, TooLarge}
+use Rattle.zarr_parts.specs.CodecError.{CodecError}
+use Rattle.zarr_parts.specs.CodecError.TheVariants.{OutOfMemory, TooLarge}
 use Rattle.zarr_parts.specs.Numbering.{count_of}
 use Rattle.zarr_parts.specs.Grid.{Divides, grid_of, subchunk_number, place_number, cell_number}
 use Rattle.zarr_parts.specs.Geo.{Geo}
 use Rattle.zarr_parts.specs.Types.{size_of}
 use Rattle.zarr_parts.specs.Arrays.{Array}
-use Rattle.zarr_elements.specs.declared.data_type.DataTypeSize.{DataTypeSize}
+use Rattle.zarr_parts.specs.DataTypeSize.{DataTypeSize}
 use Rattle.zarr_boxes.proofs.GridLaws.{cell_number-below, subchunk_number-cell_number, place_number-cell_number}
 use Rattle.codec_laws.specs.Meanings.{Meaning}
 use Rattle.codec_laws.specs.Cells.{cell_length}

@@ -5,7 +5,7 @@ use Rattle.std.proofs.lemmas.List.{ext_get_or, length-map, get_or-map}
 use Rattle.std.proofs.lemmas.List.FromFn.{length-range_with_len, get_or-range_with_len, get_or-map-range_with_len}
 use Rattle.zarr_parts.specs.Numbering.{count_of, number_of, IsInside}
 use Rattle.zarr_parts.specs.Order.{done, RefusedBy}
-use Rattle.zarr_words.specs.declared.error.CodecError.{CodecError}
+use Rattle.zarr_parts.specs.CodecError.{CodecError}
 use Rattle.codec_laws.specs.Meanings.{Meaning}
 use Rattle.codec_laws.specs.Cells.{cell_length}
 use Rattle.object_handles.specs.Handles.{HandleState, IsRead}

@@ -13,10 +13,10 @@ use Rattle.zarr_parts.specs.Types.{byte_size, FitsKind}
 use Rattle.zarr_parts.specs.Numbering.{count_of, number_of, IsInside}
 use Rattle.zarr_parts.specs.Grid.{grid_of, Divides, subchunk_number, place_number}
 use Rattle.zarr_parts.specs.Order.{◌or◌then◌, ◌or_as◌then◌, done, RefusedBy}
-use Rattle.zarr_elements.specs.declared.data_type.DataTypeSize.{DataTypeSize}
-use Rattle.zarr_elements.specs.declared.data_type.DataTypeSize.TheVariants.{Fixed, Variable}
-use Rattle.zarr_words.specs.declared.error.CodecError.{CodecError}
-use Rattle.zarr_words.specs.declared.error.CodecError.TheVariants.{OutOfMemory, TooLarge, Fault, Damaged}
+use Rattle.zarr_parts.specs.DataTypeSize.{DataTypeSize}
+use Rattle.zarr_parts.specs.DataTypeSize.TheVariants.{Fixed, Variable}
+use Rattle.zarr_parts.specs.CodecError.{CodecError}
+use Rattle.zarr_parts.specs.CodecError.TheVariants.{OutOfMemory, TooLarge, Fault, Damaged}
 use Rattle.codec_laws.specs.Meanings.{Meaning}
 use Rattle.codec_laws.specs.Cells.{all_there, cell_length}
 use Rattle.codec_laws.specs.Refusals.{AreTooLong, AreDamaged, MayRefuseDecode}

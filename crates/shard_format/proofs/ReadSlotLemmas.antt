@@ -6,8 +6,8 @@ use Rattle.zarr_parts.specs.Order.{◌or◌then◌, ◌or_as◌then◌, RefusedB
 use Rattle.zarr_parts.specs.Numbering.{count_of, number_of, point_of, IsInside}
 use Rattle.zarr_parts.specs.Geo.{Geo}
 use Rattle.zarr_parts.specs.Selections.{Selection, LiesWithin, IsSelectionOf}
-use Rattle.zarr_words.specs.declared.error.CodecError.{CodecError}
-use Rattle.zarr_words.specs.declared.error.CodecError.TheVariants.{OutOfMemory, Fault}
+use Rattle.zarr_parts.specs.CodecError.{CodecError}
+use Rattle.zarr_parts.specs.CodecError.TheVariants.{OutOfMemory, Fault}
 use Rattle.zarr_boxes.proofs.NumberingLaws.{number_of-point_of, point_of-number_of, point_inside}
 use Rattle.codec_laws.specs.Meanings.{Meaning}
 use Rattle.object_handles.specs.declared.bytes.Interval.{Interval}

@@ -1,7 +1,7 @@
 -- What the bytes of a shard stand for.
 use Rattle.std.specs.Prelude.{ℕ, List, Option, Some, None, map, length, slice_index_or}
 use Rattle.std.specs.List.{range_with_len}
-use Rattle.zarr_words.specs.Words.{CellList, CellsOf}
+use Rattle.zarr_parts.specs.Words.{CellList, CellsOf}
 use Rattle.zarr_parts.specs.Numbering.{count_of}
 use Rattle.zarr_parts.specs.Grid.{subchunk_number, place_number}
 use Rattle.shard_format.specs.Index.{slot_at, slice_at, numbers_in_index}

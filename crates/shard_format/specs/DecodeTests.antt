@@ -1,11 +1,11 @@
 -- Why a shard's bytes may be refused: the tests of decoding, in their order.
 use Rattle.std.specs.Prelude.{◌≡◌, ◌≢◌, ◌≤◌, ◌<◌, ℕ, List, Option, Some, None, IsSome, length}
-use Rattle.zarr_words.specs.Words.{CellList, CellsOf, Refusals}
+use Rattle.zarr_parts.specs.Words.{CellList, CellsOf, Refusals}
 use Rattle.zarr_parts.specs.Order.{◌or◌then◌, ◌or_as◌then◌, EachAs}
 use Rattle.zarr_parts.specs.Numbering.{count_of}
 use Rattle.zarr_parts.specs.Grid.{grid_of}
-use Rattle.zarr_words.specs.declared.error.CodecError.{CodecError}
-use Rattle.zarr_words.specs.declared.error.CodecError.TheVariants.{OutOfMemory, TooLarge, Fault, Damaged, ShardTooShort, BadIndexEntry}
+use Rattle.zarr_parts.specs.CodecError.{CodecError}
+use Rattle.zarr_parts.specs.CodecError.TheVariants.{OutOfMemory, TooLarge, Fault, Damaged, ShardTooShort, BadIndexEntry}
 use Rattle.codec_laws.specs.Cells.{all_there}
 use Rattle.codec_laws.specs.Refusals.{AreTooLong, MayRefuseDecode}
 use Rattle.codec_laws.specs.Meanings.{Meaning}

@@ -1,13 +1,13 @@
 -- The steps of decoding: each subchunk that is there decoded, and the cells of the shard gathered from them.
 use Rattle.std.specs.Prelude.{◌≡◌, ◌≤◌, ◌<◌, ℕ, ◌+◌, ◌*◌, List, [], Option, Some, None, map, length, slice_index_or}
 use Rattle.std.specs.List.{All, sum_by}
-use Rattle.zarr_words.specs.Words.{CellsOf}
+use Rattle.zarr_parts.specs.Words.{CellsOf}
 use Rattle.zarr_parts.specs.Numbering.{count_of}
 use Rattle.zarr_parts.specs.Grid.{subchunk_number, place_number}
 use Rattle.zarr_parts.specs.Geo.{Geo, IsArrayOf}
 use Rattle.zarr_parts.specs.Types.{FitsKind}
 use Rattle.zarr_parts.specs.Arrays.{Array}
-use Rattle.zarr_elements.specs.declared.data_type.DataTypeSize.{DataTypeSize}
+use Rattle.zarr_parts.specs.DataTypeSize.{DataTypeSize}
 use Rattle.shard_format.specs.Index.{slice_at}
 use Rattle.shard_format.specs.declared.slot.Slot.{Slot}
 use Rattle.shard_format.specs.declared.slot.Slot.TheVariants.{Absent, InRange, Bad}

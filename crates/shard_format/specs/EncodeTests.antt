@@ -1,14 +1,14 @@
 -- Why an array may be refused: the tests of encoding, in their order.
 use Rattle.std.specs.Prelude.{◌≡◌, ◌≤◌, ◌<◌, ◌^◌, ◌⊎◌, ℕ, ◌+◌, ◌*◌, List, length, map}
 use Rattle.std.specs.List.{All}
-use Rattle.zarr_words.specs.Words.{Refusals, Written}
+use Rattle.zarr_parts.specs.Words.{Refusals, Written}
 use Rattle.zarr_parts.specs.Order.{◌or◌then◌, ◌or_as◌then◌, EachAs}
 use Rattle.zarr_parts.specs.Numbering.{count_of}
 use Rattle.zarr_parts.specs.Grid.{grid_of, subchunk}
 use Rattle.zarr_parts.specs.Arrays.{Array}
-use Rattle.zarr_elements.specs.declared.data_type.DataTypeSize.{DataTypeSize}
-use Rattle.zarr_words.specs.declared.error.CodecError.{CodecError}
-use Rattle.zarr_words.specs.declared.error.CodecError.TheVariants.{TooLarge, CannotEncode, WrongElementKind, InvalidNumberOfElements}
+use Rattle.zarr_parts.specs.DataTypeSize.{DataTypeSize}
+use Rattle.zarr_parts.specs.CodecError.{CodecError}
+use Rattle.zarr_parts.specs.CodecError.TheVariants.{TooLarge, CannotEncode, WrongElementKind, InvalidNumberOfElements}
 use Rattle.codec_laws.specs.Meanings.{Meaning}
 use Rattle.shard_format.specs.Index.{element_of_number}
 use Rattle.shard_format.specs.Cells.{Layout}

@@ -1,7 +1,7 @@
 -- When bytes are an encoding of a shard.
 use Rattle.std.specs.Prelude.{◌≡◌, ◌≤◌, ◌<◌, ◌^◌, ℕ, ◌+◌, ◌*◌, List, map, length}
 use Rattle.std.specs.List.{All, range_with_len, sum_by}
-use Rattle.zarr_words.specs.Words.{Written}
+use Rattle.zarr_parts.specs.Words.{Written}
 use Rattle.zarr_parts.specs.Numbering.{count_of}
 use Rattle.zarr_parts.specs.Grid.{grid_of, subchunk}
 use Rattle.shard_format.specs.Index.{slot_at, slice_at, index_part, data_start, data_end, element_of_number}

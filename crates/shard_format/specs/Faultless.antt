@@ -2,17 +2,13 @@
 -- index codec do not.
 use Rattle.std.specs.Prelude.{◌≡◌, ◌<◌, ℕ, List}
 use Rattle.std.proofs.Common.{inl, inr, sym, subst}
-use Rattle.zarr_words.specs.Words.{CellList, Refusals}
+use Rattle.zarr_parts.specs.Words.{CellList, Refusals}
 use Rattle.zarr_parts.specs.Order.{done, Each, EachAs}
 use Rattle.zarr_parts.specs.Geo.{Geo}
-use Rattle.zarr_words.specs.declared.error.CodecError.{CodecError}
-use Rattle.zarr_words.specs.declared.error.CodecError.TheVariants.{UnsupportedDataType, BadFillValue}
-use Rattle.zarr_words.specs.declared.error.CodecError.TheVariants.{IncompatibleDimensionality, InvalidSubchunkShape}
-use Rattle.zarr_words.specs.declared.error.CodecError.TheVariants.{TooLarge, VariableIndexSize}
-use Rattle.zarr_words.specs.declared.error.CodecError.TheVariants.{OutOfMemory, BadIndexEntry, ShardTooShort, Fault}
-use Rattle.zarr_words.specs.declared.error.CodecError.TheVariants.{CannotEncode, WrongElementKind, InvalidNumberOfElements}
+use Rattle.zarr_parts.specs.CodecError.{CodecError}
+use Rattle.zarr_parts.specs.CodecError.TheVariants.{UnsupportedDataType, BadFillValue, IncompatibleDimensionality, InvalidSubchunkShape, TooLarge, VariableIndexSize, OutOfMemory, BadIndexEntry, ShardTooShort, Fault, CannotEncode, WrongElementKind, InvalidNumberOfElements}
 use Rattle.zarr_parts.specs.Arrays.{Array}
-use Rattle.zarr_elements.specs.declared.data_type.DataTypeSize.{DataTypeSize}
+use Rattle.zarr_parts.specs.DataTypeSize.{DataTypeSize}
 use Rattle.codec_laws.specs.Refusals.{IsNoFault, RefusesUnserved, MayRefuseDecode}
 use Rattle.codec_laws.specs.RefusalLaws.{test_faultless, test_as_faultless}
 use Rattle.codec_laws.specs.Meanings.{Meaning}

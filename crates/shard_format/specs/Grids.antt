@@ -4,8 +4,8 @@ use Rattle.zarr_parts.specs.Order.{◌or◌then◌, done}
 use Rattle.zarr_parts.specs.Numbering.{count_of}
 use Rattle.zarr_parts.specs.Boxes.{IsBox}
 use Rattle.zarr_parts.specs.Grid.{Divides, grid_of, grid_box}
-use Rattle.zarr_words.specs.declared.error.CodecError.{CodecError}
-use Rattle.zarr_words.specs.declared.error.CodecError.TheVariants.{IncompatibleDimensionality, InvalidSubchunkShape, TooLarge}
+use Rattle.zarr_parts.specs.CodecError.{CodecError}
+use Rattle.zarr_parts.specs.CodecError.TheVariants.{IncompatibleDimensionality, InvalidSubchunkShape, TooLarge}
 
 -- the tests of a shard shape and a subchunk shape
 abbrev pub GridTests : List ℕ → List ℕ → CodecError → Type 0

@@ -1,6 +1,6 @@
 -- When a shard holds an array, whatever else stands in it.
 use Rattle.std.specs.Prelude.{◌≡◌, ◌<◌, ℕ, List, Some, length}
-use Rattle.zarr_words.specs.Words.{CellsOf, Written}
+use Rattle.zarr_parts.specs.Words.{CellsOf, Written}
 use Rattle.zarr_parts.specs.Numbering.{count_of}
 use Rattle.zarr_parts.specs.Grid.{grid_of, subchunk}
 use Rattle.shard_format.specs.Index.{slot_at, numbers_in_index}

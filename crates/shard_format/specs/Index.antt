@@ -1,12 +1,11 @@
 -- The index of a shard (Zarr V3 codec `sharding_indexed`, "Binary shard format"): a pair of an offset and a size, in bytes,
 -- for each subchunk in row-major order.
-use Rattle.std.specs.Prelude.{ℕ, ◌+◌, ◌-◌, ◌*◌, ◌^◌, ◌&&◌, ◌||◌, ◌==◌, nat_le, if◌then◌else◌, List, [], ◌∷◌, ◌++◌}
-use Rattle.std.specs.Prelude.{Option, None, length, map, take, drop, replicate, slice_index}
+use Rattle.std.specs.Prelude.{ℕ, ◌+◌, ◌-◌, ◌*◌, ◌^◌, ◌&&◌, ◌||◌, ◌==◌, nat_le, if◌then◌else◌, List, [], ◌∷◌, ◌++◌, Option, None, length, map, take, drop, replicate, slice_index}
 use Rattle.std.specs.Option.{option_map}
 use Rattle.std.specs.Int.{from_le_bytes, to_le_bytes, w64}
-use Rattle.zarr_words.specs.Words.{CellList, CellsOf}
+use Rattle.zarr_parts.specs.Words.{CellList, CellsOf}
 use Rattle.zarr_parts.specs.Geo.{Geo, geo}
-use Rattle.zarr_elements.specs.declared.data_type.DataType.TheVariants.{UInt64}
+use Rattle.zarr_parts.specs.DataType.TheVariants.{UInt64}
 use Rattle.codec_laws.specs.Cells.{all_there}
 use Rattle.shard_format.specs.declared.location.ShardingIndexLocation.{ShardingIndexLocation}
 use Rattle.shard_format.specs.declared.location.ShardingIndexLocation.TheVariants.{Start, End}

@@ -1,7 +1,7 @@
 -- The steps of encoding: the slices of the data part, laid end to end in ascending number, and the index of them.
 use Rattle.std.specs.Prelude.{◌≡◌, ◌≤◌, ◌<◌, ◌^◌, ℕ, ◌+◌, ◌*◌, Bool, true, false, List, [], ◌++◌, length, slice_index, slice_index_or, map}
 use Rattle.std.specs.List.{All, range_with_len, sum_by}
-use Rattle.zarr_words.specs.Words.{Written}
+use Rattle.zarr_parts.specs.Words.{Written}
 use Rattle.zarr_parts.specs.Grid.{subchunk}
 use Rattle.shard_format.specs.Index.{absent_number, slice_at, element_of_number}
 use Rattle.shard_format.specs.Encoding.{IsAllFill, slot_size, BeginsAt}

@@ -1,7 +1,7 @@
 -- The steps of compacting: the slots of a shard, none of them bad, and their slices packed end to end.
 use Rattle.std.specs.Prelude.{◌≡◌, ◌≤◌, ◌<◌, ◌^◌, ℕ, ◌+◌, ◌*◌, List, [], map, length, slice_index_or}
 use Rattle.std.specs.List.{All}
-use Rattle.zarr_words.specs.Words.{Written}
+use Rattle.zarr_parts.specs.Words.{Written}
 use Rattle.zarr_parts.specs.Numbering.{count_of}
 use Rattle.zarr_parts.specs.Grid.{Divides, grid_of}
 use Rattle.shard_format.specs.Index.{slot_at, slice_at, index_part, data_start, element_of_number}

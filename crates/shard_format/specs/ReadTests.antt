@@ -1,12 +1,12 @@
 -- Why a read of some cells of a shard may be refused: the tests of its bytes, in their order.
 use Rattle.std.specs.Prelude.{◌≡◌, ◌≢◌, ℕ, ◌==◌, List, [], Option, None, IsSome, length, map, slice_index_or}
 use Rattle.std.specs.List.{filter}
-use Rattle.zarr_words.specs.Words.{CellList, CellsOf, Refusals}
+use Rattle.zarr_parts.specs.Words.{CellList, CellsOf, Refusals}
 use Rattle.zarr_parts.specs.Order.{◌or◌then◌, EachAs}
 use Rattle.zarr_parts.specs.Numbering.{count_of, number_of, point_of}
 use Rattle.zarr_parts.specs.Grid.{grid_of, subchunk_number, place_number}
-use Rattle.zarr_words.specs.declared.error.CodecError.{CodecError}
-use Rattle.zarr_words.specs.declared.error.CodecError.TheVariants.{OutOfMemory, TooLarge, BadIndexEntry}
+use Rattle.zarr_parts.specs.CodecError.{CodecError}
+use Rattle.zarr_parts.specs.CodecError.TheVariants.{OutOfMemory, TooLarge, BadIndexEntry}
 use Rattle.zarr_parts.specs.Selections.{Points}
 use Rattle.codec_laws.specs.Cells.{all_there}
 use Rattle.codec_laws.specs.Reads.{cells_at, MayRefuseRead}

@@ -1,8 +1,8 @@
 -- The steps of a read of some cells of a shard: its index, the places of each subchunk in which some are asked, and the cells put together.
 use Rattle.std.specs.Prelude.{◌≡◌, ℕ, ◌-◌, List, Option, Some, None, map, length}
-use Rattle.zarr_words.specs.Words.{CellsOf}
+use Rattle.zarr_parts.specs.Words.{CellsOf}
 use Rattle.zarr_parts.specs.Arrays.{Array}
-use Rattle.zarr_words.specs.declared.error.CodecError.{CodecError}
+use Rattle.zarr_parts.specs.CodecError.{CodecError}
 use Rattle.codec_laws.specs.Meanings.{Meaning}
 use Rattle.shard_format.specs.Index.{slice_at}
 use Rattle.shard_format.specs.Cells.{indexed_cell}

@@ -1,16 +1,14 @@
 -- Which arrays the sharding codec serves, what it can encode, and how long its encodings are.
 use Rattle.std.specs.Prelude.{◌≡◌, ◌<◌, ◌^◌, ◌⊎◌, ℕ, ◌+◌, ◌*◌, List, [], Option, Some, None, IsSome, length, map, nat_lt, if◌then◌else◌}
 use Rattle.std.specs.List.{All, sum_by, range_with_len}
-use Rattle.zarr_words.specs.Words.{Refusals, Written}
+use Rattle.zarr_parts.specs.Words.{Refusals, Written}
 use Rattle.zarr_parts.specs.Order.{◌or◌then◌, ◌or_as◌then◌, done}
 use Rattle.zarr_parts.specs.Numbering.{count_of}
 use Rattle.zarr_parts.specs.Grid.{Divides, grid_of, subchunk}
 use Rattle.zarr_parts.specs.Geo.{Geo, geo}
 use Rattle.zarr_parts.specs.Types.{size_of, HasElements, FitsKind, byte_size}
-use Rattle.zarr_words.specs.declared.error.CodecError.{CodecError}
-use Rattle.zarr_words.specs.declared.error.CodecError.TheVariants.{UnsupportedDataType, BadFillValue}
-use Rattle.zarr_words.specs.declared.error.CodecError.TheVariants.{IncompatibleDimensionality, InvalidSubchunkShape}
-use Rattle.zarr_words.specs.declared.error.CodecError.TheVariants.{TooLarge, VariableIndexSize}
+use Rattle.zarr_parts.specs.CodecError.{CodecError}
+use Rattle.zarr_parts.specs.CodecError.TheVariants.{UnsupportedDataType, BadFillValue, IncompatibleDimensionality, InvalidSubchunkShape, TooLarge, VariableIndexSize}
 use Rattle.codec_laws.specs.Refusals.{RefusesUnserved}
 use Rattle.codec_laws.specs.declared.representation.BytesRepresentation.{BytesRepresentation}
 use Rattle.codec_laws.specs.declared.representation.BytesRepresentation.TheVariants.{FixedSize, BoundedSize, UnboundedSize}

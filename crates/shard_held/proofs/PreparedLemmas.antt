@@ -3,13 +3,13 @@ use Rattle.std.proofs.Common.{◌≡◌, ℕ, ◌+◌, ◌*◌, ◌^◌, ◌<◌
 use Rattle.std.proofs.lemmas.List.{get_or-replicate, length-replicate}
 use Rattle.std.proofs.lemmas.List.FromFn.{get_or-map-range_with_len}
 use Rattle.std.proofs.lemmas.List.Elements.{All-head, All-tail}
-use Rattle.zarr_words.specs.Words.{Bytes, Elements, Written, CellsOf}
+use Rattle.zarr_parts.specs.Words.{Bytes, Elements, Written, CellsOf}
 use Rattle.zarr_parts.specs.Numbering.{count_of}
 use Rattle.zarr_parts.specs.Boxes.{Region, LiesIn}
 use Rattle.zarr_parts.specs.Grid.{Divides, grid_of, subchunk_number, place_number}
 use Rattle.zarr_parts.specs.Geo.{Geo, IsArrayOf}
 use Rattle.zarr_parts.specs.Selections.{Selection, box_selection}
-use Rattle.zarr_boxes.proofs.GridLaws.{subchunk_number-below}
+use Rattle.zarr_parts.proofs.GridLaws.{subchunk_number-below}
 use Rattle.object_handles.specs.Handles.{HandleState}
 use Rattle.object_handles.specs.Writes.{bytes_of}
 use Rattle.codec_laws.specs.Meanings.{Meaning}

@@ -6,7 +6,7 @@ use Rattle.zarr_parts.specs.Numbering.{count_of}
 use Rattle.zarr_parts.specs.Grid.{grid_of}
 use Rattle.zarr_parts.specs.Geo.{Geo}
 use Rattle.zarr_parts.specs.Order.{◌or_as◌then◌, RefusedBy, done}
-use Rattle.zarr_words.specs.declared.error.CodecError.{CodecError}
+use Rattle.zarr_parts.specs.CodecError.{CodecError}
 use Rattle.codec_laws.specs.Meanings.{Meaning}
 use Rattle.codec_laws.specs.Refusals.{RefusesUnserved}
 use Rattle.object_handles.specs.Handles.{HandleState, IsRead}
@@ -17,8 +17,8 @@ use Rattle.shard_format.specs.declared.index.ShardIndex.{ShardIndex}
 use Rattle.shard_format.specs.declared.location.ShardingIndexLocation.{ShardingIndexLocation}
 use Rattle.shard_format.specs.declared.slot.Slot.TheVariants.{Absent}
 use Rattle.shard_format.proofs.RefusalLemmas.{long_enough}
-use Rattle.shard_index.specs.DataPart.{IsInDataPart, PairTests}
-use Rattle.shard_index.specs.Indexes.{IsIndexPlan}
+use Rattle.shard_steps.specs.DataPart.{IsInDataPart, PairTests}
+use Rattle.shard_steps.specs.Indexes.{IsIndexPlan}
 use Rattle.shard_writing.specs.Writing.{AreAbsent, HoldsNumbers}
 use Rattle.shard_opening.specs.Held.{HoldsIndex, held_len, held_numbers}
 use Rattle.shard_opening.specs.OpenShards.{IsKnown}

@@ -1,6 +1,6 @@
 -- What a session holds of a shard that is open for reading and writing.
 use Rattle.std.specs.Prelude.{◌≡◌, ℕ, ◌*◌, IsTrue, List, Option, Some, None, IfNone, length, replicate}
-use Rattle.zarr_words.specs.Words.{Refusals}
+use Rattle.zarr_parts.specs.Words.{Refusals}
 use Rattle.zarr_parts.specs.Order.{done}
 use Rattle.zarr_parts.specs.Numbering.{count_of}
 use Rattle.zarr_parts.specs.Grid.{grid_of}
@@ -11,8 +11,8 @@ use Rattle.shard_format.specs.Index.{absent_number, numbers_in_index}
 use Rattle.shard_format.specs.Serves.{fixed_size}
 use Rattle.shard_format.specs.declared.index.ShardIndex.{ShardIndex}
 use Rattle.shard_format.specs.declared.location.ShardingIndexLocation.{ShardingIndexLocation}
-use Rattle.shard_index.specs.Indexes.{IsIndexPlan}
-use Rattle.shard_index.specs.DataPart.{PairTests}
+use Rattle.shard_steps.specs.Indexes.{IsIndexPlan}
+use Rattle.shard_steps.specs.DataPart.{PairTests}
 use Rattle.shard_writing.specs.Writing.{HoldsNumbers, IsHeld}
 use Rattle.shard_opening.specs.Held.{held_len, ObjectIndexTests}
 use Rattle.shard_opening.specs.OpenShards.{IsKnown}

@@ -1,7 +1,7 @@
 -- A write into a session, before the writing call of its handle.
 use Rattle.std.specs.Prelude.{ℕ, List, Option, Some, None, Vec}
 use Rattle.std.specs.Global.{Global}
-use Rattle.zarr_words.specs.Words.{Bytes, Elements, Refusals}
+use Rattle.zarr_parts.specs.Words.{Bytes, Elements, Refusals}
 use Rattle.zarr_parts.specs.Boxes.{Region}
 use Rattle.zarr_parts.specs.Geo.{Geo}
 use Rattle.object_handles.specs.Writes.{bytes_of}

@@ -5,3 +5,4 @@ mod session;
 mod writes;
 
 pub use session::OpenSession;
+pub use shard_opening::OpenShard;

@@ -5,7 +5,7 @@ use Rattle.std.specs.Simd.{first_chunks}
 use Rattle.std.proofs.lemmas.List.{take_at, drop_at}
 use Rattle.std.proofs.lemmas.List.Elements.{All-map, All-head, All-rest, All-from_get_or}
 use Rattle.std.proofs.Math.Nat.{div-eq_of_eq-mul_left}
-use Rattle.zarr_boxes.proofs.PieceLaws.{length-concat}
+use Rattle.zarr_parts.proofs.PieceLaws.{length-concat}
 use Rattle.shard_format.specs.Index.{element_of_number}
 
 -- lists of one length, laid end to end and cut again

@@ -1,9 +1,9 @@
 -- Where the slices of an index lie.
 use Rattle.std.specs.Prelude.{◌≤◌, ℕ, ◌+◌, List, Option}
-use Rattle.zarr_words.specs.Words.{Refusals}
+use Rattle.zarr_parts.specs.Words.{Refusals}
 use Rattle.zarr_parts.specs.Order.{Each}
-use Rattle.zarr_words.specs.declared.error.CodecError.{CodecError}
-use Rattle.zarr_words.specs.declared.error.CodecError.TheVariants.{BadIndexEntry}
+use Rattle.zarr_parts.specs.CodecError.{CodecError}
+use Rattle.zarr_parts.specs.CodecError.TheVariants.{BadIndexEntry}
 use Rattle.shard_format.specs.Index.{data_start, data_end}
 use Rattle.shard_format.specs.DecodeTests.{slot_by}
 use Rattle.shard_format.specs.declared.location.ShardingIndexLocation.{ShardingIndexLocation}

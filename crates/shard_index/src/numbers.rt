@@ -2,8 +2,8 @@
 ghost use Rattle.std.specs.Prelude.{◌≡◌, ◌<◌, ◌*◌, ◌/◌, ◌^◌, ℕ, IfOk, IfErr, map, length, slice_index_or};
 ghost use Rattle.std.specs.List.{All, flat_map};
 ghost use Rattle.std.specs.Simd.{first_chunks};
-ghost use Rattle.zarr_elements.specs.declared.data_type.DataTypeSize.TheVariants.{Fixed};
-ghost use Rattle.zarr_words.specs.declared.error.CodecError.TheVariants.{OutOfMemory};
+ghost use Rattle.zarr_parts.specs.DataTypeSize.TheVariants.{Fixed};
+ghost use Rattle.zarr_parts.specs.CodecError.TheVariants.{OutOfMemory};
 ghost use Rattle.shard_format.specs.Index.{number_of_element, element_of_number};
 ghost use Rattle.shard_format.specs.Laying.{offset_number, size_number, EndsBelow, AreNumbersOf};
 ghost use Rattle.shard_format.specs.declared.slot.Slot.TheVariants.{Bad};

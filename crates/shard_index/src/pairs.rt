@@ -1,7 +1,7 @@
 // The pairs of an index: whether their slices lie in the data part, and an index of which each is absent.
 ghost use Rattle.std.specs.Prelude.{◌≡◌, ◌↔◌, ◌<◌, ◌/◌, ℕ, IsTrue, Some, IfErr, OnOk, length, replicate};
 ghost use Rattle.zarr_parts.specs.Order.{done};
-ghost use Rattle.zarr_words.specs.declared.error.CodecError.TheVariants.{BadIndexEntry};
+ghost use Rattle.zarr_parts.specs.CodecError.TheVariants.{BadIndexEntry};
 ghost use Rattle.shard_format.specs.Index.{absent_number, slot_at};
 ghost use Rattle.shard_index.specs.DataPart.{LiesBetween, IsInDataPart, PairTests};
 

@@ -1,7 +1,7 @@
 // The present slices of a shard, copied together.
 ghost use Rattle.std.specs.Prelude.{◌≡◌, ◌<◌, ◌^◌, ◌+◌, ◌*◌, ◌/◌, ℕ, IfOk, IfErr, SomeIff, length, slice_index_or};
 ghost use Rattle.zarr_parts.specs.Order.{Each, done, RefusedBy};
-ghost use Rattle.zarr_words.specs.declared.error.CodecError.TheVariants.{OutOfMemory, BadIndexEntry};
+ghost use Rattle.zarr_parts.specs.CodecError.TheVariants.{OutOfMemory, BadIndexEntry};
 ghost use Rattle.shard_format.specs.Index.{slot_at};
 ghost use Rattle.shard_format.specs.Encoding.{slot_size};
 ghost use Rattle.shard_format.specs.Laying.{taken};

@@ -9,9 +9,9 @@ use Rattle.zarr_parts.specs.Numbering.{count_of, number_of, IsInside}
 use Rattle.zarr_parts.specs.Geo.{Geo}
 use Rattle.zarr_parts.specs.Selections.{Selection, IsSelectionOf}
 use Rattle.zarr_parts.specs.Order.{RefusedBy, done}
-use Rattle.zarr_words.specs.declared.error.CodecError.{CodecError}
-use Rattle.zarr_words.specs.declared.error.CodecError.TheVariants.{OutOfMemory, TooLarge, OutOfBounds, Fault}
-use Rattle.zarr_boxes.proofs.NumberingLaws.{number_below}
+use Rattle.zarr_parts.specs.CodecError.{CodecError}
+use Rattle.zarr_parts.specs.CodecError.TheVariants.{OutOfMemory, TooLarge, OutOfBounds, Fault}
+use Rattle.zarr_parts.proofs.NumberingLaws.{number_below}
 use Rattle.codec_laws.specs.Meanings.{Meaning}
 use Rattle.object_handles.specs.Handles.{HandleState, IsRead, RangeLiesIn, RefusesRead}
 use Rattle.object_handles.specs.declared.bytes.ByteRange.{ByteRange}

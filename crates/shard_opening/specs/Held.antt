@@ -1,8 +1,8 @@
 -- What is held of an object that was opened as a shard, and why its opening or a read by it may be refused.
 use Rattle.std.specs.Prelude.{◌≡◌, ◌<◌, ◌^◌, ℕ, ◌+◌, List, Option, Some, None, length, replicate}
-use Rattle.zarr_words.specs.Words.{CellList, CellsOf, Refusals}
-use Rattle.zarr_words.specs.declared.error.CodecError.{CodecError}
-use Rattle.zarr_words.specs.declared.error.CodecError.TheVariants.{TooLarge}
+use Rattle.zarr_parts.specs.Words.{CellList, CellsOf, Refusals}
+use Rattle.zarr_parts.specs.CodecError.{CodecError}
+use Rattle.zarr_parts.specs.CodecError.TheVariants.{TooLarge}
 use Rattle.zarr_parts.specs.Order.{◌or◌then◌, done}
 use Rattle.zarr_parts.specs.Numbering.{count_of}
 use Rattle.zarr_parts.specs.Geo.{Geo}

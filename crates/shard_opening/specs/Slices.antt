@@ -1,8 +1,8 @@
 -- The bytes of a subchunk, by the index that is held.
 use Rattle.std.specs.Prelude.{◌≡◌, ◌≢◌, ℕ, List, Option, Some, None, length}
-use Rattle.zarr_words.specs.Words.{Refusals}
-use Rattle.zarr_words.specs.declared.error.CodecError.{CodecError}
-use Rattle.zarr_words.specs.declared.error.CodecError.TheVariants.{IncompatibleDimensionality, OutOfBounds, BadIndexEntry}
+use Rattle.zarr_parts.specs.Words.{Refusals}
+use Rattle.zarr_parts.specs.CodecError.{CodecError}
+use Rattle.zarr_parts.specs.CodecError.TheVariants.{IncompatibleDimensionality, OutOfBounds, BadIndexEntry}
 use Rattle.zarr_parts.specs.Order.{◌or◌then◌}
 use Rattle.zarr_parts.specs.Numbering.{number_of, IsInside}
 use Rattle.object_handles.specs.Handles.{HandleState, WasRead}

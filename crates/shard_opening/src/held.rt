@@ -5,13 +5,13 @@ ghost use Rattle.zarr_parts.specs.Numbering.{count_of};
 ghost use Rattle.object_handles.specs.Handles.{IsRead, IsCounted};
 ghost use Rattle.object_handles.specs.Objects.{ObjectTests};
 ghost use Rattle.shard_format.specs.Index.{numbers_in_index};
-ghost use Rattle.shard_index.specs.Indexes.{index_meaning, IsIndexPlan};
+ghost use Rattle.shard_steps.specs.Indexes.{index_meaning, IsIndexPlan};
 ghost use Rattle.shard_opening.specs.Held.{HoldsIndex, held_len, held_numbers, ObjectIndexTests};
 
 use codec_laws::ArrayToBytesCodecTraits;
 use object_handles::{BytesPartialDecoderTraits, Interval};
 use shard_format::ShardIndex;
-use shard_index::{IndexCodec, IndexPlan};
+use shard_steps::{IndexCodec, IndexPlan};
 use std::alloc::Global;
 use zarr_parts::{CodecError, CodecOptions};
 

@@ -14,9 +14,7 @@ ghost use Rattle.shard_opening.specs.OpenShards.{shard_geo, numbers_by, IsKnown}
 use crate::shard::OpenShard;
 use codec_laws::ArrayToBytesCodecTraits;
 use object_handles::{BytesPartialDecoderTraits, Interval};
-use shard_cells::filled;
-use shard_steps::Sharding;
-use shard_subchunks::Subchunks;
+use shard_steps::{Sharding, Subchunks, filled};
 use std::alloc::Global;
 use zarr_parts::{ArrayBytes, CodecError, CodecOptions, Indexer};
 

@@ -5,7 +5,7 @@ ghost use Rattle.zarr_parts.specs.Grid.{grid_of};
 ghost use Rattle.object_handles.specs.Handles.{IsRead, IsCounted};
 ghost use Rattle.object_handles.specs.Objects.{ObjectTests};
 ghost use Rattle.codec_laws.specs.Refusals.{RefusesUnserved};
-ghost use Rattle.shard_index.specs.Indexes.{index_meaning, IsIndexPlan};
+ghost use Rattle.shard_steps.specs.Indexes.{index_meaning, IsIndexPlan};
 ghost use Rattle.shard_steps.specs.Meanings.{index_of, meaning_of};
 ghost use Rattle.shard_steps.specs.Plans.{asked_geo};
 ghost use Rattle.shard_opening.specs.Held.{ObjectIndexTests};
@@ -14,10 +14,8 @@ ghost use Rattle.shard_opening.specs.OpenShards.{shard_geo, numbers_by, IsKnown}
 use crate::held::read_held;
 use codec_laws::ArrayToBytesCodecTraits;
 use object_handles::BytesPartialDecoderTraits;
-use shard_asked::Asked;
 use shard_format::ShardIndex;
-use shard_index::IndexPlan;
-use shard_steps::{Plan, Sharding};
+use shard_steps::{Asked, IndexPlan, Plan, Sharding};
 use std::alloc::Global;
 use zarr_parts::{ChunkShape, CodecError, CodecOptions, DataType, FillValue};
 

@@ -3,9 +3,9 @@ use Rattle.std.proofs.Common.{◌≡◌, ◌&&◌, refl, ap, Decides, eqb}
 use Rattle.std.proofs.lemmas.Bool.Decides.{Decides-and, Decides-like}
 use Rattle.std.proofs.lemmas.Slice.Eq.{slice_eq-Decides, bytes_eq-Decides}
 use Rattle.std.specs.Cmp.Lexicographic.{pointwise}
-use Rattle.zarr_elements.specs.Arrays.{Array, size_list, same_array}
-use Rattle.zarr_elements.specs.declared.data_type.DataTypeSize.{DataTypeSize}
-use Rattle.zarr_elements.specs.declared.data_type.DataTypeSize.TheVariants.{Fixed, Variable}
+use Rattle.zarr_parts.specs.Arrays.{Array, size_list, same_array}
+use Rattle.zarr_parts.specs.DataTypeSize.{DataTypeSize}
+use Rattle.zarr_parts.specs.DataTypeSize.TheVariants.{Fixed, Variable}
 
 same_kind : (a b : DataTypeSize) → size_list a ≡ size_list b → a ≡ b
 same_kind (Fixed n) (Fixed m) h = cc

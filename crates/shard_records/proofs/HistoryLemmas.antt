@@ -2,8 +2,8 @@
 use Rattle.std.proofs.Common.{◌≡◌, inl, inr, Bool, false, IsTrue, replicate, List, [], ◌∷◌, ◌++◌, Option, Some, None, map, length, get_or, refl, sym, ap, ◌∙◌, subst, arith}
 use Rattle.std.proofs.lemmas.Bool.{true≢false}
 use Rattle.std.proofs.lemmas.List.{ext_get_or, length-map, length_push, replicate-append-replicate}
-use Rattle.zarr_words.specs.Words.{Bytes, Elements}
-use Rattle.zarr_words.specs.declared.error.CodecError.{CodecError}
+use Rattle.zarr_parts.specs.Words.{Bytes, Elements}
+use Rattle.zarr_parts.specs.CodecError.{CodecError}
 use Rattle.zarr_parts.specs.Geo.{Geo}
 use Rattle.zarr_parts.specs.Numbering.{count_of}
 use Rattle.zarr_parts.specs.Boxes.{Region}
@@ -15,13 +15,13 @@ use Rattle.codec_laws.specs.Meanings.{Meaning}
 use Rattle.codec_laws.specs.Reads.{cells_at, IsAnswer}
 use Rattle.shard_format.specs.Index.{index_geo}
 use Rattle.shard_format.specs.Serves.{sub_geo}
-use Rattle.shard_cells.specs.Updates.{IsUpdateOf}
-use Rattle.shard_writing.specs.Writing.{AreOverlaid}
-use Rattle.shard_opening.specs.Held.{object_cells}
+use Rattle.sharding_core.specs.Updates.{IsUpdateOf}
+use Rattle.sharding_core.specs.Writing.{AreOverlaid}
+use Rattle.sharding_core.specs.Held.{object_cells}
 use Rattle.sharding_core.specs.Sessions.{Session, IsInStep, IsLeft, IsDone, IsLeftOrFailed}
 use Rattle.sharding_core.specs.SessionWrites.{IsWritten}
 use Rattle.sharding_core.specs.declared.codec.ShardingCodec.{ShardingCodec}
-use Rattle.shard_held.proofs.PreparedLemmas.{length-object_cells}
+use Rattle.sharding_core.proofs.PreparedLemmas.{length-object_cells}
 use Rattle.shard_runs.specs.Maps.{CellMap, elements_of}
 use Rattle.shard_runs.specs.Objects.{Shards, shards_of, Shows}
 use Rattle.shard_runs.proofs.ShownLemmas.{length-elements_of, get_or-elements_of}

@@ -1,8 +1,8 @@
 -- What the opening of a recorded session reads, said of the handle that was handed in.
 use Rattle.std.proofs.Common.{◌≡◌, inl, inr, false, IsTrue, Option, length, sym, subst, arith}
-use Rattle.zarr_words.specs.Words.{Bytes, Elements, Refusals}
-use Rattle.zarr_words.specs.declared.error.CodecError.{CodecError}
-use Rattle.zarr_words.specs.declared.error.CodecError.TheVariants.{TooLarge}
+use Rattle.zarr_parts.specs.Words.{Bytes, Elements, Refusals}
+use Rattle.zarr_parts.specs.CodecError.{CodecError}
+use Rattle.zarr_parts.specs.CodecError.TheVariants.{TooLarge}
 use Rattle.zarr_parts.specs.Geo.{Geo}
 use Rattle.zarr_parts.specs.Order.{◌or◌then◌, RefusedBy}
 use Rattle.zarr_parts.specs.Boxes.{points_of}

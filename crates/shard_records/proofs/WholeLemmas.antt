@@ -2,10 +2,10 @@
 use Rattle.std.proofs.Common.{◌≡◌, ◌+◌, ℕ, zero, suc, ◌<◌, List, [], ◌∷◌, Option, None, length, replicate, get_or, refl, ap, sym, ◌∙◌, arith}
 use Rattle.std.proofs.lemmas.List.{ext_get_or, length-map, get_or-map}
 use Rattle.std.proofs.lemmas.List.FromFn.{get_or-map-range_with_len, length-map-range_with_len}
-use Rattle.zarr_words.specs.Words.{Bytes}
+use Rattle.zarr_parts.specs.Words.{Bytes}
 use Rattle.zarr_parts.specs.Numbering.{count_of, number_of, point_of, zip_with}
 use Rattle.zarr_parts.specs.Boxes.{point_in, points_of}
-use Rattle.zarr_boxes.proofs.NumberingLaws.{length-point_of, number_of-point_of}
+use Rattle.zarr_parts.proofs.NumberingLaws.{length-point_of, number_of-point_of}
 use Rattle.codec_laws.specs.Reads.{cells_at}
 use Rattle.shard_records.specs.Recorded.{whole_box}
 

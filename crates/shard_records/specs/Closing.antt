@@ -1,7 +1,7 @@
 -- Why the end of a recorded session is refused.
 use Rattle.std.specs.Prelude.{◌≡◌, ◌≢◌, ◌≤◌, ◌<◌, ◌⊎◌, true, false, List, length}
 use Rattle.zarr_parts.specs.Arrays.{Array}
-use Rattle.zarr_words.specs.declared.error.CodecError.TheVariants.{SessionFailed}
+use Rattle.zarr_parts.specs.CodecError.TheVariants.{SessionFailed}
 use Rattle.shard_records.specs.Receipts.{receipts_of, IsMismatch}
 use Rattle.shard_records.specs.Recorded.{Recorded}
 use Rattle.shard_records.specs.declared.event.Receipt.{Receipt}

@@ -1,13 +1,13 @@
 -- Histories: what was done to the cells of a shard, in order. No object stands in them.
 use Rattle.std.specs.Prelude.{◌≡◌, List, [], ◌∷◌, Option, Some, map}
-use Rattle.zarr_words.specs.Words.{Bytes, Elements}
+use Rattle.zarr_parts.specs.Words.{Bytes, Elements}
 use Rattle.zarr_parts.specs.Boxes.{points_of}
 use Rattle.zarr_parts.specs.Geo.{Geo}
 use Rattle.zarr_parts.specs.Selections.{box_selection}
 use Rattle.codec_laws.specs.Reads.{IsAnswer}
-use Rattle.shard_cells.specs.Updates.{IsUpdateOf}
+use Rattle.sharding_core.specs.Updates.{IsUpdateOf}
 use Rattle.shard_format.specs.Cells.{shard_cells}
-use Rattle.shard_opening.specs.Held.{object_cells}
+use Rattle.sharding_core.specs.Held.{object_cells}
 use Rattle.shard_runs.specs.Maps.{CellMap, filled, IsOverridden, elements_at, elements_of}
 use Rattle.shard_runs.specs.Objects.{Shards, Shows}
 use Rattle.shard_records.specs.declared.event.Event.{Event}

@@ -1,6 +1,6 @@
 -- A session with its opening cells and its history.
 use Rattle.std.specs.Prelude.{◌≡◌, ◌⊎◌, ℕ, false, IsTrue, List, Option, Some, None, length, replicate}
-use Rattle.zarr_words.specs.Words.{Refusals}
+use Rattle.zarr_parts.specs.Words.{Refusals}
 use Rattle.zarr_parts.specs.Order.{◌or_as◌then◌, RefusedBy}
 use Rattle.zarr_parts.specs.Boxes.{Region, points_of}
 use Rattle.zarr_parts.specs.Grid.{grid_of}

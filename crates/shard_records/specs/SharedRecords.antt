@@ -1,8 +1,8 @@
 -- A recorded session that threads share. What a call finds under the lock no clause can name: so a clause says what a call of some recorded
 -- session of the name did, which left it a recorded session of the name.
 use Rattle.std.specs.Prelude.{◌≡◌, false, ℕ, [], ◌∷◌, ◌++◌, Option, length}
-use Rattle.zarr_words.specs.declared.error.CodecError.{CodecError}
-use Rattle.zarr_words.specs.declared.error.CodecError.TheVariants.{SessionFailed}
+use Rattle.zarr_parts.specs.CodecError.{CodecError}
+use Rattle.zarr_parts.specs.CodecError.TheVariants.{SessionFailed}
 use Rattle.zarr_parts.specs.Order.{◌or◌then◌, RefusedBy}
 use Rattle.zarr_parts.specs.Geo.{Geo}
 use Rattle.object_handles.specs.Handles.{HandleState, MayFault}

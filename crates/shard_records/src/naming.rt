@@ -18,7 +18,7 @@ pub trait Naming<I, X> {
 impl<I, X> Naming<I, X> for Brand {
     ghost use Rattle.std.specs.Prelude.{None, []};
     ghost use Rattle.zarr_parts.specs.Geo.{geo};
-    ghost use Rattle.zarr_elements.specs.declared.data_type.DataType.TheVariants.{UInt8};
+    ghost use Rattle.zarr_parts.specs.DataType.TheVariants.{UInt8};
 
     ghost codec = { None };
 

@@ -4,7 +4,7 @@ use Rattle.std.specs.List.{All, filter}
 use Rattle.std.proofs.lemmas.List.{length-map}
 use Rattle.std.proofs.lemmas.List.Elements.{All-from_get_or, All-head, All-tail}
 use Rattle.std.proofs.lemmas.List.Sums.{length-filter, count_by-le-length}
-use Rattle.zarr_words.specs.Words.{Bytes, Elements, Refusals}
+use Rattle.zarr_parts.specs.Words.{Bytes, Elements, Refusals}
 use Rattle.zarr_parts.specs.Order.{◌or◌then◌, RefusedBy}
 use Rattle.zarr_parts.specs.Geo.{Geo}
 use Rattle.zarr_parts.specs.Numbering.{count_of, number_of, IsInside}
@@ -12,11 +12,11 @@ use Rattle.zarr_parts.specs.Boxes.{Region}
 use Rattle.zarr_parts.specs.Grid.{Divides, grid_of, subchunk_number, place_number}
 use Rattle.zarr_parts.specs.Arrays.{Array}
 use Rattle.zarr_parts.specs.Selections.{Selection, SelectionTests, LiesWithin}
-use Rattle.zarr_elements.specs.declared.data_type.DataType.{DataType}
-use Rattle.zarr_boxes.proofs.GridLaws.{length-subchunk}
-use Rattle.zarr_boxes.proofs.NumberingLaws.{number_below}
-use Rattle.zarr_words.specs.declared.error.CodecError.{CodecError}
-use Rattle.zarr_words.specs.declared.error.CodecError.TheVariants.{OutOfMemory, TooLarge, Fault, SessionFailed}
+use Rattle.zarr_parts.specs.DataType.{DataType}
+use Rattle.zarr_parts.proofs.GridLaws.{length-subchunk}
+use Rattle.zarr_parts.proofs.NumberingLaws.{number_below}
+use Rattle.zarr_parts.specs.CodecError.{CodecError}
+use Rattle.zarr_parts.specs.CodecError.TheVariants.{OutOfMemory, TooLarge, Fault, SessionFailed}
 use Rattle.object_handles.specs.Handles.{HandleState}
 use Rattle.object_handles.specs.Objects.{ObjectTests}
 use Rattle.object_handles.specs.Writes.{bytes_of}
@@ -36,12 +36,12 @@ use Rattle.shard_format.specs.declared.order.SubchunkWriteOrder.{SubchunkWriteOr
 use Rattle.shard_format.specs.declared.slot.Slot.{Slot}
 use Rattle.shard_format.specs.declared.slot.Slot.TheVariants.{Absent, InRange, Bad}
 use Rattle.shard_format.proofs.RefusalLemmas.{passed_refusal, long_enough, damaged_index}
-use Rattle.shard_index.specs.DataPart.{IsInDataPart}
-use Rattle.shard_cells.specs.Updates.{UpdateTests}
-use Rattle.shard_writing.specs.Writing.{HoldsNumbers, IsHeld}
+use Rattle.sharding_core.specs.DataPart.{IsInDataPart}
+use Rattle.sharding_core.specs.Updates.{UpdateTests}
+use Rattle.sharding_core.specs.Writing.{HoldsNumbers, IsHeld}
 use Rattle.zarr_parts.specs.Touched.{Touches}
-use Rattle.shard_writing.proofs.HeldLemmas.{told_len}
-use Rattle.shard_writing.specs.WriteTests.{Straddles, RefusesOld, SomeNewCells, WriteTests}
+use Rattle.sharding_core.proofs.HeldLemmas.{told_len}
+use Rattle.sharding_core.specs.WriteTests.{Straddles, RefusesOld, SomeNewCells, WriteTests}
 use Rattle.shard_runs.specs.Maps.{CellMap, elements_at, elements_of}
 use Rattle.shard_runs.specs.Objects.{Shards, index_numbers, Shows, IsSound, written_layout}
 use Rattle.shard_runs.specs.Causes.{subchunk_elements, asked_places, ReadSizes, IsLongTouched, IsUnstorable, WriteSizes, CompactCauses}

@@ -2,7 +2,7 @@
 use Rattle.std.proofs.Common.{◌≡◌, ℕ, ◌<◌, true, false, List, [], ◌∷◌, ◌++◌, Option, Some, None, take, length, get_or, map, refl, sym, ap, ◌∙◌, subst, arith}
 use Rattle.std.proofs.lemmas.List.{get_or-replicate}
 use Rattle.std.proofs.lemmas.List.Elements.{All-get_or}
-use Rattle.zarr_words.specs.Words.{Bytes, Elements}
+use Rattle.zarr_parts.specs.Words.{Bytes, Elements}
 use Rattle.zarr_parts.specs.Geo.{Geo, IsArrayOf}
 use Rattle.zarr_parts.specs.Numbering.{count_of}
 use Rattle.zarr_parts.specs.Grid.{Divides, grid_of}
@@ -23,7 +23,7 @@ use Rattle.shard_format.specs.declared.order.SubchunkWriteOrder.{SubchunkWriteOr
 use Rattle.shard_format.specs.declared.slot.Slot.{Slot}
 use Rattle.shard_format.specs.declared.slot.Slot.TheVariants.{Absent, InRange, Bad}
 use Rattle.shard_format.proofs.CompactionLemmas.{holds_encoded, scratch_of_compacted}
-use Rattle.shard_index.specs.DataPart.{IsInDataPart}
+use Rattle.sharding_core.specs.DataPart.{IsInDataPart}
 use Rattle.sharding_core.specs.declared.codec.ShardingCodec.{ShardingCodec}
 use Rattle.shard_runs.specs.Maps.{CellMap, elements_of}
 use Rattle.shard_runs.specs.Objects.{Shards, shards_of, Shows, IsSound, IsMinimal, IsRewritten}

@@ -1,10 +1,10 @@
 -- What a session says of its object, and how the opening of a sound object is refused.
 use Rattle.std.proofs.Common.{◌≡◌, ℕ, inl, inr, false, IsTrue, List, Option, Some, None, sym, ◌∙◌, subst}
-use Rattle.zarr_words.specs.Words.{Bytes}
+use Rattle.zarr_parts.specs.Words.{Bytes}
 use Rattle.zarr_parts.specs.Geo.{Geo}
 use Rattle.zarr_parts.specs.Order.{◌or_as◌then◌, RefusedBy}
 use Rattle.zarr_parts.specs.Grid.{grid_of}
-use Rattle.zarr_words.specs.declared.error.CodecError.{CodecError}
+use Rattle.zarr_parts.specs.CodecError.{CodecError}
 use Rattle.object_handles.specs.Handles.{HandleState}
 use Rattle.object_handles.specs.Objects.{ObjectTests}
 use Rattle.codec_laws.specs.Meanings.{Meaning}

@@ -1,11 +1,11 @@
 -- A compaction of an object, from what was read and what was put in its place.
 use Rattle.std.proofs.Common.{◌≡◌, ◌≢◌, ℕ, ◌+◌, ◌^◌, ◌≤◌, ◌⊎◌, inl, inr, true, false, IsTrue, List, Option, Some, None, Result, Ok, Err, IfOk, OnOk, map, refl, sym, subst}
-use Rattle.zarr_words.specs.Words.{Bytes, Elements}
+use Rattle.zarr_parts.specs.Words.{Bytes, Elements}
 use Rattle.zarr_parts.specs.Geo.{Geo, IsArrayOf}
 use Rattle.zarr_parts.specs.Grid.{grid_of}
 use Rattle.zarr_parts.specs.Order.{RefusedBy}
-use Rattle.zarr_words.specs.declared.error.CodecError.{CodecError}
-use Rattle.zarr_words.specs.declared.error.CodecError.TheVariants.{OutOfMemory, TooLarge, Fault}
+use Rattle.zarr_parts.specs.CodecError.{CodecError}
+use Rattle.zarr_parts.specs.CodecError.TheVariants.{OutOfMemory, TooLarge, Fault}
 use Rattle.object_handles.specs.Handles.{HandleState, IsPart, IsRead}
 use Rattle.object_handles.specs.Objects.{ObjectTests}
 use Rattle.object_handles.specs.Writes.{RefusesWrite}

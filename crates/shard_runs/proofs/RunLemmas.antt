@@ -1,8 +1,8 @@
 -- A run that goes on by one command, and one that ends.
 use Rattle.std.proofs.Common.{◌≡◌, ◌≤◌, ◌<◌, ◌+◌, ℕ, List, [], ◌∷◌, ◌++◌, length, take, Option, Some, None, IsSome, sym, refl, ap, subst, ◌∙◌, arith, inl, inr}
 use Rattle.std.proofs.lemmas.List.{length_push, take_all}
-use Rattle.zarr_words.specs.Words.{Bytes}
-use Rattle.zarr_words.specs.declared.error.CodecError.{CodecError}
+use Rattle.zarr_parts.specs.Words.{Bytes}
+use Rattle.zarr_parts.specs.CodecError.{CodecError}
 use Rattle.object_handles.specs.Handles.{HandleState}
 use Rattle.object_handles.specs.Writes.{IsWriting}
 use Rattle.shard_runs.specs.Maps.{CellMap}

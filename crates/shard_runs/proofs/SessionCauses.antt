@@ -1,23 +1,23 @@
 -- Why a call of a session in step is refused, as a cause of a run.
 use Rattle.std.proofs.Common.{◌≡◌, ◌≢◌, ℕ, ◌*◌, ◌^◌, ◌<◌, inl, inr, false, IsTrue, List, Option, Some, None, Result, Ok, Err, IfOk, MatchResult, length, subst, arith}
-use Rattle.zarr_words.specs.Words.{Bytes, Refusals}
+use Rattle.zarr_parts.specs.Words.{Bytes, Refusals}
 use Rattle.zarr_parts.specs.Geo.{Geo}
 use Rattle.zarr_parts.specs.Order.{◌or◌then◌, RefusedBy}
 use Rattle.zarr_parts.specs.Boxes.{Region}
 use Rattle.zarr_parts.specs.Arrays.{Array}
 use Rattle.zarr_parts.specs.Types.{size_of, byte_size}
 use Rattle.zarr_parts.specs.Selections.{Selection, SelectionTests, MatchesBox, LiesWithin, box_selection}
-use Rattle.zarr_boxes.proofs.SelectionLemmas.{inside_within}
-use Rattle.zarr_words.specs.declared.error.CodecError.{CodecError}
-use Rattle.zarr_words.specs.declared.error.CodecError.TheVariants.{TooLarge, Fault, SessionFailed}
+use Rattle.zarr_parts.proofs.SelectionLemmas.{inside_within}
+use Rattle.zarr_parts.specs.CodecError.{CodecError}
+use Rattle.zarr_parts.specs.CodecError.TheVariants.{TooLarge, Fault, SessionFailed}
 use Rattle.object_handles.specs.Handles.{HandleState}
 use Rattle.object_handles.specs.Objects.{ObjectTests}
 use Rattle.codec_laws.specs.Meanings.{Meaning}
 use Rattle.codec_laws.specs.Laws.{IsLawful}
 use Rattle.codec_laws.specs.Reads.{AskedTests}
 use Rattle.shard_format.specs.Serves.{sub_geo}
-use Rattle.shard_cells.specs.Updates.{UpdateTests}
-use Rattle.shard_writing.specs.Writing.{HoldsNumbers, IsHeld}
+use Rattle.sharding_core.specs.Updates.{UpdateTests}
+use Rattle.sharding_core.specs.Writing.{HoldsNumbers, IsHeld}
 use Rattle.sharding_core.specs.Decoders.{ObjectCellsTests}
 use Rattle.sharding_core.specs.Sessions.{Session, IsInStep, IsLeftOrFailed, index_size_of, subchunks_of}
 use Rattle.sharding_core.specs.SessionWrites.{WrittenTests}

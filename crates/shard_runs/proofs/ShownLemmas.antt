@@ -2,11 +2,11 @@
 use Rattle.std.proofs.Common.{◌≡◌, ℕ, ◌*◌, ◌<◌, List, [], Option, Some, None, length, get_or, map, take, drop, sym, ap, ◌∙◌, arith}
 use Rattle.std.proofs.lemmas.List.{get_or-map, length-map, ext_get_or}
 use Rattle.std.proofs.lemmas.List.FromFn.{get_or-map-range_with_len, length-map-range_with_len}
-use Rattle.zarr_words.specs.Words.{Bytes}
+use Rattle.zarr_parts.specs.Words.{Bytes}
 use Rattle.zarr_parts.specs.Geo.{Geo}
 use Rattle.zarr_parts.specs.Numbering.{count_of}
 use Rattle.zarr_parts.specs.Grid.{Divides, grid_of, subchunk_number, cell_number}
-use Rattle.zarr_boxes.proofs.GridLaws.{cell_number-below, subchunk_number-cell_number, place_number-cell_number, length-subchunk, get_or-subchunk}
+use Rattle.zarr_parts.proofs.GridLaws.{cell_number-below, subchunk_number-cell_number, place_number-cell_number, length-subchunk, get_or-subchunk}
 use Rattle.object_handles.specs.Writes.{bytes_of}
 use Rattle.codec_laws.specs.Meanings.{Meaning}
 use Rattle.shard_format.specs.Index.{slot_at}
@@ -16,8 +16,8 @@ use Rattle.shard_format.specs.declared.location.ShardingIndexLocation.{ShardingI
 use Rattle.shard_format.specs.declared.order.SubchunkWriteOrder.{SubchunkWriteOrder}
 use Rattle.shard_format.specs.declared.slot.Slot.{Slot}
 use Rattle.shard_format.specs.declared.slot.Slot.TheVariants.{Absent, InRange}
-use Rattle.shard_writing.specs.Writing.{HoldsNumbers, IsHeld, cells_in}
-use Rattle.shard_held.proofs.PreparedLemmas.{object_cell}
+use Rattle.sharding_core.specs.Writing.{HoldsNumbers, IsHeld, cells_in}
+use Rattle.sharding_core.proofs.PreparedLemmas.{object_cell}
 use Rattle.shard_runs.specs.Maps.{CellMap, elements_of}
 use Rattle.shard_runs.specs.Objects.{Shards, subchunks_in, index_numbers, Shows}
 use Rattle.shard_runs.specs.Serving.{IsUsable}

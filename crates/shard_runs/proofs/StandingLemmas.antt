@@ -4,14 +4,14 @@ use Rattle.std.specs.List.{All}
 use Rattle.std.proofs.lemmas.List.{get_or-map, ext_get_or}
 use Rattle.std.proofs.lemmas.List.Elements.{All-get_or, All-from_get_or}
 use Rattle.std.proofs.lemmas.List.FromFn.{get_or-map-range_with_len, length-map-range_with_len}
-use Rattle.zarr_words.specs.Words.{Bytes, Elements}
+use Rattle.zarr_parts.specs.Words.{Bytes, Elements}
 use Rattle.zarr_parts.specs.Geo.{Geo, IsArrayOf}
 use Rattle.zarr_parts.specs.Numbering.{count_of}
 use Rattle.zarr_parts.specs.Boxes.{Region, number_in, numbers_in}
 use Rattle.zarr_parts.specs.Grid.{Divides, grid_of, subchunk_number, place_number, cell_number}
 use Rattle.zarr_parts.specs.Touched.{Touches}
 use Rattle.zarr_parts.specs.Types.{size_of, FitsKind}
-use Rattle.zarr_boxes.proofs.GridLaws.{subchunk_number-below, place_number-below, cell_number-below, cell_number-located, subchunk_number-cell_number, length-subchunk, get_or-subchunk}
+use Rattle.zarr_parts.proofs.GridLaws.{subchunk_number-below, place_number-below, cell_number-below, cell_number-located, subchunk_number-cell_number, length-subchunk, get_or-subchunk}
 use Rattle.object_handles.specs.Writes.{bytes_of}
 use Rattle.codec_laws.specs.Meanings.{Meaning}
 use Rattle.shard_format.specs.Index.{index_geo, slot_at}
@@ -27,11 +27,11 @@ use Rattle.shard_format.specs.declared.order.SubchunkWriteOrder.TheVariants.{C, 
 use Rattle.shard_format.specs.declared.slot.Slot.{Slot}
 use Rattle.shard_format.specs.declared.slot.Slot.TheVariants.{Absent, InRange, Bad}
 use Rattle.shard_format.proofs.CompactionLemmas.{holds_encoded, encoding_of_compacted}
-use Rattle.shard_index.specs.DataPart.{IsInDataPart}
-use Rattle.shard_writing.specs.Writing.{HoldsNumbers, AreAbsent, IsNew, cells_in}
-use Rattle.shard_writing.proofs.AnewLemmas.{in_list, pair_absent}
-use Rattle.shard_writing.proofs.HeldLemmas.{told_len}
-use Rattle.shard_writing.proofs.WrittenLemmas.{absent_slot}
+use Rattle.sharding_core.specs.DataPart.{IsInDataPart}
+use Rattle.sharding_core.specs.Writing.{HoldsNumbers, AreAbsent, IsNew, cells_in}
+use Rattle.sharding_core.proofs.AnewLemmas.{in_list, pair_absent}
+use Rattle.sharding_core.proofs.HeldLemmas.{told_len}
+use Rattle.sharding_core.proofs.WrittenLemmas.{absent_slot}
 use Rattle.shard_runs.specs.Maps.{CellMap, filled, IsOverridden, elements_of}
 use Rattle.shard_runs.specs.Objects.{Shards, index_numbers, IsObjectWritten, IsRewritten, written_layout}
 use Rattle.shard_runs.specs.Causes.{subchunk_elements}

@@ -3,14 +3,14 @@ use Rattle.std.proofs.Common.{◌≡◌, ℕ, ◌+◌, ◌^◌, ◌<◌, ◌≤�
 use Rattle.std.proofs.lemmas.Bool.{cases_lt}
 use Rattle.std.proofs.lemmas.List.{get_or-replicate, get_or_past}
 use Rattle.std.proofs.lemmas.List.FromFn.{get_or-map-range_with_len, length-map-range_with_len}
-use Rattle.zarr_words.specs.Words.{Bytes, Elements}
+use Rattle.zarr_parts.specs.Words.{Bytes, Elements}
 use Rattle.zarr_parts.specs.Geo.{Geo, IsArrayOf}
 use Rattle.zarr_parts.specs.Numbering.{count_of}
 use Rattle.zarr_parts.specs.Boxes.{Region, number_in, numbers_in}
 use Rattle.zarr_parts.specs.Grid.{Divides, grid_of}
 use Rattle.zarr_parts.specs.Arrays.{Array}
 use Rattle.zarr_parts.specs.Selections.{Selection, MatchesBox, box_selection}
-use Rattle.zarr_boxes.proofs.SelectionLemmas.{selection_inside}
+use Rattle.zarr_parts.proofs.SelectionLemmas.{selection_inside}
 use Rattle.codec_laws.specs.Meanings.{Meaning}
 use Rattle.codec_laws.specs.Reads.{cells_at, IsAnswer}
 use Rattle.codec_laws.proofs.CodecLaws.{same_elements}
@@ -25,12 +25,12 @@ use Rattle.shard_format.specs.declared.order.SubchunkWriteOrder.{SubchunkWriteOr
 use Rattle.shard_format.specs.declared.slot.Slot.{Slot}
 use Rattle.shard_format.specs.declared.slot.Slot.TheVariants.{Absent, InRange, Bad}
 use Rattle.shard_format.proofs.LayingLemmas.{sum_more, sum_grows_to}
-use Rattle.shard_index.specs.DataPart.{IsInDataPart}
-use Rattle.shard_cells.specs.Updates.{IsUpdateOf}
-use Rattle.shard_writing.specs.Writing.{AreOverlaid}
-use Rattle.shard_writing.proofs.AnewLemmas.{in_list}
+use Rattle.sharding_core.specs.DataPart.{IsInDataPart}
+use Rattle.sharding_core.specs.Updates.{IsUpdateOf}
+use Rattle.sharding_core.specs.Writing.{AreOverlaid}
+use Rattle.sharding_core.proofs.AnewLemmas.{in_list}
 use Rattle.sharding_core.specs.Decoders.{object_cells}
-use Rattle.shard_held.proofs.PreparedLemmas.{length-object_cells}
+use Rattle.sharding_core.proofs.PreparedLemmas.{length-object_cells}
 use Rattle.shard_runs.specs.Maps.{CellMap, filled, IsOverridden, elements_at}
 use Rattle.shard_runs.specs.Objects.{Shards, Shows, HasSoundIndex, IsObjectWritten, IsMinimal, IsRewritten}
 use Rattle.shard_runs.specs.Causes.{IsLongCompacted}

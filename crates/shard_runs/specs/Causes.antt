@@ -1,14 +1,14 @@
 -- Why a command of a run may be refused, by the map and the object that it finds.
 use Rattle.std.specs.Prelude.{◌≡◌, ◌≢◌, ◌≤◌, ◌^◌, ◌⊎◌, ℕ, ◌+◌, ◌*◌, List, [], Option, Some, None, map, length}
-use Rattle.zarr_words.specs.Words.{Bytes, Elements, Refusals}
+use Rattle.zarr_parts.specs.Words.{Bytes, Elements, Refusals}
 use Rattle.zarr_parts.specs.Boxes.{Region}
 use Rattle.zarr_parts.specs.Grid.{subchunk, cell_number}
 use Rattle.zarr_parts.specs.Touched.{Touches}
 use Rattle.zarr_parts.specs.Arrays.{Array}
 use Rattle.zarr_parts.specs.Selections.{Selection, SelectionTests, box_selection}
 use Rattle.zarr_parts.specs.Types.{size_of, byte_size}
-use Rattle.zarr_words.specs.declared.error.CodecError.{CodecError}
-use Rattle.zarr_words.specs.declared.error.CodecError.TheVariants.{TooLarge}
+use Rattle.zarr_parts.specs.CodecError.{CodecError}
+use Rattle.zarr_parts.specs.CodecError.TheVariants.{TooLarge}
 use Rattle.codec_laws.specs.Refusals.{AreTooLong}
 use Rattle.object_handles.specs.Writes.{bytes_of}
 use Rattle.shard_format.specs.Index.{slot_at}
@@ -16,9 +16,9 @@ use Rattle.shard_format.specs.Serves.{sub_geo}
 use Rattle.shard_format.specs.Compacting.{compact_size}
 use Rattle.shard_format.specs.EncodeTests.{RefusesToStore, RefusesIndex}
 use Rattle.shard_format.specs.ReadTests.{numbers_of, places_in, cells_of_places}
-use Rattle.shard_cells.specs.Updates.{UpdateTests}
-use Rattle.shard_writing.specs.Writing.{AreNewCells, HoldsNumbers}
-use Rattle.shard_writing.specs.WriteTests.{SomeLength}
+use Rattle.sharding_core.specs.Updates.{UpdateTests}
+use Rattle.sharding_core.specs.Writing.{AreNewCells, HoldsNumbers}
+use Rattle.sharding_core.specs.WriteTests.{SomeLength}
 use Rattle.shard_runs.specs.Maps.{CellMap, elements_at, elements_of}
 use Rattle.shard_runs.specs.Objects.{Shards, subchunks_in, index_numbers, written_layout}
 

@@ -1,9 +1,9 @@
 -- What a run of commands has led to when it ends, and why it stops.
 use Rattle.std.specs.Prelude.{◌≡◌, ◌<◌, ◌^◌, ◌⊎◌, ◌+◌, List, [], ◌∷◌, ◌++◌, Option, IfSome, take, length}
-use Rattle.zarr_words.specs.Words.{Bytes, Refusals}
+use Rattle.zarr_parts.specs.Words.{Bytes, Refusals}
 use Rattle.zarr_parts.specs.Order.{RefusedBy}
-use Rattle.zarr_words.specs.declared.error.CodecError.{CodecError}
-use Rattle.zarr_words.specs.declared.error.CodecError.TheVariants.{OutOfMemory}
+use Rattle.zarr_parts.specs.CodecError.{CodecError}
+use Rattle.zarr_parts.specs.CodecError.TheVariants.{OutOfMemory}
 use Rattle.object_handles.specs.Handles.{HandleState, IsRead, MayFault}
 use Rattle.shard_runs.specs.Maps.{CellMap}
 use Rattle.shard_runs.specs.Objects.{Shards, Shows, IsSound}

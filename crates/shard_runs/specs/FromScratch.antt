@@ -1,6 +1,6 @@
 -- What a run leaves byte for byte, which starts from no object or from an encoding of an array.
 use Rattle.std.specs.Prelude.{◌≡◌, ⊤, true, false, List, [], ◌∷◌, ◌++◌, Option, Some, None, take, length}
-use Rattle.zarr_words.specs.Words.{Bytes, Elements}
+use Rattle.zarr_parts.specs.Words.{Bytes, Elements}
 use Rattle.zarr_parts.specs.Geo.{Geo, IsArrayOf}
 use Rattle.zarr_parts.specs.Grid.{grid_of}
 use Rattle.object_handles.specs.Handles.{HandleState}

@@ -1,7 +1,7 @@
 -- The cells of a shard as a plain map.
 use Rattle.std.specs.Prelude.{ℕ, List, [], map, slice_index_or}
 use Rattle.std.specs.List.{range_with_len}
-use Rattle.zarr_words.specs.Words.{Bytes, Elements}
+use Rattle.zarr_parts.specs.Words.{Bytes, Elements}
 use Rattle.zarr_parts.specs.Numbering.{count_of, number_of}
 use Rattle.zarr_parts.specs.Boxes.{Region, number_in}
 use Rattle.zarr_parts.specs.Pieces.{IsUpdated}

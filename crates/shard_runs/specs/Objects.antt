@@ -1,6 +1,6 @@
 -- The objects of a run: what they show, and what a write and a compaction make of them.
 use Rattle.std.specs.Prelude.{◌≡◌, ⊤, ◌<◌, ℕ, List, Option, Some, None, map, length}
-use Rattle.zarr_words.specs.Words.{Bytes, Elements}
+use Rattle.zarr_parts.specs.Words.{Bytes, Elements}
 use Rattle.zarr_parts.specs.Numbering.{count_of}
 use Rattle.zarr_parts.specs.Boxes.{Region}
 use Rattle.zarr_parts.specs.Grid.{grid_of}
@@ -10,8 +10,8 @@ use Rattle.shard_format.specs.Index.{index_geo, slot_at, numbers_in_index}
 use Rattle.shard_format.specs.Cells.{Layout, shard_cells}
 use Rattle.shard_format.specs.Serves.{sub_geo}
 use Rattle.shard_format.specs.Compacting.{IsCompact, IsCompacted}
-use Rattle.shard_index.specs.DataPart.{IsInDataPart}
-use Rattle.shard_writing.specs.Writing.{HoldsNumbers, IsHeld, IsWriteOf, layout_from}
+use Rattle.sharding_core.specs.DataPart.{IsInDataPart}
+use Rattle.sharding_core.specs.Writing.{HoldsNumbers, IsHeld, IsWriteOf, layout_from}
 use Rattle.sharding_core.specs.Meanings.{layout_in}
 use Rattle.sharding_core.specs.Decoders.{object_cells}
 use Rattle.sharding_core.specs.declared.codec.ShardingCodec.{ShardingCodec}

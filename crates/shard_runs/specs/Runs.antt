@@ -1,12 +1,12 @@
 -- Runs of commands: what each does to the map and to the object, and what it replies.
 use Rattle.std.specs.Prelude.{◌≡◌, true, false, List, [], ◌∷◌, Option, None}
-use Rattle.zarr_words.specs.Words.{Bytes}
+use Rattle.zarr_parts.specs.Words.{Bytes}
 use Rattle.zarr_parts.specs.Order.{RefusedBy}
 use Rattle.zarr_parts.specs.Boxes.{Region}
 use Rattle.zarr_parts.specs.Arrays.{Array}
 use Rattle.zarr_parts.specs.Selections.{Selection, box_selection, listed_selection}
 use Rattle.codec_laws.specs.Reads.{IsAnswer}
-use Rattle.shard_cells.specs.Updates.{IsUpdateOf}
+use Rattle.sharding_core.specs.Updates.{IsUpdateOf}
 use Rattle.shard_runs.specs.Maps.{CellMap, filled, IsOverridden, elements_at}
 use Rattle.shard_runs.specs.Objects.{Shards, IsObjectWritten, IsMinimal, IsRewritten}
 use Rattle.shard_runs.specs.Causes.{ReadCauses, WriteCauses, CompactCauses}

@@ -1,7 +1,7 @@
 -- What the functions that serve one command do.
 use Rattle.std.specs.Prelude.{◌≡◌, ◌≤◌, ◌<◌, ◌^◌, ◌+◌, ◌⊎◌, true, false, length, ℕ, List, [], ◌∷◌, ◌++◌, Option, Some, None}
-use Rattle.zarr_words.specs.Words.{Bytes, Refusals}
-use Rattle.zarr_words.specs.declared.error.CodecError.{CodecError}
+use Rattle.zarr_parts.specs.Words.{Bytes, Refusals}
+use Rattle.zarr_parts.specs.CodecError.{CodecError}
 use Rattle.zarr_parts.specs.Order.{done}
 use Rattle.zarr_parts.specs.Geo.{Geo}
 use Rattle.object_handles.specs.Handles.{HandleState, MayFault}
@@ -17,7 +17,7 @@ use Rattle.sharding_core.specs.Sessions.{Session}
 use Rattle.shard_runs.specs.Ended.{StopsBy, IsShort}
 use Rattle.shard_runs.specs.Runs.{Run}
 use Rattle.shard_runs.specs.declared.command.Command.{Command}
-use Rattle.zarr_words.specs.declared.error.CodecError.TheVariants.{OutOfMemory, TooLarge}
+use Rattle.zarr_parts.specs.CodecError.TheVariants.{OutOfMemory, TooLarge}
 use Rattle.shard_runs.specs.declared.command.Reply.{Reply}
 use Rattle.shard_runs.specs.declared.command.Reply.TheVariants.{Compacted, Refused}
 

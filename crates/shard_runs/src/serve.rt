@@ -1,6 +1,6 @@
 // Commands on a session that stays open: writes, reads and erases.
 ghost use Rattle.std.specs.Prelude.{◌≡◌, ◌≢◌, false, IsTrue, IfOk, IfErr, OnOk, MatchResult};
-ghost use Rattle.zarr_words.specs.declared.error.CodecError.TheVariants.{Fault};
+ghost use Rattle.zarr_parts.specs.CodecError.TheVariants.{Fault};
 ghost use Rattle.sharding_core.specs.Sessions.{IsInStep, IsLeft, IsDone};
 ghost use Rattle.shard_runs.specs.Objects.{shards_of};
 ghost use Rattle.shard_runs.specs.Runs.{WriteStep, ReadStep, EraseStep};

@@ -1,8 +1,8 @@
 -- What is held of an object says that it can be opened, and why a read of it is refused.
 use Rattle.std.specs.Prelude.{◌<◌, ◌^◌, ℕ, ◌+◌, List, Option, Some, None}
 use Rattle.std.proofs.Common.{inl, inr, refl, arith}
-use Rattle.zarr_words.specs.Words.{Refusals}
-use Rattle.zarr_words.specs.declared.error.CodecError.{CodecError}
+use Rattle.zarr_parts.specs.Words.{Refusals}
+use Rattle.zarr_parts.specs.CodecError.{CodecError}
 use Rattle.zarr_parts.specs.Order.{◌or_as◌then◌, RefusedBy}
 use Rattle.zarr_parts.specs.Geo.{Geo}
 use Rattle.zarr_parts.specs.Selections.{Selection}

@@ -1,9 +1,9 @@
 -- What commands answer.
 use Rattle.std.specs.Prelude.{◌≤◌, ⊤, ℕ, List, length}
 use Rattle.std.specs.List.{All}
-use Rattle.zarr_elements.specs.Arrays.{Array}
-use Rattle.zarr_elements.specs.declared.data_type.DataTypeSize.{DataTypeSize}
-use Rattle.zarr_elements.specs.declared.data_type.DataTypeSize.TheVariants.{Fixed, Variable}
+use Rattle.zarr_parts.specs.Arrays.{Array}
+use Rattle.zarr_parts.specs.DataTypeSize.{DataTypeSize}
+use Rattle.zarr_parts.specs.DataTypeSize.TheVariants.{Fixed, Variable}
 use Rattle.shard_script.specs.declared.answer.Answer.{Answer}
 use Rattle.shard_script.specs.declared.answer.Answer.TheVariants.{Cells}
 

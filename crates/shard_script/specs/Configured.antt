@@ -1,18 +1,18 @@
 -- The codec that a script's configuration makes.
 use Rattle.std.specs.Prelude.{◌≡◌, ◌⊎◌, Option, Ok, Err, codes}
-use Rattle.zarr_words.specs.Words.{Bytes, Refusals}
+use Rattle.zarr_parts.specs.Words.{Bytes, Refusals}
 use Rattle.zarr_parts.specs.Order.{RefusedBy}
 use Rattle.serde_json.specs.Read.{read as read_text}
-use Rattle.small_codecs.specs.declared.bytes_codec.Endianness.{Endianness}
-use Rattle.codec_metadata.specs.CreateErrors.{Reading, RefusedAs, or_refused, and_then, bad_field}
-use Rattle.codec_metadata.specs.BytesMetadata.{is_bytes_name, bytes_configured}
-use Rattle.default_codec.specs.declared.default_codec.DefaultArrayToBytesCodec.{DefaultArrayToBytesCodec}
-use Rattle.default_codec.specs.DefaultMetadata.{is_default_name, default_configured}
-use Rattle.shard_configuration.specs.CodecLists.{codec_in_list}
-use Rattle.shard_configuration.specs.Configuration.{configuration_in}
-use Rattle.sharding_core.specs.declared.codec.ShardingCodec.{ShardingCodec}
-use Rattle.sharding_core.specs.ShardMetadata.{shard_of}
-use Rattle.shard_format.specs.declared.order.SubchunkWriteOrder.TheVariants.{C}
+use Rattle.zarr_codecs.specs.Endianness.{Endianness}
+use Rattle.zarr_codecs.specs.CreateErrors.{Reading, RefusedAs, or_refused, and_then, bad_field}
+use Rattle.zarr_codecs.specs.BytesMetadata.{is_bytes_name, bytes_configured}
+use Rattle.zarr_codecs.specs.DefaultArrayToBytesCodec.{DefaultArrayToBytesCodec}
+use Rattle.zarr_codecs.specs.DefaultMetadata.{is_default_name, default_configured}
+use Rattle.zarrs_sharding.specs.CodecLists.{codec_in_list}
+use Rattle.zarrs_sharding.specs.Configuration.{configuration_in}
+use Rattle.zarrs_sharding.specs.ShardingCodec.{ShardingCodec}
+use Rattle.zarrs_sharding.specs.ShardMetadata.{shard_of}
+use Rattle.zarrs_sharding.specs.SubchunkWriteOrder.TheVariants.{C}
 use Rattle.shard_script.specs.declared.configure.ConfigureError.{ConfigureError}
 use Rattle.shard_script.specs.declared.configure.ConfigureError.TheVariants.{Create, Codec}
 

@@ -2,12 +2,12 @@
 use Rattle.std.specs.Prelude.{◌<◌, ◌^◌, ◌+◌, ⊤, ℕ, List, Option, Some, None, IsSome, length}
 use Rattle.zarr_codecs.specs.Handles.{seen}
 use Rattle.zarr_parts.specs.Geo.{Geo, geo}
-use Rattle.small_codecs.specs.declared.bytes_codec.Endianness.{Endianness}
-use Rattle.small_codecs.specs.declared.bytes_codec.Endianness.TheVariants.{Little}
-use Rattle.sharding_core.specs.declared.codec.ShardingCodec.{ShardingCodec}
-use Rattle.shard_format.specs.declared.order.SubchunkWriteOrder.TheVariants.{C}
-use Rattle.default_codec.specs.declared.default_codec.DefaultArrayToBytesCodec.{DefaultArrayToBytesCodec}
-use Rattle.default_codec.specs.DefaultCodec.{default_codec_of}
+use Rattle.zarr_codecs.specs.Endianness.{Endianness}
+use Rattle.zarr_codecs.specs.Endianness.TheVariants.{Little}
+use Rattle.zarrs_sharding.specs.ShardingCodec.{ShardingCodec}
+use Rattle.zarrs_sharding.specs.SubchunkWriteOrder.TheVariants.{C}
+use Rattle.zarr_codecs.specs.DefaultArrayToBytesCodec.{DefaultArrayToBytesCodec}
+use Rattle.zarr_codecs.specs.DefaultCodec.{default_codec_of}
 use Rattle.script_words.specs.Elements.{type_of}
 use Rattle.shard_script.specs.declared.command.Settings.{Settings}
 use Rattle.shard_script.specs.declared.shard.Shard.{Shard}

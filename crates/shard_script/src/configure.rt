@@ -2,8 +2,8 @@
 ghost use Rattle.std.specs.Prelude.{◌≡◌, ◌⊎◌, Some, None, Ok, IfOk, IfErr, codes};
 ghost use Rattle.serde_json.specs.Read.{read as read_text};
 ghost use Rattle.serde_json.specs.View.{view};
-ghost use Rattle.codec_metadata.specs.CreateErrors.{RefusedAs, refusal_of, bad_field};
-ghost use Rattle.codec_metadata.specs.declared.error.PluginCreateError.TheVariants.{OutOfMemory};
+ghost use Rattle.zarr_codecs.specs.CreateErrors.{RefusedAs, refusal_of, bad_field};
+ghost use Rattle.zarr_codecs.specs.PluginCreateError.TheVariants.{OutOfMemory};
 ghost use Rattle.shard_script.specs.Configured.{configured_by};
 
 use crate::shard::Codec;

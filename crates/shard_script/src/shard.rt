@@ -4,7 +4,7 @@ ghost use Rattle.zarr_parts.specs.Grid.{grid_of};
 ghost use Rattle.zarr_parts.specs.Geo.{geo};
 ghost use Rattle.zarr_parts.specs.Numbering.{count_of};
 ghost use Rattle.zarr_parts.specs.Order.{◌or◌then◌, ◌or_as◌then◌, done, RefusedBy};
-ghost use Rattle.zarr_words.specs.declared.error.CodecError.TheVariants.{TooLarge};
+ghost use Rattle.zarr_parts.specs.CodecError.TheVariants.{TooLarge};
 ghost use Rattle.zarr_codecs.specs.Handles.{seen};
 ghost use Rattle.zarr_codecs.specs.Reads.{cells_at, AskedTests};
 ghost use Rattle.zarr_codecs.specs.Refusals.{RefusesUnserved};

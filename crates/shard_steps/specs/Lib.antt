@@ -1,3 +1,11 @@
 pub mod Meanings
 pub mod MeaningLaws
 pub mod Plans
+pub use Rattle.shard_index.specs.DataPart
+pub use Rattle.shard_index.specs.Indexes
+pub use Rattle.shard_cells.specs.Updates
+pub use Rattle.shard_cells.specs.Grouping
+pub use Rattle.shard_cells.specs.Gathering
+pub use Rattle.shard_subchunks.specs.Inner
+pub use Rattle.shard_subchunks.specs.declared.encoded.Stored
+pub use Rattle.shard_subchunks.specs.declared.subchunks.Subchunks

@@ -1,7 +1,7 @@
 // The tests that every call makes first, and what they find.
 ghost use Rattle.std.specs.Prelude.{◌≡◌, Some, IsSome, IfOk, IfErr, OnOk};
 ghost use Rattle.zarr_parts.specs.Order.{◌or◌then◌, ◌or_as◌then◌, done, RefusedBy};
-ghost use Rattle.zarr_words.specs.declared.error.CodecError.TheVariants.{TooLarge};
+ghost use Rattle.zarr_parts.specs.CodecError.TheVariants.{TooLarge};
 ghost use Rattle.zarr_parts.specs.Grid.{grid_of};
 ghost use Rattle.codec_laws.specs.Refusals.{RefusesUnserved};
 ghost use Rattle.shard_format.specs.Index.{index_geo};

@@ -6,7 +6,7 @@ ghost use Rattle.zarr_parts.specs.Numbering.{count_of};
 ghost use Rattle.zarr_parts.specs.Pieces.{pieces};
 ghost use Rattle.zarr_parts.specs.Grid.{Divides, grid_of};
 ghost use Rattle.zarr_parts.specs.Types.{size_of, FitsKind};
-ghost use Rattle.zarr_elements.specs.declared.data_type.DataTypeSize.TheVariants.{Fixed};
+ghost use Rattle.zarr_parts.specs.DataTypeSize.TheVariants.{Fixed};
 ghost use Rattle.object_handles.specs.Handles.{IsRead, IsCounted};
 ghost use Rattle.object_handles.specs.Objects.{interval_part, HasInterval, ObjectTests};
 ghost use Rattle.shard_format.specs.Cells.{indexed_cell};

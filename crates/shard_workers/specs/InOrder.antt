@@ -1,7 +1,7 @@
 -- What became of numbered work, in the order of the numbers.
 use Rattle.std.specs.Prelude.{◌≡◌, List, ◌++◌, ◌∷◌, Ok, Err, map}
 use Rattle.std.specs.declared.result.Result.{Result}
-use Rattle.zarr_words.specs.declared.error.CodecError.{CodecError}
+use Rattle.zarr_parts.specs.CodecError.{CodecError}
 
 -- the work was refused so, and all before it was done
 pub record IsFirstRefusal {T : Type 0} (results : List (Result T CodecError)) (e : CodecError) : Type 0 where

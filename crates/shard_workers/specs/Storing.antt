@@ -1,6 +1,6 @@
 -- What is to be stored of the subchunks of an array, by their numbers.
 use Rattle.std.specs.Prelude.{◌≡◌, ◌<◌, ◌^◌, ℕ, List, length, slice_index_or}
-use Rattle.zarr_words.specs.Words.{Written}
+use Rattle.zarr_parts.specs.Words.{Written}
 use Rattle.zarr_parts.specs.Numbering.{count_of}
 use Rattle.zarr_parts.specs.Grid.{Divides, grid_of, subchunk}
 use Rattle.zarr_parts.specs.Geo.{Geo, geo, IsArrayOf}
@@ -8,9 +8,9 @@ use Rattle.zarr_parts.specs.Types.{size_of, HasElements}
 use Rattle.zarr_parts.specs.Arrays.{Array}
 use Rattle.codec_laws.specs.Meanings.{Meaning}
 use Rattle.shard_format.specs.Laying.{IsStored}
-use Rattle.shard_subchunks.specs.Inner.{inner_meaning}
-use Rattle.shard_subchunks.specs.declared.subchunks.Subchunks.{Subchunks}
-use Rattle.shard_subchunks.specs.declared.encoded.Stored.{Stored}
+use Rattle.shard_steps.specs.Inner.{inner_meaning}
+use Rattle.shard_steps.specs.Subchunks.{Subchunks}
+use Rattle.shard_steps.specs.Stored.{Stored}
 
 -- the inner codec serves the subchunks of an array, of which this is a number
 pub record CanStore {I : Type 0} (meaning : I → Geo → Meaning) (s : Subchunks I) (a : Array)

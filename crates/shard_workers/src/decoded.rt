@@ -4,13 +4,13 @@ ghost use Rattle.zarr_parts.specs.Order.{done, RefusedBy};
 ghost use Rattle.shard_format.specs.Index.{slot_at};
 ghost use Rattle.shard_format.specs.DecodeTests.{RefusesSubchunk, SubchunkTests};
 ghost use Rattle.shard_format.specs.Decoding.{IsDecoded};
-ghost use Rattle.shard_subchunks.specs.Inner.{subchunk_geo, inner_meaning};
+ghost use Rattle.shard_steps.specs.Inner.{subchunk_geo, inner_meaning};
 
 use crate::gate::Gate;
 use crate::numbered::{by_number, in_order};
 use codec_laws::ArrayToBytesCodecTraits;
 use shard_format::ShardIndex;
-use shard_subchunks::Subchunks;
+use shard_steps::Subchunks;
 use std::alloc::Global;
 use std::thread::Threads;
 use zarr_parts::{ArrayBytes, CodecError};

@@ -1,6 +1,6 @@
 // Subchunks of an array, encoded by workers and laid end to end.
 ghost use Rattle.std.specs.Prelude.{◌≡◌, ◌<◌, ◌^◌, IfOk, IfErr, length};
-ghost use Rattle.zarr_words.specs.declared.error.CodecError.TheVariants.{OutOfMemory};
+ghost use Rattle.zarr_parts.specs.CodecError.TheVariants.{OutOfMemory};
 ghost use Rattle.zarr_parts.specs.Order.{done, RefusedBy};
 ghost use Rattle.zarr_parts.specs.Numbering.{count_of};
 ghost use Rattle.zarr_parts.specs.Grid.{Divides, grid_of, subchunk};
@@ -8,14 +8,13 @@ ghost use Rattle.zarr_parts.specs.Geo.{geo, IsArrayOf};
 ghost use Rattle.zarr_parts.specs.Types.{size_of, HasElements};
 ghost use Rattle.shard_format.specs.Laying.{IsStored, IsLaidOut};
 ghost use Rattle.shard_format.specs.EncodeTests.{RefusesToStore, StoreTests};
-ghost use Rattle.shard_subchunks.specs.Inner.{inner_meaning};
+ghost use Rattle.shard_steps.specs.Inner.{inner_meaning};
 ghost use Rattle.shard_workers.specs.Storing.{CanStore, AreStored};
 
 use crate::gate::Gate;
 use crate::numbered::{by_number, in_order};
 use codec_laws::ArrayToBytesCodecTraits;
-use shard_layout::{LaidOut, gather_subchunk, placed};
-use shard_subchunks::{Stored, Subchunks};
+use shard_steps::{LaidOut, Stored, Subchunks, gather_subchunk, placed};
 use std::alloc::Global;
 use std::thread::Threads;
 use zarr_parts::{ArrayBytes, ChunkShape, CodecError};

@@ -1,13 +1,13 @@
 // Work on numbered pieces by workers, and what became of it, taken in order.
 ghost use Rattle.std.specs.Prelude.{◌≡◌, ◌<◌, ◌++◌, ◌∷◌, ◌⊎◌, ℕ, List, Ok, Err, IfOk, IfErr, map};
 ghost use Rattle.std.specs.List.{AllZip, range_with_len};
-ghost use Rattle.zarr_words.specs.declared.error.CodecError.TheVariants.{OutOfMemory};
+ghost use Rattle.zarr_parts.specs.CodecError.TheVariants.{OutOfMemory};
 ghost use Rattle.shard_workers.specs.InOrder.{IsFirstRefusal};
 
 use rayon::prelude::*;
 use std::alloc::{AllocError, Global};
 use std::thread::Threads;
-use zarr_words::CodecError;
+use zarr_parts::CodecError;
 
 /// What `work` gives for each number below `count`, in the order of the numbers, by as many threads as there are processors.
 pub(crate) fn by_number<R: Threads + Sync, T: Send + Drop, F: Fn(u64) -> T + Copy + Send + Sync>(

@@ -10,21 +10,20 @@ use Rattle.zarr_parts.specs.Grid.{cell_number}
 use Rattle.zarr_parts.specs.Laws.{IsOnAxis}
 use Rattle.zarr_parts.specs.Touched.{Touches}
 use Rattle.zarr_parts.specs.Geo.{Geo, IsArrayOf}
-use Rattle.zarr_parts.specs.Types.{size_of, FitsKind}
+use Rattle.zarr_parts.specs.Types.{size_of, FitsKind, HasElements}
 use Rattle.zarr_parts.specs.Arrays.{Array, element_of, extracted, IsOverlaid}
-use Rattle.zarr_parts.specs.Types.{HasElements}
 use Rattle.zarr_parts.specs.Order.{done, RefusedBy}
 use Rattle.zarr_parts.specs.BoxRefusals.{BoxTests}
 use Rattle.zarr_parts.specs.Refusals.{ValidTests}
 use Rattle.zarr_elements.specs.declared.data_type.DataType.{DataType}
-use Rattle.zarr_words.specs.declared.error.CodecError.{CodecError}
-use Rattle.zarr_words.specs.declared.error.CodecError.TheVariants.{OutOfMemory}
-use Rattle.zarr_boxes.proofs.CountLaws.{box_count_le}
-use Rattle.zarr_boxes.proofs.NumberingLaws.{number_below, point_inside, number_of-point_of}
-use Rattle.zarr_boxes.proofs.BoxLaws.{all_zip_from_each, lies_in_length, lies_in_at}
-use Rattle.zarr_boxes.proofs.PieceLaws.{number_in_below}
-use Rattle.zarr_boxes.proofs.RunLaws.{spanned_number}
-use Rattle.zarr_boxes.proofs.MissLaws.{on_or_off, place_of_point, elsewhere_from_off}
+use Rattle.zarr_parts.specs.CodecError.{CodecError}
+use Rattle.zarr_parts.specs.CodecError.TheVariants.{OutOfMemory}
+use Rattle.zarr_parts.proofs.CountLaws.{box_count_le}
+use Rattle.zarr_parts.proofs.NumberingLaws.{number_below, point_inside, number_of-point_of}
+use Rattle.zarr_parts.proofs.BoxLaws.{all_zip_from_each, lies_in_length, lies_in_at}
+use Rattle.zarr_parts.proofs.PieceLaws.{number_in_below}
+use Rattle.zarr_parts.proofs.RunLaws.{spanned_number}
+use Rattle.zarr_parts.proofs.MissLaws.{on_or_off, place_of_point, elsewhere_from_off}
 use Rattle.shard_cells.specs.Meetings.{IsMeeting}
 use Rattle.shard_writing.specs.Writing.{IsUncovered, AreNewCells}
 use Rattle.shard_writing.specs.WriteTests.{Straddles}

@@ -11,7 +11,7 @@ use Rattle.zarr_parts.specs.Grid.{grid_of}
 use Rattle.zarr_parts.specs.Touched.{AreTouched}
 use Rattle.zarr_parts.specs.Arrays.{Array}
 use Rattle.zarr_elements.specs.declared.data_type.DataTypeSize.TheVariants.{Variable}
-use Rattle.zarr_words.specs.declared.error.CodecError.{CodecError}
+use Rattle.zarr_parts.specs.CodecError.{CodecError}
 use Rattle.object_handles.specs.Handles.{HandleState, IsRead}
 use Rattle.object_handles.specs.Objects.{ObjectTests}
 use Rattle.object_handles.specs.Writes.{bytes_of}

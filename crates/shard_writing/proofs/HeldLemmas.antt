@@ -1,6 +1,6 @@
 -- What is held of a shard after a write: as many numbers, each pair absent or in the data part.
 use Rattle.std.proofs.Common.{◌≡◌, ◌≢◌, ℕ, ◌+◌, ◌*◌, ◌/◌, ◌^◌, ◌<◌, ◌≤◌, inl, inr, List, Option, Some, None, length, get_or, map, refl, sym, ap, ◌∙◌, subst, arith}
-use Rattle.zarr_words.specs.Words.{Elements, CellsOf, Written}
+use Rattle.zarr_parts.specs.Words.{Elements, CellsOf, Written}
 use Rattle.zarr_parts.specs.Numbering.{count_of}
 use Rattle.zarr_parts.specs.Grid.{grid_of}
 use Rattle.zarr_parts.specs.Geo.{Geo, IsArrayOf}
@@ -14,7 +14,7 @@ use Rattle.shard_format.specs.declared.slot.Slot.TheVariants.{Absent, InRange, B
 use Rattle.shard_format.proofs.EncodingLemmas.{shifted, shifted_pair}
 use Rattle.shard_index.specs.DataPart.{LiesBetween}
 use Rattle.shard_writing.specs.Writing.{AreAbsent, AreLaid, HasPairs, HasPut, IsSettled, place_behind, HoldsNumbers, IsHeld, HasSlice}
-use Rattle.zarr_boxes.proofs.GridLaws.{over_first}
+use Rattle.zarr_parts.proofs.GridLaws.{over_first}
 use Rattle.shard_writing.proofs.AnewLemmas.{pair_absent, in_list, absent_pair, cleared_absent}
 use Rattle.shard_writing.proofs.WrittenLemmas.{absent_slot, inside_data}
 use Rattle.shard_writing.proofs.MadeLemmas.{kept_slot, before_place}

@@ -8,7 +8,7 @@ use Rattle.zarr_parts.specs.Pieces.{piece, IsUpdated}
 use Rattle.zarr_parts.specs.Arrays.{Array, IsWhole, fixed_array, IsOverlaid}
 use Rattle.zarr_elements.specs.declared.data_type.DataTypeSize.TheVariants.{Fixed}
 use Rattle.zarr_elements.proofs.ArrayLaws.{whole-concat, fixed_array-concat, overlaid_array}
-use Rattle.zarr_boxes.proofs.PieceLaws.{length-concat}
+use Rattle.zarr_parts.proofs.PieceLaws.{length-concat}
 
 -- so many elements of one size have so many bytes
 pub many_bytes : (size count : ℕ) (array : Array) → All (FitsKind (Fixed size)) array.elements → length array.elements ≡ count → length (concat array.elements) ≡ count * size

@@ -4,8 +4,8 @@ use Rattle.std.proofs.Math.ListN.{get_or-append}
 use Rattle.std.proofs.lemmas.List.{get_or_push, length_push}
 use borrow.Author.Count.{below_more}
 use Rattle.zarr_parts.specs.Order.{done, RefusedBy}
-use Rattle.zarr_words.specs.Words.{Elements}
-use Rattle.zarr_words.specs.declared.error.CodecError.{CodecError}
+use Rattle.zarr_parts.specs.Words.{Elements}
+use Rattle.zarr_parts.specs.CodecError.{CodecError}
 use Rattle.codec_laws.specs.Meanings.{Meaning}
 use Rattle.shard_format.specs.EncodeTests.{RefusesToStore, StoreTests}
 use Rattle.shard_format.specs.Encoding.{slot_size, BeginsAt}

@@ -2,7 +2,7 @@
 use Rattle.std.proofs.Common.{◌≡◌, ◌≢◌, ℕ, zero, suc, ◌+◌, ◌*◌, ◌/◌, ◌^◌, ◌<◌, ◌≤◌, inl, inr, Bool, true, false, ◌&&◌, ◌||◌, ◌==◌, nat_le, if◌then◌else◌, List, [], Option, Some, None, All, length, get_or, refl, sym, ap, ◌∙◌, subst, arith}
 use Rattle.std.proofs.lemmas.Bool.{cases_lt, le-leb}
 use Rattle.std.proofs.lemmas.List.Elements.{All-get_or, All-from_get_or}
-use Rattle.zarr_words.specs.Words.{Elements}
+use Rattle.zarr_parts.specs.Words.{Elements}
 use Rattle.zarr_parts.specs.Numbering.{count_of}
 use Rattle.zarr_parts.specs.Boxes.{Region}
 use Rattle.zarr_parts.specs.Grid.{grid_of}
@@ -20,7 +20,7 @@ use Rattle.shard_format.specs.declared.slot.Slot.{Slot}
 use Rattle.shard_format.specs.declared.slot.Slot.TheVariants.{Absent, InRange, Bad}
 use Rattle.shard_index.specs.DataPart.{LiesBetween}
 use Rattle.shard_writing.specs.Writing.{AreAbsent, AreNewCells, cells_in, IsKept, IsWriteOf, AreLaid, HasPairs, HasPut, IsErased, slot_end, last_end, place_behind, length_behind, KeepsSlices, IsMade, layout_from}
-use Rattle.zarr_boxes.proofs.GridLaws.{over_first}
+use Rattle.zarr_parts.proofs.GridLaws.{over_first}
 use Rattle.shard_writing.proofs.PlaceLemmas.{last_end_more}
 use Rattle.shard_writing.proofs.AnewLemmas.{pair_absent, all_absent, in_list, absent_pair, cleared_absent, anew_of_absent, absent_of_anew}
 use Rattle.shard_writing.proofs.WrittenLemmas.{absent_slot, kept_absent, is_write}

@@ -2,14 +2,14 @@
 use Rattle.std.proofs.Common.{◌≡◌, ◌≢◌, ℕ, ◌+◌, ◌*◌, ◌<◌, ◌≤◌, inl, inr, List, [], Option, Some, None, length, get_or, map, refl, sym, ap, ◌∙◌, subst, arith}
 use Rattle.std.proofs.lemmas.Bool.{cases_lt}
 use Rattle.std.proofs.lemmas.List.{get_or_past, get_or-map, length-map}
-use Rattle.zarr_words.specs.Words.{Elements, CellsOf, CellList}
+use Rattle.zarr_parts.specs.Words.{Elements, CellsOf, CellList}
 use Rattle.zarr_parts.specs.Numbering.{count_of, number_of}
 use Rattle.zarr_parts.specs.Boxes.{Region, LiesIn, number_in}
 use Rattle.zarr_parts.specs.Grid.{Divides, grid_of, subchunk_number, place_number, cell_number}
 use Rattle.zarr_parts.specs.Touched.{Touches}
 use Rattle.zarr_parts.specs.Geo.{Geo, IsArrayOf}
-use Rattle.zarr_boxes.proofs.GridLaws.{subchunk_number-below, place_number-below, cell_number-located}
-use Rattle.zarr_boxes.proofs.PieceLaws.{number_in_below}
+use Rattle.zarr_parts.proofs.GridLaws.{subchunk_number-below, place_number-below, cell_number-located}
+use Rattle.zarr_parts.proofs.PieceLaws.{number_in_below}
 use Rattle.object_handles.specs.Writes.{bytes_of}
 use Rattle.codec_laws.specs.Meanings.{Meaning}
 use Rattle.codec_laws.specs.Reads.{cells_at}

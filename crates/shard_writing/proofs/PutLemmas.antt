@@ -1,7 +1,7 @@
 -- New slices and an index, put into a shard.
 use Rattle.std.proofs.Common.{◌≡◌, ℕ, ◌+◌, ◌-◌, ◌^◌, ◌<◌, ◌≤◌, inl, inr, List, Some, All, length, map, max, get_or, take, drop, refl, sym, ap, ◌∙◌, arith, length-take, length-drop, length-append}
 use Rattle.std.proofs.lemmas.List.{ext_get_or, get_or-take, get_or-drop}
-use Rattle.zarr_words.specs.Words.{Written}
+use Rattle.zarr_parts.specs.Words.{Written}
 use Rattle.object_handles.specs.Writes.{written_at}
 use Rattle.object_handles.proofs.WriteLaws.{length-written_at, written_inside, written_outside}
 use Rattle.shard_format.specs.Index.{absent_number, data_start, element_of_number}

@@ -1,14 +1,14 @@
 -- A refusal of a step of a write comes from the tests of the write, in their order.
 use Rattle.std.proofs.Common.{◌≡◌, ℕ, ◌+◌, ◌*◌, ◌/◌, ◌^◌, ◌<◌, ◌≤◌, inl, inr, List, length, get_or, refl, ap, ◌∙◌, subst, arith}
 use Rattle.std.specs.List.{range_with_len, sum_by}
-use Rattle.zarr_words.specs.Words.{Elements}
+use Rattle.zarr_parts.specs.Words.{Elements}
 use Rattle.zarr_parts.specs.Order.{done, RefusedBy}
 use Rattle.zarr_parts.specs.Numbering.{count_of}
 use Rattle.zarr_parts.specs.Boxes.{Region}
 use Rattle.zarr_parts.specs.Grid.{grid_of}
 use Rattle.zarr_parts.specs.Touched.{AreTouched}
 use Rattle.zarr_parts.specs.Geo.{Geo}
-use Rattle.zarr_words.specs.declared.error.CodecError.{CodecError}
+use Rattle.zarr_parts.specs.CodecError.{CodecError}
 use Rattle.codec_laws.specs.Meanings.{Meaning}
 use Rattle.object_handles.specs.Handles.{HandleState}
 use Rattle.object_handles.specs.Objects.{ObjectTests}
@@ -23,7 +23,7 @@ use Rattle.shard_format.specs.EncodeTests.{RefusesToStore, StoreTests, HasPart, 
 use Rattle.shard_format.proofs.LayingLemmas.{sum_same, encoding_laid, length_laid}
 use Rattle.shard_writing.specs.Writing.{AreNewCells, cells_in, AreLaid, ArePlaced, place_behind, length_behind, HasNewLength, RefusesToPut}
 use Rattle.shard_writing.specs.WriteTests.{HasOldCells, OldTests, SomeNewCells, SomeLength, WriteTests}
-use Rattle.zarr_boxes.proofs.GridLaws.{over_first}
+use Rattle.zarr_parts.proofs.GridLaws.{over_first}
 use Rattle.shard_writing.proofs.AnewLemmas.{anew_of_absent, absent_of_anew}
 use Rattle.shard_writing.proofs.ChangedLemmas.{comes_earlier}
 

@@ -1,6 +1,6 @@
 -- New slices put into a shard make a write.
 use Rattle.std.proofs.Common.{◌≡◌, ◌≢◌, ℕ, ◌+◌, ◌*◌, ◌<◌, ◌≤◌, List, Option, Some, length, get_or, refl, sym, ap, ◌∙◌, subst, arith}
-use Rattle.zarr_words.specs.Words.{Elements, Written}
+use Rattle.zarr_parts.specs.Words.{Elements, Written}
 use Rattle.zarr_parts.specs.Numbering.{count_of}
 use Rattle.zarr_parts.specs.Boxes.{Region}
 use Rattle.zarr_parts.specs.Grid.{grid_of}

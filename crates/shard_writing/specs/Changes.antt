@@ -1,6 +1,6 @@
 -- What a write does to an object, when all is read and encoded.
 use Rattle.std.specs.Prelude.{Option, Some, None}
-use Rattle.zarr_words.specs.Words.{Bytes}
+use Rattle.zarr_parts.specs.Words.{Bytes}
 use Rattle.object_handles.specs.Writes.{bytes_of, written_at}
 use Rattle.shard_writing.specs.declared.change.Change.{Change}
 use Rattle.shard_writing.specs.declared.change.Change.TheVariants.{Erase, Replace, Append}

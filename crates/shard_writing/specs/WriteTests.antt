@@ -1,15 +1,15 @@
 -- Why a write may be refused: the tests of its steps, in their order.
 use Rattle.std.specs.Prelude.{◌≡◌, ◌≤◌, ◌<◌, ◌^◌, ℕ, ◌+◌, ◌*◌, List, length, slice_index}
 use Rattle.std.specs.List.{range_with_len, sum_by}
-use Rattle.zarr_words.specs.Words.{Bytes, Elements, Refusals}
+use Rattle.zarr_parts.specs.Words.{Bytes, Elements, Refusals}
 use Rattle.zarr_parts.specs.Order.{◌or_as◌then◌, EachAs}
 use Rattle.zarr_parts.specs.Numbering.{count_of}
 use Rattle.zarr_parts.specs.Boxes.{Region}
 use Rattle.zarr_parts.specs.Grid.{grid_of}
 use Rattle.zarr_parts.specs.Touched.{Touches, AreTouched}
 use Rattle.zarr_parts.specs.Geo.{Geo}
-use Rattle.zarr_words.specs.declared.error.CodecError.{CodecError}
-use Rattle.zarr_words.specs.declared.error.CodecError.TheVariants.{TooLarge}
+use Rattle.zarr_parts.specs.CodecError.{CodecError}
+use Rattle.zarr_parts.specs.CodecError.TheVariants.{TooLarge}
 use Rattle.codec_laws.specs.Meanings.{Meaning}
 use Rattle.shard_format.specs.Index.{slot_at}
 use Rattle.shard_format.specs.Cells.{Layout}

@@ -1,10 +1,9 @@
 -- A write into a shard: what becomes of the object, of its index and of its cells.
-use Rattle.std.specs.Prelude.{◌≡◌, ◌≢◌, ◌≤◌, ◌<◌, ◌^◌, ◌⊎◌, ⊤, ℕ, ◌+◌, ◌-◌, ◌*◌, ◌/◌, max, List, Option, Some, None}
-use Rattle.std.specs.Prelude.{[], length, map, fold, slice_index, slice_index_or}
+use Rattle.std.specs.Prelude.{◌≡◌, ◌≢◌, ◌≤◌, ◌<◌, ◌^◌, ◌⊎◌, ⊤, ℕ, ◌+◌, ◌-◌, ◌*◌, ◌/◌, max, List, Option, Some, None, [], length, map, fold, slice_index, slice_index_or}
 use Rattle.std.specs.List.{All, range_with_len, sum_by}
-use Rattle.zarr_words.specs.Words.{Bytes, Elements, CellList, CellsOf, Written, Refusals}
-use Rattle.zarr_words.specs.declared.error.CodecError.{CodecError}
-use Rattle.zarr_words.specs.declared.error.CodecError.TheVariants.{TooLarge}
+use Rattle.zarr_parts.specs.Words.{Bytes, Elements, CellList, CellsOf, Written, Refusals}
+use Rattle.zarr_parts.specs.CodecError.{CodecError}
+use Rattle.zarr_parts.specs.CodecError.TheVariants.{TooLarge}
 use Rattle.zarr_parts.specs.Numbering.{count_of, number_of}
 use Rattle.zarr_parts.specs.Boxes.{Region, number_in}
 use Rattle.zarr_parts.specs.Pieces.{IsUpdated}
@@ -16,8 +15,7 @@ use Rattle.zarr_elements.specs.declared.data_type.DataTypeSize.TheVariants.{Vari
 use Rattle.object_handles.specs.Objects.{HasInterval}
 use Rattle.object_handles.specs.Writes.{bytes_of}
 use Rattle.codec_laws.specs.Meanings.{Meaning}
-use Rattle.shard_format.specs.Index.{absent_number, slot_at, slice_at, index_part, data_start, data_end}
-use Rattle.shard_format.specs.Index.{element_of_number}
+use Rattle.shard_format.specs.Index.{absent_number, slot_at, slice_at, index_part, data_start, data_end, element_of_number}
 use Rattle.shard_format.specs.Cells.{Layout, cell_in}
 use Rattle.shard_format.specs.Encoding.{StandsAt, slot_size, BeginsAt}
 use Rattle.shard_format.specs.Laying.{IsLaid, taken, offset_number, size_number}

@@ -1,6 +1,6 @@
 // The numbers of an index with new pairs.
 ghost use Rattle.std.specs.Prelude.{◌≡◌, ◌*◌, ◌+◌, ◌^◌, ◌<◌, ℕ, IsTrue, ◌↔◌, IfOk, IfErr, All, length, slice_index, slice_index_or};
-ghost use Rattle.zarr_words.specs.declared.error.CodecError.TheVariants.{OutOfMemory};
+ghost use Rattle.zarr_parts.specs.CodecError.TheVariants.{OutOfMemory};
 ghost use Rattle.shard_format.specs.Laying.{EndsBelow};
 ghost use Rattle.shard_format.specs.declared.slot.Slot.TheVariants.{Absent, Bad};
 ghost use Rattle.shard_writing.specs.Writing.{AreAbsent, HasPairs};

@@ -1,9 +1,9 @@
 // New slices and an index, put into a shard.
 ghost use Rattle.std.specs.Prelude.{◌≡◌, ◌≤◌, ◌*◌, ◌+◌, ◌^◌, ◌<◌, ℕ, Option, IfOk, IfErr, All, length, slice_index, slice_index_or};
-ghost use Rattle.zarr_words.specs.Words.{Bytes};
+ghost use Rattle.zarr_parts.specs.Words.{Bytes};
 ghost use Rattle.zarr_parts.specs.Order.{◌or◌then◌, RefusedBy};
 ghost use Rattle.zarr_parts.specs.Numbering.{count_of};
-ghost use Rattle.zarr_words.specs.declared.error.CodecError.TheVariants.{TooLarge};
+ghost use Rattle.zarr_parts.specs.CodecError.TheVariants.{TooLarge};
 ghost use Rattle.object_handles.specs.Writes.{bytes_of};
 ghost use Rattle.shard_format.specs.Index.{data_start};
 ghost use Rattle.shard_format.specs.EncodeTests.{RefusesIndex};

@@ -1,6 +1,6 @@
 // What becomes of a shard with new slices.
 ghost use Rattle.std.specs.Prelude.{◌≡◌, ◌*◌, ◌+◌, ◌^◌, ◌<◌, ℕ, Option, IfOk, IfErr, All, length, slice_index, slice_index_or};
-ghost use Rattle.zarr_words.specs.Words.{Bytes};
+ghost use Rattle.zarr_parts.specs.Words.{Bytes};
 ghost use Rattle.zarr_parts.specs.Order.{RefusedBy};
 ghost use Rattle.zarr_parts.specs.Numbering.{count_of};
 ghost use Rattle.object_handles.specs.Writes.{bytes_of};

@@ -1,15 +1,15 @@
 -- A write into a session passes its tests.
 use Rattle.std.proofs.Common.{◌≡◌, ℕ, Bool, false, List, inl, inr}
-use Rattle.zarr_words.specs.declared.error.CodecError.{CodecError}
-use Rattle.zarr_words.specs.declared.error.CodecError.TheVariants.{SessionFailed}
+use Rattle.zarr_parts.specs.CodecError.{CodecError}
+use Rattle.zarr_parts.specs.CodecError.TheVariants.{SessionFailed}
 use Rattle.zarr_parts.specs.Order.{◌or◌then◌, RefusedBy}
 use Rattle.zarr_parts.specs.Boxes.{Region}
 use Rattle.zarr_parts.specs.Arrays.{Array}
 use Rattle.zarr_parts.specs.Selections.{Selection, box_selection}
-use Rattle.zarr_elements.specs.declared.data_type.DataType.{DataType}
+use Rattle.zarr_parts.specs.DataType.{DataType}
 use Rattle.object_handles.specs.Handles.{HandleState}
 use Rattle.object_handles.specs.Objects.{ObjectTests}
-use Rattle.shard_cells.specs.Updates.{UpdateTests, IsUpdateOf}
+use Rattle.shard_steps.specs.Updates.{UpdateTests, IsUpdateOf}
 use Rattle.sharding_core.specs.SessionWrites.{BoxTested}
 
 -- what is written passes its tests

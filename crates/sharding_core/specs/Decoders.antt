@@ -1,7 +1,7 @@
 -- A shard that is read in part through a handle, by its index, which was read once.
 use Rattle.std.specs.Prelude.{◌≡◌, ◌<◌, ◌^◌, ℕ, ◌+◌, ◌-◌, ◌*◌, min, IsTrue, List, Option, Some, None, IfSome, length}
-use Rattle.zarr_words.specs.Words.{Refusals}
-use Rattle.zarr_words.specs.declared.error.CodecError.{CodecError}
+use Rattle.zarr_parts.specs.Words.{Refusals}
+use Rattle.zarr_parts.specs.CodecError.{CodecError}
 use Rattle.zarr_parts.specs.Order.{done}
 use Rattle.zarr_parts.specs.Numbering.{count_of}
 use Rattle.zarr_parts.specs.Grid.{grid_of}
@@ -10,11 +10,11 @@ use Rattle.object_handles.specs.Handles.{HandleState, IsRead}
 use Rattle.codec_laws.specs.Meanings.{Meaning}
 use Rattle.shard_format.specs.Index.{index_geo, numbers_in_index}
 use Rattle.shard_format.specs.Serves.{sub_geo, fixed_size}
-pub use Rattle.shard_opening.specs.Held.{HoldsIndex, held_len, held_numbers, object_cells}
-pub use Rattle.shard_opening.specs.Slices.{held_slot, IsRangeOf, IsSliceRead, SlotTests}
-use Rattle.shard_opening.specs.Held.{ObjectIndexTests, HeldCellsTests}
-use Rattle.shard_opening.specs.OpenShards.{shard_geo}
-use Rattle.shard_opening.specs.declared.shard.OpenShard.{OpenShard}
+pub use Rattle.shard_held.specs.Held.{HoldsIndex, held_len, held_numbers, object_cells}
+pub use Rattle.shard_held.specs.Slices.{held_slot, IsRangeOf, IsSliceRead, SlotTests}
+use Rattle.shard_held.specs.Held.{ObjectIndexTests, HeldCellsTests}
+use Rattle.shard_held.specs.OpenShards.{shard_geo}
+use Rattle.shard_held.specs.OpenShard.{OpenShard}
 use Rattle.sharding_core.specs.Meanings.{layout_in}
 use Rattle.sharding_core.specs.declared.codec.ShardingCodec.{ShardingCodec}
 

@@ -6,3 +6,16 @@ pub mod SessionWrites
 pub mod LockedSessions
 pub mod ShardMetadata
 pub mod ShardMetadataLaws
+pub use Rattle.shard_steps.specs.Updates
+pub use Rattle.shard_steps.specs.DataPart
+pub use Rattle.shard_steps.specs.Grouping
+pub use Rattle.shard_steps.specs.Gathering
+pub use Rattle.shard_held.specs.Writing
+pub use Rattle.shard_held.specs.Held
+pub use Rattle.shard_held.specs.WriteTests
+pub use Rattle.shard_held.specs.OpenSessions
+pub use Rattle.shard_held.specs.PreparedWrites
+pub use Rattle.shard_held.specs.Slices
+pub use Rattle.shard_configuration.specs.CodecLists
+pub use Rattle.shard_configuration.specs.Configuration
+pub use Rattle.shard_configuration.specs.Configurations

@@ -1,19 +1,19 @@
 -- A session that threads share. What a call finds under the lock no clause can name: so a clause says what a call of some session in step
 -- did, which left it in step.
 use Rattle.std.specs.Prelude.{◌≡◌, Bool, false, IsTrue, Some, None, IfSome, is_some, length, map}
-use Rattle.zarr_words.specs.declared.error.CodecError.{CodecError}
-use Rattle.zarr_words.specs.declared.error.CodecError.TheVariants.{SessionFailed}
+use Rattle.zarr_parts.specs.CodecError.{CodecError}
+use Rattle.zarr_parts.specs.CodecError.TheVariants.{SessionFailed}
 use Rattle.zarr_parts.specs.Order.{◌or◌then◌, RefusedBy}
 use Rattle.zarr_parts.specs.Geo.{Geo}
 use Rattle.zarr_parts.specs.Arrays.{Array}
 use Rattle.zarr_parts.specs.Selections.{Selection}
-use Rattle.zarr_elements.specs.declared.data_type.DataType.{DataType}
+use Rattle.zarr_parts.specs.DataType.{DataType}
 use Rattle.object_handles.specs.Handles.{HandleState, Support, IsCounted, MayFault}
 use Rattle.object_handles.specs.Objects.{ObjectTests}
 use Rattle.codec_laws.specs.Meanings.{Meaning}
 use Rattle.codec_laws.specs.Reads.{cells_at, IsAnswer, AskedTests}
-use Rattle.shard_cells.specs.Updates.{UpdateTests, IsUpdateOf}
-use Rattle.shard_writing.specs.Writing.{AreOverlaid}
+use Rattle.shard_steps.specs.Updates.{UpdateTests, IsUpdateOf}
+use Rattle.shard_held.specs.Writing.{AreOverlaid}
 use Rattle.sharding_core.specs.Decoders.{object_cells, ObjectCellsTests}
 use Rattle.sharding_core.specs.Sessions.{Session, IsInStep, IsLeft, IsDone, IsLeftOrFailed, absent_index, subchunks_of}
 use Rattle.sharding_core.specs.SessionWrites.{IsWritten, WrittenTests, BoxTested}

@@ -1,6 +1,6 @@
 -- A write into a shard that is held open.
 use Rattle.std.specs.Prelude.{ℕ, List, Option, Some, None}
-use Rattle.zarr_words.specs.Words.{Bytes, Elements, Refusals}
+use Rattle.zarr_parts.specs.Words.{Bytes, Elements, Refusals}
 use Rattle.zarr_parts.specs.Order.{done}
 use Rattle.zarr_parts.specs.Boxes.{Region}
 use Rattle.zarr_parts.specs.Grid.{grid_of}

@@ -1,18 +1,17 @@
 -- A shard that is held open for reading and writing, by its index, which stays in step with the object.
-use Rattle.std.specs.Prelude.{◌≡◌, ◌<◌, ◌^◌, ◌⊎◌, ℕ, ◌+◌, ◌-◌, ◌*◌, min, Bool, true, false, IsTrue}
-use Rattle.std.specs.Prelude.{List, Option, length}
+use Rattle.std.specs.Prelude.{◌≡◌, ◌<◌, ◌^◌, ◌⊎◌, ℕ, ◌+◌, ◌-◌, ◌*◌, min, Bool, true, false, IsTrue, List, Option, length}
 use Rattle.zarr_parts.specs.Numbering.{count_of}
 use Rattle.zarr_parts.specs.Grid.{grid_of}
 use Rattle.zarr_parts.specs.Geo.{Geo, geo}
-use Rattle.zarr_words.specs.declared.error.CodecError.{CodecError}
-use Rattle.zarr_words.specs.declared.error.CodecError.TheVariants.{Fault}
+use Rattle.zarr_parts.specs.CodecError.{CodecError}
+use Rattle.zarr_parts.specs.CodecError.TheVariants.{Fault}
 use Rattle.object_handles.specs.Handles.{HandleState, IsRead}
 use Rattle.object_handles.specs.Writes.{IsWriting}
 use Rattle.codec_laws.specs.Meanings.{Meaning}
 use Rattle.shard_format.specs.Index.{index_geo}
 use Rattle.shard_format.specs.Serves.{fixed_size}
-use Rattle.shard_writing.specs.Writing.{HoldsNumbers, IsHeld}
-use Rattle.shard_opening.specs.Held.{held_len}
+use Rattle.shard_held.specs.Writing.{HoldsNumbers, IsHeld}
+use Rattle.shard_held.specs.Held.{held_len}
 pub use Rattle.shard_held.specs.OpenSessions.{absent_index, numbers_held}
 use Rattle.shard_held.specs.OpenSessions.{IsOpenSession, SessionIndexTests}
 use Rattle.shard_held.specs.declared.session.OpenSession.{OpenSession}

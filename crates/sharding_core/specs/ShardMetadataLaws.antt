@@ -1,6 +1,6 @@
 -- The configuration that the sharding codec writes is read as the codec, where those of its codecs are.
 use Rattle.std.specs.Prelude.{◌≡◌, Bool, true, Option, Some, Ok, codes, option_map, refl}
-use Rattle.zarr_words.specs.Words.{Bytes}
+use Rattle.zarr_parts.specs.Words.{Bytes}
 use Rattle.zarr_parts.specs.Numbering.{AllPositive}
 use Rattle.serde_json.specs.Data.{Data, Members, object}
 use Rattle.codec_metadata.specs.CreateErrors.{Reading}

@@ -2,7 +2,7 @@
 ghost use Rattle.std.specs.Prelude.{◌≡◌, true};
 
 use crate::codec::ShardingCodec;
-use shard_asked::{PartialDecoderCapability, PartialEncoderCapability};
+use shard_steps::{PartialDecoderCapability, PartialEncoderCapability};
 use zarr_parts::ChunkShape;
 
 impl<I, X> ShardingCodec<I, X> {

@@ -2,14 +2,14 @@
 ghost use Rattle.std.specs.Prelude.{◌≡◌, ◌<◌, ◌^◌, ◌*◌, Some, IfOk, IfErr, OnOk};
 ghost use Rattle.zarr_parts.specs.Order.{◌or◌then◌, done, RefusedBy};
 ghost use Rattle.zarr_parts.specs.Numbering.{count_of};
-ghost use Rattle.zarr_words.specs.declared.error.CodecError.TheVariants.{TooLarge};
+ghost use Rattle.zarr_parts.specs.CodecError.TheVariants.{TooLarge};
 ghost use Rattle.shard_format.specs.Index.{index_geo, numbers_in_index};
 ghost use Rattle.shard_format.specs.Serves.{fixed_size, IndexServes, IndexCodecTests};
 ghost use Rattle.shard_format.specs.DecodeTests.{IndexTests};
 
 use crate::codec::ShardingCodec;
 use codec_laws::ArrayToBytesCodecTraits;
-use shard_index::IndexCodec;
+use shard_steps::IndexCodec;
 use std::alloc::Global;
 use zarr_parts::{ChunkShape, CodecError, CodecOptions};
 

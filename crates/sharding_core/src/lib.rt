@@ -15,5 +15,7 @@ mod workers;
 pub use codec::ShardingCodec;
 pub use locked::ShardingPartialEncoder;
 pub use partial_decoder::ShardingPartialDecoder;
-pub use shard_asked::{PartialDecoderCapability, PartialEncoderCapability, ShardingCodecOptions};
+pub use shard_configuration::{ShardingCodecConfiguration, ShardingCodecConfigurationV1};
+pub use shard_steps::{PartialDecoderCapability, PartialEncoderCapability, ShardingCodecOptions};
+pub use shard_workers::{Gate, NoGate};
 pub use state::ShardState;

@@ -2,7 +2,7 @@
 ghost use Rattle.std.specs.Prelude.{◌≡◌, MatchOption};
 
 use crate::codec::ShardingCodec;
-use shard_asked::ShardingCodecOptions;
+use shard_steps::ShardingCodecOptions;
 use zarr_parts::CodecSpecificOptions;
 
 impl<I, X> ShardingCodec<I, X> {

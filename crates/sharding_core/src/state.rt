@@ -2,7 +2,7 @@
 ghost use Rattle.std.specs.Prelude.{◌≡◌, true, false, IsTrue, None, IfOk, IfErr, OnOk, is_some, length};
 ghost use Rattle.zarr_parts.specs.Order.{◌or◌then◌, ◌or_as◌then◌, done, RefusedBy};
 ghost use Rattle.zarr_parts.specs.Geo.{geo};
-ghost use Rattle.zarr_words.specs.declared.error.CodecError.TheVariants.{SessionFailed};
+ghost use Rattle.zarr_parts.specs.CodecError.TheVariants.{SessionFailed};
 ghost use Rattle.object_handles.specs.Handles.{IsRead, IsCounted, MayFault};
 ghost use Rattle.object_handles.specs.Objects.{ObjectTests};
 ghost use Rattle.codec_laws.specs.Refusals.{RefusesUnserved};

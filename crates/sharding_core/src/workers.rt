@@ -7,9 +7,7 @@ ghost use Rattle.codec_laws.specs.Refusals.{RefusesUnserved, MayRefuseEncode, Ma
 
 use crate::codec::{ShardingCodec, lent};
 use codec_laws::ArrayToBytesCodecTraits;
-use shard_asked::Asked;
-use shard_index::IndexCodec;
-use shard_steps::Sharding;
+use shard_steps::{Asked, IndexCodec, Sharding};
 use shard_workers::{Gate, decode_by_workers, encode_by_workers};
 use std::alloc::Global;
 use std::thread::Threads;

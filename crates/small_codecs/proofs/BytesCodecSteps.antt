@@ -14,11 +14,11 @@ use Rattle.zarr_parts.specs.Geo.{Geo, IsArrayOf}
 use Rattle.zarr_parts.specs.Types.{size_of, byte_size, FitsKind}
 use Rattle.zarr_parts.specs.Pieces.{piece, pieces}
 use Rattle.zarr_parts.specs.Arrays.{Array, IsWhole, fixed_array}
-use Rattle.zarr_elements.specs.declared.data_type.DataType.{DataType}
-use Rattle.zarr_elements.specs.declared.data_type.DataTypeSize.TheVariants.{Fixed}
+use Rattle.zarr_parts.specs.DataType.{DataType}
+use Rattle.zarr_parts.specs.DataTypeSize.TheVariants.{Fixed}
 use Rattle.zarr_boxes.proofs.NumberingLaws.{count_positive}
 use Rattle.zarr_boxes.proofs.PieceLaws.{map-map, map_range_same, length-pieces, All-pieces, piece_written, piece_kept}
-use Rattle.zarr_elements.proofs.ArrayLaws.{concat-fixed_array, fixed_array-concat, whole_from_length, All-fixed_array, whole-concat, length-piece}
+use Rattle.zarr_parts.proofs.ArrayLaws.{concat-fixed_array, fixed_array-concat, whole_from_length, All-fixed_array, whole-concat, length-piece}
 use Rattle.small_codecs.specs.declared.bytes_codec.Endianness.{Endianness}
 use Rattle.small_codecs.specs.BytesCodec.{is_reversed, swapped, KnowsOrder, SwapsAs, element_size, IsMeasured, bytes_of, bytes_cells}
 use Rattle.small_codecs.specs.BytesCodecLaws.{All-swapped, elements_sized, bytes_cells-whole}

@@ -1,6 +1,5 @@
 -- The codec `bytes` keeps the laws.
-use Rattle.std.proofs.Common.{◌≡◌, ◌≢◌, ℕ, zero, suc, ◌*◌, ◌<◌, Bool, true, false, List, [], ◌∷◌, Option, Some, None, IfSome}
-use Rattle.std.proofs.Common.{length, map, replicate, get_or, refl, sym, ap, ◌∙◌, arith, inl, inr}
+use Rattle.std.proofs.Common.{◌≡◌, ◌≢◌, ℕ, zero, suc, ◌*◌, ◌<◌, Bool, true, false, List, [], ◌∷◌, Option, Some, None, IfSome, length, map, replicate, get_or, refl, sym, ap, ◌∙◌, arith, inl, inr}
 use Rattle.std.proofs.lemmas.Bool.{eq-eqb}
 use Rattle.std.proofs.lemmas.Bool.Decides.{eqb_tells}
 use Rattle.std.proofs.lemmas.List.{length-map, length-replicate, get_or-map, get_or-replicate, length-reverse, reverse-reverse}
@@ -11,19 +10,17 @@ use Rattle.zarr_parts.specs.Geo.{Geo, IsArrayOf}
 use Rattle.zarr_parts.specs.Types.{size_of, FitsKind}
 use Rattle.zarr_parts.specs.Arrays.{Array}
 use Rattle.zarr_parts.specs.Pieces.{pieces}
-use Rattle.zarr_elements.specs.declared.data_type.DataTypeSize.{DataTypeSize}
-use Rattle.zarr_elements.specs.declared.data_type.DataTypeSize.TheVariants.{Fixed}
+use Rattle.zarr_parts.specs.DataTypeSize.{DataTypeSize}
+use Rattle.zarr_parts.specs.DataTypeSize.TheVariants.{Fixed}
 use Rattle.zarr_boxes.proofs.PieceLaws.{length-pieces, length-concat, pieces-concat, All-pieces}
 use Rattle.small_codecs.specs.declared.bytes_codec.Endianness.{Endianness}
 use Rattle.codec_laws.specs.Cells.{all_there}
-use Rattle.zarr_words.specs.declared.error.CodecError.{CodecError}
-use Rattle.zarr_words.specs.declared.error.CodecError.TheVariants.{UnsupportedDataType, BadFillValue, TooLarge}
-use Rattle.zarr_words.specs.declared.error.CodecError.TheVariants.{WrongElementKind, InvalidNumberOfElements}
+use Rattle.zarr_parts.specs.CodecError.{CodecError}
+use Rattle.zarr_parts.specs.CodecError.TheVariants.{UnsupportedDataType, BadFillValue, TooLarge, WrongElementKind, InvalidNumberOfElements}
 use Rattle.codec_laws.specs.Laws.{IsLawful}
 use Rattle.codec_laws.specs.Refusals.{IsNoFault}
 use Rattle.codec_laws.specs.RefusalLaws.{test_faultless}
-use Rattle.small_codecs.specs.BytesCodec.{is_reversed, swapped, element_size, BytesServes, bytes_of, bytes_cells}
-use Rattle.small_codecs.specs.BytesCodec.{BytesCheckTests, BytesEncodeTests, bytes_meaning}
+use Rattle.small_codecs.specs.BytesCodec.{is_reversed, swapped, element_size, BytesServes, bytes_of, bytes_cells, BytesCheckTests, BytesEncodeTests, bytes_meaning}
 
 -- swapping twice gives the element back, and keeps its length
 pub swapped-swapped : (reversed : Bool) (e : List ℕ) → swapped reversed (swapped reversed e) ≡ e

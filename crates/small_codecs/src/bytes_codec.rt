@@ -5,7 +5,7 @@ ghost use Rattle.std.specs.Cow.{cow_slice_items};
 ghost use Rattle.zarr_parts.specs.Geo.{geo};
 ghost use Rattle.zarr_parts.specs.Types.{size_of, byte_size};
 ghost use Rattle.zarr_parts.specs.Arrays.{IsWhole, fixed_array};
-ghost use Rattle.zarr_elements.specs.declared.data_type.DataTypeSize.TheVariants.{Fixed};
+ghost use Rattle.zarr_parts.specs.DataTypeSize.TheVariants.{Fixed};
 ghost use Rattle.small_codecs.specs.BytesCodec.{is_whole_number, swapped, KnowsOrder, SwapsAs, IsMeasured, BytesServes, BytesCheckTests};
 ghost use Rattle.small_codecs.specs.declared.bytes_codec.Endianness.TheVariants.{Little, Big};
 

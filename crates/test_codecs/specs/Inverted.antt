@@ -1,6 +1,6 @@
 -- A codec that takes each byte of an array from 255.
 use Rattle.std.specs.Prelude.{ℕ, Some, map, bit_xor}
-use Rattle.zarr_words.specs.Words.{Elements}
+use Rattle.zarr_parts.specs.Words.{Elements}
 use Rattle.array_chains.specs.ArrayCodings.{ArrayCoding}
 
 -- a byte taken from 255: each of its bits turned over

@@ -1,6 +1,6 @@
 -- A codec that puts one byte behind bytes.
 use Rattle.std.specs.Prelude.{[], ◌∷◌}
-use Rattle.zarr_words.specs.Words.{Bytes}
+use Rattle.zarr_parts.specs.Words.{Bytes}
 use Rattle.codec_chains.specs.Codings.{Coding}
 use Rattle.codec_chains.specs.Trailers.{trailer_coding}
 

@@ -1,6 +1,6 @@
 // A codec that takes each byte of an array from 255.
 ghost use Rattle.std.specs.Prelude.{◌≡◌, IfOk, IfErr, map};
-ghost use Rattle.zarr_words.specs.declared.error.CodecError.TheVariants.{OutOfMemory};
+ghost use Rattle.zarr_parts.specs.CodecError.TheVariants.{OutOfMemory};
 ghost use Rattle.test_codecs.specs.Inverted.{inverted_byte, inverted_elements};
 
 use array_chains::ArrayToArrayCodecTraits;

@@ -8,7 +8,7 @@ use codec_laws::BytesRepresentation;
 pub use inverted::InvertedCodec;
 use std::alloc::Global;
 use std::borrow::CowSlice;
-use zarr_words::CodecError;
+use zarr_parts::CodecError;
 
 /// A codec that puts the byte 42 behind bytes, and demands it where it decodes.
 #[derive(Debug, Clone, Copy, PartialEq, Eq)]

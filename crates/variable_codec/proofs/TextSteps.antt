@@ -1,15 +1,14 @@
 -- Steps of texts of elements: how long they are, and how they are read.
-use Rattle.std.proofs.Common.{◌≡◌, ◌<◌, ◌^◌, ◌+◌, ◌*◌, ◌-◌, ◌++◌, ℕ, suc, false, nat_lt, nat_eq, [], ◌∷◌, Option, Some, None, IsSome}
-use Rattle.std.proofs.Common.{length, take, drop, option_map, refl, sym, ap, ◌∙◌, arith, length-append, append_assoc, inl, inr}
+use Rattle.std.proofs.Common.{◌≡◌, ◌<◌, ◌^◌, ◌+◌, ◌*◌, ◌-◌, ◌++◌, ℕ, suc, false, nat_lt, nat_eq, [], ◌∷◌, Option, Some, None, IsSome, length, take, drop, option_map, refl, sym, ap, ◌∙◌, arith, length-append, append_assoc, inl, inr}
 use Rattle.std.proofs.lemmas.List.{append-nil}
 use Rattle.std.proofs.lemmas.List.Concat.{flat_map-cons}
 use Rattle.std.proofs.lemmas.List.Sums.{sum_by-cons, get_or-le-sum_by}
 use Rattle.std.proofs.lemmas.Bool.{le-ltb, lt-ltb, eqb-false}
 use Rattle.std.specs.Int.{w32, from_le_bytes}
 use Rattle.std.specs.List.{All, flat_map, sum_by}
-use Rattle.zarr_words.specs.Words.{Bytes, Elements}
-use Rattle.zarr_words.specs.Order.{RefusedBy}
-use Rattle.zarr_words.specs.declared.error.CodecError.TheVariants.{Damaged}
+use Rattle.zarr_parts.specs.Words.{Bytes, Elements}
+use Rattle.zarr_parts.specs.Order.{RefusedBy}
+use Rattle.zarr_parts.specs.CodecError.TheVariants.{Damaged}
 use Rattle.whole_arrays.specs.WholeArrays.{WholeTests}
 use Rattle.variable_codec.specs.Text.{number_bytes, element_text, vlen_text, first_number, first_element, elements_in}
 use Rattle.variable_codec.specs.VlenLaws.{length-number_bytes, elements_in-more, elements_in-none}

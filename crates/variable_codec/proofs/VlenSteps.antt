@@ -1,15 +1,15 @@
 -- Steps of the codec for elements that have lengths of their own.
 use Rattle.std.proofs.Common.{◌≡◌, ◌<◌, ℕ, Option, Some, IfSome, length, map, sym, ap, ◌∙◌}
 use Rattle.std.specs.List.{All}
-use Rattle.zarr_words.specs.Words.{Bytes}
-use Rattle.zarr_words.specs.Order.{RefusedBy}
-use Rattle.zarr_words.specs.declared.error.CodecError.{CodecError}
+use Rattle.zarr_parts.specs.Words.{Bytes}
+use Rattle.zarr_parts.specs.Order.{RefusedBy}
+use Rattle.zarr_parts.specs.CodecError.{CodecError}
 use Rattle.zarr_parts.specs.Numbering.{count_of}
 use Rattle.zarr_parts.specs.Geo.{Geo, IsArrayOf}
 use Rattle.zarr_parts.specs.Types.{size_of, FitsKind}
 use Rattle.zarr_parts.specs.Arrays.{Array}
 use Rattle.zarr_parts.specs.Refusals.{IsValid}
-use Rattle.zarr_elements.specs.declared.data_type.DataTypeSize.TheVariants.{Fixed, Variable}
+use Rattle.zarr_parts.specs.DataTypeSize.TheVariants.{Fixed, Variable}
 use Rattle.codec_laws.specs.Refusals.{MayRefuseDecode}
 use Rattle.whole_arrays.specs.WholeArrays.{whole_cells, WholeTests}
 use Rattle.whole_arrays.proofs.WholeArrayLaws.{refused_whole}

@@ -1,14 +1,13 @@
 -- What the codec for elements that have lengths of their own means.
 use Rattle.std.specs.Prelude.{◌≡◌, ◌<◌, ◌^◌, ⊤, Some, length}
-use Rattle.zarr_words.specs.Words.{Bytes, Elements, CellList, Refusals}
-use Rattle.zarr_words.specs.Order.{◌or◌then◌, done}
-use Rattle.zarr_words.specs.declared.error.CodecError.TheVariants.{UnsupportedDataType, TooLarge, WrongElementKind}
-use Rattle.zarr_words.specs.declared.error.CodecError.TheVariants.{InvalidNumberOfElements, CannotEncode}
+use Rattle.zarr_parts.specs.Words.{Bytes, Elements, CellList, Refusals}
+use Rattle.zarr_parts.specs.Order.{◌or◌then◌, done}
+use Rattle.zarr_parts.specs.CodecError.TheVariants.{UnsupportedDataType, TooLarge, WrongElementKind, InvalidNumberOfElements, CannotEncode}
 use Rattle.zarr_parts.specs.Numbering.{count_of}
 use Rattle.zarr_parts.specs.Geo.{Geo}
 use Rattle.zarr_parts.specs.Types.{size_of}
 use Rattle.zarr_parts.specs.Arrays.{Array}
-use Rattle.zarr_elements.specs.declared.data_type.DataTypeSize.TheVariants.{Variable}
+use Rattle.zarr_parts.specs.DataTypeSize.TheVariants.{Variable}
 use Rattle.codec_laws.specs.Meanings.{Meaning}
 use Rattle.codec_laws.specs.declared.representation.BytesRepresentation.TheVariants.{UnboundedSize}
 use Rattle.whole_arrays.specs.WholeArrays.{whole_cells, WholeTests}

@@ -1,6 +1,6 @@
 -- The metadata of the codec for elements that have lengths of their own: it has no configuration, or an empty one.
 use Rattle.std.specs.Prelude.{Bool, false, Option, Some, None, Ok, codes, bytes_eq}
-use Rattle.zarr_words.specs.Words.{Bytes}
+use Rattle.zarr_parts.specs.Words.{Bytes}
 use Rattle.serde_json.specs.Data.{Data}
 use Rattle.codec_metadata.specs.CreateErrors.{Reading}
 use Rattle.codec_metadata.specs.Metadata.{members_in, first_refused, unless_refused}

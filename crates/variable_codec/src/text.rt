@@ -1,8 +1,8 @@
 // The text of elements that have lengths of their own: written, and read without trust.
 ghost use Rattle.std.specs.Prelude.{◌≡◌, ◌++◌, ◌<◌, ◌^◌, ◌↔◌, IfOk, IfErr, OnOk, Some, IsSome, IsTrue, All, length, option_map};
-ghost use Rattle.zarr_words.specs.Order.{◌or◌then◌, done, RefusedBy};
-ghost use Rattle.zarr_words.specs.declared.error.CodecError.TheVariants.{CannotEncode, TooLarge};
-ghost use Rattle.zarr_elements.specs.declared.data_type.DataTypeSize.TheVariants.{Variable};
+ghost use Rattle.zarr_parts.specs.Order.{◌or◌then◌, done, RefusedBy};
+ghost use Rattle.zarr_parts.specs.CodecError.TheVariants.{CannotEncode, TooLarge};
+ghost use Rattle.zarr_parts.specs.DataTypeSize.TheVariants.{Variable};
 ghost use Rattle.whole_arrays.specs.WholeArrays.{WholeTests};
 ghost use Rattle.variable_codec.specs.Text.{number_bytes, element_text, vlen_text, HasText, first_number, first_element, elements_in, vlen_elements};
 

@@ -44,7 +44,7 @@ fn counted(
 
 impl ArrayToBytesCodecTraits for VlenCodec {
     ghost use Rattle.std.specs.Prelude.{⊤};
-    ghost use Rattle.zarr_words.specs.Order.{done};
+    ghost use Rattle.zarr_parts.specs.Order.{done};
     ghost use Rattle.variable_codec.specs.VlenCodec.{vlen_meaning};
     ghost use Rattle.variable_codec.specs.VlenLaws.{vlen_lawful};
 

@@ -2,10 +2,10 @@
 use Rattle.std.proofs.Common.{◌≡◌, ℕ, zero, suc, ◌<◌, List, [], Option, Some, None, IfSome, IsSome, IsTrue, ◌⊎◌, length, map, replicate, get_or, refl, ap, ◌∙◌, arith, inl, inr}
 use Rattle.std.proofs.lemmas.List.{length-map, length-replicate, get_or-map, get_or-replicate}
 use Rattle.std.specs.List.{All}
-use Rattle.zarr_words.specs.Words.{Bytes, Elements}
-use Rattle.zarr_words.specs.Order.{◌or◌then◌, done, RefusedBy}
-use Rattle.zarr_words.specs.declared.error.CodecError.{CodecError}
-use Rattle.zarr_words.specs.declared.error.CodecError.TheVariants.{OutOfBounds, OutOfMemory, Fault}
+use Rattle.zarr_parts.specs.Words.{Bytes, Elements}
+use Rattle.zarr_parts.specs.Order.{◌or◌then◌, done, RefusedBy}
+use Rattle.zarr_parts.specs.CodecError.{CodecError}
+use Rattle.zarr_parts.specs.CodecError.TheVariants.{OutOfBounds, OutOfMemory, Fault}
 use Rattle.zarr_parts.specs.Numbering.{count_of, number_of, IsInside}
 use Rattle.zarr_parts.specs.Arrays.{Array, element_of}
 use Rattle.object_handles.specs.declared.bytes.Interval.{Interval}

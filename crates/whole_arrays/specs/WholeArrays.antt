@@ -1,8 +1,8 @@
 -- Codecs whose bytes are a whole array or none: all cells are there, or no cell is.
 use Rattle.std.specs.Prelude.{ℕ, Option, Some, None, IsSome, map, replicate}
-use Rattle.zarr_words.specs.Words.{Elements, CellList, Refusals}
-use Rattle.zarr_words.specs.Order.{◌or◌then◌, done}
-use Rattle.zarr_words.specs.declared.error.CodecError.TheVariants.{Damaged}
+use Rattle.zarr_parts.specs.Words.{Elements, CellList, Refusals}
+use Rattle.zarr_parts.specs.Order.{◌or◌then◌, done}
+use Rattle.zarr_parts.specs.CodecError.TheVariants.{Damaged}
 
 -- the cells of an array of so many elements; where there is none, no cell is there
 abbrev pub whole_cells : ℕ → Option Elements → CellList

@@ -1,6 +1,6 @@
 // What is asked of an array.
 ghost use Rattle.std.specs.Prelude.{◌≡◌, ◌^◌, ◌<◌, IfOk, IfErr, map, length};
-ghost use Rattle.zarr_words.specs.declared.error.CodecError.TheVariants.{OutOfMemory};
+ghost use Rattle.zarr_parts.specs.CodecError.TheVariants.{OutOfMemory};
 ghost use Rattle.zarr_parts.specs.Numbering.{count_of, number_of};
 ghost use Rattle.zarr_parts.specs.Selections.{IsSelectionOf};
 ghost use Rattle.zarr_parts.specs.Refusals.{IsValid};

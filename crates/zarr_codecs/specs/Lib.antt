@@ -10,6 +10,7 @@ pub use Rattle.object_handles.specs.Objects
 pub use Rattle.codec_laws.specs.Reads
 pub use Rattle.small_codecs.specs.BytesCodec
 pub use Rattle.small_codecs.specs.BytesCodecLaws
+pub use Rattle.small_codecs.specs.declared.bytes_codec.Endianness
 pub use Rattle.codec_laws.specs.RoundTrip
 pub use Rattle.object_handles.specs.Writes
 pub use Rattle.codec_chains.specs.Codings
@@ -21,12 +22,15 @@ pub use Rattle.codec_metadata.specs.CreateErrors
 pub use Rattle.codec_metadata.specs.Metadata
 pub use Rattle.codec_metadata.specs.BytesMetadata
 pub use Rattle.codec_metadata.specs.BytesMetadataLaws
+pub use Rattle.codec_metadata.specs.declared.error.PluginCreateError
 pub use Rattle.whole_arrays.specs.WholeArrays
 pub use Rattle.variable_codec.specs.Text
 pub use Rattle.variable_codec.specs.VlenCodec
 pub use Rattle.variable_codec.specs.VlenLaws
 pub use Rattle.variable_codec.specs.VlenMetadata
 pub use Rattle.default_codec.specs.DefaultCodec
+pub use Rattle.default_codec.specs.declared.default_codec.DefaultArrayToBytesCodec
+pub use Rattle.default_codec.specs.DefaultMetadata
 pub use Rattle.array_chains.specs.ArrayCodings
 pub use Rattle.array_chains.specs.ArrayChains
 pub use Rattle.array_chains.specs.ArrayChainLaws

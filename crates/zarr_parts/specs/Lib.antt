@@ -1,6 +1,7 @@
 pub use Rattle.zarr_words.specs.Order
 pub use Rattle.zarr_words.specs.Words
 pub use Rattle.zarr_words.specs.Errors
+pub use Rattle.zarr_words.specs.declared.error.CodecError
 pub use Rattle.zarr_boxes.specs.Numbering
 pub use Rattle.zarr_boxes.specs.Boxes
 pub use Rattle.zarr_boxes.specs.Overlaps
@@ -17,3 +18,6 @@ pub use Rattle.zarr_elements.specs.Arrays
 pub use Rattle.zarr_elements.specs.Refusals
 pub use Rattle.zarr_elements.specs.TargetLaws
 pub use Rattle.zarr_elements.specs.Targets
+pub use Rattle.zarr_elements.specs.declared.data_type.DataTypeSize
+pub use Rattle.zarr_elements.specs.declared.target.FixedTarget
+pub use Rattle.zarr_elements.specs.declared.data_type.DataType

@@ -1,1 +1,2 @@
 pub mod ReadingLemmas
+pub use Rattle.shard_format.proofs.EncodeRefusals

@@ -1,6 +1,6 @@
 -- What a reading that gives a value says of its steps and of the call that makes it.
 use Rattle.std.proofs.Common.{◌≡◌, Result, Ok, Err, IfErr, IsErrAnd, inl, inr, refl, sym, subst, Option}
-use Rattle.zarr_words.specs.Words.{Bytes}
+use Rattle.zarr_parts.specs.Words.{Bytes}
 use Rattle.serde_json.specs.Data.{Members, object}
 use Rattle.codec_metadata.specs.Metadata.{metadata_of}
 use Rattle.sharding_core.specs.declared.codec.ShardingCodec.{ShardingCodec}

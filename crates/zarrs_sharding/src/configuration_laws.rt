@@ -8,8 +8,7 @@ ghost use Rattle.sharding_core.specs.ShardMetadata.{shard_written, shard_told};
 
 use codec_metadata::{CodecTraitsV3, PluginCreateError};
 use serde_json::Value;
-use shard_configuration::ShardingCodecConfiguration;
-use sharding_core::ShardingCodec;
+use sharding_core::{ShardingCodec, ShardingCodecConfiguration};
 use std::alloc::Global;
 
 /// The codec of the configuration that `configuration` gave of a codec: the same codec, but for what the metadata of its codecs

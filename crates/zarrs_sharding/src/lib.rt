@@ -11,12 +11,11 @@ pub use laws::{
     compact_again, compact_encoded, decode_served, decode_sound, encode_functional,
     read_after_write,
 };
-pub use shard_configuration::{ShardingCodecConfiguration, ShardingCodecConfigurationV1};
 pub use shard_format::{
     ShardingIndexLocation, SubchunkWriteOrder, calculate_chunks_per_shard, sharding_index_shape,
 };
-pub use shard_workers::{Gate, NoGate};
 pub use sharding_core::{
-    PartialDecoderCapability, PartialEncoderCapability, ShardState, ShardingCodec,
-    ShardingCodecOptions, ShardingPartialDecoder, ShardingPartialEncoder,
+    Gate, NoGate, PartialDecoderCapability, PartialEncoderCapability, ShardState, ShardingCodec,
+    ShardingCodecConfiguration, ShardingCodecConfigurationV1, ShardingCodecOptions,
+    ShardingPartialDecoder, ShardingPartialEncoder,
 };

@@ -5,18 +5,18 @@ ghost use Rattle.zarr_parts.specs.Numbering.{count_of};
 ghost use Rattle.zarr_parts.specs.Types.{size_of};
 ghost use Rattle.zarr_parts.specs.Selections.{IsSelectionOf};
 ghost use Rattle.zarr_parts.specs.Targets.{IsWritten, TargetTests};
-ghost use Rattle.zarr_elements.specs.declared.data_type.DataTypeSize.TheVariants.{Fixed};
+ghost use Rattle.zarr_parts.specs.DataTypeSize.TheVariants.{Fixed};
 ghost use Rattle.object_handles.specs.Handles.{IsCounted};
 ghost use Rattle.codec_laws.specs.Reads.{cells_at, IsAnswer, IsDecodedInto, AskedTests};
 ghost use Rattle.object_handles.specs.Objects.{ObjectTests};
-ghost use Rattle.shard_opening.specs.Held.{object_cells};
+ghost use Rattle.shard_held.specs.Held.{object_cells};
 ghost use Rattle.sharding_core.specs.Decoders.{index_in, IsOpen, Unmoved, ObjectCellsTests};
 
 use super::ShardingPartialDecoder;
 use crate::codec::{ShardingCodec, lent};
 use codec_laws::{ArrayToBytesCodecTraits, check_target};
 use object_handles::BytesPartialDecoderTraits;
-use shard_cells::check_asked;
+use shard_steps::check_asked;
 use std::alloc::Global;
 use zarr_parts::{ArrayBytes, CodecError, CodecOptions, FixedTarget, Indexer};
 

@@ -6,7 +6,7 @@ ghost use Rattle.zarr_parts.specs.Grid.{grid_of};
 ghost use Rattle.std.specs.Cow.{cow_slice_items};
 ghost use Rattle.object_handles.specs.Handles.{IsCounted, seen};
 ghost use Rattle.object_handles.specs.Objects.{ObjectTests};
-ghost use Rattle.shard_opening.specs.Slices.{held_slot, IsRangeOf, IsSliceRead, SlotTests};
+ghost use Rattle.shard_held.specs.Slices.{held_slot, IsRangeOf, IsSliceRead, SlotTests};
 ghost use Rattle.sharding_core.specs.Decoders.{index_in, IsOpen, Unmoved};
 
 use super::ShardingPartialDecoder;

@@ -11,8 +11,8 @@ use super::ShardState;
 use crate::codec::{ShardingCodec, lent};
 use codec_laws::ArrayToBytesCodecTraits;
 use object_handles::BytesPartialEncoderTraits;
-use shard_asked::Asked;
 use shard_held::OpenSession;
+use shard_steps::Asked;
 use std::alloc::Global;
 use zarr_parts::{ChunkShape, CodecError, CodecOptions, DataType, FillValue};
 

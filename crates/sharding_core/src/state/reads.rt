@@ -1,11 +1,11 @@
 // Reads of some cells of a session.
 ghost use Rattle.std.specs.Prelude.{◌≡◌, false, IsTrue, Some, IfOk, IfErr, OnOk, map, length};
 ghost use Rattle.zarr_parts.specs.Order.{◌or◌then◌, RefusedBy};
-ghost use Rattle.zarr_words.specs.declared.error.CodecError.TheVariants.{SessionFailed};
+ghost use Rattle.zarr_parts.specs.CodecError.TheVariants.{SessionFailed};
 ghost use Rattle.object_handles.specs.Handles.{IsCounted};
 ghost use Rattle.object_handles.specs.Objects.{ObjectTests};
 ghost use Rattle.codec_laws.specs.Reads.{cells_at, IsAnswer, AskedTests};
-ghost use Rattle.shard_opening.specs.Held.{object_cells};
+ghost use Rattle.shard_held.specs.Held.{object_cells};
 ghost use Rattle.sharding_core.specs.Decoders.{ObjectCellsTests};
 ghost use Rattle.sharding_core.specs.Sessions.{IsInStep, IsLeft};
 
@@ -13,7 +13,7 @@ use super::ShardState;
 use crate::codec::{ShardingCodec, lent};
 use codec_laws::ArrayToBytesCodecTraits;
 use object_handles::BytesPartialEncoderTraits;
-use shard_cells::check_asked;
+use shard_steps::check_asked;
 use std::alloc::Global;
 use zarr_parts::{ArrayBytes, CodecError, CodecOptions, Indexer};
 

@@ -1,12 +1,12 @@
 // Writes into a session.
 ghost use Rattle.std.specs.Prelude.{◌≡◌, false, IsTrue, IfErr, IfSome, OnOk};
 ghost use Rattle.zarr_parts.specs.Order.{◌or◌then◌, RefusedBy};
-ghost use Rattle.zarr_words.specs.declared.error.CodecError.TheVariants.{SessionFailed};
+ghost use Rattle.zarr_parts.specs.CodecError.TheVariants.{SessionFailed};
 ghost use Rattle.object_handles.specs.Handles.{IsCounted};
 ghost use Rattle.object_handles.specs.Objects.{ObjectTests};
-ghost use Rattle.shard_cells.specs.Updates.{UpdateTests, IsUpdateOf};
-ghost use Rattle.shard_writing.specs.Writing.{AreOverlaid};
-ghost use Rattle.shard_opening.specs.Held.{object_cells};
+ghost use Rattle.shard_steps.specs.Updates.{UpdateTests, IsUpdateOf};
+ghost use Rattle.shard_held.specs.Writing.{AreOverlaid};
+ghost use Rattle.shard_held.specs.Held.{object_cells};
 ghost use Rattle.sharding_core.specs.Sessions.{IsInStep, IsDone, IsLeftOrFailed};
 ghost use Rattle.sharding_core.specs.SessionWrites.{IsWritten, WrittenTests, BoxTested};
 
@@ -14,7 +14,7 @@ use super::ShardState;
 use crate::codec::{ShardingCodec, lent};
 use codec_laws::ArrayToBytesCodecTraits;
 use object_handles::BytesPartialEncoderTraits;
-use shard_cells::check_update;
+use shard_steps::check_update;
 use std::alloc::Global;
 use zarr_parts::{ArrayBytes, CodecError, CodecOptions, Indexer};
 

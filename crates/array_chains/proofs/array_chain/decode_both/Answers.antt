@@ -1,7 +1,7 @@
 use Rattle.std.proofs.Common.{◌≡◌, ◌<◌, ◌∙◌, Some, map, sym, ap}
 use Rattle.zarr_parts.specs.Geo.{geo, IsArrayOf}
 use Rattle.zarr_parts.specs.Numbering.{count_of}
-use Rattle.zarr_boxes.proofs.NumberingLaws.{count_positive}
+use Rattle.zarr_parts.proofs.NumberingLaws.{count_positive}
 use Rattle.codec_laws.specs.RefusalLaws.{passed_on}
 use Rattle.array_chains.specs.ArrayChains.{chain_elements}
 use Rattle.array_chains.specs.ArrayChainLaws.{same_array_of, if_there}

@@ -1,6 +1,6 @@
 use Rattle.std.proofs.Common.{◌≡◌, map, take}
 use Rattle.script_words.specs.Elements.{width_of, element_of_number}
-use Rattle.zarr_elements.specs.declared.data_type.DataTypeSize.TheVariants.{Fixed}
+use Rattle.zarr_parts.specs.DataTypeSize.TheVariants.{Fixed}
 use Rattle.script_words.proofs.elements.array_of.Given as goal
 
 abbrev pub invariant-loop-number : goal.invariant-loop-number

@@ -1,5 +1,5 @@
 use Rattle.std.proofs.Common.{◌≡◌, map, ◌++◌}
-use Rattle.zarr_elements.specs.declared.data_type.DataTypeSize.TheVariants.{Variable}
+use Rattle.zarr_parts.specs.DataTypeSize.TheVariants.{Variable}
 use Rattle.script_words.specs.Hex.{hex_word}
 use Rattle.script_words.specs.Text.{members_of, pieces_left}
 use Rattle.script_words.proofs.elements.bytes_members.Given as goal

@@ -1,6 +1,6 @@
 use Rattle.std.proofs.Common.{◌≡◌, ◌∙◌, ◌*◌, ◌<◌, [], None, ap, arith, length, get_or}
 use Rattle.std.proofs.lemmas.List.{get_or_default}
-use Rattle.zarr_words.proofs.ListLaws.{whole_after}
+use Rattle.zarr_parts.proofs.ListLaws.{whole_after}
 use Rattle.zarr_parts.specs.Numbering.{count_of}
 use Rattle.zarr_parts.specs.Pieces.{piece, IsUpdated}
 use Rattle.zarr_parts.specs.Grid.{grid_of, cell_number}

@@ -1,7 +1,7 @@
 use Rattle.std.proofs.Common.{◌≡◌, ◌∙◌, ap, sym, arith, map}
 use Rattle.zarr_parts.specs.Arrays.{Array}
-use Rattle.zarr_boxes.proofs.PieceLaws.{concat-map}
-use Rattle.zarr_elements.proofs.ArrayLaws.{whole-concat, fixed_array-concat}
+use Rattle.zarr_parts.proofs.PieceLaws.{concat-map}
+use Rattle.zarr_parts.proofs.ArrayLaws.{whole-concat, fixed_array-concat}
 use Rattle.shard_format.specs.Index.{element_of_number}
 use Rattle.shard_index.proofs.NumberLaws.{numbers_sized}
 use Rattle.shard_index.proofs.numbers.array_of_numbers.Goals as goal

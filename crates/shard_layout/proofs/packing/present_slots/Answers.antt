@@ -1,6 +1,6 @@
 use Rattle.std.proofs.Common.{◌/◌, length, arith}
 use Rattle.zarr_parts.specs.Order.{Each, done, RefusedBy}
-use Rattle.zarr_words.specs.declared.error.CodecError.TheVariants.{BadIndexEntry}
+use Rattle.zarr_parts.specs.CodecError.TheVariants.{BadIndexEntry}
 use Rattle.shard_format.specs.Index.{slot_at}
 use Rattle.shard_format.specs.Compacting.{IsGood}
 use Rattle.codec_laws.specs.RefusalLaws.{passed_on}

@@ -1,6 +1,6 @@
 use Rattle.std.proofs.Common.{◌≡◌, List, Option, length, refl, sym, ap, ◌∙◌, subst, false, IsTrue}
-use Rattle.zarr_words.specs.Words.{Bytes, Refusals}
-use Rattle.zarr_words.specs.declared.error.CodecError.TheVariants.{SessionFailed}
+use Rattle.zarr_parts.specs.Words.{Bytes, Refusals}
+use Rattle.zarr_parts.specs.CodecError.TheVariants.{SessionFailed}
 use Rattle.zarr_parts.specs.Boxes.{Region, points_of}
 use Rattle.zarr_parts.specs.Numbering.{count_of}
 use Rattle.zarr_parts.specs.Arrays.{Array}
@@ -9,9 +9,9 @@ use Rattle.zarr_parts.specs.Selections.{box_selection}
 use Rattle.object_handles.specs.Objects.{ObjectTests}
 use Rattle.codec_laws.specs.Reads.{cells_at, AskedTests}
 use Rattle.shard_format.specs.Cells.{shard_cells}
-use Rattle.shard_opening.specs.Held.{object_cells}
+use Rattle.sharding_core.specs.Held.{object_cells}
 use Rattle.sharding_core.specs.Decoders.{ObjectCellsTests}
-use Rattle.shard_held.proofs.PreparedLemmas.{length-object_cells}
+use Rattle.sharding_core.proofs.PreparedLemmas.{length-object_cells}
 use Rattle.shard_runs.specs.Objects.{shards_of}
 use Rattle.shard_runs.proofs.CauseLemmas.{session_first}
 use Rattle.shard_records.specs.Histories.{IsCellsOf}

@@ -1,5 +1,5 @@
 use Rattle.std.proofs.lemmas.Bool.Decides.{Decides-at}
-use Rattle.zarr_elements.specs.Arrays.{same_array}
+use Rattle.zarr_parts.specs.Arrays.{same_array}
 use Rattle.shard_records.proofs.EqualityLemmas.{same_array-Decides}
 use Rattle.shard_records.proofs.event.same_elements.Goals as goal
 

@@ -2,7 +2,7 @@ use Rattle.std.proofs.Common.{◌/◌, ◌∙◌, ℕ, Option, None, IfOk, IfErr
 use Rattle.std.specs.declared.result.Result.{Result}
 use Rattle.std.specs.List.{AllZip, range_with_len}
 use Rattle.rayon.proofs.ListFacts.{AllZip-weaken}
-use Rattle.zarr_words.specs.declared.error.CodecError.{CodecError}
+use Rattle.zarr_parts.specs.CodecError.{CodecError}
 use Rattle.zarr_parts.specs.Order.{RefusedBy}
 use Rattle.zarr_parts.specs.Arrays.{Array}
 use Rattle.codec_laws.specs.RefusalLaws.{passed_on}
@@ -10,7 +10,7 @@ use Rattle.shard_format.specs.Index.{slot_at}
 use Rattle.shard_format.specs.DecodeTests.{RefusesSubchunk}
 use Rattle.shard_format.specs.Decoding.{IsDecoded}
 use Rattle.shard_format.proofs.RefusalLemmas.{one_refused}
-use Rattle.shard_subchunks.specs.Inner.{subchunk_geo}
+use Rattle.shard_steps.specs.Inner.{subchunk_geo}
 use Rattle.shard_workers.proofs.OrderLemmas.{taken_counted, taken_at, before_at, refused_below, refused_at}
 use Rattle.shard_workers.proofs.decoded.decode_subchunks.Goals as goal
 

@@ -2,8 +2,8 @@ use Rattle.std.proofs.Common.{sym, subst}
 use Rattle.zarr_parts.specs.Grid.{subchunk}
 use Rattle.shard_format.specs.Laying.{IsStored}
 use Rattle.shard_format.proofs.LayingLemmas.{one_more_laid}
-use Rattle.shard_subchunks.specs.Inner.{inner_meaning}
-use Rattle.shard_subchunks.specs.declared.encoded.Stored.{Stored}
+use Rattle.shard_steps.specs.Inner.{inner_meaning}
+use Rattle.shard_steps.specs.Stored.{Stored}
 use Rattle.shard_workers.proofs.encoded.laid_in_order.Goals as goal
 
 pub loop-part-preserved : goal.loop-part-preserved

@@ -1,6 +1,6 @@
 -- The subchunks so far stand one after the other.
 use Rattle.shard_format.specs.Laying.{IsLaidOut}
-use Rattle.shard_subchunks.specs.Inner.{inner_meaning}
+use Rattle.shard_steps.specs.Inner.{inner_meaning}
 use Rattle.shard_workers.proofs.encoded.laid_in_order.Given as goal
 
 abbrev pub invariant-loop-part : goal.invariant-loop-part

@@ -2,16 +2,16 @@ use Rattle.std.proofs.Common.{◌∙◌, ℕ, List, Bool, true, false, IfOk, IfE
 use Rattle.std.specs.declared.result.Result.{Result}
 use Rattle.std.specs.List.{AllZip, range_with_len}
 use Rattle.rayon.proofs.ListFacts.{AllZip-weaken}
-use Rattle.zarr_words.specs.Words.{Written}
-use Rattle.zarr_words.specs.declared.error.CodecError.{CodecError}
+use Rattle.zarr_parts.specs.Words.{Written}
+use Rattle.zarr_parts.specs.CodecError.{CodecError}
 use Rattle.zarr_parts.specs.Order.{RefusedBy}
 use Rattle.zarr_parts.specs.Grid.{subchunk}
 use Rattle.codec_laws.specs.RefusalLaws.{passed_on}
 use Rattle.shard_format.specs.Laying.{IsStored}
 use Rattle.shard_format.specs.Serves.{IsStoredPart}
 use Rattle.shard_format.specs.EncodeTests.{RefusesToStore}
-use Rattle.shard_subchunks.specs.Inner.{inner_meaning}
-use Rattle.shard_subchunks.specs.declared.encoded.Stored.{Stored}
+use Rattle.shard_steps.specs.Inner.{inner_meaning}
+use Rattle.shard_steps.specs.Stored.{Stored}
 use Rattle.shard_workers.proofs.OrderLemmas.{taken_counted, taken_at, each_before, refused_below, refused_at}
 use Rattle.shard_workers.proofs.encoded.lay_out_subchunks.Goals as goal
 

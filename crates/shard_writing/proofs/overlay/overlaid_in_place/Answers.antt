@@ -1,5 +1,5 @@
 use Rattle.std.proofs.Common.{◌≡◌, ◌∙◌, ap, length, arith}
-use Rattle.zarr_words.proofs.ListLaws.{whole_after}
+use Rattle.zarr_parts.proofs.ListLaws.{whole_after}
 use Rattle.zarr_parts.specs.Numbering.{count_of}
 use Rattle.shard_writing.proofs.InPlaceLemmas.{many_bytes, whole_new, overlaid_bytes}
 use Rattle.shard_writing.proofs.overlay.overlaid_in_place.Goals as goal

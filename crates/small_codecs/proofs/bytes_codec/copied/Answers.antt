@@ -1,5 +1,5 @@
 use Rattle.std.proofs.Common.{◌∙◌, ap, arith, length}
-use Rattle.zarr_words.proofs.ListLaws.{whole_after}
+use Rattle.zarr_parts.proofs.ListLaws.{whole_after}
 use Rattle.small_codecs.proofs.BytesCodecSteps.{kept_elements, turned_elements}
 use Rattle.small_codecs.proofs.bytes_codec.copied.Goals as goal
 use Rattle.small_codecs.proofs.bytes_codec.copied.Goals.{then-reversed, else-reversed}

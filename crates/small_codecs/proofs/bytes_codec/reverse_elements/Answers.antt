@@ -1,5 +1,5 @@
 use Rattle.std.proofs.Common.{◌≡◌, ◌+◌, ◌*◌, ◌≤◌, ◌/◌, arith, length}
-use Rattle.zarr_elements.proofs.ArrayLaws.{piece_within}
+use Rattle.zarr_parts.proofs.ArrayLaws.{piece_within}
 use Rattle.small_codecs.proofs.BytesCodecSteps.{reversed_more, reversed_elements}
 use Rattle.small_codecs.proofs.bytes_codec.reverse_elements.Goals as goal
 

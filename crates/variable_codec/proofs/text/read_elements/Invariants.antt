@@ -1,5 +1,5 @@
 use Rattle.std.proofs.Common.{◌≡◌, ◌-◌, ◌++◌, option_map}
-use Rattle.zarr_elements.specs.declared.data_type.DataTypeSize.TheVariants.{Variable}
+use Rattle.zarr_parts.specs.DataTypeSize.TheVariants.{Variable}
 use Rattle.variable_codec.specs.Text.{elements_in}
 use Rattle.variable_codec.proofs.text.read_elements.Given as goal
 

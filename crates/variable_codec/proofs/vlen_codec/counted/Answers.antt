@@ -1,4 +1,4 @@
-use Rattle.zarr_boxes.proofs.NumberingLaws.{count_positive}
+use Rattle.zarr_parts.proofs.NumberingLaws.{count_positive}
 use Rattle.variable_codec.proofs.vlen_codec.counted.Goals as goal
 
 pub returns-clause-some : goal.returns-clause-some

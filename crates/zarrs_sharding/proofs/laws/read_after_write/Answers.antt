@@ -1,5 +1,5 @@
 use Rattle.std.proofs.lemmas.Result.{IfOk-weaker}
-use Rattle.shard_writing.proofs.OverlayLemmas.{read_after}
+use Rattle.sharding_core.proofs.OverlayLemmas.{read_after}
 use Rattle.zarrs_sharding.proofs.laws.read_after_write.Goals as goal
 
 pub returns-clause-agree : goal.returns-clause-agree

@@ -1,7 +1,7 @@
 use Rattle.std.proofs.Common.{◌<◌}
 use Rattle.zarr_parts.specs.Geo.{geo}
 use Rattle.zarr_parts.specs.Numbering.{count_of}
-use Rattle.zarr_boxes.proofs.NumberingLaws.{count_positive}
+use Rattle.zarr_parts.proofs.NumberingLaws.{count_positive}
 use Rattle.codec_chains.proofs.ChainSteps.{refused_decode}
 use Rattle.codec_laws.specs.RefusalLaws.{passed_on}
 use Rattle.codec_chains.proofs.bytes_chain.BytesChainArrayToBytesCodecTraits.decode.Goals as goal

@@ -1,7 +1,7 @@
 use Rattle.std.proofs.Common.{◌≡◌, ◌<◌, ◌∙◌, refl, inr}
 use Rattle.zarr_parts.specs.Geo.{geo}
 use Rattle.zarr_parts.specs.Numbering.{count_of}
-use Rattle.zarr_boxes.proofs.NumberingLaws.{count_positive}
+use Rattle.zarr_parts.proofs.NumberingLaws.{count_positive}
 use Rattle.object_handles.specs.Objects.{interval_part}
 use Rattle.codec_laws.proofs.ReadLemmas.{interval_read}
 use Rattle.codec_chains.proofs.ChainSteps.{refused_read, refused_inner, whole_lies_in}

@@ -5,7 +5,7 @@ use Rattle.zarr_parts.specs.Grid.{grid_of}
 use Rattle.shard_format.specs.Index.{absent_number}
 use Rattle.shard_format.specs.Serves.{fixed_size}
 use Rattle.codec_laws.specs.RefusalLaws.{passed_on}
-use Rattle.shard_index.specs.Indexes.{index_meaning}
+use Rattle.shard_steps.specs.Indexes.{index_meaning}
 use Rattle.shard_steps.specs.Meanings.{meaning_of}
 use Rattle.shard_steps.specs.Plans.{asked_geo}
 use Rattle.shard_opening.specs.OpenShards.{shard_geo}

@@ -1,6 +1,6 @@
 use Rattle.std.proofs.Common.{arith}
 use Rattle.zarr_parts.specs.Grid.{grid_of}
-use Rattle.zarr_boxes.proofs.GridLaws.{count-positive, grid_positive, places_of}
+use Rattle.zarr_parts.proofs.GridLaws.{count-positive, grid_positive, places_of}
 use Rattle.shard_format.specs.Serves.{sub_geo}
 use Rattle.codec_laws.specs.RefusalLaws.{passed_on}
 use Rattle.shard_writing.specs.Changes.{object_after}

@@ -1,6 +1,6 @@
 use Rattle.std.proofs.Common.{◌<◌, arith}
 use Rattle.zarr_parts.specs.Numbering.{count_of}
-use Rattle.zarr_boxes.proofs.NumberingLaws.{number_below}
+use Rattle.zarr_parts.proofs.NumberingLaws.{number_below}
 use Rattle.shard_opening.specs.Held.{held_numbers}
 use Rattle.shard_opening.proofs.OpenLemmas.{pair_below}
 use Rattle.shard_opening.proofs.shard.OpenShard.byte_range.Goals as goal

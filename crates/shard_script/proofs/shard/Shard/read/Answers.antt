@@ -1,6 +1,6 @@
 use Rattle.std.proofs.Common.{◌≡◌, None, inl, inr, refl, rules}
 use Rattle.zarr_codecs.specs.Handles.{seen}
-use Rattle.shard_format.proofs.EncodeRefusals.{refused_as}
+use Rattle.zarrs_sharding.proofs.EncodeRefusals.{refused_as}
 use Rattle.shard_script.specs.Shards.{geo_of}
 use Rattle.shard_script.proofs.OpenLaws.{opens, no_fault}
 use Rattle.shard_script.proofs.shard.Shard.read.Goals as goal

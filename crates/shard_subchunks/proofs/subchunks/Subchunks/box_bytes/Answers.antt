@@ -1,10 +1,10 @@
 use Rattle.std.proofs.Common.{◌≡◌, ◌<◌, ◌∙◌, ap, sym, get_or, map, length, [], arith}
 use Rattle.std.proofs.lemmas.List.{get_or_read}
-use Rattle.zarr_words.proofs.ListLaws.{whole_after}
+use Rattle.zarr_parts.proofs.ListLaws.{whole_after}
 use Rattle.zarr_parts.specs.Numbering.{count_of}
 use Rattle.zarr_parts.specs.Boxes.{numbers_in, number_in}
 use Rattle.zarr_parts.specs.Pieces.{piece, IsUpdated}
-use Rattle.zarr_boxes.proofs.SelectionLemmas.{numbers_of-points_of}
+use Rattle.zarr_parts.proofs.SelectionLemmas.{numbers_of-points_of}
 use Rattle.object_handles.specs.Objects.{interval_part}
 use Rattle.codec_laws.proofs.ReadLemmas.{length-interval_part}
 use Rattle.shard_format.specs.Index.{slot_at}

@@ -1,7 +1,7 @@
 use Rattle.std.proofs.Common.{◌∙◌, ap, length}
 use Rattle.zarr_parts.specs.Selections.{Selection}
-use Rattle.zarr_boxes.proofs.BoxLaws.{length-points_of}
-use Rattle.zarr_boxes.proofs.SelectionLemmas.{numbers_of-points_of}
+use Rattle.zarr_parts.proofs.BoxLaws.{length-points_of}
+use Rattle.zarr_parts.proofs.SelectionLemmas.{numbers_of-points_of}
 use Rattle.shard_subchunks.proofs.subchunks.Subchunks.read_asked.Goals as goal
 
 pub read_box-requires-clause-count : goal.read_box-requires-clause-count

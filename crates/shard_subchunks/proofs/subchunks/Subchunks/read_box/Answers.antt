@@ -1,8 +1,8 @@
 use Rattle.std.proofs.Common.{◌≡◌, ◌∙◌, List, ℕ, ap, length, map, Some, Option, sym}
 use Rattle.zarr_parts.specs.Pieces.{pieces}
 use Rattle.zarr_parts.specs.Arrays.{Array}
-use Rattle.zarr_boxes.proofs.PieceLaws.{length-pieces}
-use Rattle.zarr_elements.proofs.ArrayLaws.{whole_from_length, All-fixed_array}
+use Rattle.zarr_parts.proofs.PieceLaws.{length-pieces}
+use Rattle.zarr_parts.proofs.ArrayLaws.{whole_from_length, All-fixed_array}
 use Rattle.shard_cells.proofs.BoxReadLemmas.{fixed_pieces}
 use Rattle.shard_subchunks.proofs.subchunks.Subchunks.read_box.Goals as goal
 

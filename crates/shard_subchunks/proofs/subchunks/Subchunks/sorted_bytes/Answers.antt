@@ -1,7 +1,7 @@
 use Rattle.std.proofs.Common.{◌≡◌, ◌+◌, ◌<◌, ◌∙◌, ap, sym, inl, inr, map, length, take, drop, [], arith}
 use Rattle.std.proofs.lemmas.Bool.{cases_lt}
 use Rattle.std.proofs.lemmas.List.{take_rest}
-use Rattle.zarr_words.proofs.ListLaws.{whole_after}
+use Rattle.zarr_parts.proofs.ListLaws.{whole_after}
 use Rattle.zarr_parts.specs.Pieces.{piece}
 use Rattle.object_handles.specs.Objects.{interval_part}
 use Rattle.codec_laws.proofs.ReadLemmas.{length-interval_part}

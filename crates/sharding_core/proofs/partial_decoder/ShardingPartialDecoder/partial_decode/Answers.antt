@@ -4,7 +4,7 @@ use Rattle.zarr_parts.specs.Types.{size_of, byte_size}
 use Rattle.object_handles.specs.Objects.{ObjectTests}
 use Rattle.sharding_core.specs.Decoders.{ObjectCellsTests}
 use Rattle.codec_laws.specs.RefusalLaws.{passed_on}
-use Rattle.shard_opening.proofs.OpenLemmas.{asked_refused}
+use Rattle.shard_held.proofs.OpenLemmas.{asked_refused}
 use Rattle.sharding_core.proofs.partial_decoder.ShardingPartialDecoder.partial_decode.Goals as goal
 
 pub returns-in_err-array-clause-refused : goal.returns-in_err-array-clause-refused

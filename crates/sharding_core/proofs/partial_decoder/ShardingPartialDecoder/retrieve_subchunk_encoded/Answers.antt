@@ -3,11 +3,11 @@ use Rattle.zarr_parts.specs.Grid.{grid_of}
 use Rattle.zarr_parts.specs.Numbering.{number_of}
 use Rattle.object_handles.specs.Objects.{ObjectTests}
 use Rattle.zarr_parts.specs.Order.{done}
-use Rattle.shard_opening.specs.Held.{held_len, held_numbers}
-use Rattle.shard_opening.specs.Slices.{held_slot}
+use Rattle.shard_held.specs.Held.{held_len, held_numbers}
+use Rattle.shard_held.specs.Slices.{held_slot}
 use Rattle.sharding_core.specs.Decoders.{index_in}
 use Rattle.codec_laws.specs.RefusalLaws.{passed_on}
-use Rattle.shard_opening.proofs.OpenLemmas.{slot_first, slice_refused}
+use Rattle.shard_held.proofs.OpenLemmas.{slot_first, slice_refused}
 use Rattle.sharding_core.proofs.partial_decoder.ShardingPartialDecoder.retrieve_subchunk_encoded.Goals as goal
 
 pub returns-in_err-range-clause-refused : goal.returns-in_err-range-clause-refused

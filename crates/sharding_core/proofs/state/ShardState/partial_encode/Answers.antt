@@ -5,7 +5,7 @@ use Rattle.zarr_parts.specs.Grid.{grid_of}
 use Rattle.shard_format.specs.Index.{index_geo}
 use Rattle.shard_format.specs.Serves.{sub_geo}
 use Rattle.codec_laws.specs.RefusalLaws.{passed_on}
-use Rattle.shard_writing.specs.Changes.{object_after}
+use Rattle.shard_held.specs.Changes.{object_after}
 use Rattle.sharding_core.specs.Sessions.{numbers_held}
 use Rattle.sharding_core.specs.SessionWrites.{WrittenTests}
 use Rattle.shard_held.proofs.PreparedLemmas.{write_open, written_after}

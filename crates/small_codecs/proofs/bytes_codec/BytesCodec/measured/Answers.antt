@@ -1,7 +1,7 @@
 use Rattle.std.proofs.Common.{◌≡◌}
 use Rattle.zarr_parts.specs.Geo.{geo}
 use Rattle.zarr_parts.specs.Types.{size_of}
-use Rattle.zarr_elements.specs.declared.data_type.DataTypeSize.TheVariants.{Fixed}
+use Rattle.zarr_parts.specs.DataTypeSize.TheVariants.{Fixed}
 use Rattle.small_codecs.proofs.BytesCodecSteps.{measured}
 use Rattle.small_codecs.proofs.bytes_codec.BytesCodec.measured.Goals as goal
 

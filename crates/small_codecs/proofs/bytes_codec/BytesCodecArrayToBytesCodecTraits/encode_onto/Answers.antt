@@ -3,8 +3,8 @@ use Rattle.std.specs.List.{concat}
 use Rattle.zarr_parts.specs.Arrays.{fixed_array}
 use Rattle.small_codecs.specs.BytesCodec.{swapped}
 use Rattle.zarr_parts.specs.Geo.{geo}
-use Rattle.zarr_elements.specs.declared.data_type.DataTypeSize.TheVariants.{Fixed}
-use Rattle.zarr_elements.proofs.ArrayLaws.{whole-concat}
+use Rattle.zarr_parts.specs.DataTypeSize.TheVariants.{Fixed}
+use Rattle.zarr_parts.proofs.ArrayLaws.{whole-concat}
 use Rattle.small_codecs.proofs.BytesCodecSteps.{is_array, encoded}
 use Rattle.small_codecs.proofs.bytes_codec.BytesCodecArrayToBytesCodecTraits.encode_onto.Goals as goal
 

@@ -1,7 +1,7 @@
 use Rattle.std.proofs.Common.{◌≡◌, refl, inr, map}
 use Rattle.zarr_parts.specs.Geo.{geo}
 use Rattle.zarr_parts.specs.Numbering.{count_of, number_of}
-use Rattle.zarr_boxes.proofs.SelectionLemmas.{numbers_below}
+use Rattle.zarr_parts.proofs.SelectionLemmas.{numbers_below}
 use Rattle.object_handles.specs.Objects.{interval_part}
 use Rattle.codec_laws.proofs.ReadLemmas.{asked_answer, interval_read}
 use Rattle.codec_laws.specs.RefusalLaws.{passed_on}

@@ -1,0 +1,11 @@
+pub use Rattle.zarr_boxes.proofs.SelectionLemmas
+pub use Rattle.zarr_boxes.proofs.NumberingLaws
+pub use Rattle.zarr_boxes.proofs.GridLaws
+pub use Rattle.zarr_boxes.proofs.PieceLaws
+pub use Rattle.zarr_boxes.proofs.BoxLaws
+pub use Rattle.zarr_boxes.proofs.CountLaws
+pub use Rattle.zarr_boxes.proofs.RunLaws
+pub use Rattle.zarr_boxes.proofs.MissLaws
+pub use Rattle.zarr_words.proofs.ListLaws
+pub use Rattle.zarr_elements.proofs.GridArrays
+pub use Rattle.zarr_elements.proofs.ArrayLaws
