@@ -43,7 +43,7 @@ macro_rules! lent {
         shard_steps::Sharding {
             subchunk_shape: &$codec.subchunk_shape,
             inner: &$codec.inner,
-            index_codec: shard_index::IndexCodec {
+            index_codec: shard_steps::IndexCodec {
                 codec: &$codec.index_codec,
                 location: $codec.location,
             },
