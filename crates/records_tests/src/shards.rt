@@ -184,13 +184,15 @@ pub(crate) fn called<J: Naming<BytesCodec, BytesCodec>, R: Wait>(
     }
 }
 
-// How a session ended: by which end, with how many events, which opening cells, which refusal, and which object was left.
+// How a session ended: by which end, with how many events, which opening cells, which refusal, which receipt that does not agree, by
+// seat and place, and which object was left.
 #[derive(Drop)]
 pub(crate) struct Ended {
     pub how: &'static str,
     pub events: usize,
     pub opening: Vec<u8>,
     pub error: Option<CodecError>,
+    pub receipt: Option<(u64, u64)>,
     pub object: Option<Vec<u8>>,
 }
 
@@ -202,6 +204,7 @@ impl Ended {
             events: 0,
             opening: Vec::new(alloc),
             error: Some(error),
+            receipt: None,
             object: handle.into_inner(),
         }
     }
@@ -222,6 +225,7 @@ impl Ended {
             events: history.len(),
             opening: cells.to_vec(alloc)?,
             error: None,
+            receipt: None,
             object: handle.into_inner(),
         })
     }
@@ -235,7 +239,17 @@ pub(crate) fn how_it_ended(
     match end {
         Ok(closed) => Ended::of(alloc, "closed", closed),
         Err(CloseError::SeatsMissing(closed)) => Ended::of(alloc, "seats missing", closed),
-        Err(CloseError::ReceiptMismatch { closed, .. }) => Ended::of(alloc, "mismatch", closed),
+        Err(
+            CloseError::ReceiptMismatch {
+                closed,
+                seat,
+                place,
+            },
+        ) => {
+            let mut end = Ended::of(alloc, "mismatch", closed)?;
+            end.receipt = Some((seat, place));
+            Ok(end)
+        }
         Err(CloseError::Session(handle, error)) => {
             let mut end = Ended::refused(alloc, handle, error);
             end.how = "failed";

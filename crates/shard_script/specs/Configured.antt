@@ -1,5 +1,5 @@
 -- The codec that a script's configuration makes.
-use Rattle.std.specs.Prelude.{◌≡◌, ◌⊎◌, Option, Ok, Err, codes}
+use Rattle.std.specs.Prelude.{◌≡◌, Option, Ok, codes}
 use Rattle.zarr_parts.specs.Words.{Bytes, Refusals}
 use Rattle.zarr_parts.specs.Order.{RefusedBy}
 use Rattle.serde_json.specs.Read.{read as read_text}

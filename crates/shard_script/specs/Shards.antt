@@ -1,6 +1,7 @@
 -- What a script's shard is asked to serve.
 use Rattle.std.specs.Prelude.{◌<◌, ◌^◌, ◌+◌, ⊤, ℕ, List, Option, Some, None, IsSome, length}
 use Rattle.zarr_codecs.specs.Handles.{seen}
+use Rattle.zarr_codecs.specs.Meanings.{Meaning}
 use Rattle.zarr_parts.specs.Geo.{Geo, geo}
 use Rattle.zarr_codecs.specs.Endianness.{Endianness}
 use Rattle.zarr_codecs.specs.Endianness.TheVariants.{Little}
@@ -9,6 +10,9 @@ use Rattle.zarrs_sharding.specs.SubchunkWriteOrder.TheVariants.{C}
 use Rattle.zarr_codecs.specs.DefaultArrayToBytesCodec.{DefaultArrayToBytesCodec}
 use Rattle.zarr_codecs.specs.DefaultCodec.{default_codec_of}
 use Rattle.script_words.specs.Elements.{type_of}
+use Rattle.zarrs_sharding.specs.Decoders.{index_in}
+use Rattle.zarrs_sharding.specs.Sessions.{index_size_of, subchunks_of}
+use Rattle.zarrs_sharding.specs.Writing.{HoldsNumbers, IsHeld}
 use Rattle.shard_script.specs.declared.command.Settings.{Settings}
 use Rattle.shard_script.specs.declared.shard.Shard.{Shard}
 use Rattle.shard_script.specs.declared.tool.Tool.{Tool}
@@ -46,6 +50,20 @@ state_of s = record { codec = s.codec; geo = geo_of s; grid = s.chunks_per_shard
 abbrev pub Opens : (List ℕ → Option (List ℕ)) → Option (List ℕ) → Type 0
 Opens index_in None = ⊤
 Opens index_in (Some bytes) = (length bytes + 1 < 2 ^ 64) × IsSome (index_in bytes)
+
+-- what is held of an object that is open for writing: its length, and the numbers of its index, each pair of them absent or in the data
+-- part; and P of these numbers
+pub record OpensWith {I X : Type 0} (meaning : X → Geo → Meaning) (codec : ShardingCodec I X) (g : Geo) (object : Option (List ℕ))
+    (P : List ℕ → Type 0) : Type 0 where
+  pub len : ℕ
+  pub numbers : List ℕ
+  pub held : HoldsNumbers (index_in meaning codec g) object len numbers
+  pub placed : IsHeld codec.location (index_size_of meaning codec g) (subchunks_of codec g) len numbers
+  pub holds : P numbers
+
+-- an object that can be opened for writing
+abbrev pub OpensToWrite : {I X : Type 0} → (X → Geo → Meaning) → ShardingCodec I X → Geo → Option (List ℕ) → Type 0
+OpensToWrite meaning codec g object = OpensWith meaning codec g object (λ numbers. ⊤)
 
 -- what a tool works on, where there is a shard
 abbrev pub tool_state : Tool → Option ShardState

@@ -3,6 +3,7 @@ ghost use Rattle.std.specs.Prelude.{◌≡◌, ◌≤◌, ◌<◌, ◌^◌, ◌*
 ghost use Rattle.zarr_parts.specs.Grid.{grid_of};
 ghost use Rattle.zarr_parts.specs.Geo.{geo};
 ghost use Rattle.zarr_parts.specs.Numbering.{count_of};
+ghost use Rattle.zarr_parts.specs.Selections.{box_selection};
 ghost use Rattle.zarr_parts.specs.Order.{◌or◌then◌, ◌or_as◌then◌, done, RefusedBy};
 ghost use Rattle.zarr_parts.specs.CodecError.TheVariants.{TooLarge};
 ghost use Rattle.zarr_codecs.specs.Handles.{seen};
@@ -10,12 +11,14 @@ ghost use Rattle.zarr_codecs.specs.Reads.{cells_at, AskedTests};
 ghost use Rattle.zarr_codecs.specs.Refusals.{RefusesUnserved};
 ghost use Rattle.zarrs_sharding.specs.Decoders.{index_in, object_cells, OpenTests, ObjectCellsTests};
 ghost use Rattle.zarrs_sharding.specs.Sessions.{SessionTests};
+ghost use Rattle.zarrs_sharding.specs.SessionWrites.{WrittenTests};
+ghost use Rattle.zarrs_sharding.specs.Updates.{UpdateTests, IsUpdateOf};
 ghost use Rattle.zarrs_sharding.specs.Writing.{AreOverlaid};
 ghost use Rattle.zarrs_sharding.specs.DecodeTests.{IndexTests};
 ghost use Rattle.zarrs_sharding.specs.Index.{index_geo, numbers_in_index};
 ghost use Rattle.zarrs_sharding.specs.Serves.{fixed_size, layout, IndexCodecTests};
 ghost use Rattle.zarrs_sharding.specs.Compacting.{IsCompact};
-ghost use Rattle.shard_script.specs.Shards.{codec_of, asked_by, geo_of, state_of, Opens};
+ghost use Rattle.shard_script.specs.Shards.{codec_of, asked_by, geo_of, state_of, Opens, OpensWith, OpensToWrite};
 ghost use Rattle.shard_script.specs.Answers.{AreShort};
 ghost use Rattle.shard_script.specs.Configured.{configured_by, IsRefusal};
 
@@ -284,7 +287,8 @@ impl Shard {
         }
     }
 
-    /// Writes elements over the cells of a subset. Where it is refused the object stays.
+    /// Writes elements over the cells of a subset. Where it is refused the object stays. Refused as a session on the object is
+    /// opened, and then as its `partial_encode` refuses.
     pub fn write(
         &mut self,
         alloc: Global,
@@ -295,7 +299,19 @@ impl Shard {
         ensures cells { let codec = ⟦<Codec as ArrayToBytesCodecTraits>⟧ in let c = self.old.codec in let g = geo_of self.old in
             OnOk result (AreOverlaid g.shape subset.now elements.now.elements (object_cells (codec.meaning c g).cells g (state_of self.old).object)
             (object_cells (codec.meaning c g).cells g (state_of self.new).object)) }
+        ensures passed { let codec = ⟦<Codec as ArrayToBytesCodecTraits>⟧ in let bytes = ⟦<BytesCodec as ArrayToBytesCodecTraits>⟧ in
+            let c = self.old.codec in let g = geo_of self.old in
+            OnOk result ((codec.meaning c g).serves × OpensToWrite bytes.meaning c g (state_of self.old).object
+            × IsUpdateOf g.shape g.data_type (box_selection subset.now) elements.now) }
         ensures kept { OnErr result (state_of self.new ≡ state_of self.old) }
+        ensures refused { let codec = ⟦<Codec as ArrayToBytesCodecTraits>⟧ in let bytes = ⟦<BytesCodec as ArrayToBytesCodecTraits>⟧ in
+            let inner = ⟦<DefaultArrayToBytesCodec as ArrayToBytesCodecTraits>⟧ in let c = self.old.codec in let g = geo_of self.old in
+            let object = (state_of self.old).object in
+            IfErr result (RefusedBy (
+            (codec.meaning c g).serves or_as RefusesUnserved (codec.meaning c g) then
+            OpensToWrite bytes.meaning c g object or_as SessionTests bytes.meaning c g object then
+            UpdateTests g.shape g.data_type (box_selection subset.now) elements.now (λ e. OpensWith bytes.meaning c g object (λ numbers.
+            WrittenTests inner.meaning bytes.meaning c g subset.now elements.now.elements object numbers e)))) }
     {
         let handle = MemoryHandle::new(self.object.take());
         let options = CodecOptions::default();

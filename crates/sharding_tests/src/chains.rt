@@ -1,9 +1,9 @@
 // Shards with codecs behind the inner codec and the index codec.
-use crate::shards::{ABSENT, decoded, encoded, said, shape_of, shard_of};
+use crate::shards::{ABSENT, around, decoded, encoded, read, said, shape_of, shard_of, subset_of};
 use std::alloc::Global;
 use std::test::Fail;
-use test_codecs::MarkedCodec;
-use zarr_codecs::{BytesChain, BytesCodec};
+use test_codecs::{MarkedCodec, UnboundedCodec};
+use zarr_codecs::{ArrayToBytesCodecTraits, BytesChain, BytesCodec, MemoryHandle};
 use zarr_crc32c::Crc32cCodec;
 use zarr_parts::CodecError;
 use zarrs_sharding::{ShardingCodec, ShardingIndexLocation};
@@ -93,4 +93,39 @@ fn checksums_of_indices_are_written_and_compared(rt: HostRuntime) -> Result<(), 
         assert_eq!(rt; said(&cells), want, "{first}");
     }
     Ok(())
+}
+
+// Two cells of an array of 4 by 4 that is one subchunk.
+fn read_two<I: ArrayToBytesCodecTraits + Drop>(
+    alloc: Global,
+    inner: I,
+    cells: &[u8],
+) -> Result<Vec<u8>, CodecError> {
+    let codec = around(alloc, &[4, 4], inner, ShardingIndexLocation::End)?;
+    let handle = MemoryHandle::new(Some(encoded(alloc, &codec, &[4, 4], cells)?));
+    read(
+        alloc,
+        &codec,
+        handle,
+        &[4, 4],
+        &subset_of(alloc, &[1..3, 0..1])?,
+    )
+}
+
+// A subchunk is read in part, also where nothing tells how long its encoding is.
+#[test]
+fn one_subchunk_is_read_in_part(rt: HostRuntime) {
+    for (cells, want) in [
+        (
+            [0, 1, 2, 3, 4, 5, 6, 7, 8, 9, 10, 11, 12, 13, 14, 15],
+            [4, 8],
+        ),
+        ([0; 16], [0, 0]),
+    ] {
+        let inner = BytesChain::new(BytesCodec::little(), UnboundedCodec);
+        let plain = read_two(rt.alloc(), BytesCodec::little(), &cells);
+        let unbounded = read_two(rt.alloc(), inner, &cells);
+        assert_eq!(rt; said(&plain), Ok(want.as_slice()));
+        assert_eq!(rt; said(&unbounded), Ok(want.as_slice()));
+    }
 }

@@ -1,3 +1,4 @@
 pub mod Marked
 pub mod Inverted
 pub mod InvertedLaws
+pub mod Unbounded

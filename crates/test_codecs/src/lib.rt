@@ -2,12 +2,14 @@
 #![tactic(auto)]
 
 mod inverted;
+mod unbounded;
 
 use codec_chains::BytesToBytesCodecTraits;
 use codec_laws::BytesRepresentation;
 pub use inverted::InvertedCodec;
 use std::alloc::Global;
 use std::borrow::CowSlice;
+pub use unbounded::UnboundedCodec;
 use zarr_parts::CodecError;
 
 /// A codec that puts the byte 42 behind bytes, and demands it where it decodes.

@@ -4,6 +4,8 @@
 #[cfg(test)]
 mod gates;
 #[cfg(test)]
+mod round_trips;
+#[cfg(test)]
 mod shards;
 #[cfg(test)]
 mod workers;
