@@ -1,7 +1,8 @@
 // Arrays that are made one element after the other.
-ghost use Rattle.std.specs.Prelude.{◌≡◌, ◌≢◌, ◌++◌, ◌∷◌, [], IfOk, OnOk, OnErr, length};
+ghost use Rattle.std.specs.Prelude.{◌≡◌, ◌≢◌, ◌<◌, ◌+◌, ◌++◌, ◌∷◌, [], IfOk, OnOk, OnErr, length, map, slice_index, slice_range};
+ghost use Rattle.std.specs.List.{range_with_len};
 ghost use Rattle.zarr_elements.specs.Types.{FitsKind};
-ghost use Rattle.zarr_elements.specs.Arrays.{AreOffsets, parts};
+ghost use Rattle.zarr_elements.specs.Arrays.{AreOffsets, part, parts};
 ghost use Rattle.zarr_elements.specs.declared.data_type.DataTypeSize.TheVariants.{Fixed};
 
 use super::{ArrayBytes, Held};
@@ -41,6 +42,42 @@ fn push_part(
     offsets.reserve(1)?;
     bytes.extend_from_slice(element)?;
     offsets.push_reserved(bytes.len());
+    Ok(())
+}
+
+// The bytes of neighbouring parts.
+fn parts_at<'a>(from: &'a [u8], ends: &[usize], first: usize, count: usize) -> &'a [u8]
+    requires ends { AreOffsets ends.now (length from.now) }
+    requires within { first + count < length ends.now }
+    ensures { result.now ≡ slice_range from.now (slice_index ends.now first) (slice_index ends.now (first + count)) }
+{
+    &from[ends[first]..ends[first + count]]
+}
+
+// Adds neighbouring parts of a list behind the others, by one copy of their bytes, and the offsets where they end. Where that is
+// refused the parts are as they were.
+pub(super) fn push_parts(
+    bytes: &mut Vec<u8>,
+    offsets: &mut Vec<usize>,
+    from: &[u8],
+    ends: &[usize],
+    first: usize,
+    count: usize,
+) -> Result<(), AllocError>
+    requires offsets { AreOffsets offsets.old.items (length bytes.old.items) }
+    requires ends { AreOffsets ends.now (length from.now) }
+    requires within { first + count < length ends.now }
+    ensures offsets { AreOffsets offsets.new.items (length bytes.new.items) }
+    ensures ok { OnOk result (parts offsets.new.items bytes.new.items
+        ≡ parts offsets.old.items bytes.old.items ++ map (part from.now ends.now) (range_with_len first count)) }
+    ensures err { OnErr result (parts offsets.new.items bytes.new.items ≡ parts offsets.old.items bytes.old.items) }
+{
+    let (start, begin) = (bytes.len(), ends[first]);
+    offsets.reserve(count)?;
+    bytes.extend_from_slice(parts_at(from, ends, first, count))?;
+    for i in 0..count {
+        offsets.push_reserved(start + (ends[first + i + 1] - begin));
+    }
     Ok(())
 }
 
