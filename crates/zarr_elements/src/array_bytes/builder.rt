@@ -1,9 +1,9 @@
 // Arrays that are made one element after the other.
-ghost use Rattle.std.specs.Prelude.{◌≡◌, ◌≢◌, ◌<◌, ◌+◌, ◌++◌, ◌∷◌, [], IfOk, OnOk, OnErr, length, map, slice_index, slice_range};
+ghost use Rattle.std.specs.Prelude.{◌≡◌, ◌≢◌, ◌<◌, ◌≤◌, ◌+◌, ◌++◌, ◌∷◌, [], IfOk, OnOk, OnErr, length, map, slice_index, slice_range};
 ghost use Rattle.std.specs.List.{range_with_len};
 ghost use Rattle.zarr_elements.specs.Types.{FitsKind};
-ghost use Rattle.zarr_elements.specs.Arrays.{AreOffsets, part, parts};
-ghost use Rattle.zarr_elements.specs.declared.data_type.DataTypeSize.TheVariants.{Fixed};
+ghost use Rattle.zarr_elements.specs.Arrays.{AreOffsets, element_of, part, parts};
+ghost use Rattle.zarr_elements.specs.declared.data_type.DataTypeSize.TheVariants.{Fixed, Variable};
 
 use super::{ArrayBytes, Held};
 use crate::data_type::DataTypeSize;
@@ -107,6 +107,32 @@ impl ArrayBuilder {
         match &mut self.held {
             Held::Fixed(_) => Ok(self.bytes.extend_from_slice(element)?),
             Held::Variable(offsets) => push_part(&mut self.bytes, offsets, element),
+        }
+    }
+
+    /// Adds neighbouring elements of an array behind the others, by one copy of their bytes, where both have elements of lengths of
+    /// their own. Refused only as out of memory; the elements are then as they were.
+    pub fn push_range(
+        &mut self,
+        from: &ArrayBytes,
+        first: usize,
+        count: usize,
+    ) -> Result<(), AllocError>
+        requires kind { self.old.kind ≡ Variable }
+        requires from { from.now.kind ≡ Variable }
+        requires within { first + count ≤ length from.now.elements }
+        ensures kind { self.new.kind ≡ Variable }
+        ensures ok { OnOk result (self.new.elements ≡ self.old.elements ++ map (element_of from.now) (range_with_len first count)) }
+        ensures err { OnErr result (self.new.elements ≡ self.old.elements) }
+    {
+        match &mut self.held {
+            Held::Variable(offsets) => match &from.held {
+                Held::Variable(ends) => {
+                    push_parts(&mut self.bytes, offsets, &from.bytes, ends, first, count)
+                }
+                Held::Fixed(_) => unreachable!(),
+            },
+            Held::Fixed(_) => unreachable!(),
         }
     }
 
