@@ -152,11 +152,11 @@ run_taken f box shape done first len runs rest old new is h more =
     let next = left_more number (count_of box.shape) done first len runs rest is h.left in
     let there : map number (range_with_len done len) ≡ range_with_len first len =
     ext_get_or 0 (map number (range_with_len done len)) (range_with_len first len)
-        (length-map-range_with_len number done len ∙ sym (length-range_with_len first len))
-        (λ k lt.
-        let small : k < len = omega (arith, length-map-range_with_len number done len) in
-        get_or-map-range_with_len number done len k (done + k) 0 small refl
-        ∙ (next.follow k small ∙ sym (get_or-range_with_len first len k 0 small))) in
+    (length-map-range_with_len number done len ∙ sym (length-range_with_len first len))
+    (λ k lt.
+    let small : k < len = omega (arith, length-map-range_with_len number done len) in
+    get_or-map-range_with_len number done len k (done + k) 0 small refl
+    ∙ (next.follow k small ∙ sym (get_or-range_with_len first len k 0 small))) in
     let zero : 0 + done ≡ done = omega arith in
     record {
       left = next.left;

@@ -1,5 +1,5 @@
 // Arrays that are made one element after the other.
-ghost use Rattle.std.specs.Prelude.{◌≡◌, ◌≢◌, ◌<◌, ◌≤◌, ◌+◌, ◌++◌, ◌∷◌, [], IfOk, OnOk, OnErr, length, map, slice_index, slice_range};
+ghost use Rattle.std.specs.Prelude.{◌≡◌, ◌≢◌, ◌<◌, ◌≤◌, ◌^◌, ◌+◌, ◌++◌, ◌∷◌, [], IfOk, OnOk, OnErr, length, map, slice_index, slice_range};
 ghost use Rattle.std.specs.List.{range_with_len};
 ghost use Rattle.zarr_elements.specs.Types.{FitsKind};
 ghost use Rattle.zarr_elements.specs.Arrays.{AreOffsets, element_of, part, parts};
@@ -110,8 +110,22 @@ impl ArrayBuilder {
         }
     }
 
-    /// Adds neighbouring elements of an array behind the others, by one copy of their bytes, where both have elements of lengths of
-    /// their own. Refused only as out of memory; the elements are then as they were.
+    // Adds neighbouring elements of an array behind the others, one after the other.
+    fn push_each(&mut self, from: &ArrayBytes, first: usize, count: usize) -> Result<(), AllocError>
+        requires kind { self.old.kind ≡ Variable }
+        requires within { first + count ≤ length from.now.elements }
+        requires fits { first + count < 2 ^ 64 }
+        ensures kind { self.new.kind ≡ Variable }
+        ensures ok { OnOk result (self.new.elements ≡ self.old.elements ++ map (element_of from.now) (range_with_len first count)) }
+    {
+        for i in 0..count {
+            self.push(from.element(first + i))?;
+        }
+        Ok(())
+    }
+
+    /// Adds neighbouring elements of an array behind the others, where these have lengths of their own: by one copy of their bytes,
+    /// where the array's have, too. Refused only as out of memory.
     pub fn push_range(
         &mut self,
         from: &ArrayBytes,
@@ -119,21 +133,18 @@ impl ArrayBuilder {
         count: usize,
     ) -> Result<(), AllocError>
         requires kind { self.old.kind ≡ Variable }
-        requires from { from.now.kind ≡ Variable }
         requires within { first + count ≤ length from.now.elements }
+        requires fits { first + count < 2 ^ 64 }
         ensures kind { self.new.kind ≡ Variable }
         ensures ok { OnOk result (self.new.elements ≡ self.old.elements ++ map (element_of from.now) (range_with_len first count)) }
-        ensures err { OnErr result (self.new.elements ≡ self.old.elements) }
     {
-        match &mut self.held {
-            Held::Variable(offsets) => match &from.held {
-                Held::Variable(ends) => {
-                    push_parts(&mut self.bytes, offsets, &from.bytes, ends, first, count)
-                }
-                Held::Fixed(_) => unreachable!(),
-            },
-            Held::Fixed(_) => unreachable!(),
-        }
+        let Held::Variable(ends) = &from.held else {
+            return self.push_each(from, first, count);
+        };
+        let Held::Variable(offsets) = &mut self.held else {
+            unreachable!()
+        };
+        push_parts(&mut self.bytes, offsets, &from.bytes, ends, first, count)
     }
 
     /// The array of the elements.

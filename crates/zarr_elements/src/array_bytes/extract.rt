@@ -53,7 +53,14 @@ fn extract_variable(
     let mut ends = Vec::new(alloc);
     ends.push(0)?;
     for (first, len) in subset.runs_in(shape) {
-        push_parts(&mut taken, &mut ends, bytes, offsets, first as usize, len as usize)?;
+        push_parts(
+            &mut taken,
+            &mut ends,
+            bytes,
+            offsets,
+            first as usize,
+            len as usize,
+        )?;
     }
     Ok(ArrayBytes {
         bytes: CowSlice::Owned(taken),

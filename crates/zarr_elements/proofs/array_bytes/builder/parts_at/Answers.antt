@@ -1,4 +1,4 @@
-use Rattle.std.proofs.Common.{◌+◌, ◌≤◌, length, rules}
+use Rattle.std.proofs.Common.{◌+◌, length, rules}
 use Rattle.zarr_elements.proofs.ArrayLaws.{rises_to, offset_within}
 use Rattle.zarr_elements.proofs.array_bytes.builder.parts_at.Goals as goal
 

@@ -1,6 +1,5 @@
-use Rattle.std.proofs.Common.{◌≡◌, ◌+◌, ◌-◌, ◌≤◌, ◌++◌, length, get_or, take, drop, arith, refl, ap, sym, ◌∙◌}
+use Rattle.std.proofs.Common.{◌≡◌, ◌+◌, ◌-◌, ◌++◌, length, get_or, drop, arith, ap, sym, ◌∙◌}
 use Rattle.std.proofs.lemmas.List.{length-append, length-drop, length-take-le}
-use Rattle.std.specs.List.{slice_range}
 use Rattle.zarr_elements.specs.Arrays.{part}
 use Rattle.zarr_elements.proofs.ArrayLaws.{rises_to, offset_within}
 use Rattle.zarr_elements.proofs.PartLaws.{added_none, added_more}
@@ -20,7 +19,7 @@ loop-i-init c =
 pub overflow_sub-ends : goal.overflow_sub-ends
 overflow_sub-ends c =
     let rise = rises_to c.args.ends.now (length c.args.from.now) c.args.first (c.loop-i.i + 1) c.requires.ends
-        (omega (arith, c.requires.within, c.loop-i-test.true)) in
+    (omega (arith, c.requires.within, c.loop-i-test.true)) in
     let next : c.args.first + (c.loop-i.i + 1) ≡ c.args.first + c.loop-i.i + 1 = omega arith in
     rw next at rise
 

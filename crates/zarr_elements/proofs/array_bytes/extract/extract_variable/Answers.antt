@@ -1,4 +1,4 @@
-use Rattle.std.proofs.Common.{◌≡◌, ◌+◌, [], arith, refl, rules, length}
+use Rattle.std.proofs.Common.{◌≡◌, ◌+◌, [], arith, rules, length}
 use Rattle.zarr_elements.specs.Arrays.{AreOffsets, part, parts}
 use Rattle.zarr_boxes.proofs.RunLaws.{left_all, left_none, next_within}
 use Rattle.zarr_elements.proofs.PartLaws.{run_taken}
