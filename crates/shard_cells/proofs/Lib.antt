@@ -1,6 +1,7 @@
 pub mod GroupingLemmas
 pub mod ReadGroupLemmas
 pub mod GatherLemmas
+pub mod RunPlaces
 pub mod LayingLaws
 pub mod MeetingLemmas
 pub mod MetPlaces

@@ -1,5 +1,5 @@
 // The cells of a shard, gathered from its decoded subchunks.
-ghost use Rattle.std.specs.Prelude.{◌≡◌, ◌≢◌, ◌≤◌, ◌<◌, ◌/◌, ◌*◌, ◌^◌, ℕ, Option, None, SomeIff, IfOk, IfErr, OnOk, map, length};
+ghost use Rattle.std.specs.Prelude.{◌≡◌, ◌≢◌, ◌≤◌, ◌<◌, ◌/◌, ◌*◌, ◌^◌, ◌+◌, ◌-◌, ◌++◌, ℕ, Option, None, SomeIff, IfOk, IfErr, IfSome, OnOk, map, length, replicate, slice_index_or};
 ghost use Rattle.std.specs.List.{range_with_len};
 ghost use Rattle.zarr_parts.specs.Order.{◌or◌then◌};
 ghost use Rattle.zarr_parts.specs.Numbering.{count_of};
@@ -10,7 +10,7 @@ ghost use Rattle.zarr_parts.specs.CodecError.TheVariants.{OutOfMemory, TooLarge}
 ghost use Rattle.shard_format.specs.Decoding.{AreChunks, IsChunkOf, element_at, element_in, bytes_in, bytes_gathered};
 
 use crate::laying::laid;
-use std::alloc::Global;
+use std::alloc::{AllocError, Global};
 use zarr_parts::{ArrayBuilder, ArrayBytes, ChunkShape, CodecError, DataTypeSize, Located, locate};
 
 // The element at a place of a decoded subchunk, which is the fill value where it is absent.
@@ -68,7 +68,49 @@ pub fn check_lengths(
     Ok(())
 }
 
-// The cells of a shard, one after the other, each taken from its decoded subchunk.
+// How many places of a subchunk follow one another along its last axis.
+fn run_length(sub: &[u64]) -> u64
+    ensures { result ≡ slice_index_or sub.now (length sub.now - 1) 1 }
+{
+    match sub.last() {
+        Some(last) => *last,
+        None => 1,
+    }
+}
+
+// Adds a fill value for each of so many places.
+fn push_filled(elements: &mut ArrayBuilder, fill: &[u8], count: u64) -> Result<(), AllocError>
+    requires kind { elements.old.kind ≡ Variable }
+    ensures kind { elements.new.kind ≡ Variable }
+    ensures ok { OnOk result (elements.new.elements ≡ elements.old.elements ++ replicate count fill.now) }
+{
+    for i in 0..count {
+        elements.push(fill)?;
+    }
+    Ok(())
+}
+
+// Adds the elements at neighbouring places of a decoded subchunk, which are fill values where it is absent.
+fn push_places(
+    elements: &mut ArrayBuilder,
+    subchunk: &Option<ArrayBytes>,
+    place: u64,
+    count: u64,
+    fill: &[u8],
+) -> Result<(), AllocError>
+    requires kind { elements.old.kind ≡ Variable }
+    requires within { IfSome subchunk.now (λ array. place + count ≤ length array.elements) }
+    requires fits { place + count < 2 ^ 64 }
+    ensures kind { elements.new.kind ≡ Variable }
+    ensures ok { OnOk result (elements.new.elements ≡ elements.old.elements ++ map (element_at fill.now subchunk.now) (range_with_len place count)) }
+{
+    match subchunk {
+        None => push_filled(elements, fill, count),
+        Some(array) => elements.push_range(array, place as usize, count as usize),
+    }
+}
+
+// The cells of a shard whose elements have lengths of their own, run by run, each taken from its decoded subchunk.
 fn listed(
     alloc: Global,
     subchunks: &[Option<ArrayBytes>],
@@ -76,32 +118,30 @@ fn listed(
     places: u64,
     shape: &ChunkShape,
     sub: &ChunkShape,
-    kind: DataTypeSize,
     fill: &[u8],
 ) -> Result<ArrayBytes<'static>, CodecError>
-    requires kind { kind ≢ Fixed 0 }
-    requires fill { FitsKind kind fill.now }
     requires cells { cells ≡ count_of shape.now }
     requires places { places ≡ count_of sub.now }
     requires divides { Divides sub.now shape.now }
-    requires subchunks { AreChunks kind sub.now (count_of (grid_of shape.now sub.now)) subchunks.now }
+    requires subchunks { AreChunks Variable sub.now (count_of (grid_of shape.now sub.now)) subchunks.now }
     ensures refused { IfErr result (λ e. e ≡ OutOfMemory) }
-    ensures kind { IfOk result (λ array. array.kind ≡ kind) }
+    ensures kind { IfOk result (λ array. array.kind ≡ Variable) }
     ensures elements { IfOk result (λ array. array.elements ≡ map (element_in subchunks.now fill.now shape.now sub.now) (range_with_len 0 (count_of shape.now))) }
 {
     let many = subchunks.len() as u64;
-    let mut elements = ArrayBuilder::new(alloc, kind)?;
-    for i in 0..cells {
-        let Located { subchunk, place } = locate(
-            i,
-            cells,
-            many,
-            places,
-            shape.as_slice(),
-            sub.as_slice(),
-        );
-        let element = element_of(&subchunks[subchunk as usize], place as usize, kind, fill);
-        elements.push(element)?;
+    let axes = shape.as_slice();
+    let parts = sub.as_slice();
+    let run = run_length(parts);
+    let mut elements = ArrayBuilder::new(alloc, DataTypeSize::Variable)?;
+    for q in 0..cells / run {
+        let Located { subchunk, place } = locate(q * run, cells, many, places, axes, parts);
+        push_places(
+            &mut elements,
+            &subchunks[subchunk as usize],
+            place,
+            run,
+            fill,
+        )?;
     }
     Ok(elements.finish())
 }
@@ -133,7 +173,7 @@ pub fn gathered(
     let places = cells / subchunks.len() as u64;
     check_lengths(subchunks, places, kind, fill)?;
     let array = match kind {
-        DataTypeSize::Variable => listed(alloc, subchunks, cells, places, shape, sub, kind, fill)?,
+        DataTypeSize::Variable => listed(alloc, subchunks, cells, places, shape, sub, fill)?,
         DataTypeSize::Fixed(_) => laid(alloc, subchunks, cells, places, shape, sub, fill)?,
     };
     Ok(array)

@@ -1,12 +1,19 @@
 -- Parts of a list between neighbouring offsets, one more at a time.
-use Rattle.std.proofs.Common.{◌≡◌, ℕ, ◌+◌, ◌-◌, ◌<◌, List, [], ◌∷◌, ◌++◌, length, get_or, take, drop, refl, ap, sym, ◌∙◌, arith, map, inl, inr}
-use Rattle.std.proofs.lemmas.List.{drop_at, take_all, drop-append-le, take-append-le, length-drop, length-append, length_push, get_or_append_left, get_or_push}
-use Rattle.std.proofs.lemmas.List.FromFn.{map-range_with_len_more}
+use Rattle.std.proofs.Common.{◌≡◌, ℕ, ◌+◌, ◌-◌, ◌<◌, ◌≤◌, List, [], ◌∷◌, ◌++◌, length, get_or, take, drop, refl, ap, sym, ◌∙◌, arith, map, inl, inr}
+use Rattle.std.proofs.lemmas.List.{ext_get_or, map-append, drop_at, take_all, drop-append-le, take-append-le, length-drop, length-take-le, length-append, append-nil, append_assoc, length_push, get_or_append_left, get_or_push}
+use Rattle.std.proofs.lemmas.List.FromFn.{map-range_with_len_more, length-range_with_len, get_or-range_with_len, length-map-range_with_len, get_or-map-range_with_len}
 use Rattle.std.proofs.lemmas.Bool.{cases_lt}
-use Rattle.std.specs.List.{range_with_len}
+use Rattle.std.specs.List.{All, range_with_len, slice_range}
+use Rattle.std.proofs.lemmas.List.Elements.{All-rest}
+use Rattle.std.proofs.lemmas.List.Folds.{drop_split}
+use Rattle.std.proofs.Math.Seq.{take-append-add}
 use Rattle.zarr_elements.specs.Arrays.{AreOffsets, part, parts}
-use Rattle.zarr_boxes.proofs.PieceLaws.{map_range_same}
-use Rattle.zarr_elements.proofs.ArrayLaws.{offset_within}
+use Rattle.zarr_boxes.specs.Numbering.{count_of}
+use Rattle.zarr_boxes.specs.Boxes.{Region, number_in}
+use Rattle.zarr_boxes.specs.Runs.{AreLeft}
+use Rattle.zarr_boxes.proofs.PieceLaws.{map-map, map_range_same}
+use Rattle.zarr_boxes.proofs.RunLaws.{left_more, range_split}
+use Rattle.zarr_elements.proofs.ArrayLaws.{offset_within, rises_to}
 
 module _ (es : List ℕ) (xs p : List ℕ) (e : ℕ) (ok : AreOffsets es (length xs)) (end : e ≡ length xs + length p) where
   -- the offsets with one more at the end
@@ -76,3 +83,89 @@ taken_more f place i es xs more added newer at end ok so_far a p m e n =
           ∙ (ap (λ y. map (λ k. f (place k)) (range_with_len 0 i) ++ y ∷ []) (p ∙ ap f a)
           ∙ sym (map-range_with_len_more (λ k. f (place k)) 0 i i (omega arith))));
     })
+
+-- two neighbouring ranges are one
+range_join : (s : List ℕ) (a b c : ℕ) → a ≤ b → b ≤ c → b ≤ length s → slice_range s a c ≡ slice_range s a b ++ slice_range s b c
+range_join s a b c ab bc within =
+    let long : length (slice_range s a b) ≡ b - a = length-take-le (b - a) (drop a s) (omega (arith, length-drop a s)) in
+    let steps : c - a ≡ length (slice_range s a b) + (c - b) = omega (arith, long, ab, bc) in
+    ap (take (c - a)) (drop_split s a b ab)
+    ∙ (ap (λ n. take n (slice_range s a b ++ drop b s)) steps ∙ take-append-add (slice_range s a b) (drop b s) (c - b))
+
+-- a part of which neighbouring ranges are made, and those that were added behind others so far: up to the end of the part with a number
+pub record AreAdded (es xs ends from : List ℕ) (first i : ℕ) (old : List (List ℕ)) (start : List ℕ) : Type 0 where
+  pub bytes : xs ≡ start ++ slice_range from (get_or ends first 0) (get_or ends (first + i) 0)
+  pub are_offsets : AreOffsets es (length xs)
+  pub so_far : parts es xs ≡ old ++ map (part from ends) (range_with_len first i)
+
+pub added_none : (es ends from : List ℕ) (first : ℕ) (start : List ℕ) → AreOffsets es (length start)
+    → AreAdded es start ends from first 0 (parts es start) start
+added_none es ends from first start ok =
+    let z : first + 0 ≡ first = omega arith in
+    let a = get_or ends first 0 in
+    let n : a - a ≡ 0 = omega arith in
+    record { bytes = rw (z, n) (sym (append-nil start)); are_offsets = ok; so_far = sym (append-nil (parts es start)) }
+
+pub added_more : (es xs ends from : List ℕ) (first i : ℕ) (old : List (List ℕ)) (start : List ℕ) (e : ℕ) → AreOffsets ends (length from)
+    → first + i + 1 < length ends → e ≡ length start + (get_or ends (first + i + 1) 0 - get_or ends first 0)
+    → AreAdded es xs ends from first i old start
+    → AreAdded (es ++ e ∷ []) (xs ++ part from ends (first + i)) ends from first (i + 1) old start
+added_more es xs ends from first i old start e ok lt end h =
+    let a = get_or ends first 0 in
+    let b = get_or ends (first + i) 0 in
+    let c = get_or ends (first + i + 1) 0 in
+    let ab = rises_to ends (length from) first i ok (omega arith) in
+    let bc = ok.rises (first + i) lt in
+    let within = offset_within ends (length from) (first + i + 1) ok lt in
+    let p = part from ends (first + i) in
+    let p_long : length p ≡ c - b = length-take-le (c - b) (drop b from) (omega (arith, length-drop b from, within)) in
+    let before_long : length (slice_range from a b) ≡ b - a = length-take-le (b - a) (drop a from) (omega (arith, length-drop a from, within, bc)) in
+    let xs_long : length xs ≡ length start + (b - a) = ap length h.bytes ∙ (length-append start (slice_range from a b) ∙ ap (λ n. length start + n) before_long) in
+    let here : e ≡ length xs + length p = omega (arith, end, xs_long, p_long, ab, bc) in
+    let next : first + (i + 1) ≡ first + i + 1 = omega arith in
+    let f : ℕ → List ℕ = part from ends in
+    record {
+      bytes =
+          rw next (ap (λ ys. ys ++ p) h.bytes
+          ∙ (append_assoc start (slice_range from a b) p
+          ∙ ap (λ ys. start ++ ys) (sym (range_join from a b c ab bc (omega (arith, within, bc))))));
+      are_offsets = offsets_more es xs p e h.are_offsets here;
+      so_far =
+          parts_more es xs p e h.are_offsets here
+          ∙ (ap (λ ys. ys ++ p ∷ []) h.so_far
+          ∙ (append_assoc old (map f (range_with_len first i)) (p ∷ [])
+          ∙ ap (λ ys. old ++ ys) (sym (map-range_with_len_more f first i (first + i) refl))));
+    }
+
+-- a walk over the runs of a box: some are left, and the parts at the places before them were taken
+pub record AreTaken (f : ℕ → List ℕ) (box : Region) (shape : List ℕ) (done : ℕ) (runs : List (ℕ × ℕ)) (taken : List (List ℕ)) : Type 0 where
+  pub left : AreLeft (number_in box shape) (count_of box.shape) done runs
+  pub within : All (λ run. run.0 + run.1 ≤ count_of shape) runs
+  pub so_far : taken ≡ map (λ k. f (number_in box shape k)) (range_with_len 0 done)
+
+-- one run more is taken
+pub run_taken : (f : ℕ → List ℕ) (box : Region) (shape : List ℕ) (done first len : ℕ) (runs rest : List (ℕ × ℕ)) (old new : List (List ℕ))
+    → runs ≡ (first, len) ∷ rest → AreTaken f box shape done runs old → new ≡ old ++ map f (range_with_len first len)
+    → AreTaken f box shape (done + len) rest new
+run_taken f box shape done first len runs rest old new is h more =
+    let number = number_in box shape in
+    let next = left_more number (count_of box.shape) done first len runs rest is h.left in
+    let there : map number (range_with_len done len) ≡ range_with_len first len =
+    ext_get_or 0 (map number (range_with_len done len)) (range_with_len first len)
+    (length-map-range_with_len number done len ∙ sym (length-range_with_len first len))
+    (λ k lt.
+    let small : k < len = omega (arith, length-map-range_with_len number done len) in
+    get_or-map-range_with_len number done len k (done + k) 0 small refl
+    ∙ (next.follow k small ∙ sym (get_or-range_with_len first len k 0 small))) in
+    let zero : 0 + done ≡ done = omega arith in
+    record {
+      left = next.left;
+      within = All-rest (λ (run : ℕ × ℕ). run.0 + run.1 ≤ count_of shape) (first, len) rest runs is h.within;
+      so_far =
+          more
+          ∙ (ap (λ ys. ys ++ map f (range_with_len first len)) h.so_far
+          ∙ (ap (λ ys. map (λ k. f (number k)) (range_with_len 0 done) ++ map f ys) (sym there)
+          ∙ (ap (λ ys. map (λ k. f (number k)) (range_with_len 0 done) ++ ys) (map-map f number (range_with_len done len))
+          ∙ sym (ap (map (λ k. f (number k))) (range_split 0 done len ∙ ap (λ n. range_with_len 0 done ++ range_with_len n len) zero)
+          ∙ map-append (λ k. f (number k)) (range_with_len 0 done) (range_with_len done len)))));
+    }

@@ -1,14 +1,14 @@
--- Neighbouring elements of one size, taken out of an array.
+-- Neighbouring elements, taken out of an array.
 use Rattle.std.proofs.Common.{◌≡◌, ℕ, ◌+◌, ◌/◌, ◌<◌, ◌≤◌, List, [], length, refl, sym, ◌∙◌, arith, map}
 use Rattle.std.proofs.lemmas.List.{ext_get_or}
 use Rattle.std.proofs.lemmas.List.Elements.{All-from_get_or}
 use Rattle.std.proofs.lemmas.List.FromFn.{length-map-range_with_len, get_or-map-range_with_len}
 use Rattle.std.specs.List.{All, range_with_len, flat_map, concat}
 use Rattle.zarr_boxes.specs.Pieces.{piece}
-use Rattle.zarr_elements.specs.Arrays.{element_of, IsWhole, fixed_array}
+use Rattle.zarr_elements.specs.Arrays.{element_of, part, IsWhole, fixed_array, variable_array}
 use Rattle.zarr_elements.specs.declared.data_type.DataTypeSize.TheVariants.{Fixed}
 use Rattle.zarr_boxes.proofs.PieceLaws.{concat-map}
-use Rattle.zarr_elements.proofs.ArrayLaws.{length-piece, piece_within, element_of-fixed_array, whole-concat, fixed_array-concat}
+use Rattle.zarr_elements.proofs.ArrayLaws.{length-piece, piece_within, element_of-fixed_array, element_of-variable_array, whole-concat, fixed_array-concat}
 
 -- neighbouring elements of one size, taken out
 pub record RangeTaken (n : ℕ) (bytes part : List ℕ) (first count : ℕ) : Type 0 where
@@ -36,3 +36,14 @@ range_elements n bytes first count h fits =
     let small : k < count = omega (arith, length-map-range_with_len f first count) in
     get_or-map-range_with_len f first count k (first + k) [] small refl
     ∙ (sym (element_of-fixed_array n bytes (first + k) (omega arith)) ∙ sym (get_or-map-range_with_len g first count k (first + k) [] small refl)))
+
+-- neighbouring parts are the array's elements
+pub parts_elements : (offsets bytes : List ℕ) (first count : ℕ) → first + count < length offsets
+    → map (part bytes offsets) (range_with_len first count) ≡ map (element_of (variable_array offsets bytes)) (range_with_len first count)
+parts_elements offsets bytes first count fits =
+    let f : ℕ → List ℕ = part bytes offsets in
+    let g : ℕ → List ℕ = element_of (variable_array offsets bytes) in
+    ext_get_or [] (map f (range_with_len first count)) (map g (range_with_len first count)) (length-map-range_with_len f first count ∙ sym (length-map-range_with_len g first count)) (λ k lt.
+    let small : k < count = omega (arith, length-map-range_with_len f first count) in
+    get_or-map-range_with_len f first count k (first + k) [] small refl
+    ∙ (sym (element_of-variable_array offsets bytes (first + k) (omega arith)) ∙ sym (get_or-map-range_with_len g first count k (first + k) [] small refl)))

@@ -1,8 +1,9 @@
 // Arrays that are made one element after the other.
-ghost use Rattle.std.specs.Prelude.{◌≡◌, ◌≢◌, ◌++◌, ◌∷◌, [], IfOk, OnOk, OnErr, length};
+ghost use Rattle.std.specs.Prelude.{◌≡◌, ◌≢◌, ◌<◌, ◌≤◌, ◌^◌, ◌+◌, ◌++◌, ◌∷◌, [], IfOk, OnOk, OnErr, length, map, slice_index, slice_range};
+ghost use Rattle.std.specs.List.{range_with_len};
 ghost use Rattle.zarr_elements.specs.Types.{FitsKind};
-ghost use Rattle.zarr_elements.specs.Arrays.{AreOffsets, parts};
-ghost use Rattle.zarr_elements.specs.declared.data_type.DataTypeSize.TheVariants.{Fixed};
+ghost use Rattle.zarr_elements.specs.Arrays.{AreOffsets, element_of, part, parts};
+ghost use Rattle.zarr_elements.specs.declared.data_type.DataTypeSize.TheVariants.{Fixed, Variable};
 
 use super::{ArrayBytes, Held};
 use crate::data_type::DataTypeSize;
@@ -44,6 +45,42 @@ fn push_part(
     Ok(())
 }
 
+// The bytes of neighbouring parts.
+fn parts_at<'a>(from: &'a [u8], ends: &[usize], first: usize, count: usize) -> &'a [u8]
+    requires ends { AreOffsets ends.now (length from.now) }
+    requires within { first + count < length ends.now }
+    ensures { result.now ≡ slice_range from.now (slice_index ends.now first) (slice_index ends.now (first + count)) }
+{
+    &from[ends[first]..ends[first + count]]
+}
+
+// Adds neighbouring parts of a list behind the others, by one copy of their bytes, and the offsets where they end. Where that is
+// refused the parts are as they were.
+pub(super) fn push_parts(
+    bytes: &mut Vec<u8>,
+    offsets: &mut Vec<usize>,
+    from: &[u8],
+    ends: &[usize],
+    first: usize,
+    count: usize,
+) -> Result<(), AllocError>
+    requires offsets { AreOffsets offsets.old.items (length bytes.old.items) }
+    requires ends { AreOffsets ends.now (length from.now) }
+    requires within { first + count < length ends.now }
+    ensures offsets { AreOffsets offsets.new.items (length bytes.new.items) }
+    ensures ok { OnOk result (parts offsets.new.items bytes.new.items
+        ≡ parts offsets.old.items bytes.old.items ++ map (part from.now ends.now) (range_with_len first count)) }
+    ensures err { OnErr result (parts offsets.new.items bytes.new.items ≡ parts offsets.old.items bytes.old.items) }
+{
+    let (start, begin) = (bytes.len(), ends[first]);
+    offsets.reserve(count)?;
+    bytes.extend_from_slice(parts_at(from, ends, first, count))?;
+    for i in 0..count {
+        offsets.push_reserved(start + (ends[first + i + 1] - begin));
+    }
+    Ok(())
+}
+
 impl ArrayBuilder {
     /// An array of no elements, of which each is to have this many bytes. Refused only as out of memory.
     pub fn new(alloc: Global, kind: DataTypeSize) -> Result<Self, AllocError>
@@ -71,6 +108,43 @@ impl ArrayBuilder {
             Held::Fixed(_) => Ok(self.bytes.extend_from_slice(element)?),
             Held::Variable(offsets) => push_part(&mut self.bytes, offsets, element),
         }
+    }
+
+    // Adds neighbouring elements of an array behind the others, one after the other.
+    fn push_each(&mut self, from: &ArrayBytes, first: usize, count: usize) -> Result<(), AllocError>
+        requires kind { self.old.kind ≡ Variable }
+        requires within { first + count ≤ length from.now.elements }
+        requires fits { first + count < 2 ^ 64 }
+        ensures kind { self.new.kind ≡ Variable }
+        ensures ok { OnOk result (self.new.elements ≡ self.old.elements ++ map (element_of from.now) (range_with_len first count)) }
+    {
+        for i in 0..count {
+            self.push(from.element(first + i))?;
+        }
+        Ok(())
+    }
+
+    /// Adds neighbouring elements of an array behind the others, where these have lengths of their own: by one copy of their bytes,
+    /// where the array's have, too. Refused only as out of memory.
+    pub fn push_range(
+        &mut self,
+        from: &ArrayBytes,
+        first: usize,
+        count: usize,
+    ) -> Result<(), AllocError>
+        requires kind { self.old.kind ≡ Variable }
+        requires within { first + count ≤ length from.now.elements }
+        requires fits { first + count < 2 ^ 64 }
+        ensures kind { self.new.kind ≡ Variable }
+        ensures ok { OnOk result (self.new.elements ≡ self.old.elements ++ map (element_of from.now) (range_with_len first count)) }
+    {
+        let Held::Variable(ends) = &from.held else {
+            return self.push_each(from, first, count);
+        };
+        let Held::Variable(offsets) = &mut self.held else {
+            unreachable!()
+        };
+        push_parts(&mut self.bytes, offsets, &from.bytes, ends, first, count)
     }
 
     /// The array of the elements.

@@ -7,12 +7,13 @@ ghost use Rattle.zarr_elements.specs.Arrays.{fixed_array, variable_array, IsWhol
 ghost use Rattle.zarr_boxes.specs.BoxRefusals.{BoxTests};
 ghost use Rattle.zarr_elements.specs.Refusals.{ValidTests, IsValid};
 
-use super::{ArrayBytes, Held, part_at};
+use super::builder::push_parts;
+use super::{ArrayBytes, Held};
 use crate::data_type::DataType;
 use byte_rows::gather;
 use std::alloc::{AllocError, Global};
 use std::borrow::CowSlice;
-use zarr_boxes::{ArraySubset, check_box, points_in};
+use zarr_boxes::{ArraySubset, check_box};
 use zarr_words::CodecError;
 
 // The elements of one size at the points of a box.
@@ -48,14 +49,18 @@ fn extract_variable(
     requires served { IsServed subset.now shape.now }
     ensures { IfOk result (λ part. part ≡ extracted (variable_array offsets.now bytes.now) subset.now shape.now) }
 {
-    let total = points_in(subset, shape);
     let mut taken = Vec::new(alloc);
     let mut ends = Vec::new(alloc);
     ends.push(0)?;
-    for i in 0..total {
-        let number = subset.number_at(i, shape) as usize;
-        taken.extend_from_slice(part_at(bytes, offsets, number))?;
-        ends.push(taken.len())?;
+    for (first, len) in subset.runs_in(shape) {
+        push_parts(
+            &mut taken,
+            &mut ends,
+            bytes,
+            offsets,
+            first as usize,
+            len as usize,
+        )?;
     }
     Ok(ArrayBytes {
         bytes: CowSlice::Owned(taken),
