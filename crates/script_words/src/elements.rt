@@ -1,9 +1,12 @@
 // The elements that numbers and bytes stand for, and back.
-ghost use Rattle.std.specs.Prelude.{◌≡◌, ◌≤◌, [], map, length, codes, IfOk};
+ghost use Rattle.std.specs.Prelude.{◌≡◌, ◌≤◌, [], Err, map, length, codes, IfOk};
+ghost use Rattle.std.specs.List.{All};
 ghost use Rattle.zarr_parts.specs.DataTypeSize.TheVariants.{Fixed, Variable};
 ghost use Rattle.script_words.specs.Elements.{width_of, element_of_number};
-ghost use Rattle.script_words.specs.Hex.{hex_word};
+ghost use Rattle.script_words.specs.Hex.{hex_word, IsHexWord};
 ghost use Rattle.script_words.specs.Text.{members_of};
+ghost use Rattle.script_words.specs.declared.reason.Reason.{Reason};
+ghost use Rattle.script_words.specs.declared.stop.Stop.TheVariants.{Malformed};
 
 use crate::element_type::NumberType;
 use crate::parse::parse_bytes;
@@ -34,6 +37,7 @@ pub fn array_of(
 fn bytes_members<'a>(alloc: Global, text: &'a [u8]) -> Result<ArrayBytes<'static>, Stop<'a>>
     ensures kind { IfOk result (λ array. array.kind ≡ Variable) }
     ensures elements { IfOk result (λ array. map hex_word array.elements ≡ members_of text.now) }
+    ensures malformed { (reason : Reason) → result ≡ Err (Malformed reason) → ¬ All IsHexWord (members_of text.now) }
 {
     let mut array = ArrayBuilder::new(alloc, DataTypeSize::Variable)?;
     for member in Pieces::new(text, b',') {
@@ -49,6 +53,7 @@ pub fn bytes_array_of<'a>(alloc: Global, word: &'a [u8]) -> Result<ArrayBytes<'s
     ensures kind { IfOk result (λ array. array.kind ≡ Variable) }
     ensures empty { word.now ≡ codes "-" → IfOk result (λ array. array.elements ≡ []) }
     ensures elements { ¬ (word.now ≡ codes "-") → IfOk result (λ array. map hex_word array.elements ≡ members_of word.now) }
+    ensures malformed { (reason : Reason) → result ≡ Err (Malformed reason) → (¬ (word.now ≡ codes "-")) × (¬ All IsHexWord (members_of word.now)) }
 {
     match word {
         b"-" => Ok(ArrayBuilder::new(alloc, DataTypeSize::Variable)?.finish()),

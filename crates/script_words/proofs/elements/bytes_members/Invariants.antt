@@ -1,6 +1,7 @@
 use Rattle.std.proofs.Common.{◌≡◌, map, ◌++◌}
+use Rattle.std.specs.List.{All}
 use Rattle.zarr_parts.specs.DataTypeSize.TheVariants.{Variable}
-use Rattle.script_words.specs.Hex.{hex_word}
+use Rattle.script_words.specs.Hex.{hex_word, IsHexWord}
 use Rattle.script_words.specs.Text.{members_of, pieces_left}
 use Rattle.script_words.proofs.elements.bytes_members.Given as goal
 
@@ -9,4 +10,5 @@ abbrev pub invariant-loop-member : goal.invariant-loop-member
 invariant-loop-member l = record {
   kind : l.array.kind ≡ Variable;
   elements : map hex_word l.array.elements ++ pieces_left l.member-iterator ≡ members_of l.text;
+  back : All IsHexWord (members_of l.text) → All IsHexWord (pieces_left l.member-iterator);
 }
