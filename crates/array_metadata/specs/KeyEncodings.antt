@@ -1,0 +1,20 @@
+-- What the metadata says of the keys of chunks.
+use Rattle.std.specs.Prelude.{Bool, true, false, codes}
+use Rattle.zarr_parts.specs.Words.{Bytes}
+use Rattle.array_metadata.specs.declared.keys.KeyEncoding.{KeyEncoding}
+use Rattle.array_metadata.specs.declared.keys.KeyEncoding.TheVariants.{Default, V2}
+
+-- the name of an encoding
+abbrev pub encoding_name : KeyEncoding → Bytes
+encoding_name Default = codes "default"
+encoding_name V2 = codes "v2"
+
+-- the separator where the configuration gives none
+abbrev pub default_separator : KeyEncoding → Bytes
+default_separator Default = codes "/"
+default_separator V2 = codes "."
+
+-- the separator of keys
+abbrev pub separator_text : Bool → Bytes
+separator_text true = codes "/"
+separator_text false = codes "."

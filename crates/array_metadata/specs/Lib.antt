@@ -1,0 +1,2 @@
+pub mod MetadataFields
+pub mod KeyEncodings

@@ -1,0 +1,27 @@
+-- What stands in the text of an array's metadata.
+use Rattle.std.specs.Prelude.{ℕ, List, [], ◌∷◌, Option, Some, codes, option_map, option_and_then}
+use Rattle.zarr_parts.specs.Words.{Bytes}
+use Rattle.serde_json.specs.Data.{Data, Items, no_items, item}
+use Rattle.serde_json.specs.Find.{get, as_array, as_number, as_u64}
+use Rattle.serde_json.specs.Read.{read}
+
+-- what stands under a key of the object that a text is
+abbrev pub member_in : Bytes → Bytes → Option Data
+member_in key text = option_and_then (get key) (read text)
+
+-- a whole number from 0 on
+abbrev pub whole_number_in : Data → Option ℕ
+whole_number_in d = option_and_then as_u64 (as_number d)
+
+-- the whole numbers that a list has, where each member is one
+abbrev pub whole_numbers_of : Items → Option (List ℕ)
+whole_numbers_of no_items = Some []
+whole_numbers_of (item d later) =
+    option_and_then (λ number. option_map (λ numbers. number ∷ numbers) (whole_numbers_of later)) (whole_number_in d)
+
+abbrev pub whole_numbers_in : Data → Option (List ℕ)
+whole_numbers_in d = option_and_then whole_numbers_of (as_array d)
+
+-- what stands under a key of an extension's configuration
+abbrev pub configured_in : Bytes → Data → Option Data
+configured_in key d = option_and_then (get key) (get (codes "configuration") d)

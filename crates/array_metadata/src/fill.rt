@@ -1,0 +1,82 @@
+// The data type and the fill value.
+ghost use Rattle.std.specs.Prelude.{◌≡◌, IfOk, length};
+ghost use Rattle.serde_json.specs.Find.{as_str};
+ghost use Rattle.serde_json.specs.View.{view};
+ghost use Rattle.zarr_parts.specs.Types.{size_of, type_name, HasElements};
+ghost use Rattle.zarr_parts.specs.DataTypeSize.TheVariants.{Fixed};
+
+use crate::error::MetadataError;
+use crate::fields::Placed;
+use serde_json::Value;
+use std::alloc::Global;
+use zarr_parts::{DataType, DataTypeSize, FillValue};
+
+// The type of elements that a value names. Refused as `BadField`.
+pub fn data_type_in(alloc: Global, named: &Placed) -> Result<DataType, MetadataError>
+    ensures elements { IfOk result HasElements }
+    ensures named { IfOk result (λ data_type. as_str (view named.now.value.now) ≡ type_name data_type) }
+{
+    let Some(name) = named.value.as_str() else {
+        return Err(named.bad(alloc, "only data types that a string names are read"));
+    };
+    match DataType::from_name(name) {
+        Some(DataType::Bytes) | None => {
+            let sentence = format!(in alloc;
+                "elements of the data type {name} are not read, only bool, int8 to int64 and uint8 to uint64"
+            )?;
+            Err(named.bad(alloc, sentence.as_str()))
+        }
+        Some(data_type) => Ok(data_type),
+    }
+}
+
+// The number of a value that fits an unsigned element of so many bits.
+fn unsigned(value: &Value, most: u64) -> Option<u64> {
+    value.as_u64().filter(|number| *number <= most)
+}
+
+// The bits of a number that fits a signed element from `least` to `most`, as of an element of 64 bits.
+fn signed(value: &Value, least: i64, most: i64) -> Option<u64> {
+    match value.as_i64() {
+        Some(number) if least <= number && number <= most => Some(number.cast_unsigned()),
+        _ => None,
+    }
+}
+
+// The bits of an element that a value is, as of an element of 64 bits. `None` where it is no element of the type.
+fn bits_in(value: &Value, data_type: DataType) -> Option<u64> {
+    match data_type {
+        DataType::Bool => value.as_bool().map(u64::from),
+        DataType::Int8 => signed(value, -0x80, 0x7f),
+        DataType::Int16 => signed(value, -0x8000, 0x7fff),
+        DataType::Int32 => signed(value, -0x8000_0000, 0x7fff_ffff),
+        DataType::Int64 => signed(value, i64::MIN, i64::MAX),
+        DataType::UInt8 => unsigned(value, 0xff),
+        DataType::UInt16 => unsigned(value, 0xffff),
+        DataType::UInt32 => unsigned(value, 0xffff_ffff),
+        DataType::UInt64 => unsigned(value, u64::MAX),
+        DataType::Raw(_) | DataType::Bytes | DataType::Optional => None,
+    }
+}
+
+// The fill value that a value is. Refused as `BadField`.
+pub fn fill_value_in(
+    alloc: Global,
+    fill: &Placed,
+    data_type: DataType,
+) -> Result<FillValue, MetadataError>
+    ensures { IfOk result (λ fill_value. size_of data_type ≡ Fixed (length fill_value)) }
+{
+    let Some(bits) = bits_in(fill.value, data_type) else {
+        let name = data_type.name().unwrap_or("the data type");
+        let sentence = format!(in alloc; "this is no element of {name}")?;
+        return Err(fill.bad(alloc, sentence.as_str()));
+    };
+    let bytes = bits.to_le_bytes();
+    match data_type.size() {
+        DataTypeSize::Fixed(size) if size <= bytes.len() => {
+            Ok(FillValue::new(bytes[..size].to_vec(alloc)?))
+        }
+        _ => Err(fill.bad(alloc, "elements of this size are not read")),
+    }
+}

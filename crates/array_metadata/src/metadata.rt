@@ -1,0 +1,168 @@
+// An array's metadata.
+ghost use Rattle.std.specs.Prelude.{◌≡◌, Some, IfOk, codes, length, option_and_then, unwrap_or, vec_len};
+ghost use Rattle.serde_json.specs.Find.{as_str};
+ghost use Rattle.serde_json.specs.Read.{read as read_text};
+ghost use Rattle.serde_json.specs.View.{view};
+ghost use Rattle.zarr_codecs.specs.Metadata.{name_in};
+ghost use Rattle.array_metadata.specs.MetadataFields.{member_in, configured_in, whole_numbers_in};
+ghost use Rattle.array_metadata.specs.KeyEncodings.{encoding_name, default_separator, separator_text};
+ghost use Rattle.zarr_parts.specs.Types.{size_of, type_name, HasElements};
+ghost use Rattle.zarr_parts.specs.DataTypeSize.TheVariants.{Fixed};
+
+use crate::codecs::{ArrayCodec, array_codec};
+use crate::error::MetadataError;
+use crate::fields::Placed;
+use crate::fill::{data_type_in, fill_value_in};
+use crate::keys::{ChunkKeys, keys_in};
+use serde_json::{Map, Value};
+use std::alloc::Global;
+use zarr_codecs::PluginCreateError;
+use zarr_parts::{ChunkShape, DataType, FillValue};
+
+/// The metadata of an array whose chunks are shards (Zarr V3 core, "Array metadata").
+#[derive(Drop)]
+pub struct ArrayMetadata {
+    /// How many cells there are along each axis; 0 is served.
+    pub shape: Vec<u64>,
+    /// The shape of a chunk, which is a shard.
+    pub shard: ChunkShape,
+    /// The shape of a subchunk of a shard.
+    pub subchunk: ChunkShape,
+    /// The names of the chunks' files.
+    pub keys: ChunkKeys,
+    pub data_type: DataType,
+    pub fill_value: FillValue,
+    pub codec: ArrayCodec,
+    /// The value of `codecs`, as it stands in the text.
+    pub codecs: String,
+}
+
+// The value that a text is. Refused as `BadField` where it is no JSON.
+fn value_in(alloc: Global, text: &str) -> Result<Value, MetadataError>
+    ensures { IfOk result (λ value. read_text text.now ≡ Some (view value)) }
+{
+    match Value::from_str(alloc, text) {
+        Ok(value) => Ok(value),
+        Err(error) if error.is_memory() => Err(MetadataError::OutOfMemory),
+        Err(_) => {
+            let error = PluginCreateError::bad_field(alloc, "zarr.json");
+            Err(MetadataError::refused(alloc, error, "zarr.json", "the text is no JSON"))
+        }
+    }
+}
+
+// Whether a member of the metadata is known, or says that it need not be.
+fn is_understood(key: &str, value: &Value) -> bool {
+    match key {
+        "zarr_format" | "node_type" | "shape" | "data_type" | "chunk_grid" => true,
+        "chunk_key_encoding" | "fill_value" | "codecs" | "attributes" => true,
+        "dimension_names" | "storage_transformers" => true,
+        _ => value.get("must_understand").and_then(Value::as_bool) == Some(false),
+    }
+}
+
+// The key of the first member, in the order of keys, that is not understood.
+fn first_unknown(members: &Map<String, Value>) -> Option<&str> {
+    for (key, value) in members.iter() {
+        if !is_understood(key.as_str(), value) {
+            return Some(key.as_str());
+        }
+    }
+    None
+}
+
+// Tests that the value is the metadata of an array of Zarr V3, whose members are all understood.
+fn test_members_of(alloc: Global, whole: &Placed) -> Result<(), MetadataError> {
+    let Some(members) = whole.value.as_object() else {
+        return Err(whole.bad(alloc, "the text is JSON, but no object"));
+    };
+    let format = whole.required(alloc, "zarr_format")?;
+    if format.value.as_u64() != Some(3) {
+        return Err(format.bad(alloc, "only arrays of Zarr V3 are read"));
+    }
+    let node_type = whole.required(alloc, "node_type")?;
+    match node_type.value.as_str() {
+        Some("array") => {}
+        Some("group") => return Err(node_type.bad(alloc, "this is a group, not an array")),
+        _ => return Err(node_type.bad(alloc, "this is not an array")),
+    }
+    if let Some(key) = first_unknown(members) {
+        let error = PluginCreateError::bad_field(alloc, key);
+        let sentence = "the key is not known, and must be understood";
+        return Err(MetadataError::refused(alloc, error, key, sentence));
+    }
+    match whole.member(alloc, "storage_transformers")? {
+        Some(transformers) if !is_empty_list(transformers.value) => {
+            Err(transformers.bad(alloc, "storage transformers are not served"))
+        }
+        _ => Ok(()),
+    }
+}
+
+// Whether a value is a list of nothing.
+fn is_empty_list(value: &Value) -> bool {
+    value.as_array().is_some_and(|list| list.is_empty())
+}
+
+// The shape of a chunk of the regular grid. Refused as `BadField` where the grid is another, or as `MissingField`.
+fn shard_in(alloc: Global, grid: &Placed, axes: usize) -> Result<ChunkShape, MetadataError>
+    ensures axes { IfOk result (λ shape. length shape ≡ axes) }
+    ensures read { IfOk result (λ shape. option_and_then whole_numbers_in (configured_in (codes "chunk_shape") (view grid.now.value.now)) ≡ Some shape) }
+{
+    let name = grid.extension_name(alloc)?;
+    if name != "regular" {
+        let sentence = format!(in alloc; "the chunk grid {name} is not served, only regular")?;
+        return Err(grid.bad(alloc, sentence.as_str()));
+    }
+    let configuration = grid.required(alloc, "configuration")?;
+    configuration.only_member(alloc, "chunk_shape")?;
+    let chunk_shape = configuration.required(alloc, "chunk_shape")?;
+    chunk_shape.chunk_shape(alloc, axes)
+}
+
+impl ArrayMetadata {
+    /// The metadata that a `zarr.json` holds (Zarr V3 core, "Array metadata"). Refused, in this order, where the text is no JSON,
+    /// no object, of another `zarr_format` than 3, of another `node_type` than `array`, has an unknown member that must be
+    /// understood, or `storage_transformers`; and then for `shape` (whole numbers), `data_type` (`bool`, `int8` to `int64`,
+    /// `uint8` to `uint64`), `chunk_grid` (`regular`), `chunk_key_encoding` (`default` or `v2`), `fill_value` (an element of the
+    /// type) and `codecs` (`sharding_indexed` alone, with `bytes`, `bytes` and `crc32c`, or `sharding_indexed` once more inside)
+    /// in turn: each with its place, and a sentence that says what is not served; or as `OutOfMemory`.
+    pub fn from_text(alloc: Global, text: &str) -> Result<Self, MetadataError>
+        ensures shape_read { IfOk result (λ metadata. option_and_then whole_numbers_in (member_in (codes "shape") text.now) ≡ Some metadata.shape.items) }
+        ensures data_type_read { IfOk result (λ metadata. option_and_then as_str (member_in (codes "data_type") text.now) ≡ type_name metadata.data_type) }
+        ensures shard_read { IfOk result (λ metadata.
+            option_and_then whole_numbers_in (option_and_then (configured_in (codes "chunk_shape")) (member_in (codes "chunk_grid") text.now)) ≡ Some metadata.shard) }
+        ensures encoding_read { IfOk result (λ metadata.
+            option_and_then name_in (member_in (codes "chunk_key_encoding") text.now) ≡ Some (encoding_name metadata.keys.encoding)) }
+        ensures separator_read { IfOk result (λ metadata.
+            unwrap_or (option_and_then as_str (option_and_then (configured_in (codes "separator")) (member_in (codes "chunk_key_encoding") text.now)))
+            (default_separator metadata.keys.encoding) ≡ separator_text metadata.keys.slashes) }
+        ensures shard { IfOk result (λ metadata. length metadata.shard ≡ vec_len metadata.shape) }
+        ensures subchunk { IfOk result (λ metadata. length metadata.subchunk ≡ vec_len metadata.shape) }
+        ensures codec { IfOk result (λ metadata. metadata.codec.subchunk_shape ≡ metadata.subchunk) }
+        ensures elements { IfOk result (λ metadata. HasElements metadata.data_type) }
+        ensures fill_value { IfOk result (λ metadata. size_of metadata.data_type ≡ Fixed (length metadata.fill_value)) }
+    {
+        let value = value_in(alloc, text)?;
+        let whole = Placed::whole(alloc, &value)?;
+        test_members_of(alloc, &whole)?;
+        let shape = whole.required(alloc, "shape")?.numbers(alloc)?;
+        let data_type = data_type_in(alloc, &whole.required(alloc, "data_type")?)?;
+        let shard = shard_in(alloc, &whole.required(alloc, "chunk_grid")?, shape.len())?;
+        let keys = keys_in(alloc, &whole.required(alloc, "chunk_key_encoding")?)?;
+        let fill = whole.required(alloc, "fill_value")?;
+        let fill_value = fill_value_in(alloc, &fill, data_type)?;
+        let codecs = whole.required(alloc, "codecs")?;
+        let codec = array_codec(alloc, &codecs, data_type, shape.len())?;
+        Ok(ArrayMetadata {
+            subchunk: codec.subchunk_shape.try_clone(alloc)?,
+            codecs: codecs.value.to_string(alloc)?,
+            shape,
+            shard,
+            keys,
+            data_type,
+            fill_value,
+            codec,
+        })
+    }
+}
