@@ -1,0 +1,2 @@
+pub mod RoundingLemmas
+pub mod PutLemmas

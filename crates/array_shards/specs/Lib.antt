@@ -1,0 +1,3 @@
+pub mod Shards
+pub mod Parts
+pub mod Cells
