@@ -1,0 +1,161 @@
+// An array on disk that is opened: its metadata, its shards, and their files.
+use crate::stop::{Place, Refusal, Stop};
+use array_metadata::{ArrayMetadata, IndexCodec, InnerCodec};
+use array_shards::{BoxCells, ShardGrid, ShardPart};
+use file_handles::FileHandle;
+use std::alloc::Global;
+use std::rt::Files;
+use std::{fs, io};
+use zarr_codecs::{ArrayToBytesCodecTraits, BytesPartialDecoderTraits};
+use zarr_parts::{ArraySubset, ChunkShape, CodecError, CodecOptions};
+use zarrs_sharding::{ShardingPartialDecoder, SubchunkWriteOrder, calculate_chunks_per_shard};
+
+/// The file of a shard.
+pub type ShardFile<'a, R> = FileHandle<&'a R>;
+
+/// A shard that is opened to be read.
+pub type Decoder<'c, 'a, R> = ShardingPartialDecoder<'c, InnerCodec, IndexCodec, ShardFile<'a, R>>;
+
+/// An array on disk.
+#[derive(Drop)]
+pub struct Array<'a, R> {
+    rt: &'a R,
+    path: &'a str,
+    pub metadata: ArrayMetadata,
+    pub grid: ShardGrid,
+    /// How many subchunks a shard has along each axis.
+    pub subchunks: ChunkShape,
+}
+
+// The text of the array's `zarr.json`.
+fn text_of<R: Files + AllocGlobal>(rt: &R, path: &str, document: &str) -> Result<String, Stop> {
+    let alloc = rt.alloc();
+    if let Err(error) = fs::metadata(rt, path) {
+        let path = String::from_str(alloc, path)?;
+        return Err(Stop::System { path, error });
+    }
+    match fs::read_to_string(rt, document) {
+        Ok(text) => Ok(text),
+        Err(error) if error.kind() == io::ErrorKind::OutOfMemory => Err(Stop::OutOfMemory),
+        Err(error) => {
+            let path = String::from_str(alloc, document)?;
+            Err(Stop::System { path, error })
+        }
+    }
+}
+
+// The metadata of the array whose folder has this path.
+fn metadata_of<R: Files + AllocGlobal>(rt: &R, path: &str) -> Result<ArrayMetadata, Stop> {
+    let document = format!(in rt.alloc(); "{path}/zarr.json")?;
+    let text = text_of(rt, path, &document)?;
+    match ArrayMetadata::from_text(rt.alloc(), &text) {
+        Ok(mut metadata) => {
+            metadata.codec.order = SubchunkWriteOrder::C;
+            Ok(metadata)
+        }
+        Err(error) => Err(Stop::Metadata {
+            path: document,
+            error,
+        }),
+    }
+}
+
+/// Reads the cells of a box of a shard that is open, and puts them into a box of cells.
+pub fn read_into<H: BytesPartialDecoderTraits>(
+    alloc: Global,
+    decoder: &mut ShardingPartialDecoder<'_, InnerCodec, IndexCodec, H>,
+    part: &ShardPart,
+    cells: &mut BoxCells,
+) -> Result<(), CodecError> {
+    let found = decoder.partial_decode(alloc, &part.in_shard, &CodecOptions::default())?;
+    cells.put(&part.in_box, &found)
+}
+
+/// Reads the cells of a box of a shard that is open, and lets them go.
+pub fn read_through<H: BytesPartialDecoderTraits>(
+    alloc: Global,
+    decoder: &mut ShardingPartialDecoder<'_, InnerCodec, IndexCodec, H>,
+    subset: &ArraySubset,
+) -> Result<(), CodecError> {
+    let _cells = decoder.partial_decode(alloc, subset, &CodecOptions::default())?;
+    Ok(())
+}
+
+impl<'a, R: Files + AllocGlobal> Array<'a, R> {
+    /// Opens the array whose folder has this path.
+    pub fn open(rt: &'a R, path: &'a str) -> Result<Self, Stop> {
+        let alloc = rt.alloc();
+        let metadata = metadata_of(rt, path)?;
+        let codec = &metadata.codec;
+        codec.check(
+            alloc,
+            &metadata.shard,
+            &metadata.data_type,
+            &metadata.fill_value,
+        )?;
+        let subchunks = calculate_chunks_per_shard(alloc, &metadata.shard, &metadata.subchunk)?;
+        let grid = ShardGrid::new(alloc, &metadata.shape, &metadata.shard)?;
+        Ok(Array {
+            rt,
+            path,
+            metadata,
+            grid,
+            subchunks,
+        })
+    }
+
+    /// The allocator.
+    pub fn alloc(&self) -> Global {
+        self.rt.alloc()
+    }
+
+    /// The key of a shard.
+    pub fn key(&self, number: u64) -> Result<String, Stop> {
+        let Some(coordinates) = self.grid.coordinates(self.alloc(), number)? else {
+            return Err(CodecError::OutOfBounds.into());
+        };
+        Ok(self.metadata.keys.key_of(self.alloc(), &coordinates)?)
+    }
+
+    /// The file of the shard with this key.
+    pub fn file(&self, key: &str) -> Result<ShardFile<'a, R>, Stop> {
+        let path = format!(in self.alloc(); "{}/{key}", self.path)?;
+        Ok(FileHandle::new(self.alloc(), self.rt, &path)?)
+    }
+
+    /// Why a shard is refused. What no shard is the cause of stops the command: what the system said, and memory.
+    pub fn refusal(
+        &self,
+        key: &str,
+        file: &ShardFile<'a, R>,
+        error: CodecError,
+        place: Place,
+    ) -> Result<Refusal, Stop> {
+        let key = String::from_str(self.alloc(), key)?;
+        match (error, file.error()) {
+            (CodecError::OutOfMemory, _) => Err(Stop::OutOfMemory),
+            (CodecError::Fault, Some(error)) => Err(Stop::System { path: key, error }),
+            _ => Ok(Refusal { key, error, place }),
+        }
+    }
+
+    /// Opens the shard with this key, where it is not refused.
+    pub fn decoder<'c>(&'c self, key: &str) -> Result<Result<Decoder<'c, 'a, R>, Refusal>, Stop> {
+        let asked = &self.metadata;
+        let opened = asked.codec.partial_decoder(
+            self.alloc(),
+            self.file(key)?,
+            &asked.shard,
+            &asked.data_type,
+            &asked.fill_value,
+            &CodecOptions::default(),
+        );
+        match opened {
+            Ok(decoder) => Ok(Ok(decoder)),
+            Err((file, error)) => {
+                let refusal = self.refusal(key, &file, error, Place::opening(&error))?;
+                Ok(Err(refusal))
+            }
+        }
+    }
+}

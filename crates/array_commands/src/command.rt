@@ -1,0 +1,269 @@
+// The command line.
+ghost use Rattle.std.specs.Prelude.{◌≤◌, IfOk};
+
+use crate::arrays::Array;
+use crate::boxes::parse_box;
+use crate::check::{check, write_refusals};
+use crate::compact::compact;
+use crate::info::{is_refused, shards_of, write_info};
+use crate::read::read_box;
+use crate::stop::Stop;
+use crate::text::{json_of, write_rows};
+use clap::{Arg, ArgAction, ArgMatches, Command};
+use std::alloc::{AllocError, Global};
+use std::convert::AsStr;
+use std::io;
+use std::io::{BufWriter, Write};
+use std::rt::Files;
+use zarr_parts::ArraySubset;
+
+// How cells are written.
+#[derive(Debug, Clone, Copy, PartialEq, Eq)]
+enum Form {
+    Text,
+    Json,
+    Raw,
+}
+
+// What is done with an array.
+#[derive(Debug, Clone, Copy, PartialEq, Eq)]
+enum Work<'a> {
+    Info,
+    Check,
+    Read { asked: Option<&'a str>, form: Form },
+    Compact { is_dry: bool },
+}
+
+fn path_argument<'a>(alloc: Global) -> Arg<'a> {
+    Arg::new(alloc, "PATH")
+        .required(true)
+        .help("The folder of the array, in which its zarr.json lies")
+}
+
+fn info_command<'a>(alloc: Global) -> Result<Command<'a>, AllocError> {
+    Command::new(alloc, "info")
+        .about(
+            "Says what the array holds, and of each shard its key, length, subchunks and dead bytes",
+        )
+        .after_help("Example: zarr_shard info weather/temperature")
+        .arg(path_argument(alloc))
+}
+
+fn check_command<'a>(alloc: Global) -> Result<Command<'a>, AllocError> {
+    Command::new(alloc, "check")
+        .about(
+            "Decodes every index and subchunk; a line for each that is refused, and status 1 then",
+        )
+        .after_help(
+            "Example: zarr_shard check weather/temperature\nA line has the shard's key, the number and name of the refusal, and the subchunk or `index`.",
+        )
+        .arg(path_argument(alloc))
+}
+
+fn read_command<'a>(alloc: Global) -> Result<Command<'a>, AllocError> {
+    let asked = Arg::new(alloc, "BOX").help(
+        "A range for each axis, as 0..2,3..5; without it the whole array",
+    );
+    let json = Arg::new(alloc, "json")
+        .long("json")
+        .action(ArgAction::SetTrue)
+        .help("An object of JSON with shape, data_type and cells");
+    let raw = Arg::new(alloc, "raw")
+        .long("raw")
+        .action(ArgAction::SetTrue)
+        .conflicts_with("json")?
+        .help("The bytes of the cells, least significant first");
+    Command::new(alloc, "read")
+        .about("Writes the cells of a box in row-major order, a row of the last axis a line")
+        .after_help(
+            "Example: zarr_shard read weather/temperature 0..2,3..5\nA bool is 0 or 1 as text, and true or false in JSON.",
+        )
+        .arg(path_argument(alloc))?
+        .arg(asked)?
+        .arg(json)?
+        .arg(raw)
+}
+
+fn compact_command<'a>(alloc: Global) -> Result<Command<'a>, AllocError> {
+    let dry = Arg::new(alloc, "dry-run")
+        .long("dry-run")
+        .action(ArgAction::SetTrue)
+        .help("Says what would be saved, and writes no file");
+    Command::new(alloc, "compact")
+        .about("Puts a compact shard in the place of each that has dead bytes")
+        .after_help("Example: zarr_shard compact --dry-run weather/temperature")
+        .arg(path_argument(alloc))?
+        .arg(dry)
+}
+
+// The program's command line.
+fn program<'a>(alloc: Global) -> Result<Command<'a>, AllocError> {
+    Command::new(alloc, "zarr_shard")
+        .about("Works on an array on disk whose chunks are shards (Zarr V3, sharding_indexed)")
+        .after_help(
+            "Example: zarr_shard read weather/temperature 0..2,3..5\nStatus: 0 done; 1 a shard is refused; 2 it could not be done.",
+        )
+        .subcommand_required(true)
+        .arg_required_else_help(true)
+        .subcommand(info_command(alloc)?)?
+        .subcommand(check_command(alloc)?)?
+        .subcommand(read_command(alloc)?)?
+        .subcommand(compact_command(alloc)?)
+}
+
+// How the cells that a command reads are to be written.
+fn form_of(matches: &ArgMatches<'_>) -> Form {
+    if matches.get_flag("json") {
+        Form::Json
+    } else if matches.get_flag("raw") {
+        Form::Raw
+    } else {
+        Form::Text
+    }
+}
+
+// What a command does.
+fn work_of<'a>(name: &str, matches: &ArgMatches<'a>) -> Work<'a> {
+    match name {
+        "check" => Work::Check,
+        "read" => Work::Read {
+            asked: matches.get_str("BOX"),
+            form: form_of(matches),
+        },
+        "compact" => Work::Compact {
+            is_dry: matches.get_flag("dry-run"),
+        },
+        _ => Work::Info,
+    }
+}
+
+// The box that is asked, or that of the whole array.
+fn box_of(alloc: Global, asked: Option<&str>, shape: &[u64]) -> Result<ArraySubset, Stop> {
+    match asked {
+        Some(text) => parse_box(alloc, text, shape),
+        None => Ok(ArraySubset::new_with_shape(alloc, shape.to_vec(alloc)?)?),
+    }
+}
+
+// Reads a box, and writes its cells.
+fn run_read<R: Files + AllocGlobal, W: Write>(
+    array: &Array<'_, R>,
+    asked: Option<&str>,
+    form: Form,
+    out: &mut W,
+) -> Result<(), Stop> {
+    let (alloc, data_type) = (array.alloc(), &array.metadata.data_type);
+    let subset = box_of(alloc, asked, &array.metadata.shape)?;
+    let cells = read_box(array, &subset)?;
+    match form {
+        Form::Text => write_rows(out, data_type, cells.bytes(), subset.shape())?,
+        Form::Raw => out.write_all(cells.bytes())?,
+        Form::Json => {
+            let text = json_of(alloc, data_type, cells.bytes(), subset.shape())?;
+            writeln!(out, "{text}")?;
+        }
+    }
+    Ok(())
+}
+
+// Does a work, writes its answer, and says whether a shard is refused.
+fn run_work<R: Files + AllocGlobal, W: Write>(
+    array: &Array<'_, R>,
+    work: Work<'_>,
+    out: &mut W,
+) -> Result<bool, Stop> {
+    match work {
+        Work::Info => {
+            let shards = shards_of(array)?;
+            write_info(out, array, &shards)?;
+            Ok(is_refused(&shards))
+        }
+        Work::Check => {
+            let refusals = check(array)?;
+            write_refusals(out, &refusals)?;
+            Ok(!refusals.is_empty())
+        }
+        Work::Read { asked, form } => {
+            run_read(array, asked, form, out)?;
+            Ok(false)
+        }
+        Work::Compact { is_dry } => compact(array, is_dry, out),
+    }
+}
+
+// Opens an array, and does a work.
+fn run_array<R: Files + AllocGlobal, W: Write>(
+    rt: &R,
+    path: &str,
+    work: Work<'_>,
+    out: &mut W,
+) -> Result<u8, Stop>
+    ensures { IfOk result (λ status. status ≤ 2) }
+{
+    let array = Array::open(rt, path)?;
+    let is_refused = run_work(&array, work, out)?;
+    Ok(if is_refused { 1 } else { 0 })
+}
+
+// Reads the words of a command line, and does what they say.
+fn run_words<R: Files + AllocGlobal, S: AsStr, W: Write, M: Write>(
+    rt: &R,
+    words: &[S],
+    out: &mut W,
+    messages: &mut M,
+) -> Result<u8, Stop>
+    ensures { IfOk result (λ status. status ≤ 2) }
+{
+    let command = program(rt.alloc())?;
+    let matches = match command.try_get_matches_from(words) {
+        Ok(matches) => matches,
+        Err(error) if error.use_stderr() => {
+            let _ = write!(messages, "{error}");
+            return Ok(2);
+        }
+        Err(error) => {
+            write!(out, "{error}")?;
+            return Ok(0);
+        }
+    };
+    let Some((name, found)) = matches.subcommand() else {
+        return Ok(2);
+    };
+    let path = found.get_str("PATH").unwrap_or(".");
+    run_array(rt, path, work_of(name, found), out)
+}
+
+// Runs a command line, and sees that its answer is written.
+fn run_buffered<R: Files + AllocGlobal, S: AsStr, W: Write + Drop, M: Write>(
+    rt: &R,
+    words: &[S],
+    writer: W,
+    messages: &mut M,
+) -> Result<u8, Stop>
+    ensures { IfOk result (λ status. status ≤ 2) }
+{
+    let mut out = BufWriter::new(rt.alloc(), writer)?;
+    let ran = run_words(rt, words, &mut out, messages);
+    out.flush()?;
+    ran
+}
+
+/// Runs a command line, whose first word is the program's name: writes the answer, or one sentence to the messages, and
+/// returns the status for the program to end with. 0 where it was done; 1 where a shard is refused; 2 where it could not be
+/// done, and then nothing is written but what `compact` had done before. A message that is not taken is dropped.
+pub fn run_command<R: Files + AllocGlobal, S: AsStr, W: Write + Drop, M: Write + Drop>(
+    rt: &R,
+    words: &[S],
+    writer: W,
+    mut messages: M,
+) -> u8
+    ensures { result ≤ 2 }
+{
+    match run_buffered(rt, words, writer, &mut messages) {
+        Ok(status) => status,
+        Err(stop) => {
+            let _ = writeln!(messages, "zarr_shard: {stop}");
+            stop.status()
+        }
+    }
+}
