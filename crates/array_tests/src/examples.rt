@@ -1,0 +1,45 @@
+// What is told of a text of metadata.
+use array_metadata::ArrayMetadata;
+use std::alloc::Global;
+use std::test::Fail;
+
+// The members of an array of two axes. Of two members with one key the later one is read.
+const ARRAY: &str =
+    r#""zarr_format": 3, "node_type": "array", "shape": [8, 8], "data_type": "uint16",
+    "chunk_grid": {"name": "regular", "configuration": {"chunk_shape": [4, 4]}},
+    "chunk_key_encoding": {"name": "default", "configuration": {"separator": "/"}},
+    "fill_value": 7, "attributes": {}, "dimension_names": ["d0", "d1"],
+    "codecs": [{"name": "sharding_indexed", "configuration": {
+        "chunk_shape": [2, 2],
+        "codecs": [{"name": "bytes", "configuration": {"endian": "little"}}],
+        "index_codecs": [{"name": "bytes", "configuration": {"endian": "little"}}, {"name": "crc32c"}],
+        "index_location": "end"}}]"#;
+
+// The metadata in a text: its shapes, its fill value, and the key of the chunk with the shape's numbers; or why it is refused.
+pub fn told(alloc: Global, text: &str) -> Result<String, Fail> {
+    match ArrayMetadata::from_text(alloc, text) {
+        Ok(metadata) => {
+            let shape = metadata.shape.as_slice();
+            let shard = metadata.shard.as_slice();
+            let subchunk = metadata.subchunk.as_slice();
+            let fill = metadata.fill_value.as_ne_bytes();
+            let key = metadata.keys.key_of(alloc, shape)?;
+            Ok(format!(in alloc; "{shape:?} {shard:?} {subchunk:?} {fill:?} {key}")?)
+        }
+        Err(error) => Ok(format!(in alloc; "{error}")?),
+    }
+}
+
+// What is told of the array of two axes with these members in place of its own.
+pub fn told_with(alloc: Global, members: &str) -> Result<String, Fail> {
+    let text = format!(in alloc; "{{{ARRAY}, {members}}}")?;
+    told(alloc, text.as_str())
+}
+
+// What is told of the array of two axes whose subchunks have this list of codecs.
+pub fn told_inside(alloc: Global, codecs: &str) -> Result<String, Fail> {
+    let members = format!(in alloc;
+        r#""codecs": [{{"name": "sharding_indexed", "configuration": {{"chunk_shape": [2, 2], "codecs": {codecs}, "index_codecs": [{{"name": "bytes", "configuration": {{"endian": "big"}}}}]}}}}]"#
+    )?;
+    told_with(alloc, members.as_str())
+}

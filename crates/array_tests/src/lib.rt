@@ -1,0 +1,11 @@
+// Tests of arrays on disk, their metadata and their shards, over the public calls alone.
+#![tactic(auto)]
+
+#[cfg(test)]
+mod examples;
+#[cfg(test)]
+mod metadata;
+#[cfg(test)]
+mod refused;
+#[cfg(test)]
+mod shards;

@@ -1,0 +1,135 @@
+// Metadata of arrays that is read.
+use crate::examples::{told_inside, told_with};
+use std::test::Fail;
+
+// The arrays: start of the index and big endian elements, an axis of no cells, no axes, and one byte for each element.
+const ARRAYS: [(&str, &str); 6] = [
+    (
+        r#""storage_transformers": []"#,
+        "[8, 8] [4, 4] [2, 2] [7, 0] c/8/8",
+    ),
+    (
+        r#""shape": [0, 8], "x": {"must_understand": false}"#,
+        "[0, 8] [4, 4] [2, 2] [7, 0] c/0/8",
+    ),
+    (
+        r#""shape": [3, 4, 5], "data_type": "int32", "fill_value": -1,
+        "chunk_grid": {"name": "regular", "configuration": {"chunk_shape": [3, 2, 5]}},
+        "chunk_key_encoding": {"name": "v2", "configuration": {"separator": "."}},
+        "codecs": [{"name": "sharding_indexed", "configuration": {"chunk_shape": [1, 2, 5],
+            "codecs": [{"name": "bytes", "configuration": {"endian": "big"}}],
+            "index_codecs": [{"name": "bytes", "configuration": {"endian": "little"}}], "index_location": "start"}}]"#,
+        "[3, 4, 5] [3, 2, 5] [1, 2, 5] [255, 255, 255, 255] 3.4.5",
+    ),
+    (
+        r#""shape": [], "data_type": "uint64", "fill_value": 0,
+        "chunk_grid": {"name": "regular", "configuration": {"chunk_shape": []}},
+        "codecs": [{"name": "sharding_indexed", "configuration": {"chunk_shape": [],
+            "codecs": [{"name": "bytes", "configuration": {"endian": "little"}}],
+            "index_codecs": [{"name": "bytes", "configuration": {"endian": "little"}}, {"name": "crc32c"}]}}]"#,
+        "[] [] [] [0, 0, 0, 0, 0, 0, 0, 0] c",
+    ),
+    (
+        r#""shape": [], "data_type": "uint8", "fill_value": 0, "chunk_key_encoding": {"name": "v2"},
+        "chunk_grid": {"name": "regular", "configuration": {"chunk_shape": []}},
+        "codecs": [{"name": "sharding_indexed", "configuration": {"chunk_shape": [], "codecs": [{"name": "bytes"}],
+            "index_codecs": [{"name": "bytes", "configuration": {"endian": "little"}}]}}]"#,
+        "[] [] [] [0] 0",
+    ),
+    (
+        r#""shape": [6], "data_type": "bool", "fill_value": false,
+        "chunk_grid": {"name": "regular", "configuration": {"chunk_shape": [6]}},
+        "codecs": [{"name": "sharding_indexed", "configuration": {"chunk_shape": [3], "codecs": [{"name": "bytes"}],
+            "index_codecs": [{"name": "bytes", "configuration": {"endian": "little"}}, {"name": "crc32c"}]}}]"#,
+        "[6] [6] [3] [0] c/6",
+    ),
+];
+
+// Chunk key encodings, and the key of the chunk 8, 8.
+const KEYS: [(&str, &str); 6] = [
+    (r#"{"name": "default"}"#, "c/8/8"),
+    (r#"{"name": "default", "configuration": {}}"#, "c/8/8"),
+    (
+        r#"{"name": "default", "configuration": {"separator": "."}}"#,
+        "c.8.8",
+    ),
+    (r#"{"name": "v2"}"#, "8.8"),
+    (r#""v2""#, "8.8"),
+    (
+        r#"{"name": "v2", "configuration": {"separator": "/"}}"#,
+        "8/8",
+    ),
+];
+
+// Fill values of a data type, and their bytes.
+const FILL_VALUES: [(&str, &str, &str); 9] = [
+    ("bool", "true", "[1]"),
+    ("int8", "-128", "[128]"),
+    ("int16", "-2", "[254, 255]"),
+    ("int32", "2147483647", "[255, 255, 255, 127]"),
+    (
+        "int64",
+        "-9223372036854775808",
+        "[0, 0, 0, 0, 0, 0, 0, 128]",
+    ),
+    ("uint8", "255", "[255]"),
+    ("uint16", "258", "[2, 1]"),
+    ("uint32", "4294967295", "[255, 255, 255, 255]"),
+    (
+        "uint64",
+        "18446744073709551615",
+        "[255, 255, 255, 255, 255, 255, 255, 255]",
+    ),
+];
+
+// The codecs of subchunks.
+const INNER_CODECS: [&str; 4] = [
+    r#"[{"name": "bytes", "configuration": {"endian": "big"}}]"#,
+    r#"[{"name": "bytes", "configuration": {"endian": "little"}}, {"name": "crc32c"}]"#,
+    r#"[{"name": "bytes", "configuration": {"endian": "little"}}, "crc32c"]"#,
+    r#"[{"name": "sharding_indexed", "configuration": {"chunk_shape": [1, 2],
+        "codecs": [{"name": "bytes", "configuration": {"endian": "little"}}, {"name": "crc32c", "configuration": {}}],
+        "index_codecs": [{"name": "bytes", "configuration": {"endian": "little"}}]}}]"#,
+];
+
+#[test]
+fn arrays_are_read(rt: HostRuntime) -> Result<(), Fail> {
+    for (members, want) in ARRAYS {
+        let told = told_with(rt.alloc(), members)?;
+        assert_eq!(rt; told.as_str(), want);
+    }
+    Ok(())
+}
+
+#[test]
+fn keys_are_read(rt: HostRuntime) -> Result<(), Fail> {
+    for (encoding, key) in KEYS {
+        let members = format!(in rt.alloc(); r#""chunk_key_encoding": {encoding}"#)?;
+        let told = told_with(rt.alloc(), members.as_str())?;
+        let want = format!(in rt.alloc(); "[8, 8] [4, 4] [2, 2] [7, 0] {key}")?;
+        assert_eq!(rt; told, want);
+    }
+    Ok(())
+}
+
+#[test]
+fn fill_values_are_read(rt: HostRuntime) -> Result<(), Fail> {
+    for (data_type, fill_value, bytes) in FILL_VALUES {
+        let members = format!(in rt.alloc();
+            r#""data_type": "{data_type}", "fill_value": {fill_value}"#
+        )?;
+        let told = told_with(rt.alloc(), members.as_str())?;
+        let want = format!(in rt.alloc(); "[8, 8] [4, 4] [2, 2] {bytes} c/8/8")?;
+        assert_eq!(rt; told, want);
+    }
+    Ok(())
+}
+
+#[test]
+fn inner_codecs_are_read(rt: HostRuntime) -> Result<(), Fail> {
+    for codecs in INNER_CODECS {
+        let told = told_inside(rt.alloc(), codecs)?;
+        assert_eq!(rt; told.as_str(), "[8, 8] [4, 4] [2, 2] [7, 0] c/8/8");
+    }
+    Ok(())
+}

@@ -1,0 +1,211 @@
+// Metadata of arrays that is refused.
+use crate::examples::{told, told_inside, told_with};
+use std::test::Fail;
+
+// Whole texts.
+const TEXTS: [(&str, &str); 7] = [
+    (
+        "",
+        "4 BadField zarr.json: in zarr.json: the text is no JSON",
+    ),
+    (
+        r#"{"zarr_format": 3"#,
+        "4 BadField zarr.json: in zarr.json: the text is no JSON",
+    ),
+    (
+        "[]",
+        "4 BadField zarr.json: in zarr.json: the text is JSON, but no object",
+    ),
+    (
+        "{}",
+        "3 MissingField zarr_format: in zarr.json: the key zarr_format is missing",
+    ),
+    (
+        r#"{"zarr_format": 3}"#,
+        "3 MissingField node_type: in zarr.json: the key node_type is missing",
+    ),
+    (
+        r#"{"zarr_format": 3, "node_type": "group", "x": 1}"#,
+        "4 BadField node_type: in node_type: this is a group, not an array",
+    ),
+    (
+        r#"{"zarr_format": 3, "node_type": "array", "shape": [1]}"#,
+        "3 MissingField data_type: in zarr.json: the key data_type is missing",
+    ),
+];
+
+// Members in place of those of an array that is read.
+const MEMBERS: [(&str, &str); 26] = [
+    (
+        r#""zarr_format": 2"#,
+        "4 BadField zarr_format: in zarr_format: only arrays of Zarr V3 are read",
+    ),
+    (
+        r#""node_type": "x""#,
+        "4 BadField node_type: in node_type: this is not an array",
+    ),
+    (
+        r#""x": 1"#,
+        "4 BadField x: in x: the key is not known, and must be understood",
+    ),
+    (
+        r#""x": {"must_understand": true}"#,
+        "4 BadField x: in x: the key is not known, and must be understood",
+    ),
+    (
+        r#""storage_transformers": [{"name": "x"}]"#,
+        "4 BadField storage_transformers: in storage_transformers: storage transformers are not served",
+    ),
+    (
+        r#""shape": 8"#,
+        "4 BadField shape: in shape: this is no list of whole numbers",
+    ),
+    (
+        r#""shape": [8, -1]"#,
+        "4 BadField shape: in shape: this is no list of whole numbers from 0 to 2^64 - 1",
+    ),
+    (
+        r#""data_type": "float32""#,
+        "4 BadField data_type: in data_type: elements of the data type float32 are not read, only bool, int8 to int64 and uint8 to uint64",
+    ),
+    (
+        r#""data_type": "bytes""#,
+        "4 BadField data_type: in data_type: elements of the data type bytes are not read, only bool, int8 to int64 and uint8 to uint64",
+    ),
+    (
+        r#""data_type": {"name": "x"}"#,
+        "4 BadField data_type: in data_type: only data types that a string names are read",
+    ),
+    (
+        r#""chunk_grid": {"name": "rectilinear"}"#,
+        "4 BadField chunk_grid: in chunk_grid: the chunk grid rectilinear is not served, only regular",
+    ),
+    (
+        r#""chunk_grid": {"name": "regular"}"#,
+        "3 MissingField configuration: in chunk_grid: the key configuration is missing",
+    ),
+    (
+        r#""chunk_grid": {"name": "regular", "configuration": {"chunk_shape": [4, 4, 4]}}"#,
+        "4 BadField chunk_shape: in chunk_grid.configuration.chunk_shape: a chunk has other than one number for each axis of the array",
+    ),
+    (
+        r#""chunk_grid": {"name": "regular", "configuration": {"chunk_shape": [4, 0]}}"#,
+        "4 BadField chunk_shape: in chunk_grid.configuration.chunk_shape: an axis of a chunk is 0",
+    ),
+    (
+        r#""chunk_key_encoding": {"name": "fanout"}"#,
+        "4 BadField chunk_key_encoding: in chunk_key_encoding: the chunk key encoding fanout is not served, only default and v2",
+    ),
+    (
+        r#""chunk_key_encoding": {"name": "v2", "configuration": {"separator": "-"}}"#,
+        "4 BadField separator: in chunk_key_encoding.configuration.separator: only the separators / and . are served",
+    ),
+    (
+        r#""chunk_key_encoding": {"name": "v2", "configuration": {"x": 1}}"#,
+        "4 BadField x: in chunk_key_encoding.configuration: the key is not known",
+    ),
+    (
+        r#""fill_value": 65536"#,
+        "4 BadField fill_value: in fill_value: this is no element of uint16",
+    ),
+    (
+        r#""fill_value": -1"#,
+        "4 BadField fill_value: in fill_value: this is no element of uint16",
+    ),
+    (
+        r#""fill_value": 1.5"#,
+        "4 BadField fill_value: in fill_value: this is no element of uint16",
+    ),
+    (
+        r#""fill_value": null"#,
+        "4 BadField fill_value: in fill_value: this is no element of uint16",
+    ),
+    (
+        r#""data_type": "int8", "fill_value": 128"#,
+        "4 BadField fill_value: in fill_value: this is no element of int8",
+    ),
+    (
+        r#""data_type": "bool", "fill_value": 1"#,
+        "4 BadField fill_value: in fill_value: this is no element of bool",
+    ),
+    (
+        r#""codecs": {}"#,
+        "4 BadField codecs: in codecs: this is no list of codecs",
+    ),
+    (
+        r#""codecs": [{"name": "bytes"}]"#,
+        "5 UnsupportedChain: in codecs: only arrays whose chunks are shards are read: codecs is sharding_indexed alone",
+    ),
+    (
+        r#""codecs": ["sharding_indexed"]"#,
+        "3 MissingField configuration: in codecs[0]: the key configuration is missing",
+    ),
+];
+
+// The codecs of subchunks.
+const INNER_CODECS: [(&str, &str); 9] = [
+    (
+        r#"[{"name": "bytes"}, {"name": "zstd", "configuration": {"level": 0, "checksum": false}}]"#,
+        "2 UnsupportedCodec zstd: in codecs[0].configuration.codecs[1]: this program reads no compressed chunks",
+    ),
+    (
+        r#"[{"name": "transpose"}, {"name": "bytes"}]"#,
+        "2 UnsupportedCodec transpose: in codecs[0].configuration.codecs[0]: this program reads no transposed chunks",
+    ),
+    (
+        r#"[{"name": "x"}]"#,
+        "2 UnsupportedCodec x: in codecs[0].configuration.codecs[0]: this program does not know this codec",
+    ),
+    (
+        "[7]",
+        "4 BadField codecs: in codecs[0].configuration.codecs[0]: this is neither a name nor an object with a name",
+    ),
+    (
+        "[]",
+        "5 UnsupportedChain: in codecs[0].configuration.codecs: only bytes is served here, or bytes and crc32c behind it",
+    ),
+    (
+        r#"[{"name": "crc32c"}, {"name": "bytes"}]"#,
+        "5 UnsupportedChain: in codecs[0].configuration.codecs: only bytes is served here, or bytes and crc32c behind it",
+    ),
+    (
+        r#"[{"name": "bytes"}]"#,
+        "3 MissingField endian: in codecs[0].configuration.codecs[0]: elements of more than one byte have no byte order",
+    ),
+    (
+        r#"[{"name": "bytes", "configuration": {"endian": "middle"}}]"#,
+        "4 BadField endian: in codecs[0].configuration.codecs[0]: the key is not known, or its value has another form",
+    ),
+    (
+        r#"[{"name": "sharding_indexed", "configuration": {"chunk_shape": [2, 2],
+            "codecs": [{"name": "sharding_indexed"}], "index_codecs": [{"name": "gzip"}]}}]"#,
+        "2 UnsupportedCodec gzip: in codecs[0].configuration.codecs[0].configuration.index_codecs[0]: this program reads no compressed chunks",
+    ),
+];
+
+#[test]
+fn texts_are_refused(rt: HostRuntime) -> Result<(), Fail> {
+    for (text, want) in TEXTS {
+        let told = told(rt.alloc(), text)?;
+        assert_eq!(rt; told.as_str(), want);
+    }
+    Ok(())
+}
+
+#[test]
+fn members_are_refused(rt: HostRuntime) -> Result<(), Fail> {
+    for (members, want) in MEMBERS {
+        let told = told_with(rt.alloc(), members)?;
+        assert_eq!(rt; told.as_str(), want);
+    }
+    Ok(())
+}
+
+#[test]
+fn inner_codecs_are_refused(rt: HostRuntime) -> Result<(), Fail> {
+    for (codecs, want) in INNER_CODECS {
+        let told = told_inside(rt.alloc(), codecs)?;
+        assert_eq!(rt; told.as_str(), want);
+    }
+    Ok(())
+}

@@ -1,0 +1,140 @@
+// The shards of an array, and the cells of a box put together of their parts.
+use array_shards::{BoxCells, ShardGrid, ShardPart};
+use std::alloc::Global;
+use std::ops::Range;
+use std::test::Fail;
+use zarr_parts::{ArrayBytes, ArraySubset, ChunkShape, CodecError, FillValue};
+
+// An array shape, a shard shape, how many shards there are, and the coordinates of the last one.
+const GRIDS: [(&[u64], &[u64], u64, &[u64]); 6] = [
+    (&[8, 8], &[4, 4], 4, &[1, 1]),
+    (&[5, 7], &[4, 4], 4, &[1, 1]),
+    (&[9], &[4], 3, &[2]),
+    (&[4, 1, 6], &[4, 2, 3], 2, &[0, 0, 1]),
+    (&[], &[], 1, &[]),
+    (&[0, 7], &[4, 4], 0, &[0, 1]),
+];
+
+// The parts of the box 1..5, 3..7 of an array of 5 by 7 in shards of 4 by 4: where each starts in its shard and in the
+// box, and its shape.
+const PARTS: [([u64; 2], [u64; 2], [u64; 2]); 4] = [
+    ([1, 3], [0, 0], [3, 1]),
+    ([1, 0], [0, 1], [3, 3]),
+    ([0, 3], [3, 0], [1, 1]),
+    ([0, 0], [3, 1], [1, 3]),
+];
+
+fn grid_of(alloc: Global, shape: &[u64], shard: &[u64]) -> Result<ShardGrid, CodecError> {
+    let shard = ChunkShape::new(alloc, shard)?.ok_or(CodecError::InvalidSubchunkShape)?;
+    ShardGrid::new(alloc, shape, &shard)
+}
+
+#[test]
+fn as_many_shards_as_hold_all_cells(rt: HostRuntime) -> Result<(), Fail> {
+    let alloc = rt.alloc();
+    for (shape, shard, len, last) in GRIDS {
+        let grid = grid_of(alloc, shape, shard)?;
+        assert_eq!(rt; grid.len(), len);
+        let number = len.max(2) - 1;
+        if let Some(coordinates) = grid.coordinates(alloc, number)? {
+            assert_eq!(rt; coordinates.as_slice(), last);
+        } else {
+            assert_eq!(rt; shape.len(), 0);
+        }
+    }
+    Ok(())
+}
+
+fn told(alloc: Global, part: &ShardPart) -> Result<String, Fail> {
+    let (inside, within) = (&part.in_shard, &part.in_box);
+    let told = format!(in alloc;
+        "{} {:?} {:?} {:?} {:?}",
+        part.shard,
+        inside.start(),
+        inside.shape(),
+        within.start(),
+        within.shape()
+    )?;
+    Ok(told)
+}
+
+#[test]
+fn a_box_is_made_of_a_part_of_each_shard(rt: HostRuntime) -> Result<(), Fail> {
+    let alloc = rt.alloc();
+    let grid = grid_of(alloc, &[5, 7], &[4, 4])?;
+    let asked = ArraySubset::from_ranges(alloc, &[1..5, 3..7])?;
+    let parts = grid.parts(alloc, &asked)?;
+    assert_eq!(rt; parts.len(), 4);
+    for (number, part) in parts.iter().enumerate() {
+        let (inside, within, shape) = PARTS[number % 4];
+        let wanted = format!(in alloc; "{number} {inside:?} {shape:?} {within:?} {shape:?}")?;
+        assert_eq!(rt; told(alloc, part)?, wanted);
+    }
+    Ok(())
+}
+
+fn refused(alloc: Global, grid: &ShardGrid, ranges: &[Range<u64>]) -> Option<CodecError> {
+    match ArraySubset::from_ranges(alloc, ranges) {
+        Ok(asked) => grid.parts(alloc, &asked).err(),
+        Err(error) => Some(error),
+    }
+}
+
+#[test]
+fn boxes_and_shapes_are_refused_in_order(rt: HostRuntime) -> Result<(), Fail> {
+    let alloc = rt.alloc();
+    let grid = grid_of(alloc, &[5, 7], &[4, 4])?;
+    let of_one = Some(CodecError::IncompatibleDimensionality);
+    assert_eq!(rt; refused(alloc, &grid, &[0..9]), of_one);
+    assert_eq!(rt;
+        refused(alloc, &grid, &[0..5, 6..8]),
+        Some(CodecError::OutOfBounds)
+    );
+    assert_eq!(rt; refused(alloc, &grid, &[2..2, 0..7]), None);
+    assert_eq!(rt; grid_of(alloc, &[8], &[4, 4]).err(), of_one);
+    assert_eq!(rt;
+        grid_of(alloc, &[u64::MAX], &[2]).err(),
+        Some(CodecError::TooLarge)
+    );
+    let large: [u64; 2] = [1 << 40, 1 << 40];
+    assert_eq!(rt;
+        grid_of(alloc, &large, &[4, 4]).err(),
+        Some(CodecError::TooLarge)
+    );
+    Ok(())
+}
+
+fn put(
+    alloc: Global,
+    cells: &mut BoxCells,
+    ranges: &[Range<u64>],
+    numbers: &[u16],
+) -> Result<(), CodecError> {
+    let at = ArraySubset::from_ranges(alloc, ranges)?;
+    cells.put(&at, &ArrayBytes::from_numbers(alloc, numbers)?)
+}
+
+#[test]
+fn parts_are_put_into_a_box(rt: HostRuntime) -> Result<(), Fail> {
+    let alloc = rt.alloc();
+    let asked = ArraySubset::from_ranges(alloc, &[4..6, 1..4])?;
+    let mut cells = BoxCells::new(alloc, &asked, &FillValue::from_number(alloc, 258u16)?)?;
+    put(alloc, &mut cells, &[0..2, 1..2], &[1, 2])?;
+    put(alloc, &mut cells, &[1..2, 2..3], &[3])?;
+    let too_many = put(alloc, &mut cells, &[0..1, 0..1], &[4, 5]);
+    assert_eq!(rt; too_many, Err(CodecError::InvalidNumberOfElements));
+    assert_eq!(rt;
+        put(alloc, &mut cells, &[0..3, 0..1], &[4, 5, 6]),
+        Err(CodecError::OutOfBounds)
+    );
+    let of_a_byte = cells.put(
+        &ArraySubset::from_ranges(alloc, &[0..1, 0..1])?,
+        &ArrayBytes::from_numbers(alloc, &[4u8])?,
+    );
+    assert_eq!(rt; of_a_byte, Err(CodecError::WrongElementKind));
+    assert_eq!(rt;
+        cells.bytes(),
+        [2, 1, 1, 0, 2, 1, 2, 1, 2, 0, 3, 0].as_slice()
+    );
+    Ok(())
+}
