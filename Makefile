@@ -1,8 +1,9 @@
 # make run    proves shard_tool and what it stands on, builds it, and feeds it the example script
 # make try    runs the same script with no proof
 # make refuse refuses each allocation of an example in turn: whichever is refused, the answers stay (two minutes, no proof)
+# make install PREFIX=DIR  proves shard_tool and zarr_shard, and puts them into DIR/bin
 # make test   the whole gate: every proof from nothing, the must-fail edits, the tests and the program
-.PHONY: run try refuse test
+.PHONY: run try refuse test install
 
 SCRIPT := $(CURDIR)/crates/shard_tool/stdin
 
@@ -20,3 +21,11 @@ refuse:
 
 test:
 	rt ci
+
+PREFIX ?= /usr/local
+
+install:
+	@cd crates/shard_tool && rt run < $(SCRIPT) > /dev/null
+	@cd crates/zarr_shard && rt run -- --help > /dev/null
+	@mkdir -p $(PREFIX)/bin
+	@cp crates/shard_tool/out/shard_tool crates/zarr_shard/out/zarr_shard $(PREFIX)/bin
