@@ -6,7 +6,8 @@ use Rattle.zarr_parts.specs.Arrays.{Array}
 use Rattle.zarr_parts.specs.Types.{size_of}
 use Rattle.zarr_parts.specs.Selections.{Selection, LiesWithin}
 use Rattle.zarr_elements.specs.declared.data_type.DataType.{DataType}
-use Rattle.zarr_parts.specs.CodecError.TheVariants.{UnsupportedIndexer, IncompatibleDimensionality, OutOfBounds, WrongElementKind, InvalidNumberOfElements}
+use Rattle.zarr_parts.specs.CodecError.TheVariants.{UnsupportedIndexer, IncompatibleDimensionality, OutOfBounds, WrongElementKind}
+use Rattle.zarr_parts.specs.CodecError.TheVariants.{InvalidNumberOfElements}
 
 -- the tests of elements that are written to the cells that an indexer names: these are a box, which lies in the shape, and there is an
 -- element of the type for each

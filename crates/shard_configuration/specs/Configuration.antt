@@ -1,5 +1,6 @@
 -- The configuration of the codec `sharding_indexed`, read from JSON and written.
-use Rattle.std.specs.Prelude.{ℕ, nat_lt, Bool, ◌||◌, List, [], ◌∷◌, Option, Some, None, Ok, if◌then◌else◌, codes, bytes_eq, map, option_map, option_and_then}
+use Rattle.std.specs.Prelude.{ℕ, nat_lt, Bool, ◌||◌, List, [], ◌∷◌, Option, Some, None, Ok, if◌then◌else◌, codes, bytes_eq, map}
+use Rattle.std.specs.Prelude.{option_map, option_and_then}
 use Rattle.zarr_parts.specs.Words.{Bytes}
 use Rattle.serde_json.specs.Data.{Data, unsigned, number, string, array, Items, no_items, item, Members, no_members, member}
 use Rattle.serde_json.specs.View.{items_of}

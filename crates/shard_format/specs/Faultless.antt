@@ -6,7 +6,9 @@ use Rattle.zarr_parts.specs.Words.{CellList, Refusals}
 use Rattle.zarr_parts.specs.Order.{done, Each, EachAs}
 use Rattle.zarr_parts.specs.Geo.{Geo}
 use Rattle.zarr_parts.specs.CodecError.{CodecError}
-use Rattle.zarr_parts.specs.CodecError.TheVariants.{UnsupportedDataType, BadFillValue, IncompatibleDimensionality, InvalidSubchunkShape, TooLarge, VariableIndexSize, OutOfMemory, BadIndexEntry, ShardTooShort, Fault, CannotEncode, WrongElementKind, InvalidNumberOfElements}
+use Rattle.zarr_parts.specs.CodecError.TheVariants.{UnsupportedDataType, BadFillValue, IncompatibleDimensionality, InvalidSubchunkShape}
+use Rattle.zarr_parts.specs.CodecError.TheVariants.{TooLarge, VariableIndexSize, OutOfMemory, BadIndexEntry, ShardTooShort, Fault}
+use Rattle.zarr_parts.specs.CodecError.TheVariants.{CannotEncode, WrongElementKind, InvalidNumberOfElements}
 use Rattle.zarr_parts.specs.Arrays.{Array}
 use Rattle.zarr_parts.specs.DataTypeSize.{DataTypeSize}
 use Rattle.codec_laws.specs.Refusals.{IsNoFault, RefusesUnserved, MayRefuseDecode}

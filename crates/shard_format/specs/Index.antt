@@ -1,6 +1,7 @@
 -- The index of a shard (Zarr V3 codec `sharding_indexed`, "Binary shard format"): a pair of an offset and a size, in bytes,
 -- for each subchunk in row-major order.
-use Rattle.std.specs.Prelude.{ℕ, ◌+◌, ◌-◌, ◌*◌, ◌^◌, ◌&&◌, ◌||◌, ◌==◌, nat_le, if◌then◌else◌, List, [], ◌∷◌, ◌++◌, Option, None, length, map, take, drop, replicate, slice_index}
+use Rattle.std.specs.Prelude.{ℕ, ◌+◌, ◌-◌, ◌*◌, ◌^◌, ◌&&◌, ◌||◌, ◌==◌, nat_le, if◌then◌else◌, List, [], ◌∷◌, ◌++◌, Option, None, length}
+use Rattle.std.specs.Prelude.{map, take, drop, replicate, slice_index}
 use Rattle.std.specs.Option.{option_map}
 use Rattle.std.specs.Int.{from_le_bytes, to_le_bytes, w64}
 use Rattle.zarr_parts.specs.Words.{CellList, CellsOf}

@@ -1,9 +1,11 @@
 -- An encoding of an array stands for its cells.
-use Rattle.std.proofs.Common.{IfSome, ◌≡◌, ℕ, ◌+◌, ◌*◌, ◌^◌, ◌<◌, ◌≤◌, List, [], ◌∷◌, Option, Some, None, length, map, get_or, take, drop, refl, sym, ap, ◌∙◌, arith, true, nat_lt, if◌then◌else◌, false, subst, length-take, length-drop}
+use Rattle.std.proofs.Common.{IfSome, ◌≡◌, ℕ, ◌+◌, ◌*◌, ◌^◌, ◌<◌, ◌≤◌, List, [], ◌∷◌, Option, Some, None, length, map, get_or, take, drop}
+use Rattle.std.proofs.Common.{refl, sym, ap, ◌∙◌, arith, true, nat_lt, if◌then◌else◌, false, subst, length-take, length-drop}
 use Rattle.zarr_parts.specs.DataTypeSize.{DataTypeSize}
 use Rattle.std.proofs.lemmas.List.{ext_get_or, length-map, get_or-map}
 use Rattle.std.proofs.lemmas.List.Elements.{All-get_or, All-from_get_or, All-map}
-use Rattle.std.proofs.lemmas.List.FromFn.{get_or-map-range_with_len, length-map-range_with_len, length-range_with_len, get_or-range_with_len}
+use Rattle.std.proofs.lemmas.List.FromFn.{get_or-map-range_with_len, length-map-range_with_len, length-range_with_len}
+use Rattle.std.proofs.lemmas.List.FromFn.{get_or-range_with_len}
 use Rattle.std.proofs.lemmas.Nat.{from_le_bytes-to_le_bytes_8}
 use Rattle.std.proofs.lemmas.Bool.{le-leb}
 use Rattle.std.specs.List.{All, range_with_len}
@@ -13,7 +15,8 @@ use Rattle.zarr_parts.specs.Numbering.{count_of}
 use Rattle.codec_laws.specs.CellLaws.{all_there-map_some}
 use Rattle.zarr_parts.specs.Grid.{grid_of, Divides, subchunk_number, place_number, cell_number, subchunk}
 use Rattle.codec_laws.specs.Meanings.{Meaning}
-use Rattle.shard_format.specs.Index.{slot_at, index_part, data_end, index_geo, index_shape, number_of_element, element_of_number, numbers_in_index}
+use Rattle.shard_format.specs.Index.{slot_at, index_part, data_end, index_geo, index_shape, number_of_element, element_of_number}
+use Rattle.shard_format.specs.Index.{numbers_in_index}
 use Rattle.shard_format.specs.declared.slot.Slot.{Slot}
 use Rattle.shard_format.specs.declared.slot.Slot.TheVariants.{Absent, InRange, Bad}
 use Rattle.shard_format.specs.Cells.{Layout, cell_in, cell_by, shard_cells}
@@ -28,7 +31,8 @@ use Rattle.shard_format.specs.declared.location.ShardingIndexLocation.TheVariant
 use Rattle.std.proofs.lemmas.List.Sums.{sum_by-le}
 use Rattle.zarr_parts.specs.Words.{CellsOf, Written}
 use Rattle.shard_format.specs.declared.location.ShardingIndexLocation.{ShardingIndexLocation}
-use Rattle.zarr_boxes.proofs.GridLaws.{subchunk_number-below, place_number-below, cell_number-below, cell_number-located, length-subchunk, get_or-subchunk}
+use Rattle.zarr_boxes.proofs.GridLaws.{subchunk_number-below, place_number-below, cell_number-below, cell_number-located, length-subchunk}
+use Rattle.zarr_boxes.proofs.GridLaws.{get_or-subchunk}
 
 numbers_back : (ns : List ℕ) → All (λ n. n < 2 ^ 64) ns → map number_of_element (map element_of_number ns) ≡ ns
 numbers_back ns h =

@@ -8,7 +8,8 @@ use Rattle.zarr_parts.specs.Grid.{Divides, grid_of, subchunk}
 use Rattle.zarr_parts.specs.Geo.{Geo, geo}
 use Rattle.zarr_parts.specs.Types.{size_of, HasElements, FitsKind, byte_size}
 use Rattle.zarr_parts.specs.CodecError.{CodecError}
-use Rattle.zarr_parts.specs.CodecError.TheVariants.{UnsupportedDataType, BadFillValue, IncompatibleDimensionality, InvalidSubchunkShape, TooLarge, VariableIndexSize}
+use Rattle.zarr_parts.specs.CodecError.TheVariants.{UnsupportedDataType, BadFillValue, IncompatibleDimensionality, InvalidSubchunkShape}
+use Rattle.zarr_parts.specs.CodecError.TheVariants.{TooLarge, VariableIndexSize}
 use Rattle.codec_laws.specs.Refusals.{RefusesUnserved}
 use Rattle.codec_laws.specs.declared.representation.BytesRepresentation.{BytesRepresentation}
 use Rattle.codec_laws.specs.declared.representation.BytesRepresentation.TheVariants.{FixedSize, BoundedSize, UnboundedSize}

@@ -1,5 +1,6 @@
 -- A write into a shard: what becomes of the object, of its index and of its cells.
-use Rattle.std.specs.Prelude.{◌≡◌, ◌≢◌, ◌≤◌, ◌<◌, ◌^◌, ◌⊎◌, ⊤, ℕ, ◌+◌, ◌-◌, ◌*◌, ◌/◌, max, List, Option, Some, None, [], length, map, fold, slice_index, slice_index_or}
+use Rattle.std.specs.Prelude.{◌≡◌, ◌≢◌, ◌≤◌, ◌<◌, ◌^◌, ◌⊎◌, ⊤, ℕ, ◌+◌, ◌-◌, ◌*◌, ◌/◌, max, List, Option, Some, None, [], length, map}
+use Rattle.std.specs.Prelude.{fold, slice_index, slice_index_or}
 use Rattle.std.specs.List.{All, range_with_len, sum_by}
 use Rattle.zarr_parts.specs.Words.{Bytes, Elements, CellList, CellsOf, Written, Refusals}
 use Rattle.zarr_parts.specs.CodecError.{CodecError}

@@ -1,5 +1,6 @@
 -- The codec `bytes`: the elements one after the other, whole numbers in the byte order that it is told.
-use Rattle.std.specs.Prelude.{◌≡◌, ◌≤◌, ◌<◌, ◌^◌, ◌*◌, ◌==◌, ⊤, if◌then◌else◌, ℕ, Bool, true, false, List, Option, Some, None, length, map, replicate, reverse}
+use Rattle.std.specs.Prelude.{◌≡◌, ◌≤◌, ◌<◌, ◌^◌, ◌*◌, ◌==◌, ⊤, if◌then◌else◌, ℕ, Bool, true, false, List, Option, Some, None, length}
+use Rattle.std.specs.Prelude.{map, replicate, reverse}
 use Rattle.std.specs.List.{concat}
 use Rattle.zarr_parts.specs.Order.{◌or◌then◌, done}
 use Rattle.zarr_parts.specs.Numbering.{count_of}
@@ -11,7 +12,8 @@ use Rattle.zarr_parts.specs.DataType.{DataType}
 use Rattle.zarr_parts.specs.DataType.TheVariants as type
 use Rattle.zarr_parts.specs.DataTypeSize.TheVariants.{Fixed}
 use Rattle.zarr_parts.specs.CodecError.{CodecError}
-use Rattle.zarr_parts.specs.CodecError.TheVariants.{UnsupportedDataType, BadFillValue, TooLarge, WrongElementKind, InvalidNumberOfElements, Damaged}
+use Rattle.zarr_parts.specs.CodecError.TheVariants.{UnsupportedDataType, BadFillValue, TooLarge, WrongElementKind}
+use Rattle.zarr_parts.specs.CodecError.TheVariants.{InvalidNumberOfElements, Damaged}
 use Rattle.codec_laws.specs.Meanings.{Meaning}
 use Rattle.small_codecs.specs.declared.bytes_codec.Endianness.{Endianness}
 use Rattle.small_codecs.specs.declared.bytes_codec.Endianness.TheVariants.{Little, Big}

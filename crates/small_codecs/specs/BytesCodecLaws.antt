@@ -1,5 +1,6 @@
 -- The codec `bytes` keeps the laws.
-use Rattle.std.proofs.Common.{◌≡◌, ◌≢◌, ℕ, zero, suc, ◌*◌, ◌<◌, Bool, true, false, List, [], ◌∷◌, Option, Some, None, IfSome, length, map, replicate, get_or, refl, sym, ap, ◌∙◌, arith, inl, inr}
+use Rattle.std.proofs.Common.{◌≡◌, ◌≢◌, ℕ, zero, suc, ◌*◌, ◌<◌, Bool, true, false, List, [], ◌∷◌, Option, Some, None, IfSome, length, map}
+use Rattle.std.proofs.Common.{replicate, get_or, refl, sym, ap, ◌∙◌, arith, inl, inr}
 use Rattle.std.proofs.lemmas.Bool.{eq-eqb}
 use Rattle.std.proofs.lemmas.Bool.Decides.{eqb_tells}
 use Rattle.std.proofs.lemmas.List.{length-map, length-replicate, get_or-map, get_or-replicate, length-reverse, reverse-reverse}
@@ -20,7 +21,8 @@ use Rattle.zarr_parts.specs.CodecError.TheVariants.{UnsupportedDataType, BadFill
 use Rattle.codec_laws.specs.Laws.{IsLawful}
 use Rattle.codec_laws.specs.Refusals.{IsNoFault}
 use Rattle.codec_laws.specs.RefusalLaws.{test_faultless}
-use Rattle.small_codecs.specs.BytesCodec.{is_reversed, swapped, element_size, BytesServes, bytes_of, bytes_cells, BytesCheckTests, BytesEncodeTests, bytes_meaning}
+use Rattle.small_codecs.specs.BytesCodec.{is_reversed, swapped, element_size, BytesServes, bytes_of, bytes_cells, BytesCheckTests}
+use Rattle.small_codecs.specs.BytesCodec.{BytesEncodeTests, bytes_meaning}
 
 -- swapping twice gives the element back, and keeps its length
 pub swapped-swapped : (reversed : Bool) (e : List ℕ) → swapped reversed (swapped reversed e) ≡ e

@@ -1,5 +1,6 @@
 -- The text of elements that have lengths of their own: their count, then each behind its length, all as numbers of four bytes.
-use Rattle.std.specs.Prelude.{◌++◌, ◌<◌, ◌^◌, ◌==◌, if◌then◌else◌, ℕ, zero, suc, [], ◌∷◌, Option, Some, None, length, take, drop, nat_lt, nat_le, option_map, option_and_then}
+use Rattle.std.specs.Prelude.{◌++◌, ◌<◌, ◌^◌, ◌==◌, if◌then◌else◌, ℕ, zero, suc, [], ◌∷◌, Option, Some, None, length, take, drop, nat_lt}
+use Rattle.std.specs.Prelude.{nat_le, option_map, option_and_then}
 use Rattle.std.specs.Int.{w32, to_le_bytes, from_le_bytes}
 use Rattle.std.specs.List.{All, flat_map}
 use Rattle.zarr_parts.specs.Words.{Bytes, Elements}

@@ -1,5 +1,7 @@
 -- The codec for elements that have lengths of their own keeps the laws.
-use Rattle.std.proofs.Common.{◌≡◌, ◌<◌, ◌^◌, ◌++◌, ℕ, zero, suc, Bool, true, false, nat_lt, nat_le, [], ◌∷◌, Option, Some, None, IfSome, length, take, drop, map, get_or, nat_eq, if◌then◌else◌, option_map, option_and_then, refl, sym, ap, ◌∙◌, arith, length-append, append_assoc, eq-eqb}
+use Rattle.std.proofs.Common.{◌≡◌, ◌<◌, ◌^◌, ◌++◌, ℕ, zero, suc, Bool, true, false, nat_lt, nat_le, [], ◌∷◌, Option, Some, None, IfSome}
+use Rattle.std.proofs.Common.{length, take, drop, map, get_or, nat_eq, if◌then◌else◌, option_map, option_and_then, refl, sym, ap, ◌∙◌}
+use Rattle.std.proofs.Common.{arith, length-append, append_assoc, eq-eqb}
 use Rattle.std.proofs.Math.Seq.{take-append_seam, drop-append_seam}
 use Rattle.std.proofs.lemmas.Nat.{from_le_bytes-to_le_bytes_4}
 use Rattle.std.proofs.lemmas.List.Elements.{All-head, All-tail}
@@ -21,7 +23,8 @@ use Rattle.codec_laws.specs.Refusals.{IsNoFault}
 use Rattle.codec_laws.specs.RefusalLaws.{test_faultless}
 use Rattle.whole_arrays.specs.WholeArrays.{whole_cells}
 use Rattle.whole_arrays.proofs.WholeArrayLaws.{length-whole_cells, whole_cells-each}
-use Rattle.variable_codec.specs.Text.{number_bytes, element_text, vlen_text, HasText, first_number, first_bytes, first_element, elements_in, vlen_elements}
+use Rattle.variable_codec.specs.Text.{number_bytes, element_text, vlen_text, HasText, first_number, first_bytes, first_element}
+use Rattle.variable_codec.specs.Text.{elements_in, vlen_elements}
 use Rattle.variable_codec.specs.VlenCodec.{VlenServes, IsTextOf, vlen_cells, VlenCheckTests, VlenEncodeTests, vlen_meaning}
 
 -- a number of four bytes, with bytes behind it, is read
