@@ -108,8 +108,8 @@ impl ShardGrid {
         self.len
     }
 
-    /// The coordinates of a shard in the grid, of which its key is made (Zarr V3 core, "Chunk key encoding"); `None` where
-    /// there are not so many shards. Refused only as out of memory.
+    /// The coordinates of a shard in the grid, of which its key is made (Zarr V3 core, "Chunk key encoding"); `None` past the
+    /// last one. In an array without cells an axis that has none counts as one that a single shard holds. Refused only as out of memory.
     pub fn coordinates(&self, alloc: Global, number: u64) -> Result<Option<Vec<u64>>, AllocError>
         ensures { let grid = grid_of (whole_shards self.now.shape self.now.shard) self.now.shard in
             IfOk result (λ found. MatchOption found (¬ HasPoint number grid) (λ point. HasPoint number grid × (point.items ≡ point_of number grid))) }
