@@ -1,5 +1,6 @@
 // Whether the shards of an array are sound.
 use crate::arrays::{Array, Decoder, read_through};
+use crate::progress::Progress;
 use crate::stop::{Place, Refusal, Stop};
 use std::io;
 use std::io::Write;
@@ -21,14 +22,19 @@ fn read_subchunk<R: Files + AllocGlobal>(
 }
 
 // Reads each subchunk of a shard, and goes on behind one that is refused.
-fn check_subchunks<'a, R: Files + AllocGlobal>(
+fn check_subchunks<'a, R: Files + AllocGlobal, M: Write>(
     array: &Array<'a, R>,
+    shard: u64,
     key: &str,
     mut decoder: Decoder<'_, 'a, R>,
     refusals: &mut Vec<Refusal>,
+    progress: &mut Progress<'_, M>,
 ) -> Result<(), Stop> {
     let count = array.subchunks.num_elements().unwrap_or(u64::MAX);
+    let before = shard.saturating_mul(count);
+    let all = array.grid.len().saturating_mul(count);
     for number in 0..count {
+        progress.step(before.saturating_add(number), all);
         let Some(error) = read_subchunk(array, &mut decoder, number)? else {
             continue;
         };
@@ -47,14 +53,15 @@ fn check_subchunks<'a, R: Files + AllocGlobal>(
 }
 
 // Opens a shard and reads each subchunk.
-fn check_shard<R: Files + AllocGlobal>(
+fn check_shard<R: Files + AllocGlobal, M: Write>(
     array: &Array<'_, R>,
     number: u64,
     refusals: &mut Vec<Refusal>,
+    progress: &mut Progress<'_, M>,
 ) -> Result<(), Stop> {
     let key = array.key(number)?;
     match array.decoder(&key)? {
-        Ok(decoder) => check_subchunks(array, &key, decoder, refusals),
+        Ok(decoder) => check_subchunks(array, number, &key, decoder, refusals, progress),
         Err(refusal) => {
             refusals.push(refusal)?;
             Ok(())
@@ -63,10 +70,13 @@ fn check_shard<R: Files + AllocGlobal>(
 }
 
 /// What is refused in the array: of each shard the index, and each subchunk.
-pub fn check<R: Files + AllocGlobal>(array: &Array<'_, R>) -> Result<Vec<Refusal>, Stop> {
+pub fn check<R: Files + AllocGlobal, M: Write>(
+    array: &Array<'_, R>,
+    progress: &mut Progress<'_, M>,
+) -> Result<Vec<Refusal>, Stop> {
     let mut refusals: Vec<Refusal> = Vec::new(array.alloc());
     for number in 0..array.grid.len() {
-        check_shard(array, number, &mut refusals)?;
+        check_shard(array, number, &mut refusals, progress)?;
     }
     Ok(refusals)
 }

@@ -6,6 +6,7 @@ use crate::boxes::parse_box;
 use crate::check::{check, write_refusals};
 use crate::compact::compact;
 use crate::info::{is_refused, shards_of, write_info};
+use crate::progress::Progress;
 use crate::read::read_box;
 use crate::stop::Stop;
 use crate::text::{json_of, write_rows};
@@ -146,15 +147,17 @@ fn box_of(alloc: Global, asked: Option<&str>, shape: &[u64]) -> Result<ArraySubs
 }
 
 // Reads a box, and writes its cells.
-fn run_read<R: Files + AllocGlobal, W: Write>(
+fn run_read<R: Files + AllocGlobal, W: Write, M: Write>(
     array: &Array<'_, R>,
     asked: Option<&str>,
     form: Form,
     out: &mut W,
+    progress: &mut Progress<'_, M>,
 ) -> Result<(), Stop> {
     let (alloc, data_type) = (array.alloc(), &array.metadata.data_type);
     let subset = box_of(alloc, asked, &array.metadata.shape)?;
-    let cells = read_box(array, &subset)?;
+    let cells = read_box(array, &subset, progress)?;
+    progress.clear();
     match form {
         Form::Text => write_rows(out, data_type, cells.bytes(), subset.shape())?,
         Form::Raw => out.write_all(cells.bytes())?,
@@ -167,41 +170,45 @@ fn run_read<R: Files + AllocGlobal, W: Write>(
 }
 
 // Does a work, writes its answer, and says whether a shard is refused.
-fn run_work<R: Files + AllocGlobal, W: Write>(
+fn run_work<R: Files + AllocGlobal, W: Write, M: Write>(
     array: &Array<'_, R>,
     work: Work<'_>,
     out: &mut W,
+    progress: &mut Progress<'_, M>,
 ) -> Result<bool, Stop> {
     match work {
         Work::Info => {
-            let shards = shards_of(array)?;
+            let shards = shards_of(array, progress)?;
+            progress.clear();
             write_info(out, array, &shards)?;
             Ok(is_refused(&shards))
         }
         Work::Check => {
-            let refusals = check(array)?;
+            let refusals = check(array, progress)?;
+            progress.clear();
             write_refusals(out, &refusals)?;
             Ok(!refusals.is_empty())
         }
         Work::Read { asked, form } => {
-            run_read(array, asked, form, out)?;
+            run_read(array, asked, form, out, progress)?;
             Ok(false)
         }
-        Work::Compact { is_dry } => compact(array, is_dry, out),
+        Work::Compact { is_dry } => compact(array, is_dry, out, progress),
     }
 }
 
 // Opens an array, and does a work.
-fn run_array<R: Files + AllocGlobal, W: Write>(
+fn run_array<R: Files + AllocGlobal, W: Write, M: Write>(
     rt: &R,
     path: &str,
     work: Work<'_>,
     out: &mut W,
+    progress: &mut Progress<'_, M>,
 ) -> Result<u8, Stop>
     ensures { IfOk result (λ status. status ≤ 2) }
 {
     let array = Array::open(rt, path)?;
-    let is_refused = run_work(&array, work, out)?;
+    let is_refused = run_work(&array, work, out, progress)?;
     Ok(if is_refused { 1 } else { 0 })
 }
 
@@ -211,6 +218,7 @@ fn run_words<R: Files + AllocGlobal, S: AsStr, W: Write, M: Write>(
     words: &[S],
     out: &mut W,
     messages: &mut M,
+    shows_progress: bool,
 ) -> Result<u8, Stop>
     ensures { IfOk result (λ status. status ≤ 2) }
 {
@@ -230,7 +238,10 @@ fn run_words<R: Files + AllocGlobal, S: AsStr, W: Write, M: Write>(
         return Ok(2);
     };
     let path = found.get_str("PATH").unwrap_or(".");
-    run_array(rt, path, work_of(name, found), out)
+    let mut progress = Progress::new(messages, shows_progress);
+    let ran = run_array(rt, path, work_of(name, found), out, &mut progress);
+    progress.clear();
+    ran
 }
 
 // Runs a command line, and sees that its answer is written.
@@ -239,27 +250,31 @@ fn run_buffered<R: Files + AllocGlobal, S: AsStr, W: Write + Drop, M: Write>(
     words: &[S],
     writer: W,
     messages: &mut M,
+    shows_progress: bool,
 ) -> Result<u8, Stop>
     ensures { IfOk result (λ status. status ≤ 2) }
 {
     let mut out = BufWriter::new(rt.alloc(), writer)?;
-    let ran = run_words(rt, words, &mut out, messages);
+    let ran = run_words(rt, words, &mut out, messages, shows_progress);
     out.flush()?;
     ran
 }
 
 /// Runs a command line, whose first word is the program's name: writes the answer, or one sentence to the messages, and
 /// returns the status for the program to end with. 0 where it was done; 1 where a shard is refused; 2 where it could not be
-/// done, and then nothing is written but what `compact` had done before. A message that is not taken is dropped.
+/// done, and then nothing is written but what `compact` had done before. A message that is not taken is dropped. Where
+/// `shows_progress` is true, the messages show how far the command is while it runs, and it is blanked before an answer or a
+/// sentence is written.
 pub fn run_command<R: Files + AllocGlobal, S: AsStr, W: Write + Drop, M: Write + Drop>(
     rt: &R,
     words: &[S],
     writer: W,
     mut messages: M,
+    shows_progress: bool,
 ) -> u8
     ensures { result ≤ 2 }
 {
-    match run_buffered(rt, words, writer, &mut messages) {
+    match run_buffered(rt, words, writer, &mut messages, shows_progress) {
         Ok(status) => status,
         Err(stop) => {
             let _ = writeln!(messages, "zarr_shard: {stop}");

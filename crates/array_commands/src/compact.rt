@@ -1,5 +1,6 @@
 // The compaction of an array's shards.
 use crate::arrays::{Array, ShardFile};
+use crate::progress::Progress;
 use crate::stop::{Place, Refusal, Stop};
 use std::io::{ErrorKind, Write};
 use std::rt::Files;
@@ -102,22 +103,25 @@ fn compact_shard<R: Files + AllocGlobal>(
 }
 
 // Compacts a shard, and writes a line where that saves bytes or the shard is refused.
-fn compact_one<R: Files + AllocGlobal, W: Write>(
+fn compact_one<R: Files + AllocGlobal, W: Write, M: Write>(
     array: &Array<'_, R>,
     number: u64,
     is_dry: bool,
     out: &mut W,
     gained: &mut Gained,
+    progress: &mut Progress<'_, M>,
 ) -> Result<(), Stop> {
     let key = array.key(number)?;
     match compact_shard(array, &key, is_dry)? {
         Ok(Some(saved)) => {
             gained.add(saved);
+            progress.clear();
             Ok(writeln!(out, "{key}: {saved} bytes saved")?)
         }
         Ok(None) => Ok(()),
         Err(refusal) => {
             gained.is_refused = true;
+            progress.clear();
             Ok(writeln!(out, "{key}: refused: {refusal}")?)
         }
     }
@@ -125,15 +129,18 @@ fn compact_one<R: Files + AllocGlobal, W: Write>(
 
 /// Compacts each shard that is not compact, and writes a line for each and how many bytes were saved in all. With `is_dry` no
 /// file is written. Says whether a shard is refused.
-pub fn compact<R: Files + AllocGlobal, W: Write>(
+pub fn compact<R: Files + AllocGlobal, W: Write, M: Write>(
     array: &Array<'_, R>,
     is_dry: bool,
     out: &mut W,
+    progress: &mut Progress<'_, M>,
 ) -> Result<bool, Stop> {
     let mut gained = Gained::nothing();
     for number in 0..array.grid.len() {
-        compact_one(array, number, is_dry, out, &mut gained)?;
+        progress.step(number, array.grid.len());
+        compact_one(array, number, is_dry, out, &mut gained, progress)?;
     }
+    progress.clear();
     let Gained {
         shards,
         bytes,

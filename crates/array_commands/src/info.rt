@@ -1,5 +1,6 @@
 // What an array on disk holds, and its shards.
 use crate::arrays::{Array, ShardFile};
+use crate::progress::Progress;
 use crate::stop::{Place, Refusal, Stop};
 use crate::text::{write_numbers, write_rows};
 use array_metadata::ArrayMetadata;
@@ -147,11 +148,15 @@ fn shard_info<R: Files + AllocGlobal>(
 }
 
 /// The shards that are there.
-pub fn shards_of<R: Files + AllocGlobal>(array: &Array<'_, R>) -> Result<Vec<ShardInfo>, Stop> {
+pub fn shards_of<R: Files + AllocGlobal, M: Write>(
+    array: &Array<'_, R>,
+    progress: &mut Progress<'_, M>,
+) -> Result<Vec<ShardInfo>, Stop> {
     let codec = &array.metadata.codec;
     let size = index_size(array.alloc(), &codec.index_codec, &array.subchunks)?;
     let mut shards: Vec<ShardInfo> = Vec::new(array.alloc());
     for number in 0..array.grid.len() {
+        progress.step(number, array.grid.len());
         if let Some(shard) = shard_info(array, number, size)? {
             shards.push(shard)?;
         }

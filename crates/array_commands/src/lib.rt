@@ -7,6 +7,7 @@ mod check;
 mod command;
 mod compact;
 mod info;
+mod progress;
 mod read;
 mod stop;
 mod text;

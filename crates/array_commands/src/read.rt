@@ -1,7 +1,9 @@
 // The cells of a box of an array.
 use crate::arrays::{Array, read_into};
+use crate::progress::Progress;
 use crate::stop::{Place, Stop};
 use array_shards::{BoxCells, ShardPart};
+use std::io::Write;
 use std::rt::Files;
 use zarr_parts::ArraySubset;
 
@@ -27,13 +29,16 @@ fn read_part<R: Files + AllocGlobal>(
 }
 
 /// The cells of a box, of each shard that it meets; where there is no file, fill values.
-pub fn read_box<R: Files + AllocGlobal>(
+pub fn read_box<R: Files + AllocGlobal, M: Write>(
     array: &Array<'_, R>,
     asked: &ArraySubset,
+    progress: &mut Progress<'_, M>,
 ) -> Result<BoxCells, Stop> {
     let alloc = array.alloc();
     let mut cells = BoxCells::new(alloc, asked, &array.metadata.fill_value)?;
-    for part in array.grid.parts(alloc, asked)?.iter() {
+    let parts = array.grid.parts(alloc, asked)?;
+    for (done, part) in parts.iter().enumerate() {
+        progress.step(done as u64, parts.len() as u64);
         read_part(array, part, &mut cells)?;
     }
     Ok(cells)
