@@ -1,13 +1,20 @@
 // Runs command lines over arrays that other writers laid out, and prints what each answers.
 //
-// The file COMMANDS has a command line on each line, words with a space between; with `progress` before it, it is run as on a
-// terminal. `bytes PATH` prints the bytes of a file in hexadecimal digits. Behind an answer stand its messages, each line
-// behind `! ` and each return to the line's start as `\r`, and the status.
+// The file COMMANDS has a command line on each line, words with a space between. With `progress` before it, it is run as on a
+// terminal; with `full` before it, on a disk that is full. `bytes PATH` prints the bytes of a file in hexadecimal digits, and
+// `mode DIGITS PATH` gives a file or folder these permissions. Behind an answer stand its messages, each line behind `! ` and
+// each return to the line's start as `\r`, and the status.
 #![tactic(auto)]
 
+mod full_disk;
+
+use crate::full_disk::FullDisk;
 use array_commands::run_command;
 use std::alloc::Global;
+use std::fs::Permissions;
 use std::io::Write;
+use std::os::unix::fs::PermissionsExt;
+use std::rt::Files;
 use std::{fs, io};
 
 // Writes messages, each line behind `! `.
@@ -20,8 +27,8 @@ fn write_messages(alloc: Global, messages: &[u8], out: &mut Vec<u8>) -> io::Resu
 }
 
 // What a command line answers, and the status.
-fn answer_of(
-    rt: &HostRuntime,
+fn answer_of<R: Files + AllocGlobal>(
+    rt: &R,
     words: &[&str],
     shows_progress: bool,
     out: &mut Vec<u8>,
@@ -40,13 +47,23 @@ fn write_bytes(rt: &HostRuntime, path: &str, out: &mut Vec<u8>) -> io::Result<()
     out.write_all(b"\n")
 }
 
+// Gives a file or folder the permissions that octal digits say.
+fn set_mode(rt: &HostRuntime, digits: &str, path: &str) -> io::Result<()> {
+    match u32::from_str_radix(digits, 8) {
+        Ok(mode) => fs::set_permissions(rt, path, Permissions::from_mode(mode)),
+        Err(_) => Err(io::ErrorKind::InvalidInput.into()),
+    }
+}
+
 // Runs a line, and prints what it answers.
 fn run_line(rt: &HostRuntime, line: &str) -> io::Result<()> {
     let words: Vec<&str> = line.split(' ').collect(rt.alloc())?;
     let mut out: Vec<u8> = Vec::new(rt.alloc());
     match words.as_slice() {
         ["bytes", path] => write_bytes(rt, path, &mut out)?,
+        ["mode", digits, path] => set_mode(rt, digits, path)?,
         ["progress", words @ ..] => answer_of(rt, words, true, &mut out)?,
+        ["full", words @ ..] => answer_of(&FullDisk::over(rt), words, false, &mut out)?,
         words => answer_of(rt, words, false, &mut out)?,
     }
     let answer = String::from_utf8_lossy(rt.alloc(), &out)?;

@@ -1,0 +1,134 @@
+// A file system whose disk is full.
+use std::alloc::{Alloc, AllocGlobal, Allocator, Global};
+use std::fs::{Metadata, OpenFile, OpenOptions, Permissions};
+use std::io;
+use std::io::{Read, Seek, SeekFrom, Write};
+use std::rt::Files;
+
+// How many bytes an open file still takes.
+const ROOM: usize = 16;
+
+/// Another file system, on a disk that is full: a file that is open takes 16 bytes more, and then no other.
+#[derive(Drop)]
+pub struct FullDisk<'a, R> {
+    rt: &'a R,
+}
+
+/// An open file on a disk that is full.
+#[derive(Drop)]
+pub struct FullFile<F> {
+    file: F,
+    room: usize,
+}
+
+impl<'a, R> FullDisk<'a, R> {
+    /// The files of another file system.
+    pub fn over(rt: &'a R) -> Self {
+        FullDisk { rt }
+    }
+}
+
+impl<R: AllocGlobal> Alloc for FullDisk<'_, R> {
+    type A = Global;
+
+    fn alloc(&self) -> Global {
+        self.rt.alloc()
+    }
+}
+
+impl<R: Files> Files for FullDisk<'_, R> {
+    type File = FullFile<R::File>;
+
+    type Dir = R::Dir;
+
+    fn open_file(&self, how: &OpenOptions, path: &str) -> io::Result<FullFile<R::File>> {
+        let file = self.rt.open_file(how, path)?;
+        Ok(FullFile { file, room: ROOM })
+    }
+
+    fn open_dir(&self, path: &str) -> io::Result<R::Dir> {
+        self.rt.open_dir(path)
+    }
+
+    fn metadata(&self, path: &str) -> io::Result<Metadata> {
+        self.rt.metadata(path)
+    }
+
+    fn symlink_metadata(&self, path: &str) -> io::Result<Metadata> {
+        self.rt.symlink_metadata(path)
+    }
+
+    fn copy(&self, from: &str, to: &str) -> io::Result<u64> {
+        self.rt.copy(from, to)
+    }
+
+    fn rename(&self, from: &str, to: &str) -> io::Result<()> {
+        self.rt.rename(from, to)
+    }
+
+    fn remove_file(&self, path: &str) -> io::Result<()> {
+        self.rt.remove_file(path)
+    }
+
+    fn create_dir(&self, path: &str) -> io::Result<()> {
+        self.rt.create_dir(path)
+    }
+
+    fn remove_dir(&self, path: &str) -> io::Result<()> {
+        self.rt.remove_dir(path)
+    }
+
+    fn remove_dir_all<B: Allocator>(&self, alloc: B, path: &str) -> io::Result<()> {
+        self.rt.remove_dir_all(alloc, path)
+    }
+}
+
+impl<F: Read> Read for FullFile<F> {
+    fn read(&mut self, bytes: &mut [u8]) -> io::Result<usize> {
+        self.file.read(bytes)
+    }
+}
+
+impl<F: Write> Write for FullFile<F> {
+    fn write(&mut self, bytes: &[u8]) -> io::Result<usize> {
+        if self.room == 0 {
+            return Err(io::ErrorKind::StorageFull.into());
+        }
+        let count = bytes.len().min(self.room);
+        let written = self.file.write(&bytes[..count])?;
+        self.room = self.room.saturating_sub(written);
+        Ok(written)
+    }
+
+    fn flush(&mut self) -> io::Result<()> {
+        self.file.flush()
+    }
+}
+
+impl<F: Seek> Seek for FullFile<F> {
+    fn seek(&mut self, to: SeekFrom) -> io::Result<u64> {
+        self.file.seek(to)
+    }
+}
+
+impl<F: OpenFile> OpenFile for FullFile<F> {
+    fn metadata(&self) -> io::Result<Metadata> {
+        self.file.metadata()
+    }
+
+    fn set_len(&self, size: u64) -> io::Result<()> {
+        self.file.set_len(size)
+    }
+
+    fn sync_all(&self) -> io::Result<()> {
+        self.file.sync_all()
+    }
+
+    fn sync_data(&self) -> io::Result<()> {
+        self.file.sync_data()
+    }
+
+    fn set_permissions(&self, permissions: Permissions) -> io::Result<()> {
+        self.file.set_permissions(permissions)
+    }
+}
