@@ -3,11 +3,12 @@ use crate::stop::{Place, Refusal, Stop};
 use array_metadata::{ArrayMetadata, IndexCodec, InnerCodec};
 use array_shards::{BoxCells, ShardGrid, ShardPart};
 use file_handles::FileHandle;
+use shard_format::of_stored;
 use std::alloc::Global;
 use std::rt::Files;
 use std::{fs, io};
 use zarr_codecs::{ArrayToBytesCodecTraits, BytesPartialDecoderTraits};
-use zarr_parts::{ArraySubset, ChunkShape, CodecError, CodecOptions};
+use zarr_parts::{ChunkShape, CodecError, CodecOptions};
 use zarrs_sharding::{ShardingPartialDecoder, SubchunkWriteOrder, calculate_chunks_per_shard};
 
 /// The file of a shard.
@@ -71,14 +72,28 @@ pub fn read_into<H: BytesPartialDecoderTraits>(
     cells.put(&part.in_box, &found)
 }
 
-/// Reads the cells of a box of a shard that is open, and lets them go.
+/// Reads the bytes of a subchunk of a shard that is open, decodes them, and lets the cells go.
 pub fn read_through<H: BytesPartialDecoderTraits>(
     alloc: Global,
     decoder: &mut ShardingPartialDecoder<'_, InnerCodec, IndexCodec, H>,
-    subset: &ArraySubset,
+    asked: &ArrayMetadata,
+    subchunk: &[u64],
 ) -> Result<(), CodecError> {
-    let _cells = decoder.partial_decode(alloc, subset, &CodecOptions::default())?;
-    Ok(())
+    let Some(bytes) = decoder.retrieve_subchunk_encoded(alloc, subchunk)? else {
+        return Ok(());
+    };
+    let decoded = asked.codec.inner.decode(
+        alloc,
+        &bytes,
+        &asked.subchunk,
+        &asked.data_type,
+        &asked.fill_value,
+        &CodecOptions::default(),
+    );
+    match decoded {
+        Ok(_) => Ok(()),
+        Err(error) => Err(of_stored(error)),
+    }
 }
 
 impl<'a, R: Files + AllocGlobal> Array<'a, R> {

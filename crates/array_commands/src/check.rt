@@ -5,20 +5,19 @@ use crate::stop::{Place, Refusal, Stop};
 use std::io;
 use std::io::Write;
 use std::rt::Files;
-use zarr_parts::CodecError;
+use zarr_parts::{CodecError, unravel_index};
 
-// Reads a subchunk of a shard, and says why it is refused.
-fn read_subchunk<R: Files + AllocGlobal>(
+// Reads a subchunk of a shard.
+fn check_subchunk<R: Files + AllocGlobal>(
     array: &Array<'_, R>,
     decoder: &mut Decoder<'_, '_, R>,
     number: u64,
-) -> Result<Option<CodecError>, Stop> {
-    let codec = &array.metadata.codec;
-    let found = codec.chunk_index_to_subset(array.alloc(), number, &array.subchunks)?;
-    let Some(subset) = found else {
-        return Ok(None);
-    };
-    Ok(read_through(array.alloc(), decoder, &subset).err())
+) -> Result<(), CodecError> {
+    let alloc = array.alloc();
+    match unravel_index(alloc, number, array.subchunks.as_slice())? {
+        Some(subchunk) => read_through(alloc, decoder, &array.metadata, &subchunk),
+        None => Ok(()),
+    }
 }
 
 // Reads each subchunk of a shard, and goes on behind one that is refused.
@@ -35,7 +34,7 @@ fn check_subchunks<'a, R: Files + AllocGlobal, M: Write>(
     let all = array.grid.len().saturating_mul(count);
     for number in 0..count {
         progress.step(before.saturating_add(number), all);
-        let Some(error) = read_subchunk(array, &mut decoder, number)? else {
+        let Err(error) = check_subchunk(array, &mut decoder, number) else {
             continue;
         };
         if matches!(error, CodecError::Fault | CodecError::OutOfMemory) {
