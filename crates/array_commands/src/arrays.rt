@@ -1,14 +1,14 @@
 // An array on disk that is opened: its metadata, its shards, and their files.
 use crate::stop::{Place, Refusal, Stop};
 use array_metadata::{ArrayMetadata, IndexCodec, InnerCodec};
-use array_shards::{BoxCells, ShardGrid, ShardPart};
+use array_shards::ShardGrid;
 use file_handles::FileHandle;
 use shard_format::of_stored;
 use std::alloc::Global;
 use std::rt::Files;
 use std::{fs, io};
 use zarr_codecs::{ArrayToBytesCodecTraits, BytesPartialDecoderTraits};
-use zarr_parts::{ChunkShape, CodecError, CodecOptions};
+use zarr_parts::{ArrayBytes, ArraySubset, ChunkShape, CodecError, CodecOptions};
 use zarrs_sharding::{ShardingPartialDecoder, SubchunkWriteOrder, calculate_chunks_per_shard};
 
 /// The file of a shard.
@@ -61,15 +61,14 @@ fn metadata_of<R: Files + AllocGlobal>(rt: &R, path: &str) -> Result<ArrayMetada
     }
 }
 
-/// Reads the cells of a box of a shard that is open, and puts them into a box of cells.
-pub fn read_into<H: BytesPartialDecoderTraits>(
+/// Reads the cells of a box of a shard that is open.
+pub fn read_cells<'d, H: BytesPartialDecoderTraits>(
     alloc: Global,
-    decoder: &mut ShardingPartialDecoder<'_, InnerCodec, IndexCodec, H>,
-    part: &ShardPart,
-    cells: &mut BoxCells,
-) -> Result<(), CodecError> {
-    let found = decoder.partial_decode(alloc, &part.in_shard, &CodecOptions::default())?;
-    cells.put(&part.in_box, &found)
+    decoder: &'d mut ShardingPartialDecoder<'_, InnerCodec, IndexCodec, H>,
+    subset: &ArraySubset,
+) -> Result<ArrayBytes<'d>, CodecError> {
+    let cells = decoder.partial_decode(alloc, subset, &CodecOptions::default())?;
+    Ok(cells)
 }
 
 /// Reads the bytes of a subchunk of a shard that is open, decodes them, and lets the cells go.

@@ -1,45 +1,64 @@
 // The cells of a box of an array.
-use crate::arrays::{Array, read_into};
+use crate::arrays::{Array, read_cells};
 use crate::progress::Progress;
 use crate::stop::{Place, Stop};
 use array_shards::{BoxCells, ShardPart};
 use std::io::Write;
 use std::rt::Files;
-use zarr_parts::ArraySubset;
+use zarr_parts::{ArrayBytes, ArraySubset};
+
+// Puts the cells of a part into those of a box, for which memory is asked with the first part.
+fn put_part<R: Files + AllocGlobal>(
+    array: &Array<'_, R>,
+    asked: &ArraySubset,
+    part: &ShardPart,
+    found: &ArrayBytes,
+    cells: &mut Option<BoxCells>,
+) -> Result<(), Stop> {
+    let mut held = match cells.take() {
+        Some(held) => held,
+        None => BoxCells::new(array.alloc(), asked, &array.metadata.fill_value)?,
+    };
+    held.put(&part.in_box, found)?;
+    *cells = Some(held);
+    Ok(())
+}
 
 // Reads the part of a box that lies in a shard.
 fn read_part<R: Files + AllocGlobal>(
     array: &Array<'_, R>,
+    asked: &ArraySubset,
     part: &ShardPart,
-    cells: &mut BoxCells,
+    cells: &mut Option<BoxCells>,
 ) -> Result<(), Stop> {
-    let alloc = array.alloc();
     let key = array.key(part.shard)?;
     let mut decoder = match array.decoder(&key)? {
         Ok(decoder) => decoder,
         Err(refusal) => return Err(Stop::Refused(refusal)),
     };
-    match read_into(alloc, &mut decoder, part, cells) {
-        Ok(()) => Ok(()),
-        Err(error) => {
-            let refusal = array.refusal(&key, &decoder.close(), error, Place::reading(&error))?;
-            Err(Stop::Refused(refusal))
-        }
-    }
+    let error = match read_cells(array.alloc(), &mut decoder, &part.in_shard) {
+        Ok(found) => return put_part(array, asked, part, &found, cells),
+        Err(error) => error,
+    };
+    let refusal = array.refusal(&key, &decoder.close(), error, Place::reading(&error))?;
+    Err(Stop::Refused(refusal))
 }
 
-/// The cells of a box, of each shard that it meets; where there is no file, fill values.
+/// The cells of a box, of each shard that it meets; where there is no file, fill values. Memory for them is asked once a part is
+/// read, so that a box in one shard takes less.
 pub fn read_box<R: Files + AllocGlobal, M: Write>(
     array: &Array<'_, R>,
     asked: &ArraySubset,
     progress: &mut Progress<'_, M>,
 ) -> Result<BoxCells, Stop> {
-    let alloc = array.alloc();
-    let mut cells = BoxCells::new(alloc, asked, &array.metadata.fill_value)?;
-    let parts = array.grid.parts(alloc, asked)?;
+    let parts = array.grid.parts(array.alloc(), asked)?;
+    let mut cells: Option<BoxCells> = None;
     for (done, part) in parts.iter().enumerate() {
         progress.step(done as u64, parts.len() as u64);
-        read_part(array, part, &mut cells)?;
+        read_part(array, asked, part, &mut cells)?;
     }
-    Ok(cells)
+    match cells {
+        Some(cells) => Ok(cells),
+        None => Ok(BoxCells::new(array.alloc(), asked, &array.metadata.fill_value)?),
+    }
 }
