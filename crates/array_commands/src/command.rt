@@ -61,28 +61,35 @@ fn check_command<'a>(alloc: Global) -> Result<Command<'a>, AllocError> {
         .arg(path_argument(alloc))
 }
 
-fn read_command<'a>(alloc: Global) -> Result<Command<'a>, AllocError> {
-    let asked = Arg::new(alloc, "BOX").help(
-        "A range for each axis, as 0..2,3..5; without it the whole array",
-    );
-    let json = Arg::new(alloc, "json")
+fn box_argument<'a>(alloc: Global) -> Arg<'a> {
+    Arg::new(alloc, "BOX").help("A range for each axis, as 0..2,3..5; without it the whole array")
+}
+
+fn json_flag<'a>(alloc: Global) -> Arg<'a> {
+    Arg::new(alloc, "json")
         .long("json")
         .action(ArgAction::SetTrue)
-        .help("An object of JSON with shape, data_type and cells");
+        .help("An object of JSON with shape, data_type and cells")
+}
+
+fn raw_flag<'a>(alloc: Global) -> Result<Arg<'a>, AllocError> {
     let raw = Arg::new(alloc, "raw")
         .long("raw")
         .action(ArgAction::SetTrue)
-        .conflicts_with("json")?
-        .help("The bytes of the cells, least significant first");
+        .conflicts_with("json")?;
+    Ok(raw.help("The bytes of the cells, least significant first"))
+}
+
+fn read_command<'a>(alloc: Global) -> Result<Command<'a>, AllocError> {
     Command::new(alloc, "read")
         .about("Writes the cells of a box in row-major order, a row of the last axis a line")
         .after_help(
             "Example: zarr_shard read weather/temperature 0..2,3..5\nA bool is 0 or 1 as text, and true or false in JSON.",
         )
         .arg(path_argument(alloc))?
-        .arg(asked)?
-        .arg(json)?
-        .arg(raw)
+        .arg(box_argument(alloc))?
+        .arg(json_flag(alloc))?
+        .arg(raw_flag(alloc)?)
 }
 
 fn compact_command<'a>(alloc: Global) -> Result<Command<'a>, AllocError> {

@@ -9,7 +9,7 @@ pub struct Progress<'a, M> {
     // whether anything is shown at all
     shows: bool,
     // the percentage that stands there
-    shown: Option<u128>,
+    shown: Option<u64>,
 }
 
 impl<'a, M: Write> Progress<'a, M> {
@@ -27,7 +27,7 @@ impl<'a, M: Write> Progress<'a, M> {
         if !self.shows || of == 0 {
             return;
         }
-        let percent = done as u128 * 100 / of as u128;
+        let percent = done.saturating_mul(100) / of;
         if self.shown != Some(percent) {
             let _ = write!(self.messages, "\r{percent:3} %");
             self.shown = Some(percent);
