@@ -1,4 +1,5 @@
 // Metadata of arrays that is read.
+use crate::compared::same;
 use crate::examples::{told_inside, told_with};
 use std::test::Fail;
 
@@ -96,7 +97,7 @@ const INNER_CODECS: [&str; 4] = [
 fn arrays_are_read(rt: HostRuntime) -> Result<(), Fail> {
     for (members, want) in ARRAYS {
         let told = told_with(rt.alloc(), members)?;
-        assert_eq!(rt; told.as_str(), want);
+        same(&rt, told.as_str(), want);
     }
     Ok(())
 }
@@ -107,7 +108,7 @@ fn keys_are_read(rt: HostRuntime) -> Result<(), Fail> {
         let members = format!(in rt.alloc(); r#""chunk_key_encoding": {encoding}"#)?;
         let told = told_with(rt.alloc(), members.as_str())?;
         let want = format!(in rt.alloc(); "[8, 8] [4, 4] [2, 2] [7, 0] {key}")?;
-        assert_eq!(rt; told, want);
+        same(&rt, told, want);
     }
     Ok(())
 }
@@ -120,7 +121,7 @@ fn fill_values_are_read(rt: HostRuntime) -> Result<(), Fail> {
         )?;
         let told = told_with(rt.alloc(), members.as_str())?;
         let want = format!(in rt.alloc(); "[8, 8] [4, 4] [2, 2] {bytes} c/8/8")?;
-        assert_eq!(rt; told, want);
+        same(&rt, told, want);
     }
     Ok(())
 }
@@ -129,7 +130,7 @@ fn fill_values_are_read(rt: HostRuntime) -> Result<(), Fail> {
 fn inner_codecs_are_read(rt: HostRuntime) -> Result<(), Fail> {
     for codecs in INNER_CODECS {
         let told = told_inside(rt.alloc(), codecs)?;
-        assert_eq!(rt; told.as_str(), "[8, 8] [4, 4] [2, 2] [7, 0] c/8/8");
+        same(&rt, told.as_str(), "[8, 8] [4, 4] [2, 2] [7, 0] c/8/8");
     }
     Ok(())
 }

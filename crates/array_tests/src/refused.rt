@@ -1,4 +1,5 @@
 // Metadata of arrays that is refused.
+use crate::compared::same;
 use crate::examples::{told, told_inside, told_with};
 use std::test::Fail;
 
@@ -187,7 +188,7 @@ const INNER_CODECS: [(&str, &str); 9] = [
 fn texts_are_refused(rt: HostRuntime) -> Result<(), Fail> {
     for (text, want) in TEXTS {
         let told = told(rt.alloc(), text)?;
-        assert_eq!(rt; told.as_str(), want);
+        same(&rt, told.as_str(), want);
     }
     Ok(())
 }
@@ -196,7 +197,7 @@ fn texts_are_refused(rt: HostRuntime) -> Result<(), Fail> {
 fn members_are_refused(rt: HostRuntime) -> Result<(), Fail> {
     for (members, want) in MEMBERS {
         let told = told_with(rt.alloc(), members)?;
-        assert_eq!(rt; told.as_str(), want);
+        same(&rt, told.as_str(), want);
     }
     Ok(())
 }
@@ -205,7 +206,7 @@ fn members_are_refused(rt: HostRuntime) -> Result<(), Fail> {
 fn inner_codecs_are_refused(rt: HostRuntime) -> Result<(), Fail> {
     for (codecs, want) in INNER_CODECS {
         let told = told_inside(rt.alloc(), codecs)?;
-        assert_eq!(rt; told.as_str(), want);
+        same(&rt, told.as_str(), want);
     }
     Ok(())
 }

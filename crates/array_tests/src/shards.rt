@@ -1,4 +1,5 @@
 // The shards of an array, and the cells of a box put together of their parts.
+use crate::compared::same;
 use array_shards::{BoxCells, ShardGrid, ShardPart};
 use std::alloc::Global;
 use std::ops::Range;
@@ -34,12 +35,12 @@ fn as_many_shards_as_hold_all_cells(rt: HostRuntime) -> Result<(), Fail> {
     let alloc = rt.alloc();
     for (shape, shard, len, last) in GRIDS {
         let grid = grid_of(alloc, shape, shard)?;
-        assert_eq!(rt; grid.len(), len);
+        same(&rt, grid.len(), len);
         let number = len.max(2) - 1;
         if let Some(coordinates) = grid.coordinates(alloc, number)? {
-            assert_eq!(rt; coordinates.as_slice(), last);
+            same(&rt, coordinates.as_slice(), last);
         } else {
-            assert_eq!(rt; shape.len(), 0);
+            same(&rt, shape.len(), 0);
         }
     }
     Ok(())
@@ -64,11 +65,11 @@ fn a_box_is_made_of_a_part_of_each_shard(rt: HostRuntime) -> Result<(), Fail> {
     let grid = grid_of(alloc, &[5, 7], &[4, 4])?;
     let asked = ArraySubset::from_ranges(alloc, &[1..5, 3..7])?;
     let parts = grid.parts(alloc, &asked)?;
-    assert_eq!(rt; parts.len(), 4);
+    same(&rt, parts.len(), 4);
     for (number, part) in parts.iter().enumerate() {
         let (inside, within, shape) = PARTS[number % 4];
         let wanted = format!(in alloc; "{number} {inside:?} {shape:?} {within:?} {shape:?}")?;
-        assert_eq!(rt; told(alloc, part)?, wanted);
+        same(&rt, told(alloc, part)?, wanted);
     }
     Ok(())
 }
@@ -85,21 +86,24 @@ fn boxes_and_shapes_are_refused_in_order(rt: HostRuntime) -> Result<(), Fail> {
     let alloc = rt.alloc();
     let grid = grid_of(alloc, &[5, 7], &[4, 4])?;
     let of_one = Some(CodecError::IncompatibleDimensionality);
-    assert_eq!(rt; refused(alloc, &grid, &[0..9]), of_one);
-    assert_eq!(rt;
+    same(&rt, refused(alloc, &grid, &[0..9]), of_one);
+    same(
+        &rt,
         refused(alloc, &grid, &[0..5, 6..8]),
-        Some(CodecError::OutOfBounds)
+        Some(CodecError::OutOfBounds),
     );
-    assert_eq!(rt; refused(alloc, &grid, &[2..2, 0..7]), None);
-    assert_eq!(rt; grid_of(alloc, &[8], &[4, 4]).err(), of_one);
-    assert_eq!(rt;
+    same(&rt, refused(alloc, &grid, &[2..2, 0..7]), None);
+    same(&rt, grid_of(alloc, &[8], &[4, 4]).err(), of_one);
+    same(
+        &rt,
         grid_of(alloc, &[u64::MAX], &[2]).err(),
-        Some(CodecError::TooLarge)
+        Some(CodecError::TooLarge),
     );
     let large: [u64; 2] = [1 << 40, 1 << 40];
-    assert_eq!(rt;
+    same(
+        &rt,
         grid_of(alloc, &large, &[4, 4]).err(),
-        Some(CodecError::TooLarge)
+        Some(CodecError::TooLarge),
     );
     Ok(())
 }
@@ -122,19 +126,21 @@ fn parts_are_put_into_a_box(rt: HostRuntime) -> Result<(), Fail> {
     put(alloc, &mut cells, &[0..2, 1..2], &[1, 2])?;
     put(alloc, &mut cells, &[1..2, 2..3], &[3])?;
     let too_many = put(alloc, &mut cells, &[0..1, 0..1], &[4, 5]);
-    assert_eq!(rt; too_many, Err(CodecError::InvalidNumberOfElements));
-    assert_eq!(rt;
+    same(&rt, too_many, Err(CodecError::InvalidNumberOfElements));
+    same(
+        &rt,
         put(alloc, &mut cells, &[0..3, 0..1], &[4, 5, 6]),
-        Err(CodecError::OutOfBounds)
+        Err(CodecError::OutOfBounds),
     );
     let of_a_byte = cells.put(
         &ArraySubset::from_ranges(alloc, &[0..1, 0..1])?,
         &ArrayBytes::from_numbers(alloc, &[4u8])?,
     );
-    assert_eq!(rt; of_a_byte, Err(CodecError::WrongElementKind));
-    assert_eq!(rt;
+    same(&rt, of_a_byte, Err(CodecError::WrongElementKind));
+    same(
+        &rt,
         cells.bytes(),
-        [2, 1, 1, 0, 2, 1, 2, 1, 2, 0, 3, 0].as_slice()
+        [2, 1, 1, 0, 2, 1, 2, 1, 2, 0, 3, 0].as_slice(),
     );
     Ok(())
 }

@@ -1,4 +1,5 @@
 // The codec `bytes` on small arrays worked by hand.
+use crate::compared::{same, same_at};
 use crate::examples::{done, fill, fixed, shape};
 use std::alloc::Global;
 use std::borrow::CowSlice;
@@ -77,7 +78,7 @@ fn whole_numbers_are_stored_in_their_order(rt: HostRuntime) {
     ];
     for (codec, data_type, size, memory, want) in rows {
         let found = is_stored_as(rt.alloc(), codec, data_type, size, memory, want);
-        assert_eq!(rt; found, Ok(true), "{data_type:?} by {codec:?}");
+        same_at(&rt, (data_type, codec), found, Ok(true));
     }
 }
 
@@ -120,7 +121,7 @@ fn types_fill_values_and_shapes_are_tested_in_order(rt: HostRuntime) {
     ];
     for (codec, data_type, value, axes, want) in rows {
         let answer = checked(rt.alloc(), codec, data_type, value, axes);
-        assert_eq!(rt; answer, want, "{data_type:?} by {codec:?}");
+        same_at(&rt, (data_type, codec), answer, want);
     }
 }
 
@@ -152,7 +153,7 @@ fn arrays_are_tested_in_order(rt: HostRuntime) {
     ];
     for (size, bytes, want) in rows {
         let answer = encode_fixed(rt.alloc(), bytes, size);
-        assert_eq!(rt; answer, want, "{} bytes of size {size}", bytes.len());
+        same_at(&rt, (bytes.len(), size), answer, want);
     }
 }
 
@@ -166,7 +167,7 @@ fn encode_variable(alloc: Global, bytes: &[u8], offsets: &[usize]) -> Result<(),
 #[test]
 fn arrays_of_no_fixed_size_are_refused(rt: HostRuntime) {
     let answer = encode_variable(rt.alloc(), &[0; 4], &[0, 2, 4]);
-    assert_eq!(rt; answer, Err(CodecError::WrongElementKind));
+    same(&rt, answer, Err(CodecError::WrongElementKind));
 }
 
 // How bytes are decoded to two big-endian numbers of 16 bits.
@@ -194,7 +195,7 @@ fn bytes_of_another_length_are_refused(rt: HostRuntime) {
     ];
     for (bytes, want) in rows {
         let answer = decode_two(rt.alloc(), bytes);
-        assert_eq!(rt; answer, want, "{} bytes", bytes.len());
+        same_at(&rt, bytes.len(), answer, want);
     }
 }
 
@@ -208,7 +209,11 @@ fn told(alloc: Global) -> Result<BytesRepresentation, CodecError> {
 // Each encoding has the length of the elements.
 #[test]
 fn encodings_have_one_length(rt: HostRuntime) {
-    assert_eq!(rt; told(rt.alloc()), Ok(BytesRepresentation::FixedSize(32)));
+    same(
+        &rt,
+        told(rt.alloc()),
+        Ok(BytesRepresentation::FixedSize(32)),
+    );
 }
 
 // Equal elements have one encoding, in each byte order.

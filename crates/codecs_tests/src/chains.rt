@@ -1,4 +1,5 @@
 // Codecs behind the codec `bytes`: one that puts the byte 42 behind bytes, and the checksum.
+use crate::compared::{same, same_at};
 use crate::examples::{fill, fixed, shape, subset};
 use std::alloc::Global;
 use test_codecs::MarkedCodec;
@@ -56,7 +57,7 @@ fn encoded(alloc: Global, elements: &[u8]) -> Result<Vec<u8>, CodecError> {
 fn a_chain_encodes_twice(rt: HostRuntime) {
     let one = Err(CodecError::InvalidNumberOfElements);
     for (elements, want) in [([1, 2].as_slice(), Ok([1, 2, 42].as_slice())), (&[1], one)] {
-        assert_eq!(rt; said(&encoded(rt.alloc(), elements)), want);
+        same(&rt, said(&encoded(rt.alloc(), elements)), want);
     }
 }
 
@@ -78,7 +79,7 @@ fn a_chain_decodes_twice(rt: HostRuntime) {
         (&[42], damaged),
         (&[], damaged),
     ] {
-        assert_eq!(rt; said(&decoded(rt.alloc(), bytes)), want, "{bytes:?}");
+        same_at(&rt, bytes, said(&decoded(rt.alloc(), bytes)), want);
     }
 }
 
@@ -110,10 +111,11 @@ fn a_chain_is_read_whole(rt: HostRuntime) {
         (2, 2, damaged),
         (3, 3, Err(CodecError::OutOfBounds)),
     ] {
-        assert_eq!(rt;
+        same_at(
+            &rt,
+            (offset, size),
             said(&read(rt.alloc(), offset, size)),
             want,
-            "{offset} {size}"
         );
     }
 }
@@ -127,7 +129,7 @@ fn told(alloc: Global) -> Result<BytesRepresentation, CodecError> {
 #[test]
 fn a_chain_tells_its_size(rt: HostRuntime) {
     assert!(rt; marked().is_functional());
-    assert_eq!(rt; told(rt.alloc()), Ok(BytesRepresentation::FixedSize(3)));
+    same(&rt, told(rt.alloc()), Ok(BytesRepresentation::FixedSize(3)));
 }
 
 // The check values of CRC-32C.
@@ -139,7 +141,7 @@ fn checksums_are_those_of_crc32c(rt: HostRuntime) {
         (&[0xFF; 32], 0x62A8_AB43),
         (&[], 0),
     ] {
-        assert_eq!(rt; crc32c(bytes), want, "{bytes:?}");
+        same_at(&rt, bytes, crc32c(bytes), want);
     }
 }
 
@@ -156,7 +158,11 @@ fn without_checksum(alloc: Global, bytes: &[u8]) -> Result<Vec<u8>, CodecError> 
 #[test]
 fn a_checksum_is_compared(rt: HostRuntime) {
     let text = b"123456789\x83\x92\x06\xE3".as_slice();
-    assert_eq!(rt; said(&with_checksum(rt.alloc(), b"123456789")), Ok(text));
+    same(
+        &rt,
+        said(&with_checksum(rt.alloc(), b"123456789")),
+        Ok(text),
+    );
     let damaged = Err(CodecError::Damaged);
     for (bytes, want) in [
         (text, Ok(b"123456789".as_slice())),
@@ -166,10 +172,6 @@ fn a_checksum_is_compared(rt: HostRuntime) {
         (&[0, 0, 0, 0], Ok(&[])),
         (&[0, 0, 0], damaged),
     ] {
-        assert_eq!(rt;
-            said(&without_checksum(rt.alloc(), bytes)),
-            want,
-            "{bytes:?}"
-        );
+        same_at(&rt, bytes, said(&without_checksum(rt.alloc(), bytes)), want);
     }
 }

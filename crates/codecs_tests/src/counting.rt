@@ -1,4 +1,5 @@
 // A handle that counts what is read.
+use crate::compared::same;
 use crate::examples::{is_copied, is_lent};
 use std::alloc::Global;
 use std::process::Abort;
@@ -24,9 +25,9 @@ fn lend_ranges(rt: &impl Abort, alloc: Global, handle: &mut CountingHandle) {
 fn a_handle_counts_what_is_read(rt: HostRuntime) -> Result<(), Fail> {
     let mut handle = CountingHandle::new([1, 2, 3, 4, 5].to_vec(rt.alloc())?);
     lend_ranges(&rt, rt.alloc(), &mut handle);
-    assert_eq!(rt; handle.bytes_read(), 4);
+    same(&rt, handle.bytes_read(), 4);
     let last = Ok(Some([4, 5].as_slice()));
     assert!(rt; is_copied(rt.alloc(), &mut handle, ByteRange::Suffix(2), last));
-    assert_eq!(rt; handle.bytes_read(), 6);
+    same(&rt, handle.bytes_read(), 6);
     Ok(())
 }

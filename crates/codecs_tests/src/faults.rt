@@ -1,4 +1,5 @@
 // A handle that fails at a call.
+use crate::compared::{same, same_at};
 use crate::examples::{done, is_lent};
 use std::alloc::Global;
 use std::ops::Range;
@@ -104,7 +105,7 @@ const FOUND: [&[u8]; 6] = [
 fn the_call_of_the_number_fails_once(rt: HostRuntime) {
     for (number, want) in (0..CALLS).zip(FOUND) {
         let found = fails_once(rt.alloc(), number, want);
-        assert_eq!(rt; found, Ok(true), "at {number}");
+        same_at(&rt, number, found, Ok(true));
     }
 }
 
@@ -117,5 +118,5 @@ fn fails_never(alloc: Global) -> Result<bool, CodecError> {
 // No call fails before the number.
 #[test]
 fn no_call_fails_before_its_number(rt: HostRuntime) {
-    assert_eq!(rt; fails_never(rt.alloc()), Ok(true));
+    same(&rt, fails_never(rt.alloc()), Ok(true));
 }

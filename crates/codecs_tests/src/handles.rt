@@ -1,4 +1,5 @@
 // Handles over bytes in memory, read.
+use crate::compared::same;
 use crate::examples::is_copied;
 use std::alloc::Global;
 use std::borrow::CowSlice;
@@ -38,7 +39,7 @@ fn read_ranges<H: BytesPartialDecoderTraits>(rt: &impl Abort, alloc: Global, han
 fn tells_of_five<H: BytesPartialDecoderTraits>(rt: &impl Abort, handle: &mut H) {
     assert!(rt; handle.exists() == Ok(true));
     assert!(rt; handle.len() == Ok(Some(5)));
-    assert_eq!(rt; handle.size_held(), 5);
+    same(&rt, handle.size_held(), 5);
     assert!(rt; handle.supports_partial_decode());
 }
 
@@ -59,7 +60,7 @@ fn ranges_of_bytes_are_read(rt: HostRuntime) -> Result<(), Fail> {
     read_ranges(&rt, rt.alloc(), &mut handle);
     tells_of_five(&rt, &mut handle);
     let object = handle.into_inner().ok_or("an object")?;
-    assert_eq!(rt; object.as_slice(), bytes);
+    same(&rt, object.as_slice(), bytes);
     Ok(())
 }
 
@@ -80,7 +81,7 @@ fn nothing_is_read_where_there_is_no_object(rt: HostRuntime) {
     let mut handle = MemoryHandle::new(None);
     assert!(rt; handle.exists() == Ok(false));
     assert!(rt; handle.len() == Ok(None));
-    assert_eq!(rt; handle.size_held(), 0);
+    same(&rt, handle.size_held(), 0);
     read_nothing(&rt, rt.alloc(), &mut handle);
     assert!(rt; handle.into_inner().is_none());
 }

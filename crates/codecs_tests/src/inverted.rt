@@ -1,4 +1,5 @@
 // A codec from arrays to arrays before the codec `bytes`: one that takes each byte from 255.
+use crate::compared::{same, same_at};
 use crate::examples::{fill, fixed, shape, subset};
 use std::alloc::Global;
 use test_codecs::InvertedCodec;
@@ -44,7 +45,7 @@ fn said(answer: &Result<Vec<u8>, CodecError>) -> Result<&[u8], CodecError> {
 fn an_array_is_encoded_before_it_is_laid_out(rt: HostRuntime) {
     let few = Err(CodecError::InvalidNumberOfElements);
     for (elements, want) in [([1, 2].as_slice(), Ok([254, 253].as_slice())), (&[1], few)] {
-        assert_eq!(rt; said(&encoded(rt.alloc(), elements)), want);
+        same(&rt, said(&encoded(rt.alloc(), elements)), want);
     }
 }
 
@@ -71,7 +72,7 @@ fn an_array_is_decoded_after_its_bytes(rt: HostRuntime) {
         (&[254], damaged),
         (&[], damaged),
     ] {
-        assert_eq!(rt; is_one_two(rt.alloc(), bytes), want, "{bytes:?}");
+        same_at(&rt, bytes, is_one_two(rt.alloc(), bytes), want);
     }
 }
 
@@ -103,10 +104,11 @@ fn an_array_is_read_whole(rt: HostRuntime) {
         (1, 3, Err(CodecError::Damaged)),
         (3, 2, Err(CodecError::OutOfBounds)),
     ] {
-        assert_eq!(rt;
+        same_at(
+            &rt,
+            (offset, size),
             reads_two(rt.alloc(), offset, size),
             want,
-            "{offset} {size}"
         );
     }
 }

@@ -1,4 +1,5 @@
 // The laws of codecs, called.
+use crate::compared::same;
 use std::alloc::Global;
 use std::borrow::CowSlice;
 use std::test::Fail;
@@ -32,7 +33,7 @@ fn decoded_again(alloc: Global, array: &ArrayBytes) -> Result<bool, CodecError> 
 fn an_encoding_is_decoded_again(rt: HostRuntime) -> Result<(), Fail> {
     let bytes = CowSlice::Borrowed([1, 2, 3, 4].as_slice());
     let array = ArrayBytes::new_flen(bytes, 2).ok_or("whole elements")?;
-    assert_eq!(rt; decoded_again(rt.alloc(), &array), Ok(true));
+    same(&rt, decoded_again(rt.alloc(), &array), Ok(true));
     Ok(())
 }
 

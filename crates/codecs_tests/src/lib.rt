@@ -6,6 +6,8 @@ mod bytes_codec;
 #[cfg(test)]
 mod chains;
 #[cfg(test)]
+mod compared;
+#[cfg(test)]
 mod counting;
 #[cfg(test)]
 mod examples;

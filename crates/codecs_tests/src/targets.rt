@@ -1,4 +1,5 @@
 // Arrays of the codec `bytes`, decoded into a target.
+use crate::compared::same;
 use crate::examples::{fill, shape, subset};
 use std::alloc::Global;
 use std::ops::Range;
@@ -76,6 +77,6 @@ fn a_target_is_written_or_left(rt: HostRuntime) {
     ];
     for (bytes, size, axes, range, answer, want) in rows {
         let found = decoded(rt.alloc(), bytes, size, axes, range, want);
-        assert_eq!(rt; found, answer);
+        same(&rt, found, answer);
     }
 }

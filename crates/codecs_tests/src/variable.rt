@@ -1,4 +1,5 @@
 // The codec for elements that have lengths of their own.
+use crate::compared::{same, same_at};
 use crate::examples::{done, fill, fixed, shape, subset};
 use std::alloc::Global;
 use std::borrow::CowSlice;
@@ -70,7 +71,7 @@ fn elements_stand_behind_their_lengths(rt: HostRuntime) {
         ),
     ] {
         let found = has_text(rt.alloc(), bytes, &offsets, text);
-        assert_eq!(rt; found, Ok(true), "{bytes:?}");
+        same_at(&rt, bytes, found, Ok(true));
     }
 }
 
@@ -92,7 +93,7 @@ fn what_has_no_text_is_refused(rt: HostRuntime) {
         Err(CodecError::WrongElementKind),
         Err(CodecError::InvalidNumberOfElements),
     ];
-    assert_eq!(rt; refused_encoding(rt.alloc()), Ok(want));
+    same(&rt, refused_encoding(rt.alloc()), Ok(want));
 }
 
 fn decoded(alloc: Global, text: &[u8]) -> Result<ArrayBytes<'_>, CodecError> {
@@ -113,7 +114,7 @@ fn is_read_again(alloc: Global) -> Result<bool, CodecError> {
 
 #[test]
 fn a_text_gives_its_elements(rt: HostRuntime) {
-    assert_eq!(rt; is_read_again(rt.alloc()), Ok(true));
+    same(&rt, is_read_again(rt.alloc()), Ok(true));
 }
 
 // The text with one bit of a byte turned over.
@@ -135,7 +136,7 @@ fn a_changed_number_is_damaged(rt: HostRuntime) {
     for place in [0, 1, 2, 3, 4, 5, 6, 7, 9, 10, 11, 12] {
         for bit in [1, 2, 4, 8, 16, 32, 64, 128] {
             let found = refusal_with_bit(rt.alloc(), place, bit);
-            assert_eq!(rt; found, Err(CodecError::Damaged), "{place} {bit}");
+            same_at(&rt, (place, bit), found, Err(CodecError::Damaged));
         }
     }
 }
@@ -149,7 +150,7 @@ fn refusal_of_front(alloc: Global, len: usize) -> Result<(), CodecError> {
 fn a_shorter_text_is_damaged(rt: HostRuntime) {
     for len in 0..13 {
         let found = refusal_of_front(rt.alloc(), len);
-        assert_eq!(rt; found, Err(CodecError::Damaged), "{len}");
+        same_at(&rt, len, found, Err(CodecError::Damaged));
     }
 }
 
@@ -165,7 +166,7 @@ fn a_text_of_other_elements_is_damaged(rt: HostRuntime) {
         &[3, 0, 0, 0, 0, 0, 0, 0, 0, 0, 0, 0, 0, 0, 0, 0],
     ] {
         let found = done(decoded(rt.alloc(), text));
-        assert_eq!(rt; found, Err(CodecError::Damaged), "{text:?}");
+        same_at(&rt, text, found, Err(CodecError::Damaged));
     }
 }
 
@@ -199,10 +200,11 @@ fn a_text_is_read_whole(rt: HostRuntime) {
         (1, 14, Err(CodecError::Damaged)),
         (2, 14, Err(CodecError::OutOfBounds)),
     ] {
-        assert_eq!(rt;
+        same_at(
+            &rt,
+            (offset, size),
             read_first(rt.alloc(), offset, size),
             want,
-            "{offset} {size}"
         );
     }
 }
@@ -215,5 +217,9 @@ fn told(alloc: Global) -> Result<BytesRepresentation, CodecError> {
 #[test]
 fn a_text_may_have_any_length(rt: HostRuntime) {
     assert!(rt; VlenCodec.is_functional());
-    assert_eq!(rt; told(rt.alloc()), Ok(BytesRepresentation::UnboundedSize));
+    same(
+        &rt,
+        told(rt.alloc()),
+        Ok(BytesRepresentation::UnboundedSize),
+    );
 }

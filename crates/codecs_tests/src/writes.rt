@@ -1,4 +1,5 @@
 // Objects in memory, written in place.
+use crate::compared::{same, same_at};
 use crate::examples::{handle_over, is_copied};
 use std::alloc::Global;
 use std::process::Abort;
@@ -55,7 +56,7 @@ const WRITTEN: [(Option<&[u8]>, Pieces, &[u8]); 10] = [
 fn pieces_are_written_in_their_order(rt: HostRuntime) {
     for (object, pieces, want) in WRITTEN {
         let found = is_written_over(rt.alloc(), object, pieces, want);
-        assert_eq!(rt; found, Ok(true), "at {pieces:?}");
+        same_at(&rt, pieces, found, Ok(true));
     }
 }
 
@@ -97,7 +98,7 @@ const NO_MEMORY: Pieces = &[(0, &[7]), (u64::MAX - 1, &[])];
 fn refuses_the_largest(rt: &impl Abort, alloc: Global, object: Option<&[u8]>) {
     for pieces in TOO_LARGE {
         let found = are_refused(alloc, object, pieces, NO_MEMORY);
-        assert_eq!(rt; found, Ok(true), "at {pieces:?}");
+        same_at(&rt, pieces, found, Ok(true));
     }
 }
 
@@ -137,6 +138,6 @@ fn is_replaced_and_erased(alloc: Global, object: Option<&[u8]>) -> Result<bool, 
 #[test]
 fn an_object_is_replaced_and_erased(rt: HostRuntime) {
     for object in [Some([1, 2, 3].as_slice()), None] {
-        assert_eq!(rt; is_replaced_and_erased(rt.alloc(), object), Ok(true));
+        same(&rt, is_replaced_and_erased(rt.alloc(), object), Ok(true));
     }
 }

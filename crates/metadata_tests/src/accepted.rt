@@ -1,4 +1,5 @@
 // Metadata and configurations that are accepted, and what is written of the codec.
+use crate::compared::{same, same_at};
 use crate::examples::{Shards, ShardsOfShards, codec_of, configured, created};
 use serde_json::Value;
 use std::alloc::Global;
@@ -40,7 +41,7 @@ fn a_configuration_is_written_in_one_form(rt: HostRuntime) -> Result<(), Fail> {
         (LARGEST, LARGEST_WRITTEN),
     ] {
         let found = configured(rt.alloc(), text)?;
-        assert_eq!(rt; found.as_str(), want, "of {text}");
+        same_at(&rt, text, found.as_str(), want);
     }
     Ok(())
 }
@@ -61,7 +62,7 @@ fn metadata_is_written_in_one_form(rt: HostRuntime) -> Result<(), Fail> {
         ),
     ] {
         let found = created::<BytesCodec>(rt.alloc(), text)?;
-        assert_eq!(rt; found.as_str(), want, "of {text}");
+        same_at(&rt, text, found.as_str(), want);
     }
     Ok(())
 }
@@ -75,11 +76,7 @@ fn an_empty_configuration_is_not_written(rt: HostRuntime) -> Result<(), Fail> {
         r#"{"name":"zarr_parts.vlen","configuration":{}}"#,
     ] {
         let found = created::<VlenCodec>(rt.alloc(), text)?;
-        assert_eq!(rt;
-            found.as_str(),
-            r#"{"name":"zarr_parts.vlen"}"#,
-            "of {text}"
-        );
+        same_at(&rt, text, found.as_str(), r#"{"name":"zarr_parts.vlen"}"#);
     }
     Ok(())
 }
@@ -102,7 +99,7 @@ fn the_default_codec_has_the_names_of_both(rt: HostRuntime) -> Result<(), Fail> 
         ("1", "BadField name"),
     ] {
         let found = created::<DefaultArrayToBytesCodec>(rt.alloc(), text)?;
-        assert_eq!(rt; found.as_str(), want, "of {text}");
+        same_at(&rt, text, found.as_str(), want);
     }
     Ok(())
 }
@@ -122,7 +119,7 @@ fn a_byte_order_is_read(rt: HostRuntime) -> Result<(), Fail> {
         ),
     ] {
         let value = Value::from_str(rt.alloc(), text)?;
-        assert_eq!(rt; BytesCodec::create(rt.alloc(), &value)?, want);
+        same(&rt, BytesCodec::create(rt.alloc(), &value)?, want);
     }
     Ok(())
 }
@@ -134,7 +131,7 @@ const SHARDS: &str =
 #[test]
 fn the_metadata_of_shards_is_read_and_written(rt: HostRuntime) -> Result<(), Fail> {
     let found = created::<Shards>(rt.alloc(), SHARDS)?;
-    assert_eq!(rt; found.as_str(), SHARDS);
+    same(&rt, found.as_str(), SHARDS);
     Ok(())
 }
 
@@ -145,7 +142,7 @@ const SHARDS_OF_SHARDS: &str =
 #[test]
 fn the_metadata_of_shards_of_shards_is_read_and_written(rt: HostRuntime) -> Result<(), Fail> {
     let found = created::<ShardsOfShards>(rt.alloc(), SHARDS_OF_SHARDS)?;
-    assert_eq!(rt; found.as_str(), SHARDS_OF_SHARDS);
+    same(&rt, found.as_str(), SHARDS_OF_SHARDS);
     Ok(())
 }
 
@@ -162,9 +159,10 @@ fn checked(alloc: Global, text: &str) -> Result<Result<(), CodecError>, Fail> {
 // An index codec without a byte order makes a codec that serves no shape.
 #[test]
 fn an_index_needs_a_byte_order(rt: HostRuntime) -> Result<(), Fail> {
-    assert_eq!(rt;
+    same(
+        &rt,
         checked(rt.alloc(), BIG)?,
-        Err(CodecError::UnsupportedDataType)
+        Err(CodecError::UnsupportedDataType),
     );
     Ok(())
 }

@@ -1,4 +1,5 @@
 // Sharding codecs that are put together part by part.
+use crate::compared::same;
 use std::alloc::Global;
 use std::borrow::CowSlice;
 use std::test::Fail;
@@ -88,10 +89,10 @@ fn replaced(alloc: Global) -> Result<Vec<u8>, CodecError> {
 // Eight bytes of cells, 32 of the index, and four of each checksum.
 #[test]
 fn a_codec_is_built_part_by_part(rt: HostRuntime) {
-    assert_eq!(rt; plain(rt.alloc()).map(start_of), Ok((1, 40)));
-    assert_eq!(rt; index_first(rt.alloc()).map(start_of), Ok((32, 40)));
-    assert_eq!(rt; with_checksums(rt.alloc()).map(start_of), Ok((1, 52)));
-    assert_eq!(rt; replaced(rt.alloc()).map(start_of), Ok((0, 40)));
+    same(&rt, plain(rt.alloc()).map(start_of), Ok((1, 40)));
+    same(&rt, index_first(rt.alloc()).map(start_of), Ok((32, 40)));
+    same(&rt, with_checksums(rt.alloc()).map(start_of), Ok((1, 52)));
+    same(&rt, replaced(rt.alloc()).map(start_of), Ok((0, 40)));
 }
 
 // A shared codec for subchunks of 2 by 2, its index at the start: its configuration, and its metadata.
@@ -119,11 +120,11 @@ fn a_built_codec_has_metadata(rt: HostRuntime) -> Result<(), Fail> {
         let wanted = format!(in rt.alloc();
             "{{\"chunk_shape\":[2,2],\"codecs\":[{inner}],\"index_codecs\":[{little}],\"index_location\":\"start\"}}"
         )?;
-        assert_eq!(rt; configuration.as_str(), wanted.as_str());
+        same(&rt, configuration.as_str(), wanted.as_str());
         let whole = format!(in rt.alloc();
             "{{\"configuration\":{wanted},\"name\":\"sharding_indexed\"}}"
         )?;
-        assert_eq!(rt; metadata.as_str(), whole.as_str());
+        same(&rt, metadata.as_str(), whole.as_str());
     }
     Ok(())
 }
@@ -153,6 +154,6 @@ fn elements_with_lengths_of_their_own_have_no_bound(rt: HostRuntime) {
             BytesRepresentation::UnboundedSize,
         ),
     ] {
-        assert_eq!(rt; represented(rt.alloc(), &data_type, fill), Ok(wanted));
+        same(&rt, represented(rt.alloc(), &data_type, fill), Ok(wanted));
     }
 }

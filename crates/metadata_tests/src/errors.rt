@@ -1,4 +1,5 @@
 // The numbers and names of refusals.
+use crate::compared::{same, same_at};
 use crate::examples::codec_of;
 use serde_json::Value;
 use std::alloc::Global;
@@ -28,9 +29,9 @@ fn a_refusal_tells_its_number_and_name(rt: HostRuntime) -> Result<(), Fail> {
             (5, "UnsupportedChain"),
         ),
     ] {
-        assert_eq!(rt; refusal(rt.alloc(), text)?, want, "of {text}");
+        same_at(&rt, text, refusal(rt.alloc(), text)?, want);
     }
     let memory = PluginCreateError::OutOfMemory;
-    assert_eq!(rt; (memory.number(), memory.name()), (1, "OutOfMemory"));
+    same(&rt, (memory.number(), memory.name()), (1, "OutOfMemory"));
     Ok(())
 }

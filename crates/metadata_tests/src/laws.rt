@@ -1,4 +1,5 @@
 // What is written is read as the codec: the laws as calls.
+use crate::compared::same;
 use crate::examples::Shards;
 use std::alloc::Global;
 use std::test::Fail;
@@ -17,9 +18,10 @@ fn metadata_gives_the_codec_back(rt: HostRuntime) -> Result<(), Fail> {
         BytesCodec::big(),
     ] {
         let metadata = codec.metadata(rt.alloc())?;
-        assert_eq!(rt;
+        same(
+            &rt,
             create_after_metadata(rt.alloc(), &codec, &metadata)?,
-            codec
+            codec,
         );
     }
     Ok(())
@@ -29,9 +31,10 @@ fn metadata_gives_the_codec_back(rt: HostRuntime) -> Result<(), Fail> {
 #[test]
 fn a_name_gives_the_codec_back(rt: HostRuntime) -> Result<(), Fail> {
     let metadata = VlenCodec.metadata(rt.alloc())?;
-    assert_eq!(rt;
+    same(
+        &rt,
         create_after_metadata(rt.alloc(), &VlenCodec, &metadata)?,
-        VlenCodec
+        VlenCodec,
     );
     Ok(())
 }
@@ -45,9 +48,10 @@ fn the_default_codec_is_given_back(rt: HostRuntime) -> Result<(), Fail> {
         DefaultArrayToBytesCodec::Vlen(VlenCodec),
     ] {
         let metadata = codec.metadata(rt.alloc())?;
-        assert_eq!(rt;
+        same(
+            &rt,
             create_after_metadata(rt.alloc(), &codec, &metadata)?,
-            codec
+            codec,
         );
     }
     Ok(())
@@ -73,7 +77,7 @@ fn written_again(alloc: Global, location: ShardingIndexLocation) -> Result<(Stri
 fn a_configuration_gives_the_codec_back(rt: HostRuntime) -> Result<(), Fail> {
     for location in [ShardingIndexLocation::Start, ShardingIndexLocation::End] {
         let (written, again) = written_again(rt.alloc(), location)?;
-        assert_eq!(rt; again.as_str(), written.as_str());
+        same(&rt, again.as_str(), written.as_str());
     }
     Ok(())
 }

@@ -6,6 +6,8 @@ mod accepted;
 #[cfg(test)]
 mod building;
 #[cfg(test)]
+mod compared;
+#[cfg(test)]
 mod errors;
 #[cfg(test)]
 mod examples;

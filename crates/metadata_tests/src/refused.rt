@@ -1,4 +1,5 @@
 // Metadata and configurations that are refused, and as what: the first test that fails.
+use crate::compared::same_at;
 use crate::examples::{ShardsOfShards, configured, created};
 use std::test::Fail;
 use zarr_codecs::{BytesCodec, VlenCodec};
@@ -100,7 +101,7 @@ const CONFIGURATIONS: [(&str, &str); 47] = [
 fn what_is_no_configuration_is_refused(rt: HostRuntime) -> Result<(), Fail> {
     for (text, want) in CONFIGURATIONS {
         let found = configured(rt.alloc(), text)?;
-        assert_eq!(rt; found.as_str(), want, "of {text}");
+        same_at(&rt, text, found.as_str(), want);
     }
     Ok(())
 }
@@ -209,7 +210,7 @@ const LISTS: [(&str, &str); 24] = [
 fn lists_of_codecs_are_refused_in_order(rt: HostRuntime) -> Result<(), Fail> {
     for (text, want) in LISTS {
         let found = configured(rt.alloc(), text)?;
-        assert_eq!(rt; found.as_str(), want, "of {text}");
+        same_at(&rt, text, found.as_str(), want);
     }
     Ok(())
 }
@@ -326,7 +327,7 @@ const METADATA: [(&str, &str); 35] = [
 fn metadata_is_refused_in_order(rt: HostRuntime) -> Result<(), Fail> {
     for (text, want) in METADATA {
         let found = created::<BytesCodec>(rt.alloc(), text)?;
-        assert_eq!(rt; found.as_str(), want, "of {text}");
+        same_at(&rt, text, found.as_str(), want);
     }
     Ok(())
 }
@@ -352,7 +353,7 @@ const VARIABLE: [(&str, &str); 4] = [
 fn a_member_that_no_configuration_has_is_refused(rt: HostRuntime) -> Result<(), Fail> {
     for (text, want) in VARIABLE {
         let found = created::<VlenCodec>(rt.alloc(), text)?;
-        assert_eq!(rt; found.as_str(), want, "of {text}");
+        same_at(&rt, text, found.as_str(), want);
     }
     Ok(())
 }
@@ -401,7 +402,7 @@ const SHARDS: [(&str, &str); 12] = [
 fn the_metadata_of_shards_is_refused_in_order(rt: HostRuntime) -> Result<(), Fail> {
     for (text, want) in SHARDS {
         let found = created::<ShardsOfShards>(rt.alloc(), text)?;
-        assert_eq!(rt; found.as_str(), want, "of {text}");
+        same_at(&rt, text, found.as_str(), want);
     }
     Ok(())
 }

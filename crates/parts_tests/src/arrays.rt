@@ -1,4 +1,5 @@
 // Arrays made, read and changed, on small arrays worked by hand.
+use crate::compared::same;
 use crate::examples::Elements::{Fixed, Variable};
 use crate::examples::{Elements, array_of, fill, has, subset};
 use std::alloc::Global;
@@ -47,7 +48,7 @@ fn told<'a>(array: &'a ArrayBytes) -> Told<'a> {
 fn elements_between_offsets_are_read(rt: HostRuntime) -> Result<(), Fail> {
     let array = array_of(rt.alloc(), Variable(&[0, 2, 2, 3], b"abc"))?;
     let want = (DataTypeSize::Variable, 3, Some(b"ab".as_slice()), None);
-    assert_eq!(rt; told(&array), want);
+    same(&rt, told(&array), want);
     Ok(())
 }
 
@@ -63,7 +64,7 @@ fn bytes_are_counted(rt: HostRuntime) {
         (Variable(&[0, 2, 2, 3], b"abc"), 3),
         (Variable(&[0, 0], b""), 0),
     ] {
-        assert_eq!(rt; byte_len(rt.alloc(), elements), Ok(len));
+        same(&rt, byte_len(rt.alloc(), elements), Ok(len));
     }
 }
 
@@ -116,7 +117,7 @@ fn fill_values_are_told(rt: HostRuntime) {
         (Variable(&[0, 2, 4], b"abab"), b"a", false),
     ];
     for (elements, value, told) in rows {
-        assert_eq!(rt; is_fill(rt.alloc(), elements, value), Ok(told));
+        same(&rt, is_fill(rt.alloc(), elements, value), Ok(told));
     }
 }
 
@@ -217,7 +218,7 @@ fn is_owned(alloc: Global, elements: Elements) -> Result<bool, CodecError> {
 #[test]
 fn copies_are_equal(rt: HostRuntime) {
     for elements in [Fixed(2, &[1, 2]), Variable(&[0, 1, 2], &[1, 2])] {
-        assert_eq!(rt; is_copied(rt.alloc(), elements), Ok(true));
-        assert_eq!(rt; is_owned(rt.alloc(), elements), Ok(true));
+        same(&rt, is_copied(rt.alloc(), elements), Ok(true));
+        same(&rt, is_owned(rt.alloc(), elements), Ok(true));
     }
 }

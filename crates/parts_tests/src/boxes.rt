@@ -1,4 +1,5 @@
 // Boxes of coordinates, and their law.
+use crate::compared::same;
 use crate::examples::{is_box, subset};
 use std::alloc::{AllocError, Global};
 use std::ops::Range;
@@ -53,7 +54,7 @@ fn an_end_fits_64_bits(rt: HostRuntime) {
         (&[0], &[4, 4], false),
     ];
     for (start, shape, made) in rows {
-        assert_eq!(rt; of(rt.alloc(), start, shape), Ok(made));
+        same(&rt, of(rt.alloc(), start, shape), Ok(made));
     }
 }
 
@@ -74,7 +75,7 @@ fn an_empty_axis_leaves_no_point(rt: HostRuntime) {
         (&[1 << 32, 1 << 32], &[0, 0], None),
     ];
     for (shape, origin, count) in rows {
-        assert_eq!(rt; points(rt.alloc(), shape, origin), Ok(count));
+        same(&rt, points(rt.alloc(), shape, origin), Ok(count));
     }
 }
 
@@ -92,8 +93,8 @@ fn column_is(alloc: Global, ranges: &[Range<u64>]) -> Result<bool, CodecError> {
 // A copy is equal, and a box with another start is not.
 #[test]
 fn a_copy_is_equal(rt: HostRuntime) {
-    assert_eq!(rt; is_copied(rt.alloc()), Ok(true));
-    assert_eq!(rt; column_is(rt.alloc(), &[0..2, 0..1]), Ok(false));
+    same(&rt, is_copied(rt.alloc()), Ok(true));
+    same(&rt, column_is(rt.alloc(), &[0..2, 0..1]), Ok(false));
 }
 
 // The law of boxes can be called.

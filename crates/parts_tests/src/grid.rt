@@ -1,4 +1,5 @@
 // Where cells lie in the grid of subchunks, and the law of the grid.
+use crate::compared::same_at;
 use zarr_parts::{Located, grid_law, locate};
 
 const CELLS: [(u64, u64); 16] = [
@@ -25,7 +26,7 @@ fn each_cell_has_one_place(rt: HostRuntime) {
     for number in 0..16 {
         let (subchunk, place) = CELLS[number];
         let found = locate(number as u64, 16, 4, 4, &[4, 4], &[2, 2]);
-        assert_eq!(rt; found, Located { subchunk, place }, "cell {number}");
+        same_at(&rt, number, found, Located { subchunk, place });
     }
 }
 

@@ -1,4 +1,5 @@
 // Coordinates that are asked, given one number at a time.
+use crate::compared::same;
 use crate::examples::{listed, subset};
 use std::alloc::Global;
 use std::process::Abort;
@@ -27,9 +28,9 @@ fn index_of<N: Indexer>(indexer: &N, i: u64, axis: usize) -> Option<u64> {
 
 // Stops the test where coordinates tell something else, or where one of their numbers is another.
 fn check<N: Indexer>(rt: &impl Abort, indexer: &N, want: Told, numbers: &[(u64, usize, u64)]) {
-    assert_eq!(rt; told(indexer), want);
+    same(&rt, told(indexer), want);
     for (i, axis, number) in numbers {
-        assert_eq!(rt; index_of(indexer, *i, *axis), Some(*number));
+        same(&rt, index_of(indexer, *i, *axis), Some(*number));
     }
 }
 
@@ -69,7 +70,7 @@ fn each_coordinate_has_as_many_numbers(rt: HostRuntime) {
         (0, u64::MAX, &[], Ok(Some(u64::MAX))),
     ];
     for (dimensionality, many, flat, want) in rows {
-        assert_eq!(rt; count(rt.alloc(), dimensionality, many, flat), want);
+        same(&rt, count(rt.alloc(), dimensionality, many, flat), want);
     }
 }
 
@@ -104,6 +105,6 @@ fn lists_differ_by_their_count(rt: HostRuntime) {
         ((0, 1), (0, 2), &[]),
     ];
     for (one, other, flat) in rows {
-        assert_eq!(rt; are_equal(rt.alloc(), one, other, flat), Ok(false));
+        same(&rt, are_equal(rt.alloc(), one, other, flat), Ok(false));
     }
 }

@@ -6,6 +6,8 @@ mod arrays;
 #[cfg(test)]
 mod boxes;
 #[cfg(test)]
+mod compared;
+#[cfg(test)]
 mod examples;
 #[cfg(test)]
 mod grid;

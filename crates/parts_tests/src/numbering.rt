@@ -1,4 +1,5 @@
 // Coordinates and their row-major numbers, and the laws of both.
+use crate::compared::{same, same_at};
 use std::alloc::Global;
 use zarr_parts::{CodecError, number_along, numbering_law, ravel_indices, unravel_index};
 
@@ -26,7 +27,7 @@ fn a_number_has_one_coordinate(rt: HostRuntime) {
     ];
     for (number, shape, want) in rows {
         let found = is_at(rt.alloc(), number, shape, want);
-        assert_eq!(rt; found, Ok(true), "{number} in {shape:?}");
+        same_at(&rt, (number, shape), found, Ok(true));
     }
 }
 
@@ -34,7 +35,7 @@ fn a_number_has_one_coordinate(rt: HostRuntime) {
 #[test]
 fn a_number_is_told_along_an_axis(rt: HostRuntime) {
     let along = (number_along(6, &[4, 4], 0), number_along(6, &[4, 4], 1));
-    assert_eq!(rt; along, (1, 2));
+    same(&rt, along, (1, 2));
 }
 
 // A coordinate inside the shape has one number, where the count fits 64 bits.
@@ -50,7 +51,7 @@ fn a_coordinate_has_one_number(rt: HostRuntime) {
         (&[1, 0], &[u64::MAX, 1], Some(1), "a count at the limit"),
     ];
     for (indices, shape, number, what) in rows {
-        assert_eq!(rt; ravel_indices(indices, shape), number, "{what}");
+        same_at(&rt, what, ravel_indices(indices, shape), number);
     }
 }
 

@@ -1,4 +1,5 @@
 // Elements as whole numbers, fill values of numbers, and names of types.
+use crate::compared::same;
 use std::alloc::Global;
 use std::borrow::CowSlice;
 use std::test::Fail;
@@ -27,7 +28,11 @@ fn numbers_become_elements(rt: HostRuntime) -> Result<(), Fail> {
     ];
     for (made, bytes, size) in table {
         let (made, kind) = made?;
-        assert_eq!(rt; (made.as_slice(), kind), (bytes, DataTypeSize::Fixed(size)));
+        same(
+            &rt,
+            (made.as_slice(), kind),
+            (bytes, DataTypeSize::Fixed(size)),
+        );
     }
     Ok(())
 }
@@ -40,9 +45,10 @@ fn there_and_back(alloc: Global, numbers: &[u32]) -> Result<Vec<u32>, CodecError
 #[test]
 fn elements_become_numbers(rt: HostRuntime) -> Result<(), Fail> {
     let numbers = [0, 7, 258, 0x0102_0304, u32::MAX];
-    assert_eq!(rt;
+    same(
+        &rt,
         there_and_back(rt.alloc(), &numbers)?.as_slice(),
-        numbers.as_slice()
+        numbers.as_slice(),
     );
     Ok(())
 }
@@ -61,7 +67,7 @@ fn numbers_of_another_size_are_refused(rt: HostRuntime) {
 #[test]
 fn fill_values_of_numbers(rt: HostRuntime) -> Result<(), Fail> {
     let fill = FillValue::from_number(rt.alloc(), 0xff00u16)?;
-    assert_eq!(rt; fill.as_ne_bytes(), [0, 255].as_slice());
+    same(&rt, fill.as_ne_bytes(), [0, 255].as_slice());
     Ok(())
 }
 
@@ -81,9 +87,10 @@ fn types_have_names(rt: HostRuntime) {
         ("bytes", DataType::Bytes),
     ];
     for (name, data_type) in table {
-        assert_eq!(rt;
+        same(
+            &rt,
             (DataType::from_name(name), data_type.name()),
-            (Some(data_type), Some(name))
+            (Some(data_type), Some(name)),
         );
     }
 }
@@ -91,7 +98,7 @@ fn types_have_names(rt: HostRuntime) {
 #[test]
 fn other_names_are_no_types(rt: HostRuntime) {
     for name in ["", "uint", "UInt8", "uint128", "r16", "float32", "uint8 "] {
-        assert_eq!(rt; DataType::from_name(name), None);
+        same(&rt, DataType::from_name(name), None);
     }
 }
 

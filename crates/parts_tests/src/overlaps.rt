@@ -1,4 +1,5 @@
 // Where two boxes meet, boxes seen from another origin, and the law of overlaps.
+use crate::compared::{same, same_at};
 use crate::examples::{is_box, subset};
 use std::alloc::Global;
 use std::ops::Range;
@@ -27,7 +28,7 @@ fn two_boxes_meet(rt: HostRuntime) {
         (&[0..2], &[], unequal, "not with one axis"),
     ];
     for (other, both, want, what) in rows {
-        assert_eq!(rt; is_met(rt.alloc(), other, both), want, "{what}");
+        same_at(&rt, what, is_met(rt.alloc(), other, both), want);
     }
 }
 
@@ -46,7 +47,7 @@ fn a_box_is_counted_from_an_origin(rt: HostRuntime) {
         (&[2], Err(CodecError::IncompatibleDimensionality)),
     ];
     for (origin, want) in rows {
-        assert_eq!(rt; is_relative(rt.alloc(), origin, &[0..2, 0..1]), want);
+        same(&rt, is_relative(rt.alloc(), origin, &[0..2, 0..1]), want);
     }
 }
 

@@ -1,4 +1,5 @@
 // Runs of neighbouring elements in boxes.
+use crate::compared::same;
 use crate::examples::subset;
 use std::alloc::Global;
 use std::ops::Range;
@@ -31,7 +32,7 @@ fn runs_are_as_long_as_they_can_be(rt: HostRuntime) -> Result<(), Fail> {
     ];
     for (ranges, shape, wanted) in rows {
         let found = runs_of(rt.alloc(), ranges, shape)?;
-        assert_eq!(rt; found.as_slice(), wanted);
+        same(&rt, found.as_slice(), wanted);
     }
     Ok(())
 }

@@ -1,4 +1,5 @@
 // What is asked of an array, tested against its shape and numbered in it.
+use crate::compared::same;
 use crate::examples::{listed, shape, subset};
 use std::alloc::Global;
 use std::ops::Range;
@@ -47,7 +48,11 @@ fn coordinates_are_numbered(rt: HostRuntime) {
         (&[], 2, &[], &[0, 0]),
     ];
     for (axes, count, flat, want) in rows {
-        assert_eq!(rt; are_listed(rt.alloc(), axes, count, flat, want), Ok(true));
+        same(
+            &rt,
+            are_listed(rt.alloc(), axes, count, flat, want),
+            Ok(true),
+        );
     }
 }
 
@@ -74,7 +79,7 @@ fn coordinates_are_counted_where_they_are_inside(rt: HostRuntime) {
     ];
     for (axes, dimensionality, count, flat, want) in rows {
         let found = list_count(rt.alloc(), axes, dimensionality, count, flat);
-        assert_eq!(rt; found, want);
+        same(&rt, found, want);
     }
 }
 
@@ -93,6 +98,6 @@ fn a_subset_is_counted_where_it_ends_inside(rt: HostRuntime) {
         (&[1 << 32, 1 << 32], &large, Err(CodecError::TooLarge)),
     ];
     for (axes, ranges, want) in rows {
-        assert_eq!(rt; box_count(rt.alloc(), axes, ranges), want);
+        same(&rt, box_count(rt.alloc(), axes, ranges), want);
     }
 }

@@ -1,4 +1,5 @@
 // Shapes whose axes are at least 1.
+use crate::compared::same;
 use crate::examples::shape;
 use std::alloc::Global;
 use zarr_parts::{ChunkShape, CodecError};
@@ -19,7 +20,7 @@ fn the_axes_are_multiplied(rt: HostRuntime) {
         (&[1 << 32, 1 << 32], Ok(None)),
     ];
     for (axes, want) in rows {
-        assert_eq!(rt; cells(rt.alloc(), axes), want);
+        same(&rt, cells(rt.alloc(), axes), want);
     }
 }
 
@@ -33,7 +34,7 @@ fn is_made(alloc: Global) -> Result<bool, CodecError> {
 // A shape has the axes that it is made of.
 #[test]
 fn a_shape_has_its_axes(rt: HostRuntime) {
-    assert_eq!(rt; is_made(rt.alloc()), Ok(true));
+    same(&rt, is_made(rt.alloc()), Ok(true));
 }
 
 // Whether a copy of the shape of the axes 2 and 3 is equal to the shape of these axes.
@@ -45,6 +46,6 @@ fn is_copied(alloc: Global, axes: &[u64]) -> Result<bool, CodecError> {
 // A copy is equal, and a shape of the same axes in another order is not.
 #[test]
 fn a_copy_is_equal(rt: HostRuntime) {
-    assert_eq!(rt; is_copied(rt.alloc(), &[2, 3]), Ok(true));
-    assert_eq!(rt; is_copied(rt.alloc(), &[3, 2]), Ok(false));
+    same(&rt, is_copied(rt.alloc(), &[2, 3]), Ok(true));
+    same(&rt, is_copied(rt.alloc(), &[3, 2]), Ok(false));
 }

@@ -1,4 +1,5 @@
 // Elements written into boxes of lent bytes, worked by hand.
+use crate::compared::{same, same_at};
 use crate::examples::{fill, fixed, subset};
 use std::alloc::Global;
 use std::ops::Range;
@@ -57,7 +58,7 @@ fn elements_are_copied_into_a_box(rt: HostRuntime) {
         (2, &[1..3, 1..2], wrong, &[77; 18]),
     ];
     for (element_size, ranges, answer, want) in rows {
-        assert_eq!(rt; copied(rt.alloc(), element_size, ranges, want), answer);
+        same(&rt, copied(rt.alloc(), element_size, ranges, want), answer);
     }
 }
 
@@ -92,7 +93,7 @@ fn a_box_is_filled(rt: HostRuntime) {
         (&[5], Ok(()), &[77, 77, 77, 77, 5, 77, 77, 5, 77]),
     ];
     for (value, answer, want) in rows {
-        assert_eq!(rt; filled(rt.alloc(), value, want), answer);
+        same(&rt, filled(rt.alloc(), value, want), answer);
     }
 }
 
@@ -112,7 +113,7 @@ fn tells_its_column(alloc: Global) -> Result<bool, CodecError> {
 // A target tells its elements and its box.
 #[test]
 fn a_target_tells_its_box(rt: HostRuntime) {
-    assert_eq!(rt; tells_its_column(rt.alloc()), Ok(true));
+    same(&rt, tells_its_column(rt.alloc()), Ok(true));
 }
 
 // Whether nine bytes fit a box; a fault unless they are a target over it just then.
@@ -137,6 +138,6 @@ fn bytes_that_do_not_fit_are_no_target(rt: HostRuntime) {
         (1, &[1..4, 1..2], false, "a box outside"),
     ];
     for (element_size, ranges, want, what) in rows {
-        assert_eq!(rt; fits(rt.alloc(), element_size, ranges), Ok(want), "{what}");
+        same_at(&rt, what, fits(rt.alloc(), element_size, ranges), Ok(want));
     }
 }

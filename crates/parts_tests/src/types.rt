@@ -1,4 +1,5 @@
 // Data types and fill values.
+use crate::compared::same_at;
 use crate::examples::fill;
 use std::alloc::Global;
 use zarr_parts::{CodecError, DataType, DataTypeSize};
@@ -16,7 +17,7 @@ fn a_type_tells_its_size(rt: HostRuntime) {
         (DataType::Optional, DataTypeSize::Fixed(0)),
         (DataType::Bytes, DataTypeSize::Variable),
     ] {
-        assert_eq!(rt; data_type.size(), size, "{data_type:?}");
+        same_at(&rt, data_type, data_type.size(), size);
     }
 }
 

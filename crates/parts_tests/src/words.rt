@@ -1,4 +1,5 @@
 // What errors print, their numbers and names, and the options of a call.
+use crate::compared::same;
 use std::alloc::Global;
 use std::test::Fail;
 use zarr_parts::{CodecError, CodecOptions, CodecSpecificOptions};
@@ -38,7 +39,7 @@ fn printed(alloc: Global, error: CodecError) -> Result<String, Fail> {
 fn an_error_prints_its_name(rt: HostRuntime) -> Result<(), Fail> {
     for (error, text) in TEXTS {
         let found = printed(rt.alloc(), error)?;
-        assert_eq!(rt; found.as_str(), text);
+        same(&rt, found.as_str(), text);
     }
     Ok(())
 }
@@ -47,9 +48,13 @@ fn an_error_prints_its_name(rt: HostRuntime) -> Result<(), Fail> {
 #[test]
 fn an_error_tells_its_number_and_name(rt: HostRuntime) {
     let fault = CodecError::Fault;
-    assert_eq!(rt; (fault.number(), fault.name()), (16, "Fault"));
+    same(&rt, (fault.number(), fault.name()), (16, "Fault"));
     let bad_pair = CodecError::BadIndexEntry { number: 7 };
-    assert_eq!(rt; (bad_pair.number(), bad_pair.name()), (9, "BadIndexEntry"));
+    same(
+        &rt,
+        (bad_pair.number(), bad_pair.name()),
+        (9, "BadIndexEntry"),
+    );
 }
 
 // An option is there once it is set, as it was set last.
@@ -60,9 +65,10 @@ fn what_is_set_is_there(rt: HostRuntime) {
     let seven = none.with_option(7);
     let is_seven = seven.get_option() == Some(&7);
     let eight = seven.with_option(8);
-    assert_eq!(rt;
+    same(
+        &rt,
         (is_unset, is_seven, eight.get_option()),
-        (true, true, Some(&8))
+        (true, true, Some(&8)),
     );
 }
 
@@ -72,5 +78,5 @@ fn no_worker_counts_as_one(rt: HostRuntime) {
     let options = CodecOptions::default();
     let none = options.with_concurrent_target(0).concurrent_target();
     let four = options.with_concurrent_target(4).concurrent_target();
-    assert_eq!(rt; (options.concurrent_target(), none, four), (1, 1, 4));
+    same(&rt, (options.concurrent_target(), none, four), (1, 1, 4));
 }

@@ -3,6 +3,7 @@ ghost use Rattle.std.specs.Prelude.{◌≡◌, Some};
 ghost use Rattle.zarr_parts.specs.Geo.{geo};
 ghost use Rattle.zarr_elements.specs.declared.data_type.DataType.TheVariants.{UInt8};
 
+use crate::compared::{same, same_at};
 use crate::shards::{ABSENT, Answer, Call, Shards, called, how_it_ended, object_of};
 use shard_sessions::Naming;
 use std::alloc::Global;
@@ -64,8 +65,8 @@ fn a_fault_is_no_event(rt: HostRuntime) -> Result<(), Fail> {
         if stage < 4 && ran == STAGES[stage + 1] {
             stage += 1;
         }
-        assert_eq!(rt; ran, STAGES[stage], "at call {fails_at}");
+        same_at(&rt, fails_at, ran, STAGES[stage]);
     }
-    assert_eq!(rt; stage, 4);
+    same(&rt, stage, 4);
     Ok(())
 }

@@ -2,6 +2,8 @@
 #![tactic(auto)]
 
 #[cfg(test)]
+mod compared;
+#[cfg(test)]
 mod faults;
 #[cfg(test)]
 mod mismatches;

@@ -3,6 +3,7 @@ ghost use Rattle.std.specs.Prelude.{◌≡◌, Some};
 ghost use Rattle.zarr_parts.specs.Geo.{geo};
 ghost use Rattle.zarr_elements.specs.declared.data_type.DataType.TheVariants.{UInt8};
 
+use crate::compared::same;
 use crate::shards::{Call, Encoder, Ended, Shards, called, how_it_ended};
 use shard_sessions::{Naming, Seat};
 use std::alloc::Global;
@@ -53,9 +54,9 @@ fn a_receipt_of_another_write_is_told(rt: HostRuntime) -> Result<(), Fail> {
     let shards = Shards::new(rt.alloc(), 4)?;
     for (value, how, receipt) in [(3, "closed", None), (4, "mismatch", Some((0, 0)))] {
         let end = crossed::<Brand, _>(&rt, rt.alloc(), &shards, value)?;
-        assert_eq!(rt; end.how, how);
-        assert_eq!(rt; end.receipt, receipt);
-        assert_eq!(rt; end.events, 1);
+        same(&rt, end.how, how);
+        same(&rt, end.receipt, receipt);
+        same(&rt, end.events, 1);
     }
     Ok(())
 }

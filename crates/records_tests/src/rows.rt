@@ -3,6 +3,7 @@ ghost use Rattle.std.specs.Prelude.{◌≡◌, Some};
 ghost use Rattle.zarr_parts.specs.Geo.{geo};
 ghost use Rattle.zarr_elements.specs.declared.data_type.DataType.TheVariants.{UInt8};
 
+use crate::compared::same;
 use crate::shards::{ABSENT, Answer, Call, Ended, Shards, called, how_it_ended, object_of};
 use shard_sessions::Naming;
 use std::alloc::Global;
@@ -60,9 +61,9 @@ fn a_seat_that_is_missing_is_told_and_the_handle_comes_back(rt: HostRuntime) -> 
     let shards = Shards::new(alloc, 4)?;
     let calls = [Call::Write { cell: 0, value: 3 }];
     let (answers, end) = played::<Brand, _>(&rt, alloc, &shards, seven(alloc)?, &calls, false)?;
-    assert_eq!(rt; answers.as_slice(), [Ok((0, 0))].as_slice());
-    assert_eq!(rt; end.how, "seats missing");
-    assert_eq!(rt; end.object, Some(three_and_seven(alloc)?));
+    same(&rt, answers.as_slice(), [Ok((0, 0))].as_slice());
+    same(&rt, end.how, "seats missing");
+    same(&rt, end.object, Some(three_and_seven(alloc)?));
     Ok(())
 }
 
@@ -75,13 +76,14 @@ fn a_refused_call_is_no_event(rt: HostRuntime) -> Result<(), Fail> {
         Call::Read { first: 3, end: 5 },
     ];
     let (answers, end) = played::<Brand, _>(&rt, alloc, &shards, seven(alloc)?, &calls, true)?;
-    assert_eq!(rt;
+    same(
+        &rt,
         answers.as_slice(),
-        [Ok((0, 0)), Err(CodecError::OutOfBounds)].as_slice()
+        [Ok((0, 0)), Err(CodecError::OutOfBounds)].as_slice(),
     );
-    assert_eq!(rt; end.how, "closed");
-    assert_eq!(rt; end.events, 1);
-    assert_eq!(rt; end.opening.as_slice(), [0, 7, 0, 0].as_slice());
+    same(&rt, end.how, "closed");
+    same(&rt, end.events, 1);
+    same(&rt, end.opening.as_slice(), [0, 7, 0, 0].as_slice());
     Ok(())
 }
 
@@ -96,13 +98,14 @@ fn an_erased_shard_is_read_and_written_anew(rt: HostRuntime) -> Result<(), Fail>
         Call::Read { first: 1, end: 2 },
     ];
     let (answers, end) = played::<Brand, _>(&rt, alloc, &shards, seven(alloc)?, &calls, true)?;
-    assert_eq!(rt;
+    same(
+        &rt,
         answers.as_slice(),
-        [Ok((0, 0)), Ok((1, 0)), Ok((2, 0)), Ok((3, 7))].as_slice()
+        [Ok((0, 0)), Ok((1, 0)), Ok((2, 0)), Ok((3, 7))].as_slice(),
     );
-    assert_eq!(rt; end.how, "closed");
-    assert_eq!(rt; end.events, 4);
-    assert_eq!(rt; end.object, Some(seven(alloc)?));
+    same(&rt, end.how, "closed");
+    same(&rt, end.events, 4);
+    same(&rt, end.object, Some(seven(alloc)?));
     Ok(())
 }
 
@@ -111,11 +114,11 @@ fn a_damaged_object_is_refused_and_comes_back(rt: HostRuntime) -> Result<(), Fai
     let alloc = rt.alloc();
     let shards = Shards::new(alloc, 4)?;
     let damaged = object_of(alloc, &[5], &[0, 1, ABSENT, ABSENT])?;
-    let same = object_of(alloc, &[5], &[0, 1, ABSENT, ABSENT])?;
+    let unchanged = object_of(alloc, &[5], &[0, 1, ABSENT, ABSENT])?;
     let (answers, end) = played::<Brand, _>(&rt, alloc, &shards, damaged, &[], true)?;
-    assert_eq!(rt; answers.len(), 0);
-    assert_eq!(rt; end.how, "refused");
-    assert_eq!(rt; end.error, Some(CodecError::Damaged));
-    assert_eq!(rt; end.object, Some(same));
+    same(&rt, answers.len(), 0);
+    same(&rt, end.how, "refused");
+    same(&rt, end.error, Some(CodecError::Damaged));
+    same(&rt, end.object, Some(unchanged));
     Ok(())
 }

@@ -3,6 +3,7 @@ ghost use Rattle.std.specs.Prelude.{◌≡◌, Some};
 ghost use Rattle.zarr_parts.specs.Geo.{geo};
 ghost use Rattle.zarr_elements.specs.declared.data_type.DataType.TheVariants.{UInt8};
 
+use crate::compared::same;
 use crate::shards::{Call, Encoder, Ended, Shards, called, how_it_ended, object_of};
 use shard_sessions::{Naming, Seat};
 use std::alloc::Global;
@@ -152,12 +153,16 @@ fn two_threads_read_what_they_wrote(rt: HostRuntime) -> Result<(), Fail> {
         apart: 10,
     };
     let (right, end) = shared::<Brand, _>(&rt, alloc, &shards, Some(eight(alloc)?), plan)?;
-    assert_eq!(rt; right, 2);
-    assert_eq!(rt; end.how, "closed");
-    assert_eq!(rt; end.events, 4);
-    assert_eq!(rt; end.opening.as_slice(), [1, 2, 3, 4, 5, 6, 7, 8].as_slice());
+    same(&rt, right, 2);
+    same(&rt, end.how, "closed");
+    same(&rt, end.events, 4);
+    same(
+        &rt,
+        end.opening.as_slice(),
+        [1, 2, 3, 4, 5, 6, 7, 8].as_slice(),
+    );
     let cells = shards.cells(alloc, end.object)?;
-    assert_eq!(rt; cells.as_slice(), [50, 60, 3, 4, 5, 6, 7, 8].as_slice());
+    same(&rt, cells.as_slice(), [50, 60, 3, 4, 5, 6, 7, 8].as_slice());
     Ok(())
 }
 
@@ -173,12 +178,12 @@ fn four_threads_leave_one_history(rt: HostRuntime) -> Result<(), Fail> {
         apart: 0,
     };
     let (right, end) = shared::<Brand, _>(&rt, alloc, &shards, None, plan)?;
-    assert_eq!(rt; right, 200);
-    assert_eq!(rt; end.how, "closed");
-    assert_eq!(rt; end.events, 400);
-    assert_eq!(rt; end.opening.as_slice(), [0, 0, 0, 0].as_slice());
+    same(&rt, right, 200);
+    same(&rt, end.how, "closed");
+    same(&rt, end.events, 400);
+    same(&rt, end.opening.as_slice(), [0, 0, 0, 0].as_slice());
     let compacted = shards.compacted(alloc, end.object)?;
     let wanted = object_of(alloc, &[50, 50, 50, 50], &[0, 2, 2, 2])?;
-    assert_eq!(rt; compacted, Some(wanted));
+    same(&rt, compacted, Some(wanted));
     Ok(())
 }

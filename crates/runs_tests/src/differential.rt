@@ -1,6 +1,7 @@
 // Five hundred commands from a fixed generator, beside a plain list of cells.
 ghost use Rattle.std.specs.Prelude.{◌≤◌};
 
+use crate::compared::same;
 use crate::orders::{run, shape_of, subset_of, write_of};
 use shard_sessions::{Command, Reply};
 use std::alloc::Global;
@@ -142,7 +143,7 @@ fn agreed_nested(alloc: Global, location: ShardingIndexLocation) -> Result<usize
 #[test]
 fn a_long_run_reads_what_a_plain_list_has(rt: HostRuntime) {
     for location in [End, Start] {
-        assert_eq!(rt; agreed_plain(rt.alloc(), location), Ok(500));
-        assert_eq!(rt; agreed_nested(rt.alloc(), location), Ok(500));
+        same(&rt, agreed_plain(rt.alloc(), location), Ok(500));
+        same(&rt, agreed_nested(rt.alloc(), location), Ok(500));
     }
 }

@@ -1,4 +1,5 @@
 // What is written is read back: the law, called once.
+use crate::compared::same;
 use crate::orders::shape_of;
 use shard_sessions::read_back;
 use std::alloc::Global;
@@ -31,6 +32,6 @@ fn second_and_third(alloc: Global) -> Result<Option<ArrayBytes<'static>>, Fail> 
 fn what_is_written_is_read_back(rt: HostRuntime) -> Result<(), Fail> {
     let found = second_and_third(rt.alloc())?;
     let wanted = ArrayBytes::from_numbers(rt.alloc(), &[7u8, 9])?;
-    assert_eq!(rt; found, Some(wanted));
+    same(&rt, found, Some(wanted));
     Ok(())
 }

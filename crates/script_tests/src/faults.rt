@@ -1,4 +1,5 @@
 // Readers that are interrupted, end late or fail, and writers that fail.
+use crate::compared::{same, same_at};
 use shard_script::run_script;
 use std::alloc::{AllocError, Global};
 use std::io;
@@ -93,7 +94,7 @@ fn interrupted_reads_are_made_again(rt: HostRuntime) -> Result<(), Fail> {
             rests: false,
             fails,
         };
-        assert_eq!(rt; answers(rt.alloc(), reader)?.as_str(), expected);
+        same(&rt, answers(rt.alloc(), reader)?.as_str(), expected);
     }
     Ok(())
 }
@@ -107,7 +108,7 @@ fn a_script_has_a_greatest_length(rt: HostRuntime) -> Result<(), Fail> {
         (1, true, "1"),
     ] {
         let answered = answers(rt.alloc(), Buffers { left, fails })?;
-        assert_eq!(rt; answered.as_str(), expected, "{left} buffers");
+        same_at(&rt, left, answered.as_str(), expected);
     }
     Ok(())
 }
@@ -121,11 +122,7 @@ fn status(alloc: Global, script: &[u8], takes: bool) -> u8 {
 fn answers_that_are_not_taken_end_a_script(rt: HostRuntime) {
     for script in ["shard 4 2 uint8 0 end\n", "none\n"] {
         for takes in [false, true] {
-            assert_eq!(rt;
-                status(rt.alloc(), script.as_bytes(), takes),
-                1,
-                "of {script:?}"
-            );
+            same_at(&rt, script, status(rt.alloc(), script.as_bytes(), takes), 1);
         }
     }
 }

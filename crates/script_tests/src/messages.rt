@@ -1,4 +1,5 @@
 // What is said of a line that is no command's.
+use crate::compared::same;
 use shard_script::run_script_explained;
 use std::alloc::{AllocError, Global};
 use std::test::Fail;
@@ -49,16 +50,17 @@ fn messages_name_the_fault(rt: HostRuntime) -> Result<(), Fail> {
     ] {
         let script = format!(in rt.alloc(); "shard 4 2 uint8 0 end\n\n{line}\nindex\n")?;
         let wanted = format!(in rt.alloc(); "ok\nmalformed 3\nline 3: {message}\n2")?;
-        assert_eq!(rt; explained(rt.alloc(), &script)?, wanted);
+        same(&rt, explained(rt.alloc(), &script)?, wanted);
     }
     Ok(())
 }
 
 #[test]
 fn a_script_begins_with_a_shard(rt: HostRuntime) -> Result<(), Fail> {
-    assert_eq!(rt;
+    same(
+        &rt,
         explained(rt.alloc(), "read 0..4\n")?.as_str(),
-        "malformed 1\nline 1: read comes before any shard\n2"
+        "malformed 1\nline 1: read comes before any shard\n2",
     );
     Ok(())
 }

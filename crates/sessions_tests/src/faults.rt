@@ -1,4 +1,5 @@
 // Handles of which one call fails: at each call in turn, until a run meets no failure.
+use crate::compared::{same, same_at};
 use crate::shards::{Session, Shards, read, seven, subset_of, write};
 use std::alloc::Global;
 use zarr_codecs::FaultingHandle;
@@ -106,7 +107,7 @@ fn a_fault_is_met_at_each_call(rt: HostRuntime) {
         if stage < 5 && ran == Ok(STAGES[stage + 1]) {
             stage += 1;
         }
-        assert_eq!(rt; ran, Ok(STAGES[stage]), "at call {fails_at}");
+        same_at(&rt, fails_at, ran, Ok(STAGES[stage]));
     }
-    assert_eq!(rt; stage, 5);
+    same(&rt, stage, 5);
 }

@@ -4,6 +4,7 @@ ghost use Rattle.zarr_parts.specs.Geo.{geo};
 ghost use Rattle.zarrs_sharding.specs.Decoders.{object_cells};
 ghost use Rattle.zarrs_sharding.specs.Writing.{AreOverlaid};
 
+use crate::compared::same;
 use crate::shards::{seven, shape_of, subset_of};
 use std::alloc::Global;
 use zarr_codecs::{ArrayToBytesCodecTraits, BytesCodec, MemoryHandle};
@@ -121,8 +122,9 @@ fn five_and_seven(alloc: Global) -> Result<Vec<u8>, CodecError> {
 #[test]
 fn a_read_after_a_write_has_its_cells(rt: HostRuntime) {
     let found = five_and_seven(rt.alloc());
-    assert_eq!(rt;
+    same(
+        &rt,
         found.as_ref().map(Vec::as_slice),
-        Ok([5u8, 7, 0, 0].as_slice())
+        Ok([5u8, 7, 0, 0].as_slice()),
     );
 }

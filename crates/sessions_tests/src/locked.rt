@@ -1,4 +1,5 @@
 // A session that threads share.
+use crate::compared::same;
 use crate::shards::{Shards, Shared, seven, subset_of};
 use std::alloc::Global;
 use std::ops::Range;
@@ -74,10 +75,11 @@ fn written_and_erased<R: Wait>(
 #[test]
 fn a_shared_session_writes_reads_and_erases(rt: HostRuntime) -> Result<(), Fail> {
     let (cells, written, erased, left) = written_and_erased(&rt, rt.alloc())?;
-    assert_eq!(rt; cells.as_slice(), [3u8, 7, 0, 0].as_slice());
-    assert_eq!(rt;
+    same(&rt, cells.as_slice(), [3u8, 7, 0, 0].as_slice());
+    same(
+        &rt,
         (written, erased, left),
-        ((true, 34 + 32), (false, 32), false)
+        ((true, 34 + 32), (false, 32), false),
     );
     Ok(())
 }
@@ -96,7 +98,7 @@ fn told_at_once(alloc: Global) -> Result<(DataType, bool, bool), CodecError> {
 #[test]
 fn what_never_changes_is_told_without_a_runtime(rt: HostRuntime) {
     let want = (DataType::UInt8, true, true);
-    assert_eq!(rt; told_at_once(rt.alloc()), Ok(want));
+    same(&rt, told_at_once(rt.alloc()), Ok(want));
 }
 
 // A read that is refused, and the cells that are read after it.
@@ -114,8 +116,8 @@ fn read_after_refusal<R: Wait>(
 #[test]
 fn a_refused_call_gives_the_lock_back(rt: HostRuntime) -> Result<(), Fail> {
     let (refused, cells) = read_after_refusal(&rt, rt.alloc())?;
-    assert_eq!(rt; refused, Some(CodecError::OutOfBounds));
-    assert_eq!(rt; cells.as_slice(), [0u8, 7].as_slice());
+    same(&rt, refused, Some(CodecError::OutOfBounds));
+    same(&rt, cells.as_slice(), [0u8, 7].as_slice());
     Ok(())
 }
 
@@ -137,6 +139,6 @@ fn written_by_two<R: Threads + Wait + Sync>(rt: &R, alloc: Global) -> Result<Vec
 #[test]
 fn two_threads_write_into_one_session(rt: HostRuntime) -> Result<(), Fail> {
     let cells = written_by_two(&rt, rt.alloc())?;
-    assert_eq!(rt; cells.as_slice(), [3u8, 7, 0, 9].as_slice());
+    same(&rt, cells.as_slice(), [3u8, 7, 0, 9].as_slice());
     Ok(())
 }

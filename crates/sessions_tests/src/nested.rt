@@ -1,4 +1,5 @@
 // Writes into a shard whose subchunks are shards: four cells of one byte, in two of two.
+use crate::compared::same;
 use crate::shards::{ABSENT, object_of, read, shape_of, subset_of, write};
 use std::alloc::Global;
 use std::ops::Range;
@@ -92,9 +93,9 @@ fn two_read(alloc: Global) -> Result<Vec<u8>, CodecError> {
 #[test]
 fn a_shard_in_a_shard_is_written(rt: HostRuntime) {
     let found = written(rt.alloc(), None, 1..3, &[5, 6]);
-    assert_eq!(rt; found, two_found(rt.alloc()));
+    same(&rt, found, two_found(rt.alloc()));
     let cells = [0u8, 5, 6, 0].to_vec(rt.alloc()).map_err(CodecError::from);
-    assert_eq!(rt; two_read(rt.alloc()), cells);
+    same(&rt, two_read(rt.alloc()), cells);
 }
 
 // An object whose first subchunk is a shard of these bytes and pairs, and whose second is absent.
@@ -146,6 +147,6 @@ fn an_inner_shard_is_read_where_it_is_not_covered(rt: HostRuntime) {
         ),
     ] {
         let found = written_over(rt.alloc(), size, range, cells);
-        assert_eq!(rt; found, wanted(rt.alloc(), refusal, bytes, index));
+        same(&rt, found, wanted(rt.alloc(), refusal, bytes, index));
     }
 }

@@ -1,4 +1,5 @@
 // Objects that are opened for writing, and those that are given back.
+use crate::compared::same_at;
 use crate::shards::{ABSENT, Shards, object_of};
 use std::alloc::Global;
 use zarr_codecs::{BytesPartialDecoderTraits, MemoryHandle};
@@ -46,7 +47,7 @@ fn the_lowest_pair_outside_the_data_part_is_named(rt: HostRuntime) {
     ] {
         let want = number.map(|number| (34, CodecError::BadIndexEntry { number }));
         let found = refused_index(rt.alloc(), location, index);
-        assert_eq!(rt; found, Ok(want), "with the index {index:?}");
+        same_at(&rt, index, found, Ok(want));
     }
 }
 
@@ -62,6 +63,6 @@ fn a_short_object_is_given_back(rt: HostRuntime) {
         (31, Some((31, CodecError::ShardTooShort))),
         (32, None),
     ] {
-        assert_eq!(rt; refused_bytes(rt.alloc(), len), Ok(want), "{len} bytes");
+        same_at(&rt, len, refused_bytes(rt.alloc(), len), Ok(want));
     }
 }

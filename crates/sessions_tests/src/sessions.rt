@@ -1,4 +1,5 @@
 // What a session tells, reads and erases.
+use crate::compared::same;
 use crate::shards::{Session, Shards, read, said, seven, subset_of};
 use std::alloc::Global;
 use std::ops::Range;
@@ -50,7 +51,7 @@ fn told_twice(alloc: Global, stored: bool) -> Result<(Told, Told, bool), CodecEr
 fn an_object_is_told_and_erased(rt: HostRuntime) {
     let none = (false, 32, false);
     for (stored, want) in [(true, (true, 34 + 32, false)), (false, none)] {
-        assert_eq!(rt; told_twice(rt.alloc(), stored), Ok((want, none, false)));
+        same(&rt, told_twice(rt.alloc(), stored), Ok((want, none, false)));
     }
 }
 
@@ -68,7 +69,7 @@ fn told_at_once(alloc: Global) -> Result<(DataType, bool, bool), CodecError> {
 #[test]
 fn a_session_reads_and_writes_in_part(rt: HostRuntime) {
     let want = (DataType::UInt8, true, true);
-    assert_eq!(rt; told_at_once(rt.alloc()), Ok(want));
+    same(&rt, told_at_once(rt.alloc()), Ok(want));
 }
 
 // The cells of a range, after so many erasures.
@@ -101,6 +102,6 @@ fn cells_are_read_before_and_after_an_erasure(rt: HostRuntime) {
         (false, 0, 5..5, Err(CodecError::OutOfBounds)),
     ] {
         let cells = read_after(rt.alloc(), stored, erasures, range);
-        assert_eq!(rt; said(&cells), want);
+        same(&rt, said(&cells), want);
     }
 }

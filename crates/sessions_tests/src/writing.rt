@@ -1,4 +1,5 @@
 // Writes in one session, and those that are refused.
+use crate::compared::same;
 use crate::shards::{ABSENT, Session, Shards, object_of, read, seven, subset_of, write};
 use std::alloc::Global;
 use std::borrow::CowSlice;
@@ -76,7 +77,7 @@ fn a_session_writes_more_than_once(rt: HostRuntime) {
         (Start, 3, &[0, 7, 1, 2, 9, 7], [36, 2, 34, 2], [9, 7, 1, 2]),
     ] {
         let found = written(rt.alloc(), location, &STEPS[..many], &cells);
-        assert_eq!(rt; found, wanted(rt.alloc(), location, slices, index));
+        same(&rt, found, wanted(rt.alloc(), location, slices, index));
     }
 }
 
@@ -121,7 +122,7 @@ fn a_write_is_refused_in_order(rt: HostRuntime) {
         (0..2, 1, None),
     ] {
         let found = refused_range(rt.alloc(), range, element_size);
-        assert_eq!(rt; found, Ok((want, 34)));
+        same(&rt, found, Ok((want, 34)));
     }
 }
 
@@ -135,5 +136,5 @@ fn refused_list(alloc: Global) -> Result<(Option<CodecError>, usize), CodecError
 #[test]
 fn listed_cells_are_not_written(rt: HostRuntime) {
     let want = (Some(CodecError::UnsupportedIndexer), 34);
-    assert_eq!(rt; refused_list(rt.alloc()), Ok(want));
+    same(&rt, refused_list(rt.alloc()), Ok(want));
 }

@@ -1,4 +1,5 @@
 // Shards with codecs behind the inner codec and the index codec.
+use crate::compared::{same, same_at};
 use crate::shards::{ABSENT, around, decoded, encoded, read, said, shape_of, shard_of, subset_of};
 use std::alloc::Global;
 use std::test::Fail;
@@ -42,13 +43,13 @@ fn marks_decoded(alloc: Global, behind: &[u8]) -> Result<Vec<u8>, CodecError> {
 // An index with another mark behind it is damaged.
 #[test]
 fn marks_are_demanded(rt: HostRuntime) {
-    assert_eq!(rt; with_marks(rt.alloc()), Ok(true));
+    same(&rt, with_marks(rt.alloc()), Ok(true));
     for (behind, want) in [
         (42, Ok([1u8, 2, 0, 0].as_slice())),
         (41, Err(CodecError::Damaged)),
     ] {
         let cells = marks_decoded(rt.alloc(), &[behind]);
-        assert_eq!(rt; said(&cells), want, "{behind}");
+        same_at(&rt, behind, said(&cells), want);
     }
 }
 
@@ -84,13 +85,17 @@ fn checked_decoded(alloc: Global, checksum: &[u8]) -> Result<Vec<u8>, CodecError
 #[test]
 fn checksums_of_indices_are_written_and_compared(rt: HostRuntime) -> Result<(), Fail> {
     let wanted = checked_object(rt.alloc(), &[189, 19, 189, 86])?;
-    assert_eq!(rt; said(&checked_encoded(rt.alloc())), Ok(wanted.as_slice()));
+    same(
+        &rt,
+        said(&checked_encoded(rt.alloc())),
+        Ok(wanted.as_slice()),
+    );
     for (first, want) in [
         (189, Ok([1u8, 2, 0, 0].as_slice())),
         (188, Err(CodecError::Damaged)),
     ] {
         let cells = checked_decoded(rt.alloc(), &[first, 19, 189, 86]);
-        assert_eq!(rt; said(&cells), want, "{first}");
+        same_at(&rt, first, said(&cells), want);
     }
     Ok(())
 }
@@ -125,7 +130,7 @@ fn one_subchunk_is_read_in_part(rt: HostRuntime) {
         let inner = BytesChain::new(BytesCodec::little(), UnboundedCodec);
         let plain = read_two(rt.alloc(), BytesCodec::little(), &cells);
         let unbounded = read_two(rt.alloc(), inner, &cells);
-        assert_eq!(rt; said(&plain), Ok(want.as_slice()));
-        assert_eq!(rt; said(&unbounded), Ok(want.as_slice()));
+        same(&rt, said(&plain), Ok(want.as_slice()));
+        same(&rt, said(&unbounded), Ok(want.as_slice()));
     }
 }

@@ -1,4 +1,5 @@
 // A read asks its handle for the index and for the slices in which cells are asked, and for no other bytes.
+use crate::compared::same;
 use crate::shards::{around, decoder_of, encoded, plain, sixteen, subset_of};
 use std::alloc::Global;
 use std::test::Fail;
@@ -55,7 +56,7 @@ fn counts(alloc: Global) -> Result<(u64, u64), CodecError> {
 // An index of 64 bytes and four slices of 4 bytes.
 #[test]
 fn only_the_slice_of_a_cell_is_read(rt: HostRuntime) {
-    assert_eq!(rt; counts(rt.alloc()), Ok((64, 64 + 2 * 4)));
+    same(&rt, counts(rt.alloc()), Ok((64, 64 + 2 * 4)));
 }
 
 // Where a shard of two shards is opened, and where a cell of the second is read twice; and how long it is.
@@ -75,5 +76,5 @@ fn nested_counts(alloc: Global) -> Result<(u64, u64, usize), CodecError> {
 #[test]
 fn no_inner_shard_is_read_whole(rt: HostRuntime) {
     let want = (32, 32 + 2 * (64 + 1), 2 * 68 + 32);
-    assert_eq!(rt; nested_counts(rt.alloc()), Ok(want));
+    same(&rt, nested_counts(rt.alloc()), Ok(want));
 }

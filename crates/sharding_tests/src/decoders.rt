@@ -1,4 +1,5 @@
 // Decoders: what they tell besides cells, subchunks as they are stored, reads into a target, and objects that are not opened.
+use crate::compared::{same, same_at};
 use crate::shards::{
     ABSENT, Plain, cells_of, decoder_of, listed, plain, read, said, shard_of, sixteen, subset_of,
 };
@@ -36,9 +37,13 @@ fn tells<H: BytesPartialDecoderTraits + Drop>(
 fn an_object_is_told(rt: HostRuntime) {
     let stored = (true, 80 + 64, DataType::UInt8, true);
     let lent = SliceHandle::new(&[255; 80]);
-    assert_eq!(rt; tells(rt.alloc(), lent, stored), Ok(true));
+    same(&rt, tells(rt.alloc(), lent, stored), Ok(true));
     let none = (false, 0, DataType::UInt8, true);
-    assert_eq!(rt; tells(rt.alloc(), MemoryHandle::new(None), none), Ok(true));
+    same(
+        &rt,
+        tells(rt.alloc(), MemoryHandle::new(None), none),
+        Ok(true),
+    );
 }
 
 // The cells at coordinates of a shape of 4 by 4.
@@ -53,7 +58,7 @@ fn read_at(alloc: Global, flat: &[u64]) -> Result<Vec<u8>, CodecError> {
 #[test]
 fn coordinates_are_read(rt: HostRuntime) {
     let cells = read_at(rt.alloc(), &[3, 3, 0, 0, 1, 3, 3, 3, 0, 1]);
-    assert_eq!(rt; said(&cells), Ok([15u8, 0, 7, 15, 1].as_slice()));
+    same(&rt, said(&cells), Ok([15u8, 0, 7, 15, 1].as_slice()));
 }
 
 // Reads two cells into a box of a target of 3 by 3.
@@ -112,7 +117,7 @@ fn cells_are_read_into_a_target(rt: HostRuntime) {
         (2, 1..3, wrong, &[77; 18]),
     ];
     for (element_size, rows, answer, want) in rows {
-        assert_eq!(rt; is_target(rt.alloc(), element_size, rows, want), answer);
+        same(&rt, is_target(rt.alloc(), element_size, rows, want), answer);
     }
 }
 
@@ -159,7 +164,7 @@ fn a_subchunk_has_a_range(rt: HostRuntime) {
         (None, &[2], Err(CodecError::OutOfBounds)),
     ] {
         let range = range_of(rt.alloc(), index, subchunk);
-        assert_eq!(rt; range, want, "at {subchunk:?} by {index:?}");
+        same_at(&rt, (subchunk, index), range, want);
     }
 }
 
@@ -187,8 +192,8 @@ fn is_stored(alloc: Global, subchunk: &[u64], want: Option<&[u8]>) -> Result<boo
 #[test]
 fn a_subchunk_is_retrieved_as_it_is_stored(rt: HostRuntime) {
     let stored = Some([0u8, 7].as_slice());
-    assert_eq!(rt; is_stored(rt.alloc(), &[0], stored), Ok(true));
-    assert_eq!(rt; is_stored(rt.alloc(), &[1], None), Ok(true));
+    same(&rt, is_stored(rt.alloc(), &[0], stored), Ok(true));
+    same(&rt, is_stored(rt.alloc(), &[1], None), Ok(true));
 }
 
 // Whether a handle is not opened for this reason, and holds so many bytes where it comes back; or whether it is opened.
@@ -224,7 +229,7 @@ fn a_short_object_is_given_back(rt: HostRuntime) -> Result<(), Fail> {
         (32, None),
     ] {
         let found = is_refused(rt.alloc(), &codec, len, want);
-        assert_eq!(rt; found, Ok(true), "{len} bytes");
+        same_at(&rt, len, found, Ok(true));
     }
     Ok(())
 }

@@ -1,4 +1,5 @@
 // The grid of subchunks, the box of each, and the sizes of what is stored.
+use crate::compared::{same, same_at};
 use crate::shards::{done, fill_of, plain, shape_of};
 use std::alloc::Global;
 use zarr_codecs::{ArrayToBytesCodecTraits, BytesRepresentation};
@@ -26,7 +27,7 @@ fn is_index_shape(
 #[test]
 fn a_shard_has_a_grid_and_an_index(rt: HostRuntime) {
     let found = is_index_shape(rt.alloc(), &[4, 4], &[2, 2], &[2, 2, 2]);
-    assert_eq!(rt; found, Ok(true));
+    same(&rt, found, Ok(true));
 }
 
 // The box of a subchunk of a grid.
@@ -69,7 +70,7 @@ fn a_subchunk_has_a_box(rt: HostRuntime) {
     ];
     for (number, grid, sub, start) in rows {
         let found = is_box(rt.alloc(), number, grid, sub, start);
-        assert_eq!(rt; found, Ok(true), "subchunk {number}");
+        same_at(&rt, number, found, Ok(true));
     }
 }
 
@@ -89,7 +90,7 @@ fn a_box_is_refused_in_order(rt: HostRuntime) {
     ];
     for (number, grid, sub, want) in rows {
         let answer = done(box_of(rt.alloc(), number, grid, sub));
-        assert_eq!(rt; answer, want, "subchunk {number} of {grid:?} by {sub:?}");
+        same_at(&rt, (number, grid, sub), answer, want);
     }
 }
 
@@ -113,7 +114,7 @@ fn workers_can_share_as_many_subchunks(rt: HostRuntime) {
         (many, &[3], Err(CodecError::IncompatibleDimensionality)),
     ] {
         let workers = workers_of(rt.alloc(), shape, sub);
-        assert_eq!(rt; workers, want, "{shape:?} by {sub:?}");
+        same_at(&rt, (shape, sub), workers, want);
     }
 }
 
@@ -127,5 +128,9 @@ fn told(alloc: Global) -> Result<BytesRepresentation, CodecError> {
 // An encoding is no longer than all subchunks and the index.
 #[test]
 fn an_encoding_has_a_greatest_length(rt: HostRuntime) {
-    assert_eq!(rt; told(rt.alloc()), Ok(BytesRepresentation::BoundedSize(96)));
+    same(
+        &rt,
+        told(rt.alloc()),
+        Ok(BytesRepresentation::BoundedSize(96)),
+    );
 }

@@ -1,4 +1,5 @@
 // What callers learn from the codec's laws, each called once.
+use crate::compared::same;
 use crate::shards::{Plain, elements_of, encoded, fill_of, plain, shape_of, shard_of};
 use std::alloc::Global;
 use std::borrow::CowSlice;
@@ -41,12 +42,11 @@ fn one_encoding(alloc: Global) -> Result<Vec<u8>, CodecError> {
 #[test]
 fn a_shard_has_one_encoding(rt: HostRuntime) -> Result<(), Fail> {
     let shard = one_encoding(rt.alloc())?;
-    assert_eq!(rt; shard.len(), 34);
-    assert_eq!(rt; &shard[..16], [255; 16].as_slice());
-    assert_eq!(rt;
-        &shard[16..],
-        [0, 0, 0, 0, 0, 0, 0, 32, 0, 0, 0, 0, 0, 0, 0, 2, 7, 9].as_slice()
-    );
+    let want = [
+        255, 255, 255, 255, 255, 255, 255, 255, 255, 255, 255, 255, 255, 255, 255, 255, 0, 0, 0, 0,
+        0, 0, 0, 32, 0, 0, 0, 0, 0, 0, 0, 2, 7, 9,
+    ];
+    same(&rt, shard.as_slice(), want.as_slice());
     Ok(())
 }
 
@@ -78,7 +78,7 @@ fn compacted_encoding(alloc: Global) -> Result<Option<Vec<u8>>, CodecError> {
 // Nothing stands in an encoding that a compaction leaves out.
 #[test]
 fn an_encoding_is_compact(rt: HostRuntime) {
-    assert_eq!(rt; compacted_encoding(rt.alloc()), Ok(None));
+    same(&rt, compacted_encoding(rt.alloc()), Ok(None));
 }
 
 // The cells of a shard that the codec serves.
@@ -126,9 +126,9 @@ fn an_encoding_is_decoded(rt: HostRuntime) -> Result<(), Fail> {
     let codec = plain(rt.alloc(), &[2], ShardingIndexLocation::Start)?;
     let shard = encoded(rt.alloc(), &codec, &[4], &CELLS)?;
     let served = served_cells(rt.alloc(), &codec, &shard)?;
-    assert_eq!(rt; served.as_slice(), CELLS.as_slice());
+    same(&rt, served.as_slice(), CELLS.as_slice());
     let sound = sound_cells(rt.alloc(), &codec, &shard)?;
-    assert_eq!(rt; sound.as_slice(), CELLS.as_slice());
+    same(&rt, sound.as_slice(), CELLS.as_slice());
     Ok(())
 }
 
@@ -160,5 +160,5 @@ fn compacted_twice(alloc: Global) -> Result<(Option<Vec<u8>>, usize), CodecError
 // Two dead bytes of six go, beside an index of 32 bytes, and then nothing.
 #[test]
 fn a_compacted_shard_is_compact(rt: HostRuntime) {
-    assert_eq!(rt; compacted_twice(rt.alloc()), Ok((None, 36)));
+    same(&rt, compacted_twice(rt.alloc()), Ok((None, 36)));
 }

@@ -1,4 +1,5 @@
 // Lengths of variable elements, which are added up before any memory is asked.
+use crate::compared::{same, same_at};
 use shard_cells::check_lengths;
 use std::alloc::{AllocError, Global};
 use zarr_parts::{ArrayBuilder, ArrayBytes, CodecError, DataTypeSize};
@@ -25,10 +26,11 @@ fn lengths_past_64_bits_are_refused(rt: HostRuntime) {
         (2, b"a", Err(CodecError::TooLarge)),
         (1, b"a", Ok(())),
     ] {
-        assert_eq!(rt;
+        same_at(
+            &rt,
+            (many, fill),
             checked(rt.alloc(), many, 1 << 63, fill),
             wanted,
-            "{many} of {fill:?}"
         );
     }
 }
@@ -46,5 +48,5 @@ fn checked_elements(alloc: Global) -> Result<(), CodecError> {
 
 #[test]
 fn lengths_of_64_bits_are_served(rt: HostRuntime) {
-    assert_eq!(rt; checked_elements(rt.alloc()), Ok(()));
+    same(&rt, checked_elements(rt.alloc()), Ok(()));
 }

@@ -4,6 +4,8 @@
 #[cfg(test)]
 mod chains;
 #[cfg(test)]
+mod compared;
+#[cfg(test)]
 mod counting;
 #[cfg(test)]
 mod decoders;

@@ -1,4 +1,5 @@
 // Shards whose subchunks are shards.
+use crate::compared::{same, same_at};
 use crate::shards::{
     ABSENT, Plain, around, decoded, encoded, plain, read, said, shard_of, subset_of,
 };
@@ -51,7 +52,7 @@ fn nested_shards_are_decoded(rt: HostRuntime) {
         (34, 33, Err(CodecError::Damaged)),
     ] {
         let cells = decoded_nested(rt.alloc(), inner_size, outer_size);
-        assert_eq!(rt; said(&cells), want, "{inner_size} of {outer_size} bytes");
+        same_at(&rt, (inner_size, outer_size), said(&cells), want);
     }
 }
 
@@ -72,7 +73,7 @@ fn nested_shards_are_read(rt: HostRuntime) {
         (34, 33, 2..4, zeros),
     ] {
         let answer = read_nested(rt.alloc(), inner_size, outer_size, cells);
-        assert_eq!(rt; said(&answer), want, "{inner_size} of {outer_size} bytes");
+        same_at(&rt, (inner_size, outer_size), said(&answer), want);
     }
 }
 
@@ -85,7 +86,7 @@ fn is_encoded_so(alloc: Global) -> Result<bool, CodecError> {
 // An inner shard of the fill value alone is not stored.
 #[test]
 fn nested_shards_are_encoded(rt: HostRuntime) {
-    assert_eq!(rt; is_encoded_so(rt.alloc()), Ok(true));
+    same(&rt, is_encoded_so(rt.alloc()), Ok(true));
 }
 
 // The codec of eight cells in shards in shards in a shard.
@@ -114,10 +115,14 @@ fn read_thrice(alloc: Global, cells: Range<u64>) -> Result<Vec<u8>, CodecError> 
 // What is stored three shards deep is decoded and read.
 #[test]
 fn three_nested_shards_are_read_back(rt: HostRuntime) -> Result<(), Fail> {
-    assert_eq!(rt; decoded_thrice(rt.alloc())?.as_slice(), EIGHT.as_slice());
+    same(
+        &rt,
+        decoded_thrice(rt.alloc())?.as_slice(),
+        EIGHT.as_slice(),
+    );
     for (cells, want) in [(0..8, EIGHT.as_slice()), (3..7, &[4, 0, 0, 7])] {
         let answer = read_thrice(rt.alloc(), cells)?;
-        assert_eq!(rt; answer.as_slice(), want);
+        same(&rt, answer.as_slice(), want);
     }
     Ok(())
 }

@@ -1,4 +1,5 @@
 // The codec's options, and what it says of reading and writing parts.
+use crate::compared::same;
 use crate::shards::{Plain, plain, shape_of};
 use std::alloc::Global;
 use std::test::Fail;
@@ -68,7 +69,7 @@ fn options_that_are_set_replace_the_codecs(rt: HostRuntime) {
         (ordered, None, true),
         (ordered, unordered, false),
     ] {
-        assert_eq!(rt; functional_with(rt.alloc(), order, set), Ok(want));
+        same(&rt, functional_with(rt.alloc(), order, set), Ok(want));
     }
 }
 
@@ -84,7 +85,7 @@ fn functional_by_default(alloc: Global) -> Result<bool, CodecError> {
 
 #[test]
 fn default_options_leave_the_order_open(rt: HostRuntime) {
-    assert_eq!(rt; functional_by_default(rt.alloc()), Ok(false));
+    same(&rt, functional_by_default(rt.alloc()), Ok(false));
 }
 
 #[test]
@@ -93,9 +94,10 @@ fn parts_are_spared(rt: HostRuntime) -> Result<(), Fail> {
     assert!(rt; decoder.partial_read && decoder.partial_decode);
     assert!(rt; Plain::partial_encoder_capability().partial_encode);
     let codec = plain(rt.alloc(), &[2, 3], ShardingIndexLocation::End)?;
-    assert_eq!(rt;
+    same(
+        &rt,
         codec.partial_decode_granularity().as_slice(),
-        [2, 3].as_slice()
+        [2, 3].as_slice(),
     );
     Ok(())
 }

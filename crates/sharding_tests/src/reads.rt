@@ -1,4 +1,5 @@
 // Reads of a shard that stands in an interval of an object, and decoding into a target.
+use crate::compared::{same, same_at};
 use crate::shards::{Plain, cells_of, elements_of, plain, said, sixteen, subset_of};
 use std::alloc::Global;
 use zarr_codecs::{ArrayToBytesCodecTraits, Interval, MemoryHandle};
@@ -62,11 +63,7 @@ fn a_shard_inside_an_object_is_read(rt: HostRuntime) {
         (false, 0, 80, 1, Err(CodecError::OutOfBounds)),
     ] {
         let cells = column_of(rt.alloc(), is_there, Interval { offset, size }, row);
-        assert_eq!(rt;
-            said(&cells),
-            want,
-            "{size} bytes at {offset}, from row {row}"
-        );
+        same_at(&rt, (size, offset, row), said(&cells), want);
     }
 }
 
@@ -110,5 +107,5 @@ fn is_decoded_into(alloc: Global, want: &[u8]) -> Result<bool, CodecError> {
 #[test]
 fn a_shard_is_decoded_into_a_target(rt: HostRuntime) {
     let wanted = [0u8, 1, 2, 3, 4, 5, 6, 7, 8, 9, 10, 11, 12, 13, 14, 15].as_slice();
-    assert_eq!(rt; is_decoded_into(rt.alloc(), wanted), Ok(true));
+    same(&rt, is_decoded_into(rt.alloc(), wanted), Ok(true));
 }

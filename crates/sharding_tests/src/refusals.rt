@@ -1,4 +1,5 @@
 // Refusals that no script can bring about, or of which it does not tell all.
+use crate::compared::{same, same_at};
 use crate::shards::{
     ABSENT, Plain, cells_of, decoded, done, fill_of, plain, read, said, shape_of, shard_of,
     subset_of,
@@ -59,9 +60,9 @@ fn the_lowest_bad_pair_is_named(rt: HostRuntime) {
     ] {
         let want = Err(CodecError::BadIndexEntry { number });
         let decoded = decoded_by(rt.alloc(), index);
-        assert_eq!(rt; decoded, want, "with the index {index:?}");
+        same_at(&rt, index, decoded, want);
         let compacted = compacted_by(rt.alloc(), index);
-        assert_eq!(rt; compacted, want, "with the index {index:?}");
+        same_at(&rt, index, compacted, want);
     }
 }
 
@@ -72,7 +73,7 @@ fn a_bad_pair_is_named_where_it_is_read(rt: HostRuntime) {
         (2..3, Err(CodecError::BadIndexEntry { number: 1 })),
     ] {
         let answer = read_by(rt.alloc(), [0, 2, ABSENT, 5], cells);
-        assert_eq!(rt; said(&answer), want);
+        same(&rt, said(&answer), want);
     }
 }
 
@@ -122,7 +123,7 @@ fn shapes_types_and_fill_values_are_tested_in_order(rt: HostRuntime) {
         (u64::MAX, &[u64::MAX], DataType::UInt8, zero, Ok(())),
     ] {
         let answer = served(rt.alloc(), sub, shape, data_type, fill);
-        assert_eq!(rt; answer, want, "{shape:?} by {sub}, {data_type:?}");
+        same_at(&rt, (shape, sub, data_type), answer, want);
     }
 }
 
@@ -139,8 +140,9 @@ fn with_a_variable_index(alloc: Global) -> Result<(), CodecError> {
 
 #[test]
 fn an_index_has_a_fixed_size(rt: HostRuntime) {
-    assert_eq!(rt;
+    same(
+        &rt,
         with_a_variable_index(rt.alloc()),
-        Err(CodecError::VariableIndexSize)
+        Err(CodecError::VariableIndexSize),
     );
 }

@@ -2,6 +2,8 @@
 #![tactic(auto)]
 
 #[cfg(test)]
+mod compared;
+#[cfg(test)]
 mod gates;
 #[cfg(test)]
 mod round_trips;

@@ -1,5 +1,6 @@
 // Arrays that are encoded and decoded again: with the index at either end, in either order, by one worker and by four, and with an
 // inner codec that tells how long its encodings are or does not.
+use crate::compared::same_at;
 use std::alloc::{AllocError, Global};
 use std::test::Fail;
 use std::thread::Threads;
@@ -207,10 +208,11 @@ fn cells_come_back(rt: HostRuntime) -> Result<(), Fail> {
             let (count, ascend) = present(&trip.index);
             let in_order = ascend || matches!(way.order, SubchunkWriteOrder::Unordered);
             assert!(rt; trip.cells == cells(rt.alloc(), held)?, "{held:?} {way:?}");
-            assert_eq!(rt;
+            same_at(
+                &rt,
+                (held, way),
                 (trip.index.len(), count, in_order),
                 (1024, numbers, true),
-                "{held:?} {way:?}"
             );
             assert!(rt; trip.differs, "{held:?} {way:?}");
         }

@@ -1,4 +1,5 @@
 // What workers answer, and that they are there.
+use crate::compared::{same, same_at};
 use crate::gates::{Counted, Meeting};
 use crate::shards::{Shards, said};
 use std::alloc::Global;
@@ -45,8 +46,8 @@ fn shard_of_ones(alloc: Global) -> Result<Vec<u8>, CodecError> {
 #[test]
 fn two_workers_are_at_work_at_once(rt: HostRuntime) -> Result<(), Fail> {
     let (shard, seen) = met(&rt, rt.alloc())?;
-    assert_eq!(rt; seen, (2, 0));
-    assert_eq!(rt; shard, shard_of_ones(rt.alloc())?);
+    same(&rt, seen, (2, 0));
+    same(&rt, shard, shard_of_ones(rt.alloc())?);
     Ok(())
 }
 
@@ -83,7 +84,7 @@ fn the_lowest_refused_subchunk_gives_the_refusal(rt: HostRuntime) {
     ] {
         for target in [1, 2, 4] {
             let answer = decoded_hurt(&rt, rt.alloc(), pairs, target);
-            assert_eq!(rt; said(&answer), Err(want), "with {target} at a time");
+            same_at(&rt, target, said(&answer), Err(want));
         }
     }
 }
@@ -119,9 +120,9 @@ fn encoded_both<R: Threads + Sync>(
 fn a_shard_by_workers_is_that_of_encode(rt: HostRuntime) -> Result<(), Fail> {
     for (target, passed) in [(1, 0), (2, 512), (4, 512)] {
         let (shard, seen, plain) = encoded_both(&rt, rt.alloc(), target)?;
-        assert_eq!(rt; seen, passed, "with {target} at a time");
-        assert_eq!(rt; shard.len(), 8240);
-        assert_eq!(rt; shard, plain, "with {target} at a time");
+        same_at(&rt, target, seen, passed);
+        same(&rt, shard.len(), 8240);
+        same_at(&rt, target, shard, plain);
     }
     Ok(())
 }
@@ -144,8 +145,8 @@ fn a_shard_decodes_by_workers(rt: HostRuntime) -> Result<(), Fail> {
     for (target, passed) in [(1, 0), (2, 512), (4, 512)] {
         let (decoded, seen) = decoded_again(&rt, rt.alloc(), target)?;
         let (_, cells) = two_boxes(rt.alloc())?;
-        assert_eq!(rt; seen, passed, "with {target} at a time");
-        assert_eq!(rt; decoded, cells, "with {target} at a time");
+        same_at(&rt, target, seen, passed);
+        same_at(&rt, target, decoded, cells);
     }
     Ok(())
 }
