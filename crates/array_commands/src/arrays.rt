@@ -32,16 +32,11 @@ pub struct Array<'a, R> {
 fn text_of<R: Files + AllocGlobal>(rt: &R, path: &str, document: &str) -> Result<String, Stop> {
     let alloc = rt.alloc();
     if let Err(error) = fs::metadata(rt, path) {
-        let path = String::from_str(alloc, path)?;
-        return Err(Stop::System { path, error });
+        return Err(Stop::system(alloc, path, error));
     }
     match fs::read_to_string(rt, document) {
         Ok(text) => Ok(text),
-        Err(error) if error.kind() == io::ErrorKind::OutOfMemory => Err(Stop::OutOfMemory),
-        Err(error) => {
-            let path = String::from_str(alloc, document)?;
-            Err(Stop::System { path, error })
-        }
+        Err(error) => Err(Stop::system(alloc, document, error)),
     }
 }
 

@@ -73,11 +73,11 @@ fn json_flag<'a>(alloc: Global) -> Arg<'a> {
 }
 
 fn raw_flag<'a>(alloc: Global) -> Result<Arg<'a>, AllocError> {
-    let raw = Arg::new(alloc, "raw")
+    Arg::new(alloc, "raw")
         .long("raw")
         .action(ArgAction::SetTrue)
-        .conflicts_with("json")?;
-    Ok(raw.help("The bytes of the cells, least significant first"))
+        .help("The bytes of the cells, least significant first")
+        .conflicts_with("json")
 }
 
 fn read_command<'a>(alloc: Global) -> Result<Command<'a>, AllocError> {

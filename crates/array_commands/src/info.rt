@@ -34,15 +34,24 @@ pub struct ShardInfo {
     pub index: Result<IndexInfo, Refusal>,
 }
 
+// How long the indexes of shards of so many subchunks are.
+fn index_representation<X: ArrayToBytesCodecTraits>(
+    alloc: Global,
+    codec: &X,
+    subchunks: &ChunkShape,
+) -> Result<BytesRepresentation, CodecError> {
+    let shape = sharding_index_shape(alloc, subchunks)?;
+    let absent = FillValue::from_number(alloc, u64::MAX)?;
+    codec.encoded_representation(alloc, &shape, &DataType::UInt64, &absent)
+}
+
 // How many bytes the index of a shard of so many subchunks has.
 fn index_size<X: ArrayToBytesCodecTraits>(
     alloc: Global,
     codec: &X,
     subchunks: &ChunkShape,
 ) -> Result<u64, Stop> {
-    let shape = sharding_index_shape(alloc, subchunks)?;
-    let absent = FillValue::from_number(alloc, u64::MAX)?;
-    match codec.encoded_representation(alloc, &shape, &DataType::UInt64, &absent)? {
+    match index_representation(alloc, codec, subchunks)? {
         BytesRepresentation::FixedSize(size) => Ok(size),
         _ => Err(Stop::Codec(CodecError::VariableIndexSize)),
     }

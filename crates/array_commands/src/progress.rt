@@ -1,4 +1,6 @@
 // How far a command is, as it shows on a terminal.
+ghost use Rattle.std.specs.Prelude.{◌≢◌};
+
 use std::io::Write;
 
 /// Shows how far a command is: a percentage that stands alone on its line, and over which the next one is written. What is
@@ -10,6 +12,13 @@ pub struct Progress<'a, M> {
     shows: bool,
     // the percentage that stands there
     shown: Option<u64>,
+}
+
+// How many of a hundred so many parts are of so many.
+fn percentage(done: u64, of: u64) -> u64
+    requires { of ≢ 0 }
+{
+    done.saturating_mul(100) / of
 }
 
 impl<'a, M: Write> Progress<'a, M> {
@@ -24,10 +33,13 @@ impl<'a, M: Write> Progress<'a, M> {
 
     /// Shows that so many parts are done of so many, where that is another percentage. Of no parts nothing is shown.
     pub fn step(&mut self, done: u64, of: u64) {
-        if !self.shows || of == 0 {
-            return;
+        if self.shows && of != 0 {
+            self.show(percentage(done, of));
         }
-        let percent = done.saturating_mul(100) / of;
+    }
+
+    // Shows a percentage, where another one or none stands there.
+    fn show(&mut self, percent: u64) {
         if self.shown != Some(percent) {
             let _ = write!(self.messages, "\r{percent:3} %");
             self.shown = Some(percent);

@@ -5,7 +5,19 @@ use crate::stop::{Place, Stop};
 use array_shards::{BoxCells, ShardPart};
 use std::io::Write;
 use std::rt::Files;
-use zarr_parts::{ArrayBytes, ArraySubset};
+use zarr_parts::{ArrayBytes, ArraySubset, CodecError};
+
+// The cells of a box as they are held, or fill values where none are.
+fn held_cells<R: Files + AllocGlobal>(
+    array: &Array<'_, R>,
+    asked: &ArraySubset,
+    held: Option<BoxCells>,
+) -> Result<BoxCells, CodecError> {
+    match held {
+        Some(held) => Ok(held),
+        None => BoxCells::new(array.alloc(), asked, &array.metadata.fill_value),
+    }
+}
 
 // Puts the cells of a part into those of a box, for which memory is asked with the first part.
 fn put_part<R: Files + AllocGlobal>(
@@ -15,10 +27,7 @@ fn put_part<R: Files + AllocGlobal>(
     found: &ArrayBytes,
     cells: &mut Option<BoxCells>,
 ) -> Result<(), Stop> {
-    let mut held = match cells.take() {
-        Some(held) => held,
-        None => BoxCells::new(array.alloc(), asked, &array.metadata.fill_value)?,
-    };
+    let mut held = held_cells(array, asked, cells.take())?;
     held.put(&part.in_box, found)?;
     *cells = Some(held);
     Ok(())
@@ -57,8 +66,5 @@ pub fn read_box<R: Files + AllocGlobal, M: Write>(
         progress.step(done as u64, parts.len() as u64);
         read_part(array, asked, part, &mut cells)?;
     }
-    match cells {
-        Some(cells) => Ok(cells),
-        None => Ok(BoxCells::new(array.alloc(), asked, &array.metadata.fill_value)?),
-    }
+    Ok(held_cells(array, asked, cells)?)
 }

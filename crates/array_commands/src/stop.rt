@@ -2,7 +2,7 @@
 ghost use Rattle.std.specs.Prelude.{◌≤◌};
 
 use array_metadata::MetadataError;
-use std::alloc::{AllocError, AllocFailed};
+use std::alloc::{AllocError, AllocFailed, Global};
 use std::{fmt, io};
 use thiserror::Error;
 use zarr_parts::CodecError;
@@ -96,6 +96,17 @@ pub enum Stop {
 }
 
 impl Stop {
+    /// What the system said of the file or folder at a path, or that memory ran out.
+    pub fn system(alloc: Global, path: &str, error: io::Error) -> Stop {
+        if error.kind() == io::ErrorKind::OutOfMemory {
+            return Stop::OutOfMemory;
+        }
+        match String::from_str(alloc, path) {
+            Ok(path) => Stop::System { path, error },
+            Err(_) => Stop::OutOfMemory,
+        }
+    }
+
     /// The status for the program to end with: 1 where a shard is refused, else 2.
     pub fn status(&self) -> u8
         ensures { result ≤ 2 }
