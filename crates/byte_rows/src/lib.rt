@@ -4,5 +4,5 @@
 mod pieces;
 mod rows;
 
-pub use pieces::{fill_box, fill_run, piece_at, run_at};
-pub use rows::{gather, gather_into, scatter};
+pub use pieces::{fill_box, fill_run, piece_at, push_front, run_at};
+pub use rows::{gather, scatter};

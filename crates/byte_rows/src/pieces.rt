@@ -1,10 +1,11 @@
 // Elements of one size, one after the other in bytes.
-ghost use Rattle.std.specs.Prelude.{◌≡◌, ℕ, ◌+◌, ◌*◌, ◌^◌, ◌<◌, ◌≤◌, ◌≢◌, length};
+ghost use Rattle.std.specs.Prelude.{◌≡◌, ℕ, ◌+◌, ◌*◌, ◌^◌, ◌<◌, ◌≤◌, ◌≢◌, ◌++◌, OnOk, OnErr, length, take};
 ghost use Rattle.std.specs.List.{flat_map, range_with_len};
 ghost use Rattle.zarr_boxes.specs.Numbering.{count_of};
 ghost use Rattle.zarr_boxes.specs.Boxes.{number_in, IsServed};
 ghost use Rattle.zarr_boxes.specs.Pieces.{piece, IsUpdated};
 
+use std::alloc::AllocError;
 use zarr_boxes::ArraySubset;
 
 /// The piece at a place.
@@ -70,6 +71,24 @@ fn copy_bytes<const N: usize, const M: usize>(to: &mut [u8], from: &[u8])
     }
 }
 
+// Adds the first bytes of others behind bytes, by a copy of so many, of which what is too much is taken back.
+#[inline(always)]
+fn push_exactly<const N: usize>(
+    bytes: &mut Vec<u8>,
+    from: &[u8],
+    len: usize,
+) -> Result<(), AllocError>
+    requires within { len ≤ N }
+    requires enough { N ≤ length from.now }
+    ensures ok { OnOk result (bytes.new.items ≡ bytes.old.items ++ take len from.now) }
+    ensures err { OnErr result (bytes.new.items ≡ bytes.old.items) }
+{
+    let end = bytes.len() + len;
+    bytes.extend_from_slice(&from[..N])?;
+    bytes.truncate(end);
+    Ok(())
+}
+
 // Copies a run of elements over another. The first number, where it isn't 0, is how many bytes they have; the second, where it
 // isn't 0, one that these are no fewer than, and at most twice as many.
 #[inline(always)]
@@ -94,6 +113,24 @@ pub(crate) fn copy_run<const N: usize, const M: usize>(
     let to = first * size;
     let taken = from * size;
     copy_bytes::<N, M>(&mut output[to..to + bytes], &update[taken..taken + bytes]);
+}
+
+/// Adds the first bytes of others, so many, behind bytes: where they are few and both have room, by one copy of sixteen or of 32,
+/// of which what is too much is taken back. Refused only as out of memory; the bytes are then as they were.
+#[inline(always)]
+pub fn push_front(bytes: &mut Vec<u8>, from: &[u8], len: usize) -> Result<(), AllocError>
+    requires { len ≤ length from.now }
+    ensures ok { OnOk result (bytes.new.items ≡ bytes.old.items ++ take len from.now) }
+    ensures err { OnErr result (bytes.new.items ≡ bytes.old.items) }
+{
+    let room = (bytes.capacity() - bytes.len()).min(from.len());
+    if len <= 16 && room >= 16 {
+        return push_exactly::<16>(bytes, from, len);
+    }
+    if len <= 32 && room >= 32 {
+        return push_exactly::<32>(bytes, from, len);
+    }
+    bytes.extend_from_slice(&from[..len])
 }
 
 /// Writes one element at each point of a box.

@@ -1,5 +1,5 @@
 // Arrays made, read and changed, on small arrays worked by hand.
-use crate::compared::same;
+use crate::compared::{same, same_at};
 use crate::examples::Elements::{Fixed, Variable};
 use crate::examples::{Elements, array_of, fill, has, subset};
 use std::alloc::Global;
@@ -29,6 +29,36 @@ fn is_built(alloc: Global) -> Result<bool, CodecError> {
 #[test]
 fn elements_are_pushed_and_read(rt: HostRuntime) {
     assert!(rt; is_built(rt.alloc()) == Ok(true));
+}
+
+const TEXT: &[u8; 42] = b"0123456789abcdefghijklmnopqrstuvwxyzABCDEF";
+
+// Whether the first bytes of a text, so many, are pushed behind another element, where there is so much room.
+fn is_first_pushed(alloc: Global, len: usize, room: usize) -> Result<bool, CodecError> {
+    let Some(first) = TEXT.get(..len) else {
+        return Ok(false);
+    };
+    let mut builder = ArrayBuilder::new(alloc, DataTypeSize::Variable)?;
+    builder.reserve(2, room)?;
+    builder.push(b"ab")?;
+    builder.push_first(TEXT, len)?;
+    let array = builder.finish();
+    Ok(array.len() == 2 && array.element(0) == b"ab".as_slice() && array.element(1) == first)
+}
+
+// An element is pushed as the first bytes of a text, whether they are few or many, with or without room.
+#[test]
+fn first_bytes_are_pushed(rt: HostRuntime) {
+    for len in [0, 1, 15, 16, 17, 32, 33, 42] {
+        for room in [0, 18, 60] {
+            same_at(
+                &rt,
+                (len, room),
+                is_first_pushed(rt.alloc(), len, room),
+                Ok(true),
+            );
+        }
+    }
 }
 
 // What an array tells: its kind, how many elements it has, the first, and its bytes where the elements have one size.

@@ -42,18 +42,20 @@ fn bytes_in(subchunk: &Option<ArrayBytes>, places: u64, fill: &[u8]) -> Option<u
 }
 
 /// Tests, where elements have lengths of their own, that a number can say how many bytes those of all decoded subchunks
-/// have together. Each subchunk has so many places, and is looked at once. Refused only as `TooLarge`.
+/// have together, and answers it, or 0 where elements have one size. Each subchunk has so many places, and is looked at once.
+/// Refused only as `TooLarge`.
 pub fn check_lengths(
     subchunks: &[Option<ArrayBytes>],
     places: u64,
     kind: DataTypeSize,
     fill: &[u8],
-) -> Result<(), CodecError>
+) -> Result<u64, CodecError>
+    ensures total { IfOk result (λ total. kind ≡ Variable → total ≡ bytes_gathered fill.now places subchunks.now) }
     ensures fits { OnOk result (kind ≡ Variable → bytes_gathered fill.now places subchunks.now < 2 ^ 64) }
     ensures refused { IfErr result (λ e. (e ≡ TooLarge) × (kind ≡ Variable) × (2 ^ 64 ≤ bytes_gathered fill.now places subchunks.now)) }
 {
     if kind != DataTypeSize::Variable {
-        return Ok(());
+        return Ok(0);
     }
     let mut total = 0u64;
     for subchunk in subchunks {
@@ -65,7 +67,7 @@ pub fn check_lengths(
         };
         total = sum;
     }
-    Ok(())
+    Ok(total)
 }
 
 // How many places of a subchunk follow one another along its last axis.
@@ -110,7 +112,8 @@ fn push_places(
     }
 }
 
-// The cells of a shard whose elements have lengths of their own, run by run, each taken from its decoded subchunk.
+// The cells of a shard whose elements have lengths of their own and so many bytes together, run by run, each taken from its
+// decoded subchunk.
 fn listed(
     alloc: Global,
     subchunks: &[Option<ArrayBytes>],
@@ -119,6 +122,7 @@ fn listed(
     shape: &ChunkShape,
     sub: &ChunkShape,
     fill: &[u8],
+    bytes: u64,
 ) -> Result<ArrayBytes<'static>, CodecError>
     requires cells { cells ≡ count_of shape.now }
     requires places { places ≡ count_of sub.now }
@@ -133,6 +137,7 @@ fn listed(
     let parts = sub.as_slice();
     let run = run_length(parts);
     let mut elements = ArrayBuilder::new(alloc, DataTypeSize::Variable)?;
+    elements.reserve(cells as usize, bytes as usize)?;
     for q in 0..cells / run {
         let Located { subchunk, place } = locate(q * run, cells, many, places, axes, parts);
         push_places(
@@ -171,9 +176,9 @@ pub fn gathered(
     ensures elements { IfOk result (λ array. array.elements ≡ map (element_in subchunks.now fill.now shape.now sub.now) (range_with_len 0 (count_of shape.now))) }
 {
     let places = cells / subchunks.len() as u64;
-    check_lengths(subchunks, places, kind, fill)?;
+    let bytes = check_lengths(subchunks, places, kind, fill)?;
     let array = match kind {
-        DataTypeSize::Variable => listed(alloc, subchunks, cells, places, shape, sub, fill)?,
+        DataTypeSize::Variable => listed(alloc, subchunks, cells, places, shape, sub, fill, bytes)?,
         DataTypeSize::Fixed(_) => laid(alloc, subchunks, cells, places, shape, sub, fill)?,
     };
     Ok(array)

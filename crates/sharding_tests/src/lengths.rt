@@ -13,8 +13,8 @@ fn absent(alloc: Global, many: usize) -> Result<Vec<Option<ArrayBytes<'static>>>
     Ok(subchunks)
 }
 
-// Whether the lengths of so many absent subchunks can be added up.
-fn checked(alloc: Global, many: usize, places: u64, fill: &[u8]) -> Result<(), CodecError> {
+// The lengths of so many absent subchunks together.
+fn checked(alloc: Global, many: usize, places: u64, fill: &[u8]) -> Result<u64, CodecError> {
     let subchunks = absent(alloc, many)?;
     check_lengths(&subchunks, places, DataTypeSize::Variable, fill)
 }
@@ -24,7 +24,7 @@ fn lengths_past_64_bits_are_refused(rt: HostRuntime) {
     for (many, fill, wanted) in [
         (1, b"ab".as_slice(), Err(CodecError::TooLarge)),
         (2, b"a", Err(CodecError::TooLarge)),
-        (1, b"a", Ok(())),
+        (1, b"a", Ok(1 << 63)),
     ] {
         same_at(
             &rt,
@@ -35,8 +35,8 @@ fn lengths_past_64_bits_are_refused(rt: HostRuntime) {
     }
 }
 
-// Whether the lengths of three elements and of an absent subchunk can be added up.
-fn checked_elements(alloc: Global) -> Result<(), CodecError> {
+// The lengths of three elements and of an absent subchunk together.
+fn checked_elements(alloc: Global) -> Result<u64, CodecError> {
     let mut cells = ArrayBuilder::new(alloc, DataTypeSize::Variable)?;
     cells.push(b"ab")?;
     cells.push(b"")?;
@@ -48,5 +48,5 @@ fn checked_elements(alloc: Global) -> Result<(), CodecError> {
 
 #[test]
 fn lengths_of_64_bits_are_served(rt: HostRuntime) {
-    same(&rt, checked_elements(rt.alloc()), Ok(()));
+    same(&rt, checked_elements(rt.alloc()), Ok(9));
 }

@@ -1,5 +1,5 @@
 // The text of elements that have lengths of their own: written, and read without trust.
-ghost use Rattle.std.specs.Prelude.{◌≡◌, ◌++◌, ◌<◌, ◌^◌, ◌↔◌, IfOk, IfErr, OnOk, Some, IsSome, IsTrue, All, length, option_map};
+ghost use Rattle.std.specs.Prelude.{◌≡◌, ◌++◌, ◌<◌, ◌^◌, ◌↔◌, IfOk, IfErr, OnOk, Some, IsSome, IfSome, IsTrue, All, length, take, drop, ◌≤◌, option_map};
 ghost use Rattle.zarr_parts.specs.Order.{◌or◌then◌, done, RefusedBy};
 ghost use Rattle.zarr_parts.specs.CodecError.TheVariants.{CannotEncode, TooLarge};
 ghost use Rattle.zarr_parts.specs.DataTypeSize.TheVariants.{Variable};
@@ -85,15 +85,16 @@ fn split_number(text: &[u8]) -> Option<(usize, &[u8])>
     Some((u32::from_le_bytes(*number) as usize, rest))
 }
 
-// The first element, which stands behind its length, and the bytes behind it. `None` where there are fewer.
-fn split_element(text: &[u8]) -> Option<(&[u8], &[u8])>
-    ensures { option_map (λ found. (found.0.now, found.1.now)) result ≡ first_element text.now }
+// How long the first element is, which stands behind its length, and the bytes from its first on. `None` where there are fewer.
+fn split_len(text: &[u8]) -> Option<(usize, &[u8])>
+    ensures within { IfSome result (λ found. found.0 ≤ length found.1.now) }
+    ensures read { option_map (λ found. (take found.0 found.1.now, drop found.0 found.1.now)) result ≡ first_element text.now }
 {
     let (len, rest) = split_number(text)?;
     if len > rest.len() {
         return None;
     }
-    Some(rest.split_at(len))
+    Some((len, rest))
 }
 
 // So many elements, each behind its length. Refused as `Damaged` where the text is anything else; or as `OutOfMemory`.
@@ -107,13 +108,17 @@ fn read_elements(
     ensures refused { IfErr result (RefusedBy (WholeTests (elements_in count text.now))) }
 {
     let mut builder = ArrayBuilder::new(alloc, DataTypeSize::Variable)?;
+    // (room in proportion to the text, whatever it tells)
+    if count <= text.len() / 4 {
+        builder.reserve(count, text.len() - 4 * count)?;
+    }
     let mut rest = text;
     for i in 0..count {
-        let Some((element, later)) = split_element(rest) else {
+        let Some((len, found)) = split_len(rest) else {
             return Err(CodecError::Damaged);
         };
-        builder.push(element)?;
-        rest = later;
+        builder.push_first(found, len)?;
+        rest = &found[len..];
     }
     if !rest.is_empty() {
         return Err(CodecError::Damaged);

@@ -8,7 +8,7 @@ mod numbers;
 mod target;
 
 pub use array_bytes::{ArrayBuilder, ArrayBytes, VariableParts, repeated, update_array_bytes};
-pub use byte_rows::{gather_into, scatter};
+pub use byte_rows::scatter;
 pub use data_type::{DataType, DataTypeSize};
 pub use fill_value::FillValue;
 pub use numbers::Number;

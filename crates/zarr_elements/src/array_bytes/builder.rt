@@ -1,5 +1,5 @@
 // Arrays that are made one element after the other.
-ghost use Rattle.std.specs.Prelude.{◌≡◌, ◌≢◌, ◌<◌, ◌≤◌, ◌^◌, ◌+◌, ◌++◌, ◌∷◌, [], IfOk, OnOk, OnErr, length, map, slice_index, slice_range};
+ghost use Rattle.std.specs.Prelude.{◌≡◌, ◌≢◌, ◌<◌, ◌≤◌, ◌^◌, ◌+◌, ◌++◌, ◌∷◌, [], IfOk, OnOk, OnErr, length, map, slice_index, slice_range, take};
 ghost use Rattle.std.specs.List.{range_with_len};
 ghost use Rattle.zarr_elements.specs.Types.{FitsKind};
 ghost use Rattle.zarr_elements.specs.Arrays.{AreOffsets, element_of, part, parts};
@@ -7,6 +7,7 @@ ghost use Rattle.zarr_elements.specs.declared.data_type.DataTypeSize.TheVariants
 
 use super::{ArrayBytes, Held};
 use crate::data_type::DataTypeSize;
+use byte_rows::push_front;
 use std::alloc::{AllocError, Global};
 use std::borrow::CowSlice;
 use std::marker::Model;
@@ -28,19 +29,23 @@ impl Model for ArrayBuilder {
     ghost invariant = { λ builder. IsHeld builder.held builder.bytes.items };
 }
 
-// Adds a part behind the others, and the offset where it ends. Where that is refused the parts are as they were.
+// Adds a part, which is the first bytes of others, behind the others, and the offset where it ends. Where that is refused the
+// parts are as they were.
+#[inline(always)]
 fn push_part(
     bytes: &mut Vec<u8>,
     offsets: &mut Vec<usize>,
-    element: &[u8],
+    from: &[u8],
+    len: usize,
 ) -> Result<(), AllocError>
-    requires { AreOffsets offsets.old.items (length bytes.old.items) }
+    requires offsets { AreOffsets offsets.old.items (length bytes.old.items) }
+    requires within { len ≤ length from.now }
     ensures offsets { AreOffsets offsets.new.items (length bytes.new.items) }
-    ensures ok { OnOk result (parts offsets.new.items bytes.new.items ≡ parts offsets.old.items bytes.old.items ++ element.now ∷ []) }
+    ensures ok { OnOk result (parts offsets.new.items bytes.new.items ≡ parts offsets.old.items bytes.old.items ++ take len from.now ∷ []) }
     ensures err { OnErr result (parts offsets.new.items bytes.new.items ≡ parts offsets.old.items bytes.old.items) }
 {
     offsets.reserve(1)?;
-    bytes.extend_from_slice(element)?;
+    push_front(bytes, from, len)?;
     offsets.push_reserved(bytes.len());
     Ok(())
 }
@@ -97,6 +102,18 @@ impl ArrayBuilder {
         })
     }
 
+    /// Takes room for so many elements more, which have so many bytes together. Refused only as out of memory. The elements are as
+    /// they were, either way.
+    pub fn reserve(&mut self, elements: usize, bytes: usize) -> Result<(), AllocError>
+        ensures { self.new ≡ self.old }
+    {
+        self.bytes.reserve(bytes)?;
+        match &mut self.held {
+            Held::Fixed(_) => Ok(()),
+            Held::Variable(offsets) => offsets.reserve(elements),
+        }
+    }
+
     /// Adds an element behind the others. Refused only as out of memory; the elements are then as they were.
     pub fn push(&mut self, element: &[u8]) -> Result<(), AllocError>
         requires { FitsKind self.old.kind element.now }
@@ -104,9 +121,21 @@ impl ArrayBuilder {
         ensures ok { OnOk result (self.new.elements ≡ self.old.elements ++ element.now ∷ []) }
         ensures err { OnErr result (self.new.elements ≡ self.old.elements) }
     {
+        self.push_first(element, element.len())
+    }
+
+    /// Adds an element, which is the first `len` of these bytes, behind the others. It is quickest where more bytes stand behind
+    /// it. Refused only as out of memory; the elements are then as they were.
+    pub fn push_first(&mut self, from: &[u8], len: usize) -> Result<(), AllocError>
+        requires within { len ≤ length from.now }
+        requires fits { FitsKind self.old.kind (take len from.now) }
+        ensures kind { self.new.kind ≡ self.old.kind }
+        ensures ok { OnOk result (self.new.elements ≡ self.old.elements ++ take len from.now ∷ []) }
+        ensures err { OnErr result (self.new.elements ≡ self.old.elements) }
+    {
         match &mut self.held {
-            Held::Fixed(_) => Ok(self.bytes.extend_from_slice(element)?),
-            Held::Variable(offsets) => push_part(&mut self.bytes, offsets, element),
+            Held::Fixed(_) => Ok(push_front(&mut self.bytes, from, len)?),
+            Held::Variable(offsets) => push_part(&mut self.bytes, offsets, from, len),
         }
     }
 

@@ -11,10 +11,10 @@ places c =
     places_of c.args.cells (length c.args.subchunks.now) c.args.shape.now c.args.sub.now c.requires.divides c.requires.cells c.requires.subchunks.counted
     (omega (arith, c.requires.some, c.requires.subchunks.counted))
 
-pub returns-in_err-check_lengths-clause-refused : goal.returns-in_err-check_lengths-clause-refused
-returns-in_err-check_lengths-clause-refused c =
-    let refused = rw (places (goal.at.returns-in_err-check_lengths-clause-refused c).After-check_lengths) at c.in_err-check_lengths.ensures.refused in
-    passed_on _ c.in_err-check_lengths.field-0.0 _ c.from_residual.ensures.1 (inl (λ fits. absurd (omega (arith, fits refused.1, refused.2)), refused.0))
+pub returns-in_err-bytes-clause-refused : goal.returns-in_err-bytes-clause-refused
+returns-in_err-bytes-clause-refused c =
+    let refused = rw (places (goal.at.returns-in_err-bytes-clause-refused c).After-check_lengths) at c.in_err-bytes.ensures.refused in
+    passed_on _ c.in_err-bytes.field-0.0 _ c.from_residual.ensures.1 (inl (λ fits. absurd (omega (arith, fits refused.1, refused.2)), refused.0))
 
 pub listed-requires-clause-places : goal.listed-requires-clause-places
 listed-requires-clause-places c = places (goal.at.listed-requires-clause-places c).After-check_lengths
@@ -25,8 +25,8 @@ laid-requires-clause-places c = places (goal.at.laid-requires-clause-places c).A
 pub returns-in_err-array-in-Variable-clause-refused : goal.returns-in_err-array-in-Variable-clause-refused
 returns-in_err-array-in-Variable-clause-refused c =
     let e = c.in_err-array-in-Variable.field-0.0 in
-    let fits = rw (places (goal.at.returns-in_err-array-in-Variable-clause-refused c).After-check_lengths) at c.in_ok-check_lengths.ensures.fits in
+    let fits = rw (places (goal.at.returns-in_err-array-in-Variable-clause-refused c).After-check_lengths) at c.in_ok-bytes.ensures.fits in
     passed_on _ e _ c.from_residual-in_err-array-in-Variable.ensures.1 (inr (fits, c.in_err-array-in-Variable.ensures.refused))
 
 pub returns-clause-fits : goal.returns-clause-fits
-returns-clause-fits c = rw (places (goal.at.returns-clause-fits c).After-check_lengths) at c.in_ok-check_lengths.ensures.fits
+returns-clause-fits c = rw (places (goal.at.returns-clause-fits c).After-check_lengths) at c.in_ok-bytes.ensures.fits
