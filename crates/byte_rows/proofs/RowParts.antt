@@ -1,31 +1,28 @@
 -- Rows of elements, put one behind the other.
-use Rattle.std.proofs.Common.{◌≡◌, ◌∙◌, ℕ, ◌+◌, ◌*◌, ◌<◌, List, ◌++◌, map, refl, ap, sym, arith, append_assoc}
-use Rattle.std.proofs.lemmas.List.{ext_get_or, map-append}
+use Rattle.std.proofs.Common.{◌≡◌, ◌∙◌, ℕ, ◌+◌, ◌*◌, ◌<◌, ◌≤◌, List, ◌++◌, map, refl, ap, sym, arith, append_assoc}
+use Rattle.std.proofs.lemmas.List.{ext_get_or, map-append, map-id}
 use Rattle.std.proofs.lemmas.List.Concat.{flat_map-append}
-use Rattle.std.proofs.lemmas.List.FromFn.{length-range_with_len, get_or-range_with_len, length-map-range_with_len, get_or-map-range_with_len}
+use Rattle.std.proofs.lemmas.List.FromFn.{length-map-range_with_len, get_or-map-range_with_len}
 use Rattle.std.specs.List.{flat_map, range_with_len}
 use Rattle.zarr_boxes.specs.Runs.{row_place}
+use Rattle.zarr_boxes.proofs.GridLaws.{at_least}
 use Rattle.zarr_boxes.proofs.RunLaws.{range_split}
 use Rattle.zarr_boxes.proofs.RowSetLaws.{row_at}
 
 -- the same places, told from elsewhere
-pub map_moved : (f g : ℕ → ℕ) (a b n : ℕ) → ((r : ℕ) → r < n → f (a + r) ≡ g (b + r)) → map f (range_with_len a n) ≡ map g (range_with_len b n)
+map_moved : (f g : ℕ → ℕ) (a b n : ℕ) → ((r : ℕ) → r < n → f (a + r) ≡ g (b + r)) → map f (range_with_len a n) ≡ map g (range_with_len b n)
 map_moved f g a b n same =
     ext_get_or 0 (map f (range_with_len a n)) (map g (range_with_len b n)) (length-map-range_with_len f a n ∙ sym (length-map-range_with_len g b n))
     (λ r lt.
     let small : r < n = omega (arith, length-map-range_with_len f a n) in
     get_or-map-range_with_len f a n r (a + r) 0 small refl ∙ (same r small ∙ sym (get_or-map-range_with_len g b n r (b + r) 0 small refl)))
 
--- places that follow one another
-map_to_range : (f : ℕ → ℕ) (a b n : ℕ) → ((r : ℕ) → r < n → f (a + r) ≡ b + r) → map f (range_with_len a n) ≡ range_with_len b n
-map_to_range f a b n same =
-    ext_get_or 0 (map f (range_with_len a n)) (range_with_len b n) (length-map-range_with_len f a n ∙ sym (length-range_with_len b n))
-    (λ r lt.
-    let small : r < n = omega (arith, length-map-range_with_len f a n) in
-    get_or-map-range_with_len f a n r (a + r) 0 small refl ∙ (same r small ∙ sym (get_or-range_with_len b n r 0 small)))
+-- a row ends within the bytes
+pub row_ends : (first stride run size k : ℕ) → 0 < size → {most : ℕ} → (first + k * stride + run) * size ≤ most → first + k * stride + run ≤ most
+row_ends first stride run size k some {most} within = omega (arith, at_least (first + k * stride + run) size some, within)
 
 -- the elements at so many places, and those at so many more
-pub joined : (f : ℕ → List ℕ) (place : ℕ → ℕ) (n m : ℕ)
+joined : (f : ℕ → List ℕ) (place : ℕ → ℕ) (n m : ℕ)
     → flat_map f (map place (range_with_len 0 n)) ++ flat_map f (map place (range_with_len n m)) ≡ flat_map f (map place (range_with_len 0 (n + m)))
 joined f place n m =
     let zero : 0 + n ≡ n = omega arith in
@@ -42,7 +39,7 @@ pushed_row f first stride run k old so_far more added before row is =
     let done = flat_map f (map place (range_with_len 0 (k * run))) in
     let next : k * run + run ≡ (k + 1) * run = omega arith in
     let here : map place (range_with_len (k * run) run) ≡ range_with_len (first + k * stride) run =
-    map_to_range place (k * run) (first + k * stride) run (λ r lt. row_at first stride run k r lt) in
+    map_moved place (λ n. n) (k * run) (first + k * stride) run (λ r lt. row_at first stride run k r lt) ∙ map-id (range_with_len (first + k * stride) run) in
     is
     ∙ (ap (λ ys. ys ++ added) before
     ∙ (append_assoc old done added

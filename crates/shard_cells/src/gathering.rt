@@ -50,6 +50,7 @@ pub fn check_lengths(
     kind: DataTypeSize,
     fill: &[u8],
 ) -> Result<u64, CodecError>
+    ensures one_size { IfOk result (λ total. kind ≢ Variable → total ≡ 0) }
     ensures total { IfOk result (λ total. kind ≡ Variable → total ≡ bytes_gathered fill.now places subchunks.now) }
     ensures fits { OnOk result (kind ≡ Variable → bytes_gathered fill.now places subchunks.now < 2 ^ 64) }
     ensures refused { IfErr result (λ e. (e ≡ TooLarge) × (kind ≡ Variable) × (2 ^ 64 ≤ bytes_gathered fill.now places subchunks.now)) }

@@ -126,7 +126,7 @@ fn read_elements(
     Ok(builder.finish())
 }
 
-// The array of so many elements that a text is of. Nothing grows by what the text says before it was found there. Refused as
+// The array of so many elements that a text is of. No count grows anything that the text is too short for. Refused as
 // `Damaged` where the text is of no such array; or as `OutOfMemory`.
 #[tactic(auto, unfolding(crate::specs::Text::vlen_elements))]
 pub(crate) fn read_text(

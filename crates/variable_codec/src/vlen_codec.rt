@@ -101,7 +101,7 @@ impl ArrayToBytesCodecTraits for VlenCodec {
         Ok(RecommendedConcurrency::new_maximum(1))
     }
 
-    /// The elements that the text is of. Nothing grows by what the text says before it was found there. Refused as `check`
+    /// The elements that the text is of. No count grows anything that the text is too short for. Refused as `check`
     /// refuses, then as `Damaged` where it is no text of as many elements; or as `OutOfMemory`.
     fn decode<'a>(
         &self,

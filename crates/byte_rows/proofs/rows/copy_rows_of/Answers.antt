@@ -1,27 +1,24 @@
-use Rattle.std.proofs.Common.{◌≡◌, ◌∙◌, ℕ, ◌+◌, ◌*◌, ◌<◌, ◌≤◌, ap, sym, arith}
+use Rattle.std.proofs.Common.{◌≡◌, ◌∙◌, ℕ, ◌+◌, ◌*◌, ap, sym, arith}
 use Rattle.zarr_boxes.specs.Pieces.{piece}
 use Rattle.zarr_boxes.proofs.GridLaws.{at_least}
 use Rattle.zarr_boxes.proofs.RowSetLaws.{row_at, rows_more}
+use Rattle.byte_rows.proofs.RowParts.{row_ends}
 use Rattle.byte_rows.proofs.rows.copy_rows_of.Goals as goal
-
--- a row of the output ends within it
-ends : (first stride run size k : ℕ) → 0 < size → {most : ℕ} → (first + k * stride + run) * size ≤ most → first + k * stride + run ≤ most
-ends first stride run size k some {most} within = omega (arith, at_least (first + k * stride + run) size some, within)
 
 pub overflow_mul-into : goal.overflow_mul-into
 overflow_mul-into g c =
     let to = c.args.to in
-    omega (arith, ends to.first to.stride c.args.run c.args.size c.loop-k.k c.requires.some (c.requires.inside c.loop-k.k (omega arith)))
+    omega (arith, row_ends to.first to.stride c.args.run c.args.size c.loop-k.k c.requires.some (c.requires.inside c.loop-k.k (omega arith)))
 
 pub overflow_add-into : goal.overflow_add-into
 overflow_add-into g c =
     let to = c.args.to in
-    omega (arith, ends to.first to.stride c.args.run c.args.size c.loop-k.k c.requires.some (c.requires.inside c.loop-k.k (omega arith)))
+    omega (arith, row_ends to.first to.stride c.args.run c.args.size c.loop-k.k c.requires.some (c.requires.inside c.loop-k.k (omega arith)))
 
 pub overflow_mul-taken : goal.overflow_mul-taken
 overflow_mul-taken g c =
     let from = c.args.from in
-    omega (arith, ends from.first from.stride c.args.run c.args.size c.loop-k.k c.requires.some (c.requires.inside_update c.loop-k.k (omega arith)))
+    omega (arith, row_ends from.first from.stride c.args.run c.args.size c.loop-k.k c.requires.some (c.requires.inside_update c.loop-k.k (omega arith)))
 
 pub copy_run-requires-clause-inside : goal.copy_run-requires-clause-inside
 copy_run-requires-clause-inside g c = omega (arith, c.requires.inside c.loop-k.k (omega arith), c.loop-k.invariant.whole)

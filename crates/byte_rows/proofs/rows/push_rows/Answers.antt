@@ -1,24 +1,19 @@
-use Rattle.std.proofs.Common.{◌≡◌, ◌∙◌, ℕ, ◌+◌, ◌*◌, ◌<◌, ◌≤◌, ◌-◌, ◌++◌, length, take, drop, ap, arith}
+use Rattle.std.proofs.Common.{◌≡◌, ◌∙◌, ◌+◌, ◌*◌, ◌≤◌, ◌-◌, ◌++◌, length, take, drop, ap, arith}
 use Rattle.std.proofs.lemmas.List.{take-take}
 use Rattle.zarr_boxes.specs.Pieces.{piece}
-use Rattle.zarr_boxes.proofs.GridLaws.{at_least}
 use Rattle.zarr_boxes.proofs.PieceLaws.{run_pieces}
-use Rattle.byte_rows.proofs.RowParts.{pushed_row}
+use Rattle.byte_rows.proofs.RowParts.{row_ends, pushed_row}
 use Rattle.byte_rows.proofs.rows.push_rows.Goals as goal
-
--- a row ends within the bytes
-ends : (first stride run size k : ℕ) → 0 < size → {most : ℕ} → (first + k * stride + run) * size ≤ most → first + k * stride + run ≤ most
-ends first stride run size k some {most} within = omega (arith, at_least (first + k * stride + run) size some, within)
 
 pub overflow_mul-taken : goal.overflow_mul-taken
 overflow_mul-taken c =
     let from = c.args.from in
-    omega (arith, ends from.first from.stride c.args.run c.args.size c.loop-k.k c.requires.some (c.requires.inside c.loop-k.k (omega arith)))
+    omega (arith, row_ends from.first from.stride c.args.run c.args.size c.loop-k.k c.requires.some (c.requires.inside c.loop-k.k (omega arith)))
 
 pub overflow_add-taken : goal.overflow_add-taken
 overflow_add-taken c =
     let from = c.args.from in
-    omega (arith, ends from.first from.stride c.args.run c.args.size c.loop-k.k c.requires.some (c.requires.inside c.loop-k.k (omega arith)))
+    omega (arith, row_ends from.first from.stride c.args.run c.args.size c.loop-k.k c.requires.some (c.requires.inside c.loop-k.k (omega arith)))
 
 pub loop-k-preserved : goal.loop-k-preserved
 loop-k-preserved c =
