@@ -1,7 +1,7 @@
 use Rattle.std.specs.Prelude.{Some}
 use Rattle.zarr_parts.specs.Geo.{geo}
 use Rattle.zarr_elements.specs.declared.data_type.DataType.TheVariants.{UInt8}
-use Rattle.records_tests.proofs.rows.a_damaged_object_is_refused_and_comes_back.Given as goal
+use Rattle.histories_tests.proofs.rows.an_erased_shard_is_read_and_written_anew.Given as goal
 
 -- the codec and the arrays of its shards
 abbrev pub ghosts-played : goal.ghosts-played

@@ -1,7 +1,7 @@
 use Rattle.std.specs.Prelude.{Some}
 use Rattle.zarr_parts.specs.Geo.{geo}
 use Rattle.zarr_elements.specs.declared.data_type.DataType.TheVariants.{UInt8}
-use Rattle.records_tests.proofs.rows.a_refused_call_is_no_event.Given as goal
+use Rattle.histories_tests.proofs.rows.a_seat_that_is_missing_is_told_and_the_handle_comes_back.Given as goal
 
 -- the codec and the arrays of its shards
 abbrev pub ghosts-played : goal.ghosts-played
