@@ -1,7 +1,7 @@
 // The cells of a box of an array.
-use crate::arrays::{Array, read_cells};
+use crate::arrays::{Array, Decoder, read_cells};
 use crate::progress::Progress;
-use crate::stop::{Place, Stop};
+use crate::stop::{Place, Refusal, Stop};
 use array_shards::{BoxCells, ShardPart};
 use std::io::Write;
 use std::rt::Files;
@@ -33,6 +33,32 @@ fn put_part<R: Files + AllocGlobal>(
     Ok(())
 }
 
+// Why a shard that was opened is refused, of which a read is refused.
+fn refusal_of_read<R: Files + AllocGlobal>(
+    array: &Array<'_, R>,
+    key: &str,
+    decoder: Decoder<'_, '_, R>,
+    error: CodecError,
+) -> Result<Refusal, Stop> {
+    array.refusal(key, &decoder.close(), error, Place::reading(&error))
+}
+
+// Reads the part of a box that lies in a shard, which is open.
+fn read_opened<R: Files + AllocGlobal>(
+    array: &Array<'_, R>,
+    asked: &ArraySubset,
+    part: &ShardPart,
+    key: &str,
+    mut decoder: Decoder<'_, '_, R>,
+    cells: &mut Option<BoxCells>,
+) -> Result<(), Stop> {
+    let error = match read_cells(array.alloc(), &mut decoder, &part.in_shard) {
+        Ok(found) => return put_part(array, asked, part, &found, cells),
+        Err(error) => error,
+    };
+    Err(Stop::Refused(refusal_of_read(array, key, decoder, error)?))
+}
+
 // Reads the part of a box that lies in a shard.
 fn read_part<R: Files + AllocGlobal>(
     array: &Array<'_, R>,
@@ -41,16 +67,10 @@ fn read_part<R: Files + AllocGlobal>(
     cells: &mut Option<BoxCells>,
 ) -> Result<(), Stop> {
     let key = array.key(part.shard)?;
-    let mut decoder = match array.decoder(&key)? {
-        Ok(decoder) => decoder,
-        Err(refusal) => return Err(Stop::Refused(refusal)),
-    };
-    let error = match read_cells(array.alloc(), &mut decoder, &part.in_shard) {
-        Ok(found) => return put_part(array, asked, part, &found, cells),
-        Err(error) => error,
-    };
-    let refusal = array.refusal(&key, &decoder.close(), error, Place::reading(&error))?;
-    Err(Stop::Refused(refusal))
+    match array.decoder(&key)? {
+        Ok(decoder) => read_opened(array, asked, part, &key, decoder, cells),
+        Err(refusal) => Err(Stop::Refused(refusal)),
+    }
 }
 
 /// The cells of a box, of each shard that it meets; where there is no file, fill values. Memory for them is asked once a part is

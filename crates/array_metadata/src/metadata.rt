@@ -1,6 +1,6 @@
 // An array's metadata.
 ghost use Rattle.std.specs.Prelude.{◌≡◌, Some, IfOk, codes, length, option_and_then, unwrap_or, vec_len};
-ghost use Rattle.serde_json.specs.Find.{as_str};
+ghost use Rattle.serde_json.specs.Find.{as_str, get};
 ghost use Rattle.serde_json.specs.Read.{read as read_text};
 ghost use Rattle.serde_json.specs.View.{view};
 ghost use Rattle.zarr_codecs.specs.Metadata.{name_in};
@@ -120,6 +120,76 @@ fn shard_in(alloc: Global, grid: &Placed, axes: usize) -> Result<ChunkShape, Met
     chunk_shape.chunk_shape(alloc, axes)
 }
 
+// What the metadata says of an array's cells: how many there are along each axis, their type, and how they are cut into chunks.
+#[derive(Drop)]
+struct Cells {
+    shape: Vec<u64>,
+    data_type: DataType,
+    shard: ChunkShape,
+}
+
+// The cells of an array. Refused for `shape`, `data_type` and `chunk_grid` in turn.
+fn cells_in(alloc: Global, whole: &Placed) -> Result<Cells, MetadataError>
+    ensures shape_read { IfOk result (λ cells. option_and_then whole_numbers_in (get (codes "shape") (view whole.now.value.now)) ≡ Some cells.shape.items) }
+    ensures data_type_read { IfOk result (λ cells. option_and_then as_str (get (codes "data_type") (view whole.now.value.now)) ≡ type_name cells.data_type) }
+    ensures shard_read { IfOk result (λ cells.
+        option_and_then whole_numbers_in (option_and_then (configured_in (codes "chunk_shape")) (get (codes "chunk_grid") (view whole.now.value.now))) ≡ Some cells.shard) }
+    ensures shard { IfOk result (λ cells. length cells.shard ≡ vec_len cells.shape) }
+    ensures elements { IfOk result (λ cells. HasElements cells.data_type) }
+{
+    let shape = whole.required(alloc, "shape")?.numbers(alloc)?;
+    let data_type = data_type_in(alloc, &whole.required(alloc, "data_type")?)?;
+    let shard = shard_in(alloc, &whole.required(alloc, "chunk_grid")?, shape.len())?;
+    Ok(Cells {
+        shape,
+        data_type,
+        shard,
+    })
+}
+
+// The fill value of an array whose elements are of this type. Refused for `fill_value`.
+fn fill_in(alloc: Global, whole: &Placed, data_type: DataType) -> Result<FillValue, MetadataError>
+    ensures { IfOk result (λ fill_value. size_of data_type ≡ Fixed (length fill_value)) }
+{
+    let fill = whole.required(alloc, "fill_value")?;
+    fill_value_in(alloc, &fill, data_type)
+}
+
+// The metadata of an array, but for its codecs: these cells, and their fill value. Refused for `codecs`.
+fn with_codecs(
+    alloc: Global,
+    whole: &Placed,
+    cells: Cells,
+    keys: ChunkKeys,
+    fill_value: FillValue,
+) -> Result<ArrayMetadata, MetadataError>
+    ensures shape { IfOk result (λ metadata. metadata.shape ≡ cells.shape) }
+    ensures data_type { IfOk result (λ metadata. metadata.data_type ≡ cells.data_type) }
+    ensures shard { IfOk result (λ metadata. metadata.shard ≡ cells.shard) }
+    ensures keys { IfOk result (λ metadata. metadata.keys ≡ keys) }
+    ensures fill_value { IfOk result (λ metadata. metadata.fill_value ≡ fill_value) }
+    ensures subchunk { IfOk result (λ metadata. length metadata.subchunk ≡ vec_len metadata.shape) }
+    ensures codec { IfOk result (λ metadata. metadata.codec.subchunk_shape ≡ metadata.subchunk) }
+{
+    let codecs = whole.required(alloc, "codecs")?;
+    let Cells {
+        shape,
+        data_type,
+        shard,
+    } = cells;
+    let codec = array_codec(alloc, &codecs, data_type, shape.len())?;
+    Ok(ArrayMetadata {
+        subchunk: codec.subchunk_shape.try_clone(alloc)?,
+        codecs: codecs.value.to_string(alloc)?,
+        shape,
+        shard,
+        keys,
+        data_type,
+        fill_value,
+        codec,
+    })
+}
+
 impl ArrayMetadata {
     /// The metadata that a `zarr.json` holds (Zarr V3 core, "Array metadata"). Refused, in this order, where the text is no JSON,
     /// no object, of another `zarr_format` than 3, of another `node_type` than `array`, has an unknown member that must be
@@ -146,23 +216,9 @@ impl ArrayMetadata {
         let value = value_in(alloc, text)?;
         let whole = Placed::whole(alloc, &value)?;
         test_members_of(alloc, &whole)?;
-        let shape = whole.required(alloc, "shape")?.numbers(alloc)?;
-        let data_type = data_type_in(alloc, &whole.required(alloc, "data_type")?)?;
-        let shard = shard_in(alloc, &whole.required(alloc, "chunk_grid")?, shape.len())?;
+        let cells = cells_in(alloc, &whole)?;
         let keys = keys_in(alloc, &whole.required(alloc, "chunk_key_encoding")?)?;
-        let fill = whole.required(alloc, "fill_value")?;
-        let fill_value = fill_value_in(alloc, &fill, data_type)?;
-        let codecs = whole.required(alloc, "codecs")?;
-        let codec = array_codec(alloc, &codecs, data_type, shape.len())?;
-        Ok(ArrayMetadata {
-            subchunk: codec.subchunk_shape.try_clone(alloc)?,
-            codecs: codecs.value.to_string(alloc)?,
-            shape,
-            shard,
-            keys,
-            data_type,
-            fill_value,
-            codec,
-        })
+        let fill_value = fill_in(alloc, &whole, cells.data_type)?;
+        with_codecs(alloc, &whole, cells, keys, fill_value)
     }
 }

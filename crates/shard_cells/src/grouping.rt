@@ -12,7 +12,7 @@ use std::marker::Model;
 use zarr_parts::{ArraySubset, ChunkShape, Indexer, Located, locate, number_along};
 
 /// Where an asked cell stands: in which group, and at which place of its group.
-#[derive(Debug, Clone, Copy, PartialEq, Eq)]
+#[derive(Clone, Copy)]
 pub struct Standing {
     pub group: usize,
     pub rank: usize,

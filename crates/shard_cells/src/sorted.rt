@@ -13,7 +13,7 @@ use std::alloc::{AllocError, Global};
 use zarr_parts::{ArrayBytes, Located};
 
 /// An asked cell: where it lies, and its place among the asked ones.
-#[derive(Debug, Clone, Copy, PartialEq, Eq)]
+#[derive(Clone, Copy)]
 pub struct AskedCell {
     /// The row-major number of its subchunk in the grid.
     pub subchunk: u64,

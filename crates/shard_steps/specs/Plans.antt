@@ -5,7 +5,7 @@ use Rattle.zarr_parts.specs.Grid.{grid_of}
 use Rattle.zarr_parts.specs.Geo.{Geo, geo}
 use Rattle.codec_laws.specs.Meanings.{Meaning}
 use Rattle.shard_index.specs.Indexes.{IsIndexPlan}
-use Rattle.shard_asked.specs.declared.asked.Asked.{Asked}
+use Rattle.shard_format.specs.declared.asked.Asked.{Asked}
 use Rattle.shard_steps.specs.declared.plan.Plan.{Plan}
 
 -- the arrays that are asked

@@ -10,7 +10,7 @@ ghost use Rattle.shard_steps.specs.Plans.{asked_geo, IsPlan};
 use crate::plan::Plan;
 use crate::sharding::Sharding;
 use codec_laws::ArrayToBytesCodecTraits;
-use shard_asked::Asked;
+use shard_format::Asked;
 use shard_layout::joined_shard;
 use shard_subchunks::Subchunks;
 use std::alloc::Global;

@@ -8,7 +8,7 @@ mod read;
 mod sharding;
 
 pub use plan::Plan;
-pub use shard_asked::{
+pub use shard_format::{
     Asked, PartialDecoderCapability, PartialEncoderCapability, ShardingCodecOptions,
 };
 pub use shard_cells::{check_asked, check_update, filled, gathered};

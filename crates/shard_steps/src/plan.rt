@@ -12,8 +12,7 @@ ghost use Rattle.shard_steps.specs.Plans.{asked_geo, IsPlan};
 
 use crate::sharding::Sharding;
 use codec_laws::{ArrayToBytesCodecTraits, BytesRepresentation};
-use shard_asked::{Asked, element_size};
-use shard_format::calculate_chunks_per_shard;
+use shard_format::{Asked, calculate_chunks_per_shard, element_size};
 use shard_index::IndexPlan;
 use std::alloc::Global;
 use zarr_parts::{ChunkShape, CodecError};

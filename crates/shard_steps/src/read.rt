@@ -15,7 +15,7 @@ use crate::plan::Plan;
 use crate::sharding::Sharding;
 use codec_laws::ArrayToBytesCodecTraits;
 use object_handles::{BytesPartialDecoderTraits, Interval, check_interval};
-use shard_asked::Asked;
+use shard_format::Asked;
 use shard_subchunks::Subchunks;
 use std::alloc::Global;
 use zarr_parts::{ArrayBytes, CodecError, CodecOptions, Indexer};

@@ -13,9 +13,8 @@ ghost use Rattle.shard_steps.specs.Meanings.{layout_in, inner_of, index_of, mean
 
 use codec_laws::{ArrayToBytesCodecTraits, BytesRepresentation, RecommendedConcurrency};
 use object_handles::{BytesPartialDecoderTraits, Interval};
-use shard_asked::Asked;
 use shard_cells::{check_asked, gathered};
-use shard_format::{SubchunkWriteOrder, count_subchunks};
+use shard_format::{Asked, SubchunkWriteOrder, count_subchunks};
 use shard_index::IndexCodec;
 use shard_layout::{compact_size, present_slots};
 use shard_subchunks::Subchunks;
@@ -24,7 +23,6 @@ use zarr_parts::{ArrayBytes, ChunkShape, CodecError, CodecOptions, DataType, Fil
 
 /// How shards are made (Zarr V3 codec `sharding_indexed`): the shape of a subchunk and the codec that encodes it, the codec that
 /// encodes the index and where it puts it, and in which order subchunks are written.
-#[derive(Clone, Copy)]
 pub struct Sharding<'a, I, X> {
     pub subchunk_shape: &'a ChunkShape,
     pub inner: &'a I,

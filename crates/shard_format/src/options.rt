@@ -1,7 +1,7 @@
 // The sharding codec's own options.
 ghost use Rattle.std.specs.Prelude.{◌≡◌};
 
-use shard_format::SubchunkWriteOrder;
+use crate::order::SubchunkWriteOrder;
 use std::marker::Model;
 
 /// What a caller asks of the sharding codec alone.
