@@ -8,8 +8,12 @@ use std::alloc::Global;
 use std::rt::Files;
 use std::{fs, io};
 use zarr_codecs::{ArrayToBytesCodecTraits, BytesPartialDecoderTraits};
-use zarr_parts::{ArrayBytes, ArraySubset, ChunkShape, CodecError, CodecOptions};
-use zarrs_sharding::{ShardingPartialDecoder, SubchunkWriteOrder, calculate_chunks_per_shard};
+use zarr_parts::{
+    ArrayBytes, ArraySubset, ChunkShape, CodecError, CodecOptions, DataType, FillValue,
+};
+use zarrs_sharding::{
+    ShardingCodec, ShardingPartialDecoder, SubchunkWriteOrder, calculate_chunks_per_shard,
+};
 
 /// The file of a shard.
 pub type ShardFile<'a, R> = FileHandle<&'a R>;
@@ -56,32 +60,82 @@ fn metadata_of<R: Files + AllocGlobal>(rt: &R, path: &str) -> Result<ArrayMetada
     }
 }
 
-/// Reads the cells of a box of a shard that is open.
-pub fn read_cells<'d, H: BytesPartialDecoderTraits>(
+// Tests whether a codec serves shards of a shape.
+fn check_served<C: ArrayToBytesCodecTraits>(
     alloc: Global,
-    decoder: &'d mut ShardingPartialDecoder<'_, InnerCodec, IndexCodec, H>,
+    codec: &C,
+    shard: &ChunkShape,
+    data_type: &DataType,
+    fill_value: &FillValue,
+) -> Result<(), CodecError> {
+    codec.check(alloc, shard, data_type, fill_value)
+}
+
+// The grid of an array's shards, and that of a shard's subchunks, where the array's codec serves it.
+fn grids_of(
+    alloc: Global,
+    metadata: &ArrayMetadata,
+) -> Result<(ShardGrid, ChunkShape), CodecError> {
+    check_served(
+        alloc,
+        &metadata.codec,
+        &metadata.shard,
+        &metadata.data_type,
+        &metadata.fill_value,
+    )?;
+    let subchunks = calculate_chunks_per_shard(alloc, &metadata.shard, &metadata.subchunk)?;
+    let grid = ShardGrid::new(alloc, &metadata.shape, &metadata.shard)?;
+    Ok((grid, subchunks))
+}
+
+// Opens a shard of a codec.
+fn opened<'c, I: ArrayToBytesCodecTraits, X: ArrayToBytesCodecTraits, H: BytesPartialDecoderTraits>(
+    alloc: Global,
+    codec: &'c ShardingCodec<I, X>,
+    file: H,
+    shard: &ChunkShape,
+    data_type: &DataType,
+    fill_value: &FillValue,
+) -> Result<ShardingPartialDecoder<'c, I, X, H>, (H, CodecError)> {
+    let options = CodecOptions::default();
+    codec.partial_decoder(alloc, file, shard, data_type, fill_value, &options)
+}
+
+/// Reads the cells of a box of a shard that is open.
+pub fn read_cells<
+    I: ArrayToBytesCodecTraits,
+    X: ArrayToBytesCodecTraits,
+    H: BytesPartialDecoderTraits,
+>(
+    alloc: Global,
+    decoder: &mut ShardingPartialDecoder<'_, I, X, H>,
     subset: &ArraySubset,
-) -> Result<ArrayBytes<'d>, CodecError> {
-    let cells = decoder.partial_decode(alloc, subset, &CodecOptions::default())?;
-    Ok(cells)
+) -> Result<ArrayBytes<'static>, CodecError> {
+    decoder.partial_decode(alloc, subset, &CodecOptions::default())
 }
 
 /// Reads the bytes of a subchunk of a shard that is open, decodes them, and lets the cells go.
-pub fn read_through<H: BytesPartialDecoderTraits>(
+pub fn read_through<
+    I: ArrayToBytesCodecTraits,
+    X: ArrayToBytesCodecTraits,
+    H: BytesPartialDecoderTraits,
+>(
     alloc: Global,
-    decoder: &mut ShardingPartialDecoder<'_, InnerCodec, IndexCodec, H>,
-    asked: &ArrayMetadata,
+    decoder: &mut ShardingPartialDecoder<'_, I, X, H>,
+    codec: &ShardingCodec<I, X>,
+    data_type: &DataType,
+    fill_value: &FillValue,
     subchunk: &[u64],
 ) -> Result<(), CodecError> {
     let Some(bytes) = decoder.retrieve_subchunk_encoded(alloc, subchunk)? else {
         return Ok(());
     };
-    let decoded = asked.codec.inner.decode(
+    let decoded = codec.inner.decode(
         alloc,
         &bytes,
-        &asked.subchunk,
-        &asked.data_type,
-        &asked.fill_value,
+        &codec.subchunk_shape,
+        data_type,
+        fill_value,
         &CodecOptions::default(),
     );
     match decoded {
@@ -93,17 +147,8 @@ pub fn read_through<H: BytesPartialDecoderTraits>(
 impl<'a, R: Files + AllocGlobal> Array<'a, R> {
     /// Opens the array whose folder has this path.
     pub fn open(rt: &'a R, path: &'a str) -> Result<Self, Stop> {
-        let alloc = rt.alloc();
         let metadata = metadata_of(rt, path)?;
-        let codec = &metadata.codec;
-        codec.check(
-            alloc,
-            &metadata.shard,
-            &metadata.data_type,
-            &metadata.fill_value,
-        )?;
-        let subchunks = calculate_chunks_per_shard(alloc, &metadata.shard, &metadata.subchunk)?;
-        let grid = ShardGrid::new(alloc, &metadata.shape, &metadata.shard)?;
+        let (grid, subchunks) = grids_of(rt.alloc(), &metadata)?;
         Ok(Array {
             rt,
             path,
@@ -151,13 +196,13 @@ impl<'a, R: Files + AllocGlobal> Array<'a, R> {
     /// Opens the shard with this key, where it is not refused.
     pub fn decoder<'c>(&'c self, key: &str) -> Result<Result<Decoder<'c, 'a, R>, Refusal>, Stop> {
         let asked = &self.metadata;
-        let opened = asked.codec.partial_decoder(
+        let opened = opened(
             self.alloc(),
+            &asked.codec,
             self.file(key)?,
             &asked.shard,
             &asked.data_type,
             &asked.fill_value,
-            &CodecOptions::default(),
         );
         match opened {
             Ok(decoder) => Ok(Ok(decoder)),

@@ -1,7 +1,8 @@
 // Whether the shards of an array are sound.
-use crate::arrays::{Array, Decoder, read_through};
+use crate::arrays::{Array, Decoder, ShardFile, read_through};
 use crate::progress::Progress;
 use crate::stop::{Place, Refusal, Stop};
+use std::alloc::AllocError;
 use std::io;
 use std::io::Write;
 use std::rt::Files;
@@ -14,41 +15,89 @@ fn check_subchunk<R: Files + AllocGlobal>(
     number: u64,
 ) -> Result<(), CodecError> {
     let alloc = array.alloc();
-    match unravel_index(alloc, number, array.subchunks.as_slice())? {
-        Some(subchunk) => read_through(alloc, decoder, &array.metadata, &subchunk),
-        None => Ok(()),
-    }
+    let Some(subchunk) = unravel_index(alloc, number, array.subchunks.as_slice())? else {
+        return Ok(());
+    };
+    let asked = &array.metadata;
+    read_through(
+        alloc,
+        decoder,
+        &asked.codec,
+        &asked.data_type,
+        &asked.fill_value,
+        &subchunk,
+    )
 }
 
-// Reads each subchunk of a shard, and goes on behind one that is refused.
-fn check_subchunks<'a, R: Files + AllocGlobal, M: Write>(
-    array: &Array<'a, R>,
+// The refusal of the subchunk with this number.
+fn refused_subchunk<R: Files + AllocGlobal>(
+    array: &Array<'_, R>,
+    key: &str,
+    error: CodecError,
+    number: u64,
+) -> Result<Refusal, AllocError> {
+    Ok(Refusal {
+        key: String::from_str(array.alloc(), key)?,
+        error,
+        place: Place::Subchunk(number),
+    })
+}
+
+// Reads each subchunk of a shard, and goes on behind one that is refused. Where nothing more can be read, that subchunk is told,
+// and why.
+fn check_each<R: Files + AllocGlobal, M: Write>(
+    array: &Array<'_, R>,
     shard: u64,
     key: &str,
-    mut decoder: Decoder<'_, 'a, R>,
+    decoder: &mut Decoder<'_, '_, R>,
     refusals: &mut Vec<Refusal>,
     progress: &mut Progress<'_, M>,
-) -> Result<(), Stop> {
+) -> Result<Option<(u64, CodecError)>, Stop> {
     let count = array.subchunks.num_elements().unwrap_or(u64::MAX);
     let before = shard.saturating_mul(count);
     let all = array.grid.len().saturating_mul(count);
     for number in 0..count {
         progress.step(before.saturating_add(number), all);
-        let Err(error) = check_subchunk(array, &mut decoder, number) else {
-            continue;
-        };
-        if matches!(error, CodecError::Fault | CodecError::OutOfMemory) {
-            let place = Place::Subchunk(number);
-            refusals.push(array.refusal(key, &decoder.close(), error, place)?)?;
-            return Ok(());
+        match check_subchunk(array, decoder, number) {
+            Ok(()) => {}
+            Err(error) if matches!(error, CodecError::Fault | CodecError::OutOfMemory) => {
+                return Ok(Some((number, error)));
+            }
+            Err(error) => refusals.push(refused_subchunk(array, key, error, number)?)?,
         }
-        refusals.push(Refusal {
-            key: String::from_str(array.alloc(), key)?,
-            error,
-            place: Place::Subchunk(number),
-        })?;
     }
+    Ok(None)
+}
+
+// Lists the subchunk behind which nothing more could be read of a shard.
+fn list_last<R: Files + AllocGlobal>(
+    array: &Array<'_, R>,
+    key: &str,
+    file: &ShardFile<'_, R>,
+    last: (u64, CodecError),
+    refusals: &mut Vec<Refusal>,
+) -> Result<(), Stop> {
+    let (number, error) = last;
+    let refusal = array.refusal(key, file, error, Place::Subchunk(number))?;
+    refusals.push(refusal)?;
     Ok(())
+}
+
+// Reads each subchunk of a shard that is open.
+fn check_opened<R: Files + AllocGlobal, M: Write>(
+    array: &Array<'_, R>,
+    shard: u64,
+    key: &str,
+    mut decoder: Decoder<'_, '_, R>,
+    refusals: &mut Vec<Refusal>,
+    progress: &mut Progress<'_, M>,
+) -> Result<(), Stop> {
+    let checked = check_each(array, shard, key, &mut decoder, refusals, progress);
+    let file = decoder.close();
+    match checked? {
+        Some(last) => list_last(array, key, &file, last, refusals),
+        None => Ok(()),
+    }
 }
 
 // Opens a shard and reads each subchunk.
@@ -60,7 +109,7 @@ fn check_shard<R: Files + AllocGlobal, M: Write>(
 ) -> Result<(), Stop> {
     let key = array.key(number)?;
     match array.decoder(&key)? {
-        Ok(decoder) => check_subchunks(array, number, &key, decoder, refusals, progress),
+        Ok(decoder) => check_opened(array, number, &key, decoder, refusals, progress),
         Err(refusal) => {
             refusals.push(refusal)?;
             Ok(())

@@ -80,32 +80,39 @@ fn raw_flag<'a>(alloc: Global) -> Result<Arg<'a>, AllocError> {
         .conflicts_with("json")
 }
 
-fn read_command<'a>(alloc: Global) -> Result<Command<'a>, AllocError> {
+// The command `read`, and what it reads.
+fn boxed_command<'a>(alloc: Global) -> Result<Command<'a>, AllocError> {
     Command::new(alloc, "read")
         .about("Writes the cells of a box in row-major order, a row of the last axis a line")
         .after_help(
             "Example: zarr_shard read weather/temperature 0..2,3..5\nA bool is 0 or 1 as text, and true or false in JSON.",
         )
         .arg(path_argument(alloc))?
-        .arg(box_argument(alloc))?
-        .arg(json_flag(alloc))?
-        .arg(raw_flag(alloc)?)
+        .arg(box_argument(alloc))
+}
+
+fn read_command<'a>(alloc: Global) -> Result<Command<'a>, AllocError> {
+    let raw = raw_flag(alloc)?;
+    boxed_command(alloc)?.arg(json_flag(alloc))?.arg(raw)
+}
+
+fn dry_flag<'a>(alloc: Global) -> Arg<'a> {
+    Arg::new(alloc, "dry-run")
+        .long("dry-run")
+        .action(ArgAction::SetTrue)
+        .help("Says what would be saved, and writes no file")
 }
 
 fn compact_command<'a>(alloc: Global) -> Result<Command<'a>, AllocError> {
-    let dry = Arg::new(alloc, "dry-run")
-        .long("dry-run")
-        .action(ArgAction::SetTrue)
-        .help("Says what would be saved, and writes no file");
     Command::new(alloc, "compact")
         .about("Puts a compact shard in the place of each that has dead bytes")
         .after_help("Example: zarr_shard compact --dry-run weather/temperature")
         .arg(path_argument(alloc))?
-        .arg(dry)
+        .arg(dry_flag(alloc))
 }
 
-// The program's command line.
-fn program<'a>(alloc: Global) -> Result<Command<'a>, AllocError> {
+// The program without its commands.
+fn bare_program<'a>(alloc: Global) -> Command<'a> {
     Command::new(alloc, "zarr_shard")
         .about("Works on an array on disk whose chunks are shards (Zarr V3, sharding_indexed)")
         .after_help(
@@ -113,10 +120,22 @@ fn program<'a>(alloc: Global) -> Result<Command<'a>, AllocError> {
         )
         .subcommand_required(true)
         .arg_required_else_help(true)
-        .subcommand(info_command(alloc)?)?
-        .subcommand(check_command(alloc)?)?
-        .subcommand(read_command(alloc)?)?
-        .subcommand(compact_command(alloc)?)
+}
+
+// The program with one command more.
+fn with<'a>(
+    program: Command<'a>,
+    command: Result<Command<'a>, AllocError>,
+) -> Result<Command<'a>, AllocError> {
+    program.subcommand(command?)
+}
+
+// The program's command line.
+fn program<'a>(alloc: Global) -> Result<Command<'a>, AllocError> {
+    let program = with(bare_program(alloc), info_command(alloc))?;
+    let program = with(program, check_command(alloc))?;
+    let program = with(program, read_command(alloc))?;
+    with(program, compact_command(alloc))
 }
 
 // How the cells that a command reads are to be written.
@@ -204,6 +223,19 @@ fn run_work<R: Files + AllocGlobal, W: Write, M: Write>(
     }
 }
 
+// Does a work on an array that is open, and gives the status.
+fn run_opened<R: Files + AllocGlobal, W: Write, M: Write>(
+    array: &Array<'_, R>,
+    work: Work<'_>,
+    out: &mut W,
+    progress: &mut Progress<'_, M>,
+) -> Result<u8, Stop>
+    ensures { IfOk result (λ status. status ≤ 2) }
+{
+    let is_refused = run_work(array, work, out, progress)?;
+    Ok(if is_refused { 1 } else { 0 })
+}
+
 // Opens an array, and does a work.
 fn run_array<R: Files + AllocGlobal, W: Write, M: Write>(
     rt: &R,
@@ -215,8 +247,9 @@ fn run_array<R: Files + AllocGlobal, W: Write, M: Write>(
     ensures { IfOk result (λ status. status ≤ 2) }
 {
     let array = Array::open(rt, path)?;
-    let is_refused = run_work(&array, work, out, progress)?;
-    Ok(if is_refused { 1 } else { 0 })
+    let ran = run_opened(&array, work, out, progress);
+    drop(array);
+    ran
 }
 
 // Reads the words of a command line, and does what they say.

@@ -2,10 +2,11 @@
 use crate::arrays::{Array, ShardFile};
 use crate::progress::Progress;
 use crate::stop::{Place, Refusal, Stop};
+use std::alloc::Global;
 use std::io::{ErrorKind, Write};
 use std::rt::Files;
 use zarr_codecs::{ArrayToBytesCodecTraits, ByteRange, BytesPartialEncoderTraits, copy_range};
-use zarr_parts::{CodecError, CodecOptions};
+use zarr_parts::{ChunkShape, CodecError, CodecOptions, DataType, FillValue};
 
 /// What was gained, and whether a shard is refused.
 #[derive(Debug, Clone, Copy, PartialEq, Eq)]
@@ -35,6 +36,19 @@ impl Gained {
     }
 }
 
+// A shard's compaction. `None` where it is compact.
+fn compaction<C: ArrayToBytesCodecTraits>(
+    alloc: Global,
+    codec: &C,
+    bytes: &[u8],
+    shard: &ChunkShape,
+    data_type: &DataType,
+    fill_value: &FillValue,
+) -> Result<Option<Vec<u8>>, CodecError> {
+    let options = CodecOptions::default();
+    codec.compact(alloc, bytes, shard, data_type, fill_value, &options)
+}
+
 // A shard's bytes, and those of its compaction. `None` where there is no file, or it is compact.
 fn compacted<R: Files + AllocGlobal>(
     array: &Array<'_, R>,
@@ -45,13 +59,13 @@ fn compacted<R: Files + AllocGlobal>(
         return Ok(None);
     };
     let asked = &array.metadata;
-    let made = asked.codec.compact(
+    let made = compaction(
         alloc,
+        &asked.codec,
         &bytes,
         &asked.shard,
         &asked.data_type,
         &asked.fill_value,
-        &CodecOptions::default(),
     )?;
     match made {
         Some(new) => Ok(Some((bytes, new))),

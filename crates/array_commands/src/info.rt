@@ -12,7 +12,7 @@ use zarr_codecs::{
     ArrayToBytesCodecTraits, ByteRange, BytesPartialDecoderTraits, BytesRepresentation, copy_range,
 };
 use zarr_parts::{ChunkShape, CodecError, CodecOptions, DataType, FillValue};
-use zarrs_sharding::{ShardingIndexLocation, sharding_index_shape};
+use zarrs_sharding::{ShardingCodec, ShardingIndexLocation, sharding_index_shape};
 
 /// What the index of a shard says.
 #[derive(Debug, Clone, Copy, PartialEq, Eq)]
@@ -109,6 +109,35 @@ fn index_place(location: ShardingIndexLocation, size: u64, length: u64) -> (Byte
     }
 }
 
+// The numbers of an index.
+fn numbers_of<I: ArrayToBytesCodecTraits, X: ArrayToBytesCodecTraits>(
+    alloc: Global,
+    codec: &ShardingCodec<I, X>,
+    bytes: &[u8],
+    subchunks: &ChunkShape,
+) -> Result<Vec<u64>, CodecError> {
+    codec.decode_index(alloc, bytes, subchunks, &CodecOptions::default())
+}
+
+// What an index of these numbers says, which takes the bytes of an interval of the object.
+fn info_of(
+    alloc: Global,
+    numbers: &[u64],
+    interval: (u64, u64),
+    length: u64,
+) -> Result<IndexInfo, CodecError> {
+    let mut slices = slices_of(alloc, numbers, length)?;
+    let present = slices.len() as u64;
+    slices.push(interval)?;
+    slices.sort()?;
+    let subchunks = (numbers.len() / 2) as u64;
+    Ok(IndexInfo {
+        present,
+        absent: subchunks.saturating_sub(present),
+        dead: dead_bytes(&slices, length),
+    })
+}
+
 // What the index of a shard says. Nothing but the index is read.
 fn index_info<R: Files + AllocGlobal>(
     array: &Array<'_, R>,
@@ -123,17 +152,36 @@ fn index_info<R: Files + AllocGlobal>(
     let codec = &array.metadata.codec;
     let (range, interval) = index_place(codec.location, size, length);
     let bytes = copy_range(file, alloc, range)?.ok_or(CodecError::ShardTooShort)?;
-    let numbers = codec.decode_index(alloc, &bytes, &array.subchunks, &CodecOptions::default())?;
-    let mut slices = slices_of(alloc, &numbers, length)?;
-    let present = slices.len() as u64;
-    slices.push(interval)?;
-    slices.sort()?;
-    let subchunks = (numbers.len() / 2) as u64;
-    Ok(IndexInfo {
-        present,
-        absent: subchunks.saturating_sub(present),
-        dead: dead_bytes(&slices, length),
-    })
+    let numbers = numbers_of(alloc, codec, &bytes, &array.subchunks)?;
+    info_of(alloc, &numbers, interval, length)
+}
+
+// What the index of a shard with this key says, or why it is refused.
+fn index_of<R: Files + AllocGlobal>(
+    array: &Array<'_, R>,
+    key: &str,
+    file: &mut ShardFile<'_, R>,
+    length: u64,
+    size: u64,
+) -> Result<Result<IndexInfo, Refusal>, Stop> {
+    match index_info(array, file, length, size) {
+        Ok(info) => Ok(Ok(info)),
+        Err(error) => Ok(Err(array.refusal(key, file, error, Place::opening(&error))?)),
+    }
+}
+
+// How long the file of the shard with this key is, and what its index says, where there is a file.
+fn known_of<R: Files + AllocGlobal>(
+    array: &Array<'_, R>,
+    key: &str,
+    file: &mut ShardFile<'_, R>,
+    size: u64,
+) -> Result<Option<(u64, Result<IndexInfo, Refusal>)>, Stop> {
+    match file.len() {
+        Ok(Some(length)) => Ok(Some((length, index_of(array, key, file, length, size)?))),
+        Ok(None) => Ok(None),
+        Err(error) => Err(Stop::Refused(array.refusal(key, file, error, Place::Shard)?)),
+    }
 }
 
 // A shard and what its index says, where there is a file.
@@ -144,16 +192,10 @@ fn shard_info<R: Files + AllocGlobal>(
 ) -> Result<Option<ShardInfo>, Stop> {
     let key = array.key(number)?;
     let mut file = array.file(&key)?;
-    let length = match file.len() {
-        Ok(Some(length)) => length,
-        Ok(None) => return Ok(None),
-        Err(error) => return Err(Stop::Refused(array.refusal(&key, &file, error, Place::Shard)?)),
-    };
-    let index = match index_info(array, &mut file, length, size) {
-        Ok(info) => Ok(info),
-        Err(error) => Err(array.refusal(&key, &file, error, Place::opening(&error))?),
-    };
-    Ok(Some(ShardInfo { key, length, index }))
+    match known_of(array, &key, &mut file, size)? {
+        Some((length, index)) => Ok(Some(ShardInfo { key, length, index })),
+        None => Ok(None),
+    }
 }
 
 /// The shards that are there.

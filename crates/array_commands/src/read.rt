@@ -1,7 +1,7 @@
 // The cells of a box of an array.
 use crate::arrays::{Array, Decoder, read_cells};
 use crate::progress::Progress;
-use crate::stop::{Place, Refusal, Stop};
+use crate::stop::{Place, Stop};
 use array_shards::{BoxCells, ShardPart};
 use std::io::Write;
 use std::rt::Files;
@@ -33,16 +33,6 @@ fn put_part<R: Files + AllocGlobal>(
     Ok(())
 }
 
-// Why a shard that was opened is refused, of which a read is refused.
-fn refusal_of_read<R: Files + AllocGlobal>(
-    array: &Array<'_, R>,
-    key: &str,
-    decoder: Decoder<'_, '_, R>,
-    error: CodecError,
-) -> Result<Refusal, Stop> {
-    array.refusal(key, &decoder.close(), error, Place::reading(&error))
-}
-
 // Reads the part of a box that lies in a shard, which is open.
 fn read_opened<R: Files + AllocGlobal>(
     array: &Array<'_, R>,
@@ -52,11 +42,15 @@ fn read_opened<R: Files + AllocGlobal>(
     mut decoder: Decoder<'_, '_, R>,
     cells: &mut Option<BoxCells>,
 ) -> Result<(), Stop> {
-    let error = match read_cells(array.alloc(), &mut decoder, &part.in_shard) {
-        Ok(found) => return put_part(array, asked, part, &found, cells),
-        Err(error) => error,
-    };
-    Err(Stop::Refused(refusal_of_read(array, key, decoder, error)?))
+    let read = read_cells(array.alloc(), &mut decoder, &part.in_shard);
+    let file = decoder.close();
+    match read {
+        Ok(found) => put_part(array, asked, part, &found, cells),
+        Err(error) => {
+            let refusal = array.refusal(key, &file, error, Place::reading(&error))?;
+            Err(Stop::Refused(refusal))
+        }
+    }
 }
 
 // Reads the part of a box that lies in a shard.

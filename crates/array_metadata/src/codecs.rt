@@ -9,7 +9,9 @@ use std::alloc::Global;
 use zarr_codecs::{BytesChain, BytesCodec, CodecTraitsV3, PluginCreateError};
 use zarr_crc32c::Crc32cCodec;
 use zarr_parts::{ChunkShape, DataType, DataTypeSize};
-use zarrs_sharding::{ShardingCodec, ShardingCodecConfiguration, ShardingIndexLocation};
+use zarrs_sharding::{
+    ShardingCodec, ShardingCodecConfiguration, ShardingCodecConfigurationV1, ShardingIndexLocation,
+};
 
 /// `bytes`, or `bytes` and `crc32c` behind it.
 pub type ElementCodec = EitherCodec<BytesCodec, BytesChain<BytesCodec, Crc32cCodec>>;
@@ -29,6 +31,18 @@ enum CodecName {
     Bytes,
     Crc32c,
     ShardingIndexed,
+}
+
+impl CodecName {
+    // The codec of a name.
+    fn of(name: &str) -> Option<CodecName> {
+        match name {
+            "bytes" => Some(CodecName::Bytes),
+            "crc32c" => Some(CodecName::Crc32c),
+            "sharding_indexed" => Some(CodecName::ShardingIndexed),
+            _ => None,
+        }
+    }
 }
 
 // A codec's metadata, and the codec that it names.
@@ -69,16 +83,26 @@ fn unserved(name: &str) -> &'static str {
 
 // The codec that metadata names. Refused as `BadField` or `UnsupportedCodec`.
 fn named_codec<'a>(alloc: Global, metadata: Placed<'a>) -> Result<NamedCodec<'a>, MetadataError> {
-    let name = match metadata.extension_name(alloc)? {
-        "bytes" => CodecName::Bytes,
-        "crc32c" => CodecName::Crc32c,
-        "sharding_indexed" => CodecName::ShardingIndexed,
-        name => {
+    let name = metadata.extension_name(alloc)?;
+    match CodecName::of(name) {
+        Some(name) => Ok(NamedCodec { name, metadata }),
+        None => {
             let error = PluginCreateError::unsupported_codec(alloc, name);
-            return Err(metadata.refused(alloc, error, unserved(name)));
+            Err(metadata.refused(alloc, error, unserved(name)))
         }
-    };
-    Ok(NamedCodec { name, metadata })
+    }
+}
+
+// The codec that the value at a place of a list names. Refused as `BadField` or `UnsupportedCodec`.
+fn listed_codec<'a>(
+    alloc: Global,
+    value: &'a Value,
+    key: &'static str,
+    list: &str,
+    index: usize,
+) -> Result<NamedCodec<'a>, MetadataError> {
+    let place = format!(in alloc; "{list}[{index}]")?;
+    named_codec(alloc, Placed { value, key, place })
 }
 
 impl<'a> CodecList<'a> {
@@ -91,9 +115,7 @@ impl<'a> CodecList<'a> {
     ) -> Result<Self, MetadataError> {
         let mut codecs = Vec::new(alloc);
         for (index, value) in values.iter().enumerate() {
-            let list = place.as_str();
-            let place = format!(in alloc; "{list}[{index}]")?;
-            codecs.push(named_codec(alloc, Placed { value, key, place })?)?;
+            codecs.push(listed_codec(alloc, value, key, place.as_str(), index)?)?;
         }
         Ok(CodecList { codecs, place })
     }
@@ -175,12 +197,15 @@ fn index_codec(
     list.element_codec(alloc, DataType::UInt64)
 }
 
-// What the configuration of a shard says. Refused as `ShardingCodecConfiguration::from_value` refuses, as `BadField` where a
-// subchunk has another number of axes, or as the codec of the index is.
-fn shard_parts(alloc: Global, metadata: &Placed, axes: usize) -> Result<ShardParts, MetadataError>
-    ensures { IfOk result (λ parts. length parts.chunk_shape ≡ axes) }
+// The configuration of a shard. Refused as `ShardingCodecConfiguration::from_value` refuses, or as `BadField` where a subchunk
+// has another number of axes.
+fn parsed_configuration(
+    alloc: Global,
+    configuration: &Placed,
+    axes: usize,
+) -> Result<ShardingCodecConfigurationV1, MetadataError>
+    ensures { IfOk result (λ parsed. length parsed.chunk_shape ≡ axes) }
 {
-    let configuration = metadata.required(alloc, "configuration")?;
     let parsed = match ShardingCodecConfiguration::from_value(alloc, configuration.value) {
         Ok(ShardingCodecConfiguration::V1(parsed)) => parsed,
         Err(error) => return Err(configuration.refused_by(alloc, error)),
@@ -193,6 +218,15 @@ fn shard_parts(alloc: Global, metadata: &Placed, axes: usize) -> Result<ShardPar
             "a subchunk has other than one number for each axis",
         ));
     }
+    Ok(parsed)
+}
+
+// What the configuration of a shard says. Refused as the configuration is, or as the codec of the index.
+fn shard_parts(alloc: Global, metadata: &Placed, axes: usize) -> Result<ShardParts, MetadataError>
+    ensures { IfOk result (λ parts. length parts.chunk_shape ≡ axes) }
+{
+    let configuration = metadata.required(alloc, "configuration")?;
+    let parsed = parsed_configuration(alloc, &configuration, axes)?;
     let outer = configuration.place.as_str();
     let place = format!(in alloc; "{outer}.index_codecs")?;
     let index_codec = index_codec(alloc, parsed.index_codecs.as_slice(), place)?;

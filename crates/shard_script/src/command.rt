@@ -105,12 +105,30 @@ fn parse_location<'a>(word: &'a [u8]) -> Result<ShardingIndexLocation, Stop<'a>>
     }
 }
 
-// The words behind `shard`.
-fn parse_settings<'a>(alloc: Global, words: &mut Pieces<'a>) -> Result<Settings, Stop<'a>> {
+// The shape of a shard, and that of a subchunk.
+fn parse_shapes<'a>(
+    alloc: Global,
+    words: &mut Pieces<'a>,
+) -> Result<(ChunkShape, ChunkShape), Stop<'a>> {
     let shape = parse_shape(alloc, next_word(words)?)?;
     let subchunk_shape = parse_shape(alloc, next_word(words)?)?;
+    Ok((shape, subchunk_shape))
+}
+
+// A type of elements, and a fill value of it.
+fn parse_type_and_fill<'a>(
+    alloc: Global,
+    words: &mut Pieces<'a>,
+) -> Result<(ElementType, FillValue), Stop<'a>> {
     let element_type = parse_element_type(next_word(words)?)?;
     let fill_value = parse_fill(alloc, next_word(words)?, element_type)?;
+    Ok((element_type, fill_value))
+}
+
+// The words behind `shard`.
+fn parse_settings<'a>(alloc: Global, words: &mut Pieces<'a>) -> Result<Settings, Stop<'a>> {
+    let (shape, subchunk_shape) = parse_shapes(alloc, words)?;
+    let (element_type, fill_value) = parse_type_and_fill(alloc, words)?;
     let location = parse_location(next_word(words)?)?;
     Ok(Settings {
         shape,
@@ -155,64 +173,117 @@ fn parse_object<'a>(alloc: Global, words: &mut Pieces<'a>) -> Result<Command<'a>
     }
 }
 
+// The words behind `encode`.
+fn parse_encode<'a>(
+    alloc: Global,
+    words: &mut Pieces<'a>,
+    element_type: ElementType,
+) -> Result<Command<'a>, Stop<'a>> {
+    let elements = parse_elements(alloc, next_word(words)?, element_type)?;
+    Ok(Command::Work(Work::Encode(elements)))
+}
+
+// The words behind `write`.
+fn parse_write<'a>(
+    alloc: Global,
+    words: &mut Pieces<'a>,
+    element_type: ElementType,
+) -> Result<Command<'a>, Stop<'a>> {
+    let subset = parse_subset(alloc, next_word(words)?)?;
+    let elements = parse_elements(alloc, next_word(words)?, element_type)?;
+    Ok(Command::Work(Work::Write(subset, elements)))
+}
+
+// The word behind `read`.
+fn parse_read<'a>(alloc: Global, words: &mut Pieces<'a>) -> Result<Command<'a>, Stop<'a>> {
+    let subset = parse_subset(alloc, next_word(words)?)?;
+    Ok(Command::Work(Work::Read(subset)))
+}
+
+// The words behind `cells`.
+fn parse_cells<'a>(alloc: Global, words: &mut Pieces<'a>) -> Result<Command<'a>, Stop<'a>> {
+    let coordinates = parse_coordinates(alloc, words)?;
+    Ok(Command::Work(Work::Cells(coordinates)))
+}
+
+// A command that asks for a shard.
+#[derive(Clone, Copy)]
+enum Name {
+    Config,
+    Encode,
+    Index,
+    Decode,
+    Object,
+    Compact,
+    Write,
+    Erase,
+    Read,
+    Cells,
+}
+
+impl Name {
+    // The command that a word names.
+    fn of(word: &[u8]) -> Option<Name> {
+        match word {
+            b"config" => Some(Name::Config),
+            b"encode" => Some(Name::Encode),
+            b"index" => Some(Name::Index),
+            b"decode" => Some(Name::Decode),
+            b"object" => Some(Name::Object),
+            b"compact" => Some(Name::Compact),
+            b"write" => Some(Name::Write),
+            b"erase" => Some(Name::Erase),
+            b"read" => Some(Name::Read),
+            b"cells" => Some(Name::Cells),
+            _ => None,
+        }
+    }
+}
+
 // The command of this name, whose words are left, for a shard with elements of a type.
 fn parse_for_shard<'a>(
     alloc: Global,
-    name: &'a [u8],
+    name: Name,
     words: &mut Pieces<'a>,
     element_type: ElementType,
 ) -> Result<Command<'a>, Stop<'a>> {
     match name {
-        b"config" => parse_configuration(words),
-        b"encode" => {
-            let elements = parse_elements(alloc, next_word(words)?, element_type)?;
-            Ok(Command::Work(Work::Encode(elements)))
-        }
-        b"index" => Ok(Command::Look(Look::Index)),
-        b"decode" => Ok(Command::Look(Look::Decode)),
-        b"object" => parse_object(alloc, words),
-        b"compact" => Ok(Command::Work(Work::Compact)),
-        b"write" => {
-            let subset = parse_subset(alloc, next_word(words)?)?;
-            let elements = parse_elements(alloc, next_word(words)?, element_type)?;
-            Ok(Command::Work(Work::Write(subset, elements)))
-        }
-        b"erase" => Ok(Command::Work(Work::Erase)),
-        b"read" => {
-            let subset = parse_subset(alloc, next_word(words)?)?;
-            Ok(Command::Work(Work::Read(subset)))
-        }
-        b"cells" => {
-            let coordinates = parse_coordinates(alloc, words)?;
-            Ok(Command::Work(Work::Cells(coordinates)))
-        }
-        _ => Err(Stop::malformed(Mistake::NoCommand, name)),
+        Name::Config => parse_configuration(words),
+        Name::Encode => parse_encode(alloc, words, element_type),
+        Name::Index => Ok(Command::Look(Look::Index)),
+        Name::Decode => Ok(Command::Look(Look::Decode)),
+        Name::Object => parse_object(alloc, words),
+        Name::Compact => Ok(Command::Work(Work::Compact)),
+        Name::Write => parse_write(alloc, words, element_type),
+        Name::Erase => Ok(Command::Work(Work::Erase)),
+        Name::Read => parse_read(alloc, words),
+        Name::Cells => parse_cells(alloc, words),
     }
 }
 
-// Whether a command that asks for a shard has this name.
-fn asks_for_shard(name: &[u8]) -> bool {
-    matches!(
-        name,
-        b"config"
-            | b"encode"
-            | b"index"
-            | b"decode"
-            | b"object"
-            | b"compact"
-            | b"write"
-            | b"erase"
-            | b"read"
-            | b"cells"
-    )
+// The command of this first word, whose further words are left.
+fn parse_named<'a>(
+    alloc: Global,
+    word: &'a [u8],
+    words: &mut Pieces<'a>,
+    element_type: Option<ElementType>,
+) -> Result<Command<'a>, Stop<'a>> {
+    if word == b"shard".as_slice() {
+        return Ok(Command::Shard(parse_settings(alloc, words)?));
+    }
+    match (Name::of(word), element_type) {
+        (Some(name), Some(element_type)) => parse_for_shard(alloc, name, words, element_type),
+        (Some(_), None) => Err(Stop::malformed(Mistake::NoShard, word)),
+        (None, _) => Err(Stop::malformed(Mistake::NoCommand, word)),
+    }
 }
 
-// Why a line with this first word is no command's where there is no shard.
-fn mistake_without_shard(name: &[u8]) -> Mistake {
-    if asks_for_shard(name) {
-        Mistake::NoShard
-    } else {
-        Mistake::NoCommand
+// Tests that no word is left.
+fn check_end<'a>(words: &mut Pieces<'a>) -> Result<(), Stop<'a>> {
+    match words.next() {
+        Some(b"") => Err(Stop::malformed(Mistake::SpaceTooMany, b"")),
+        Some(word) => Err(Stop::malformed(Mistake::WordTooMany, word)),
+        None => Ok(()),
     }
 }
 
@@ -226,18 +297,8 @@ impl<'a> Command<'a> {
     ) -> Result<Self, Stop<'a>> {
         let mut words = Pieces::new(line, b' ');
         let name = next_word(&mut words)?;
-        let command = if name == b"shard".as_slice() {
-            Command::Shard(parse_settings(alloc, &mut words)?)
-        } else {
-            let Some(element_type) = element_type else {
-                return Err(Stop::malformed(mistake_without_shard(name), name));
-            };
-            parse_for_shard(alloc, name, &mut words, element_type)?
-        };
-        match words.next() {
-            Some(b"") => Err(Stop::malformed(Mistake::SpaceTooMany, b"")),
-            Some(word) => Err(Stop::malformed(Mistake::WordTooMany, word)),
-            None => Ok(command),
-        }
+        let command = parse_named(alloc, name, &mut words, element_type)?;
+        check_end(&mut words)?;
+        Ok(command)
     }
 }
