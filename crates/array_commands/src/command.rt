@@ -16,7 +16,7 @@ use std::convert::AsStr;
 use std::io;
 use std::io::{BufWriter, Write};
 use std::rt::Files;
-use zarr_parts::ArraySubset;
+use zarr_parts::{ArraySubset, DataType};
 
 // How cells are written.
 #[derive(Debug, Clone, Copy, PartialEq, Eq)]
@@ -172,6 +172,35 @@ fn box_of(alloc: Global, asked: Option<&str>, shape: &[u64]) -> Result<ArraySubs
     }
 }
 
+// Writes cells as an object of JSON.
+fn write_json<W: Write>(
+    alloc: Global,
+    out: &mut W,
+    data_type: &DataType,
+    cells: &[u8],
+    shape: &[u64],
+) -> Result<(), Stop> {
+    let text = json_of(alloc, data_type, cells, shape)?;
+    writeln!(out, "{text}")?;
+    Ok(())
+}
+
+// Writes cells in a form.
+fn write_cells<W: Write>(
+    alloc: Global,
+    out: &mut W,
+    form: Form,
+    data_type: &DataType,
+    cells: &[u8],
+    shape: &[u64],
+) -> Result<(), Stop> {
+    match form {
+        Form::Text => Ok(write_rows(out, data_type, cells, shape)?),
+        Form::Raw => Ok(out.write_all(cells)?),
+        Form::Json => write_json(alloc, out, data_type, cells, shape),
+    }
+}
+
 // Reads a box, and writes its cells.
 fn run_read<R: Files + AllocGlobal, W: Write, M: Write>(
     array: &Array<'_, R>,
@@ -184,15 +213,7 @@ fn run_read<R: Files + AllocGlobal, W: Write, M: Write>(
     let subset = box_of(alloc, asked, &array.metadata.shape)?;
     let cells = read_box(array, &subset, progress)?;
     progress.clear();
-    match form {
-        Form::Text => write_rows(out, data_type, cells.bytes(), subset.shape())?,
-        Form::Raw => out.write_all(cells.bytes())?,
-        Form::Json => {
-            let text = json_of(alloc, data_type, cells.bytes(), subset.shape())?;
-            writeln!(out, "{text}")?;
-        }
-    }
-    Ok(())
+    write_cells(alloc, out, form, data_type, cells.bytes(), subset.shape())
 }
 
 // Does a work, writes its answer, and says whether a shard is refused.
@@ -252,6 +273,38 @@ fn run_array<R: Files + AllocGlobal, W: Write, M: Write>(
     ran
 }
 
+// Does what the words of a command line say.
+fn run_matches<R: Files + AllocGlobal, W: Write, M: Write>(
+    rt: &R,
+    matches: &ArgMatches<'_>,
+    out: &mut W,
+    messages: &mut M,
+    shows_progress: bool,
+) -> Result<u8, Stop>
+    ensures { IfOk result (λ status. status ≤ 2) }
+{
+    let Some((name, found)) = matches.subcommand() else {
+        return Ok(2);
+    };
+    let path = found.get_str("PATH").unwrap_or(".");
+    let mut progress = Progress::new(messages, shows_progress);
+    let ran = run_array(rt, path, work_of(name, found), out, &mut progress);
+    progress.clear();
+    ran
+}
+
+// Writes the help that a command line asks for, or what is wrong with it.
+fn tell<W: Write, M: Write>(error: &clap::Error, out: &mut W, messages: &mut M) -> Result<u8, Stop>
+    ensures { IfOk result (λ status. status ≤ 2) }
+{
+    if error.use_stderr() {
+        let _ = write!(messages, "{error}");
+        return Ok(2);
+    }
+    write!(out, "{error}")?;
+    Ok(0)
+}
+
 // Reads the words of a command line, and does what they say.
 fn run_words<R: Files + AllocGlobal, S: AsStr, W: Write, M: Write>(
     rt: &R,
@@ -262,26 +315,10 @@ fn run_words<R: Files + AllocGlobal, S: AsStr, W: Write, M: Write>(
 ) -> Result<u8, Stop>
     ensures { IfOk result (λ status. status ≤ 2) }
 {
-    let command = program(rt.alloc())?;
-    let matches = match command.try_get_matches_from(words) {
-        Ok(matches) => matches,
-        Err(error) if error.use_stderr() => {
-            let _ = write!(messages, "{error}");
-            return Ok(2);
-        }
-        Err(error) => {
-            write!(out, "{error}")?;
-            return Ok(0);
-        }
-    };
-    let Some((name, found)) = matches.subcommand() else {
-        return Ok(2);
-    };
-    let path = found.get_str("PATH").unwrap_or(".");
-    let mut progress = Progress::new(messages, shows_progress);
-    let ran = run_array(rt, path, work_of(name, found), out, &mut progress);
-    progress.clear();
-    ran
+    match program(rt.alloc())?.try_get_matches_from(words) {
+        Ok(matches) => run_matches(rt, &matches, out, messages, shows_progress),
+        Err(error) => tell(&error, out, messages),
+    }
 }
 
 // Runs a command line, and sees that its answer is written.

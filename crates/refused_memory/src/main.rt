@@ -169,13 +169,19 @@ fn write(alloc: Global, session: &mut Session, step: &Step) -> Result<(), CodecE
     }
 }
 
+fn write_all(alloc: Global, session: &mut Session) -> Result<(), CodecError> {
+    for step in STEPS.iter() {
+        write(alloc, session, step)?;
+    }
+    Ok(())
+}
+
 // The object after writes into another.
 fn written(alloc: Global, shards: &Shards, object: Vec<u8>) -> Result<Vec<u8>, CodecError> {
     let mut session = shards.open(alloc, object)?;
-    for step in STEPS.iter() {
-        write(alloc, &mut session, step)?;
-    }
+    let written = write_all(alloc, &mut session);
     let object = session.close().into_inner();
+    written?;
     object.ok_or(CodecError::SessionFailed)
 }
 
@@ -186,12 +192,17 @@ fn listed_cells(alloc: Global, shards: &Shards, object: &[u8]) -> Result<Vec<u8>
     read_listed(alloc, &mut session)
 }
 
+fn erase(alloc: Global, session: &mut Session) -> Result<Vec<u8>, CodecError> {
+    session.erase()?;
+    read(alloc, session)
+}
+
 // The cells after an erasure, which takes no memory, and whether an object is left.
 fn erased(alloc: Global, shards: &Shards, object: Vec<u8>) -> Result<(Vec<u8>, bool), CodecError> {
     let mut session = shards.open(alloc, object)?;
-    session.erase()?;
-    let cells = read(alloc, &mut session)?;
-    Ok((cells, session.close().into_inner().is_some()))
+    let cells = erase(alloc, &mut session);
+    let object = session.close().into_inner();
+    Ok((cells?, object.is_some()))
 }
 
 fn stored(alloc: Global, shards: &Shards) -> Result<Vec<u8>, CodecError> {
@@ -209,17 +220,43 @@ fn take_first<R: Read>(alloc: Global, reader: &mut R) -> io::Result<()> {
     Ok(())
 }
 
+fn tell_listed(rt: &HostRuntime, shards: &Shards, object: &[u8]) -> anyhow::Result<()> {
+    let listed = listed_cells(rt.alloc(), shards, object)?;
+    println!(rt; "listed {:?}", listed)?;
+    Ok(())
+}
+
+fn tell_compact(rt: &HostRuntime, shards: &Shards, object: &[u8]) -> anyhow::Result<()> {
+    let compact = again!(shards.compact(rt.alloc(), object))?;
+    println!(rt; "compact {:?}", compact)?;
+    Ok(())
+}
+
+fn tell_decoded(rt: &HostRuntime, shards: &Shards, object: &[u8]) -> anyhow::Result<()> {
+    let decoded = again!(shards.decode(rt.alloc(), object))?;
+    println!(rt; "decoded {:?}", decoded)?;
+    Ok(())
+}
+
+fn tell_object(rt: &HostRuntime, shards: &Shards, object: &[u8]) -> anyhow::Result<()> {
+    println!(rt; "object {:?}", object)?;
+    tell_listed(rt, shards, object)?;
+    tell_compact(rt, shards, object)?;
+    tell_decoded(rt, shards, object)
+}
+
+fn tell(rt: &HostRuntime, shards: &Shards) -> anyhow::Result<()> {
+    let alloc = rt.alloc();
+    let object = written(alloc, shards, stored(alloc, shards)?)?;
+    tell_object(rt, shards, &object)?;
+    let erased = erased(alloc, shards, object)?;
+    println!(rt; "erased {:?}", erased)?;
+    Ok(())
+}
+
 fn main(rt: HostRuntime) -> anyhow::Result<()> {
     let alloc = rt.alloc();
     take_first(alloc, &mut rt.stdin())?;
     let shards = again!(Shards::new(alloc))?;
-    let object = written(alloc, &shards, stored(alloc, &shards)?)?;
-    println!(rt; "object {:?}", object)?;
-    println!(rt; "listed {:?}", listed_cells(alloc, &shards, &object)?)?;
-    let compact = again!(shards.compact(alloc, &object))?;
-    println!(rt; "compact {:?}", compact)?;
-    let decoded = again!(shards.decode(alloc, &object))?;
-    println!(rt; "decoded {:?}", decoded)?;
-    println!(rt; "erased {:?}", erased(alloc, &shards, object)?)?;
-    Ok(())
+    tell(&rt, &shards)
 }

@@ -23,6 +23,7 @@ use zarr_parts::{ArrayBytes, ChunkShape, CodecError, CodecOptions, DataType, Fil
 
 /// How shards are made (Zarr V3 codec `sharding_indexed`): the shape of a subchunk and the codec that encodes it, the codec that
 /// encodes the index and where it puts it, and in which order subchunks are written.
+#[derive(Clone, Copy)]
 pub struct Sharding<'a, I, X> {
     pub subchunk_shape: &'a ChunkShape,
     pub inner: &'a I,

@@ -2,6 +2,7 @@
 use zarr_parts::{ChunkShape, CodecOptions, DataType, FillValue};
 
 /// The inner codec of a shard, and what it is asked to serve of each subchunk: its shape, its data type and its fill value.
+#[derive(Clone, Copy)]
 pub struct Subchunks<'a, I> {
     pub codec: &'a I,
     pub shape: &'a ChunkShape,

@@ -5,6 +5,7 @@ use zarr_parts::ChunkShape;
 
 /// What a write into a shard is about: its subchunks by their codec, its index by the index codec, what is known of the index
 /// before it is looked at, and the shape of the shard.
+#[derive(Clone, Copy)]
 pub struct Writing<'a, I, X> {
     pub subchunks: Subchunks<'a, I>,
     pub index_codec: IndexCodec<'a, X>,
