@@ -103,15 +103,17 @@ fn opened<'c, I: ArrayToBytesCodecTraits, X: ArrayToBytesCodecTraits, H: BytesPa
 
 /// Reads the cells of a box of a shard that is open.
 pub fn read_cells<
+    'd,
     I: ArrayToBytesCodecTraits,
     X: ArrayToBytesCodecTraits,
     H: BytesPartialDecoderTraits,
 >(
     alloc: Global,
-    decoder: &mut ShardingPartialDecoder<'_, I, X, H>,
+    decoder: &'d mut ShardingPartialDecoder<'_, I, X, H>,
     subset: &ArraySubset,
-) -> Result<ArrayBytes<'static>, CodecError> {
-    decoder.partial_decode(alloc, subset, &CodecOptions::default())
+) -> Result<ArrayBytes<'d>, CodecError> {
+    let cells = decoder.partial_decode(alloc, subset, &CodecOptions::default())?;
+    Ok(cells)
 }
 
 /// Reads the bytes of a subchunk of a shard that is open, decodes them, and lets the cells go.

@@ -33,7 +33,24 @@ fn put_part<R: Files + AllocGlobal>(
     Ok(())
 }
 
-// Reads the part of a box that lies in a shard, which is open.
+// Reads the part of a box that lies in a shard, which is open, or says how that is refused.
+fn read_open_part<R: Files + AllocGlobal>(
+    array: &Array<'_, R>,
+    asked: &ArraySubset,
+    part: &ShardPart,
+    decoder: &mut Decoder<'_, '_, R>,
+    cells: &mut Option<BoxCells>,
+) -> Result<Option<CodecError>, Stop> {
+    match read_cells(array.alloc(), decoder, &part.in_shard) {
+        Ok(found) => {
+            put_part(array, asked, part, &found, cells)?;
+            Ok(None)
+        }
+        Err(error) => Ok(Some(error)),
+    }
+}
+
+// Reads the part of a box that lies in a shard with this key, which is open.
 fn read_opened<R: Files + AllocGlobal>(
     array: &Array<'_, R>,
     asked: &ArraySubset,
@@ -42,14 +59,14 @@ fn read_opened<R: Files + AllocGlobal>(
     mut decoder: Decoder<'_, '_, R>,
     cells: &mut Option<BoxCells>,
 ) -> Result<(), Stop> {
-    let read = read_cells(array.alloc(), &mut decoder, &part.in_shard);
+    let refused = read_open_part(array, asked, part, &mut decoder, cells);
     let file = decoder.close();
-    match read {
-        Ok(found) => put_part(array, asked, part, &found, cells),
-        Err(error) => {
+    match refused? {
+        Some(error) => {
             let refusal = array.refusal(key, &file, error, Place::reading(&error))?;
             Err(Stop::Refused(refusal))
         }
+        None => Ok(()),
     }
 }
 

@@ -8,10 +8,10 @@ mod read;
 mod sharding;
 
 pub use plan::Plan;
+pub use shard_cells::{check_asked, check_update, filled, gathered};
 pub use shard_format::{
     Asked, PartialDecoderCapability, PartialEncoderCapability, ShardingCodecOptions,
 };
-pub use shard_cells::{check_asked, check_update, filled, gathered};
 pub use shard_index::{IndexCodec, IndexPlan, check_pairs, without_pairs};
 pub use shard_layout::{LaidOut, gather_subchunk, joined_shard, placed};
 pub use shard_subchunks::{Stored, Subchunks};
