@@ -71,7 +71,8 @@ fn copy_bytes<const N: usize, const M: usize>(to: &mut [u8], from: &[u8])
     }
 }
 
-// Adds the first bytes of others behind bytes, by a copy of so many, of which what is too much is taken back.
+// Adds the first bytes of others behind bytes, by a copy of so many, of which what is too much is taken back. They go by a value
+// of their own, which lies apart from the bytes, so that nothing tests whether the two overlap.
 #[inline(always)]
 fn push_exactly<const N: usize>(
     bytes: &mut Vec<u8>,
@@ -83,8 +84,12 @@ fn push_exactly<const N: usize>(
     ensures ok { OnOk result (bytes.new.items ≡ bytes.old.items ++ take len from.now) }
     ensures err { OnErr result (bytes.new.items ≡ bytes.old.items) }
 {
+    let Some(first) = from.first_chunk::<N>() else {
+        unreachable!()
+    };
     let end = bytes.len() + len;
-    bytes.extend_from_slice(&from[..N])?;
+    let first = *first;
+    bytes.extend_from_slice(&first)?;
     bytes.truncate(end);
     Ok(())
 }

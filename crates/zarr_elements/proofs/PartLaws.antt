@@ -1,12 +1,12 @@
 -- Parts of a list between neighbouring offsets, one more at a time.
-use Rattle.std.proofs.Common.{◌≡◌, ℕ, ◌+◌, ◌-◌, ◌<◌, ◌≤◌, List, [], ◌∷◌, ◌++◌, length, get_or, take, drop, refl, ap, sym, ◌∙◌, arith, map, inl, inr}
-use Rattle.std.proofs.lemmas.List.{ext_get_or, map-append, drop_at, take_all, drop-append-le, take-append-le, length-drop, length-take-le, length-append, append-nil, append_assoc, length_push, get_or_append_left, get_or_push}
+use Rattle.std.proofs.Common.{◌≡◌, ℕ, zero, suc, ◌+◌, ◌-◌, ◌<◌, ◌≤◌, List, [], ◌∷◌, ◌++◌, length, get_or, take, drop, refl, ap, sym, ◌∙◌, arith, map, inl, inr}
+use Rattle.std.proofs.lemmas.List.{ext_get_or, map-append, drop_at, take_all, drop-append-le, take-append-le, length-drop, length-take-le, length-append, append-nil, append_assoc, length_push, get_or_append_left, get_or_push, get_or-take, get_or-drop, get_or_default}
 use Rattle.std.proofs.lemmas.List.FromFn.{map-range_with_len_more, length-range_with_len, get_or-range_with_len, length-map-range_with_len, get_or-map-range_with_len}
 use Rattle.std.proofs.lemmas.Bool.{cases_lt}
 use Rattle.std.specs.List.{All, range_with_len, slice_range}
 use Rattle.std.proofs.lemmas.List.Elements.{All-rest}
 use Rattle.std.proofs.lemmas.List.Folds.{drop_split}
-use Rattle.std.proofs.Math.Seq.{take-append-add}
+use Rattle.std.proofs.Math.Seq.{take-append-add, take-suc}
 use Rattle.zarr_elements.specs.Arrays.{AreOffsets, part, parts}
 use Rattle.zarr_boxes.specs.Numbering.{count_of}
 use Rattle.zarr_boxes.specs.Boxes.{Region, number_in}
@@ -136,6 +136,53 @@ added_more es xs ends from first i old start e ok lt end h =
           ∙ (append_assoc old (map f (range_with_len first i)) (p ∷ [])
           ∙ ap (λ ys. old ++ ys) (sym (map-range_with_len_more f first i (first + i) refl))));
     }
+
+-- a number is the offset where the part with a number ends, no lower than where the first begins nor past where the last ends
+pub record IsEnd (ends : List ℕ) (first count k e : ℕ) : Type 0 where
+  pub is : e ≡ get_or ends (first + k + 1) 0
+  pub past : get_or ends first 0 ≤ e
+  pub within : e ≤ get_or ends (first + count) 0
+
+pub end_of_part : (ends from : List ℕ) (first count k d : ℕ) → AreOffsets ends (length from) → first + count < length ends → k < count
+    → IsEnd ends first count k (get_or (slice_range ends (first + 1) (first + count + 1)) k d)
+end_of_part ends from first count k d ok fits lt =
+    let n : first + count + 1 - (first + 1) ≡ count = omega arith in
+    let at : first + 1 + k ≡ first + k + 1 = omega arith in
+    let is : get_or (slice_range ends (first + 1) (first + count + 1)) k d ≡ get_or ends (first + k + 1) 0 =
+    get_or-take (first + count + 1 - (first + 1)) (drop (first + 1) ends) k d (omega arith)
+    ∙ (get_or-drop (first + 1) ends k d ∙ (ap (λ j. get_or ends j d) at ∙ get_or_default ends (first + k + 1) d 0 (omega arith))) in
+    let here : first + (k + 1) ≡ first + k + 1 = omega arith in
+    let past = rw here at (rises_to ends (length from) first (k + 1) ok (omega arith)) in
+    let last : first + k + 1 + (count - (k + 1)) ≡ first + count = omega arith in
+    let within = rw last at (rises_to ends (length from) (first + k + 1) (count - (k + 1)) ok (omega arith)) in
+    record { is = is; past = rw is past; within = rw is within }
+
+-- the offsets where the parts end were moved to end behind others, all up to a number
+pub added_all : (es moved ends from : List ℕ) (first i : ℕ) (start : List ℕ) → AreOffsets es (length start) → AreOffsets ends (length from)
+    → first + i < length ends → i ≤ length moved
+    → ((k : ℕ) → k < i → get_or moved k 0 ≡ length start + (get_or ends (first + k + 1) 0 - get_or ends first 0))
+    → (xs : List ℕ) × AreAdded (es ++ take i moved) xs ends from first i (parts es start) start
+added_all es moved ends from first zero start ok h below enough are = (start, rw (append-nil es) (added_none es ends from first start ok))
+added_all es moved ends from first (suc i) start ok h below enough are =
+    let before = added_all es moved ends from first i start ok h (omega arith) (omega arith) (λ k lt. are k (omega arith)) in
+    let e = get_or moved i 0 in
+    let more : es ++ take (suc i) moved ≡ (es ++ take i moved) ++ e ∷ [] =
+    ap (λ ys. es ++ ys) (take-suc moved i 0 (omega arith)) ∙ sym (append_assoc es (take i moved) (e ∷ [])) in
+    let next : i + 1 ≡ suc i = omega arith in
+    let added = added_more (es ++ take i moved) before.0 ends from first i (parts es start) start e h (omega arith) (are i (omega arith)) before.1 in
+    (before.0 ++ part from ends (first + i), rw (more, ← next) added)
+
+-- the offsets were copied, and moved to end behind others
+pub moved_behind : (es moved ends from : List ℕ) (first count : ℕ) (start new : List ℕ) → AreOffsets es (length start) → AreOffsets ends (length from)
+    → first + count < length ends → new ≡ start ++ slice_range from (get_or ends first 0) (get_or ends (first + count) 0) → length moved ≡ count
+    → ((k : ℕ) → k < count → get_or moved k 0 ≡ length start + (get_or (slice_range ends (first + 1) (first + count + 1)) k 0 - get_or ends first 0))
+    → AreAdded (es ++ moved) new ends from first count (parts es start) start
+moved_behind es moved ends from first count start new ok h fits is many are =
+    let all = added_all es moved ends from first count start ok h fits (omega arith)
+    (λ k lt. are k lt ∙ ap (λ e. length start + (e - get_or ends first 0)) (end_of_part ends from first count k 0 h fits lt).is) in
+    let whole : take count moved ≡ moved = take_all count moved (omega arith) in
+    let bytes : all.0 ≡ new = all.1.bytes ∙ sym is in
+    rw (whole, bytes) at all.1
 
 -- a walk over the runs of a box: some are left, and the parts at the places before them were taken
 pub record AreTaken (f : ℕ → List ℕ) (box : Region) (shape : List ℕ) (done : ℕ) (runs : List (ℕ × ℕ)) (taken : List (List ℕ)) : Type 0 where

@@ -19,7 +19,7 @@ mod update;
 
 use crate::data_type::{DataType, DataTypeSize};
 use crate::fill_value::FillValue;
-pub use builder::ArrayBuilder;
+pub use builder::{ArrayBuilder, push_part};
 use byte_rows::{piece_at, run_at};
 pub use fill::repeated;
 pub use owned::VariableParts;

@@ -7,7 +7,9 @@ mod fill_value;
 mod numbers;
 mod target;
 
-pub use array_bytes::{ArrayBuilder, ArrayBytes, VariableParts, repeated, update_array_bytes};
+pub use array_bytes::{
+    ArrayBuilder, ArrayBytes, VariableParts, push_part, repeated, update_array_bytes,
+};
 pub use byte_rows::scatter;
 pub use data_type::{DataType, DataTypeSize};
 pub use fill_value::FillValue;

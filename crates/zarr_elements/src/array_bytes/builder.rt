@@ -1,6 +1,7 @@
 // Arrays that are made one element after the other.
-ghost use Rattle.std.specs.Prelude.{◌≡◌, ◌≢◌, ◌<◌, ◌≤◌, ◌^◌, ◌+◌, ◌++◌, ◌∷◌, [], IfOk, OnOk, OnErr, length, map, slice_index, slice_range, take};
+ghost use Rattle.std.specs.Prelude.{◌≡◌, ◌≢◌, ◌<◌, ◌≤◌, ◌^◌, ◌+◌, ◌++◌, ◌∷◌, ◌-◌, [], All, EachIndex, IfOk, OnOk, OnErr, length, map, slice_index, slice_range, take};
 ghost use Rattle.std.specs.List.{range_with_len};
+ghost use Rattle.std.specs.Vec.{vec_len, vec_capacity};
 ghost use Rattle.zarr_elements.specs.Types.{FitsKind};
 ghost use Rattle.zarr_elements.specs.Arrays.{AreOffsets, element_of, part, parts};
 ghost use Rattle.zarr_elements.specs.declared.data_type.DataTypeSize.TheVariants.{Fixed, Variable};
@@ -29,22 +30,25 @@ impl Model for ArrayBuilder {
     ghost invariant = { λ builder. IsHeld builder.held builder.bytes.items };
 }
 
-// Adds a part, which is the first bytes of others, behind the others, and the offset where it ends. Where that is refused the
-// parts are as they were.
+/// Adds a part, which is the first `len` of some bytes, behind the others, and the offset where it ends, for which there is room.
+/// It is quickest where more bytes stand behind the part, and `bytes` has room. Refused only as out of memory; the parts are then
+/// as they were.
 #[inline(always)]
-fn push_part(
+pub fn push_part(
     bytes: &mut Vec<u8>,
     offsets: &mut Vec<usize>,
     from: &[u8],
     len: usize,
 ) -> Result<(), AllocError>
     requires offsets { AreOffsets offsets.old.items (length bytes.old.items) }
+    requires room { vec_len offsets.old < vec_capacity offsets.old }
     requires within { len ≤ length from.now }
     ensures offsets { AreOffsets offsets.new.items (length bytes.new.items) }
+    ensures len { OnOk result (vec_len offsets.new ≡ vec_len offsets.old + 1) }
+    ensures capacity { vec_capacity offsets.new ≡ vec_capacity offsets.old }
     ensures ok { OnOk result (parts offsets.new.items bytes.new.items ≡ parts offsets.old.items bytes.old.items ++ take len from.now ∷ []) }
     ensures err { OnErr result (parts offsets.new.items bytes.new.items ≡ parts offsets.old.items bytes.old.items) }
 {
-    offsets.reserve(1)?;
     push_front(bytes, from, len)?;
     offsets.push_reserved(bytes.len());
     Ok(())
@@ -59,8 +63,18 @@ fn parts_at<'a>(from: &'a [u8], ends: &[usize], first: usize, count: usize) -> &
     &from[ends[first]..ends[first + count]]
 }
 
-// Adds neighbouring parts of a list behind the others, by one copy of their bytes, and the offsets where they end. Where that is
-// refused the parts are as they were.
+// Moves offsets that count from one number to count from another.
+fn move_offsets(offsets: &mut [usize], from: usize, to: usize)
+    requires { All (λ end. (from ≤ end) × (to + (end - from) < 2 ^ 64)) offsets.old }
+    ensures { EachIndex offsets.new (λ k. slice_index offsets.new k ≡ to + (slice_index offsets.old k - from)) }
+{
+    for end in offsets.iter_mut() {
+        *end = to + (*end - from);
+    }
+}
+
+// Adds neighbouring parts of a list behind the others, by one copy of their bytes and one of the offsets where they end. Where
+// that is refused the parts are as they were.
 pub(super) fn push_parts(
     bytes: &mut Vec<u8>,
     offsets: &mut Vec<usize>,
@@ -77,12 +91,13 @@ pub(super) fn push_parts(
         ≡ parts offsets.old.items bytes.old.items ++ map (part from.now ends.now) (range_with_len first count)) }
     ensures err { OnErr result (parts offsets.new.items bytes.new.items ≡ parts offsets.old.items bytes.old.items) }
 {
-    let (start, begin) = (bytes.len(), ends[first]);
+    let (start, held) = (bytes.len(), offsets.len());
     offsets.reserve(count)?;
     bytes.extend_from_slice(parts_at(from, ends, first, count))?;
-    for i in 0..count {
-        offsets.push_reserved(start + (ends[first + i + 1] - begin));
-    }
+    let Ok(()) = offsets.extend_from_slice(&ends[first + 1..first + count + 1]) else {
+        unreachable!()
+    };
+    move_offsets(offsets.slice_mut(held..), ends[first], start);
     Ok(())
 }
 
@@ -135,7 +150,10 @@ impl ArrayBuilder {
     {
         match &mut self.held {
             Held::Fixed(_) => Ok(push_front(&mut self.bytes, from, len)?),
-            Held::Variable(offsets) => push_part(&mut self.bytes, offsets, from, len),
+            Held::Variable(offsets) => {
+                offsets.reserve(1)?;
+                push_part(&mut self.bytes, offsets, from, len)
+            }
         }
     }
 

@@ -1,9 +1,9 @@
 // Arrays that own their bytes, made of arrays that may only lend them, and the bytes of arrays.
-ghost use Rattle.std.specs.Prelude.{◌≡◌, ◌≢◌, IfOk, IfErr, OnOk};
+ghost use Rattle.std.specs.Prelude.{◌≡◌, ◌≢◌, IfOk, IfErr, OnOk, length};
 ghost use Rattle.std.specs.Cow.{cow_slice_items};
 ghost use Rattle.std.specs.List.{concat};
 ghost use Rattle.zarr_words.specs.declared.error.CodecError.TheVariants.{WrongElementKind};
-ghost use Rattle.zarr_elements.specs.Arrays.{variable_array};
+ghost use Rattle.zarr_elements.specs.Arrays.{AreOffsets, variable_array};
 ghost use Rattle.zarr_elements.specs.declared.data_type.DataTypeSize.TheVariants.{Variable};
 
 use super::{ArrayBytes, Held};
@@ -30,6 +30,18 @@ impl<'a> ArrayBytes<'a> {
         match held {
             Held::Fixed(_) => Ok(bytes),
             Held::Variable(_) => Err(CodecError::WrongElementKind),
+        }
+    }
+
+    /// Elements that lie between neighbouring offsets, which begin at 0, never fall and end at the number of bytes.
+    pub fn from_variable(parts: VariableParts<'a>) -> Self
+        requires { AreOffsets parts.offsets.items (length (cow_slice_items parts.bytes)) }
+        ensures { result ≡ variable_array parts.entry.offsets.items (cow_slice_items parts.entry.bytes) }
+    {
+        let VariableParts { bytes, offsets } = parts;
+        ArrayBytes {
+            bytes,
+            held: Held::Variable(offsets),
         }
     }
 

@@ -8,5 +8,5 @@ returns-clause-ok c =
     let part = take c.args.len c.args.from.now in
     let end : c.len.result ≡ length c.args.bytes.now.items + length part =
     omega (arith, c.len.ensures, ap length bytes, length-append c.args.bytes.now.items part) in
-    rw (c.push_reserved.ensures.items, c.reserve.ensures.items, bytes)
+    rw (c.push_reserved.ensures.items, bytes)
     (parts_more c.args.offsets.now.items c.args.bytes.now.items part c.len.result c.requires.offsets end)

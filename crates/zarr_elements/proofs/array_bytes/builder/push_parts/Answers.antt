@@ -1,71 +1,112 @@
-use Rattle.std.proofs.Common.{◌≡◌, ◌+◌, ◌-◌, ◌++◌, length, get_or, drop, arith, ap, sym, ◌∙◌}
-use Rattle.std.proofs.lemmas.List.{length-append, length-drop, length-take-le}
-use Rattle.zarr_elements.specs.Arrays.{part}
-use Rattle.zarr_elements.proofs.ArrayLaws.{rises_to, offset_within}
-use Rattle.zarr_elements.proofs.PartLaws.{added_none, added_more}
+use Rattle.std.proofs.Common.{◌≡◌, ℕ, ◌+◌, ◌-◌, ◌<◌, List, [], ◌++◌, length, get_or, take, drop, arith, ap, ◌∙◌}
+use Rattle.std.proofs.lemmas.List.{length-append, length-drop, length-take-le, take_all, drop_all, append-nil}
+use Rattle.std.proofs.Math.Seq.{take-append_seam, drop-append_seam}
+use Rattle.std.specs.List.{slice_range}
+use Rattle.zarr_elements.specs.Arrays.{AreOffsets, parts}
+use Rattle.zarr_elements.proofs.ArrayLaws.{offset_within}
+use Rattle.zarr_elements.proofs.PartLaws.{AreAdded, end_of_part, moved_behind}
 use Rattle.zarr_elements.proofs.array_bytes.builder.push_parts.Goals as goal
-use Rattle.zarr_elements.proofs.array_bytes.builder.push_parts.Goals.{After-loop-i}
+use Rattle.zarr_elements.proofs.array_bytes.builder.push_parts.Goals.{After-slice_mut, After-move_offsets}
 
-pub loop-i-init : goal.loop-i-init
-loop-i-init c =
-    record {
-      added = (
-        c.args.bytes.now.items,
-        rw (c.reserve.ensures.items) (added_none c.args.offsets.now.items c.args.ends.now c.args.from.now c.args.first c.args.bytes.now.items c.requires.offsets),
-      );
-      room = omega (arith, c.in_ok-reserve.ensures.capacity, c.in_ok-reserve.ensures.len, c.in_ok-reserve.ensures.ok);
-    }
+-- what was added behind a list is what stands behind it
+behind : (old added items : List ℕ) (held len : ℕ) → items ≡ old ++ added → held ≡ length old → len ≡ length items → slice_range items held len ≡ added
+behind old added items held len is h l =
+    let long : length items ≡ length old + length added = ap length is ∙ length-append old added in
+    let rest : drop held items ≡ added = rw (is, h) (drop-append_seam old added) in
+    ap (take (len - held)) rest ∙ take_all (len - held) added (omega arith)
 
-pub overflow_sub-ends : goal.overflow_sub-ends
-overflow_sub-ends c =
-    let rise = rises_to c.args.ends.now (length c.args.from.now) c.args.first (c.loop-i.i + 1) c.requires.ends
-    (omega (arith, c.requires.within, c.loop-i-test.true)) in
-    let next : c.args.first + (c.loop-i.i + 1) ≡ c.args.first + c.loop-i.i + 1 = omega arith in
-    rw next at rise
+-- a list that was written over from a place on
+abbrev front_over : ℕ → List ℕ → List ℕ → List ℕ
+front_over held items moved = take held items ++ (moved ++ drop (length moved) (drop held items))
 
-pub overflow_add-start : goal.overflow_add-start
-overflow_add-start c =
-    let size = length c.args.from.now in
+abbrev written_over : ℕ → List ℕ → List ℕ → List ℕ
+written_over held items moved = front_over held items moved ++ drop (length (front_over held items moved)) items
+
+written_back : (old added items moved : List ℕ) (held len : ℕ) → items ≡ old ++ added → held ≡ length old → len ≡ length items → length moved ≡ length added
+    → take len (written_over held items moved) ≡ old ++ moved
+written_back old added items moved held len is h l m =
+    let long : length items ≡ length old + length added = ap length is ∙ length-append old added in
+    let front : take held items ≡ old = rw (is, h) (take-append_seam old added) in
+    let past : drop (length moved) (drop held items) ≡ [] = drop_all (length moved) (drop held items) (omega (arith, length-drop held items)) in
+    let whole : length (old ++ moved) ≡ len = omega (arith, length-append old moved) in
+    rw (front, past, append-nil moved, ← whole) (take-append_seam (old ++ moved) (drop (length (old ++ moved)) items))
+
+-- the copied bytes are as many as the last offset tells
+joined : (from ends old new : List ℕ) (first count : ℕ) → AreOffsets ends (length from) → first + count < length ends
+    → new ≡ old ++ slice_range from (get_or ends first 0) (get_or ends (first + count) 0)
+    → length new ≡ length old + (get_or ends (first + count) 0 - get_or ends first 0)
+joined from ends old new first count ok fits is =
+    let a = get_or ends first 0 in
+    let z = get_or ends (first + count) 0 in
+    let within = offset_within ends (length from) (first + count) ok fits in
+    let taken : length (slice_range from a z) ≡ z - a = length-take-le (z - a) (drop a from) (omega (arith, length-drop a from, within)) in
+    ap length is ∙ (length-append old (slice_range from a z) ∙ ap (λ n. length old + n) taken)
+
+-- as many offsets are copied as there are parts
+length-copied : (ends : List ℕ) (first count : ℕ) → first + count < length ends → length (slice_range ends (first + 1) (first + count + 1)) ≡ count
+length-copied ends first count fits =
+    length-take-le (first + count + 1 - (first + 1)) (drop (first + 1) ends) (omega (arith, length-drop (first + 1) ends)) ∙ omega arith
+
+-- the copied offsets stand behind the others
+copied : (c : After-slice_mut) → c.extend_from_slice-2.new.self.items ≡ c.args.offsets.now.items ++ slice_range c.args.ends.now (c.args.first + 1) (c.args.first + c.args.count + 1)
+copied c =
+    c.in-Ok.ensures.items ∙ ap (λ ys. ys ++ slice_range c.args.ends.now (c.args.first + 1) (c.args.first + c.args.count + 1)) c.reserve.ensures.items
+
+lent : (c : After-slice_mut) → c.slice_mut.result.now ≡ slice_range c.args.ends.now (c.args.first + 1) (c.args.first + c.args.count + 1)
+lent c =
+    let added = slice_range c.args.ends.now (c.args.first + 1) (c.args.first + c.args.count + 1) in
+    c.slice_mut.ensures.value
+    ∙ behind c.args.offsets.now.items added c.extend_from_slice-2.new.self.items c.len-held.result _ (copied c) (omega (arith, c.len-held.ensures)) (omega arith)
+
+-- the copied bytes stand behind the others
+bytes_copied : (c : After-slice_mut) → c.extend_from_slice.new.self.items
+    ≡ c.args.bytes.now.items ++ slice_range c.args.from.now (get_or c.args.ends.now c.args.first 0) (get_or c.args.ends.now (c.args.first + c.args.count) 0)
+bytes_copied c = c.in_ok-extend_from_slice.ensures.items ∙ ap (λ ys. c.args.bytes.now.items ++ ys) c.parts_at.ensures
+
+pub move_offsets-requires : goal.move_offsets-requires
+move_offsets-requires c = λ k d lt.
+    let at = (goal.at.move_offsets-requires c).After-slice_mut in
     let ends = c.args.ends.now in
-    let a = get_or ends c.args.first 0 in
-    let z = get_or ends (c.args.first + c.args.count) 0 in
-    let left = c.args.count - (c.loop-i.i + 1) in
-    let rise = rises_to ends size (c.args.first + c.loop-i.i + 1) left c.requires.ends (omega (arith, c.requires.within, c.loop-i-test.true)) in
-    let at : c.args.first + c.loop-i.i + 1 + left ≡ c.args.first + c.args.count = omega (arith, c.loop-i-test.true) in
-    let below = rw at at rise in
-    let within = offset_within ends size (c.args.first + c.args.count) c.requires.ends c.requires.within in
-    let first = rises_to ends size c.args.first c.args.count c.requires.ends c.requires.within in
-    let long = ap length c.in_ok-extend_from_slice.ensures.items ∙ length-append c.args.bytes.now.items c.parts_at.result.now in
-    let taken : length c.parts_at.result.now ≡ z - a =
-    ap length c.parts_at.ensures ∙ length-take-le (z - a) (drop a c.args.from.now) (omega (arith, length-drop a c.args.from.now, within)) in
-    omega (arith, below, first, long, taken, c.len-start.ensures, c.extend_from_slice.new.self.ok.0)
-
-pub push_reserved-requires : goal.push_reserved-requires
-push_reserved-requires c = omega (arith, c.loop-i.invariant.room, c.loop-i-test.true)
-
-pub loop-i-preserved : goal.loop-i-preserved
-loop-i-preserved c =
-    let known = c.loop-i.invariant in
-    record {
-      added = (
-        known.added.0 ++ part c.args.from.now c.args.ends.now (c.args.first + c.loop-i.i),
-        rw c.push_reserved.ensures.items (added_more c.loop-i.offsets.items known.added.0 c.args.ends.now c.args.from.now c.args.first c.loop-i.i _ c.args.bytes.now.items _
-            c.requires.ends (omega (arith, c.requires.within, c.loop-i-test.true)) (omega (arith, c.len-start.ensures, c.args.bytes.now.ok.0)) known.added.1),
-      );
-      room = omega (arith, known.room, c.push_reserved.ensures.len, c.push_reserved.ensures.capacity, c.loop-i-test.true);
-    }
+    let are = lent at in
+    let below : k < c.args.count = omega (arith, ap length are, length-copied ends c.args.first c.args.count c.requires.within, lt) in
+    let end = end_of_part ends c.args.from.now c.args.first c.args.count k d c.requires.ends c.requires.within below in
+    let long = joined c.args.from.now ends c.args.bytes.now.items c.extend_from_slice.new.self.items c.args.first c.args.count c.requires.ends c.requires.within
+    (bytes_copied at) in
+    rw are (end.past, omega (arith, end.past, end.within, long, c.len-start.ensures, c.extend_from_slice.new.self.ok.0))
 
 -- all parts were added
-whole : (c : After-loop-i) → c.loop-i.invariant.added.0 ≡ c.extend_from_slice.new.self.items
-whole c =
-    let all : c.loop-i.i ≡ c.args.count = omega (arith, c.loop-i.auto.i-end, c.loop-i-test.false) in
-    rw (all) at (c.loop-i.invariant.added.1.bytes) ∙ (ap (λ ys. c.args.bytes.now.items ++ ys) (sym c.parts_at.ensures) ∙ sym c.in_ok-extend_from_slice.ensures.items)
+whole : (c : After-move_offsets) → c.slice_mut.result.now ≡ slice_range c.args.ends.now (c.args.first + 1) (c.args.first + c.args.count + 1)
+    → c.extend_from_slice.new.self.items ≡ c.args.bytes.now.items ++ slice_range c.args.from.now (get_or c.args.ends.now c.args.first 0) (get_or c.args.ends.now (c.args.first + c.args.count) 0)
+    → AreAdded (c.args.offsets.now.items ++ c.move_offsets.new.offsets) c.extend_from_slice.new.self.items c.args.ends.now c.args.from.now
+    c.args.first c.args.count (parts c.args.offsets.now.items c.args.bytes.now.items) c.args.bytes.now.items
+whole c lent bytes =
+    let a = get_or c.args.ends.now c.args.first 0 in
+    let copies = slice_range c.args.ends.now (c.args.first + 1) (c.args.first + c.args.count + 1) in
+    let many : length c.move_offsets.new.offsets ≡ c.args.count =
+    c.move_offsets.auto.offsets ∙ (ap length lent ∙ length-copied c.args.ends.now c.args.first c.args.count c.requires.within) in
+    let start : c.len-start.result ≡ length c.args.bytes.now.items = omega (arith, c.len-start.ensures) in
+    moved_behind c.args.offsets.now.items c.move_offsets.new.offsets c.args.ends.now c.args.from.now c.args.first c.args.count c.args.bytes.now.items _
+    c.requires.offsets c.requires.ends c.requires.within bytes many
+    (λ k lt. c.move_offsets.ensures k (omega (arith, many))
+    ∙ (ap (λ n. n + (get_or c.slice_mut.result.now k 0 - a)) start ∙ ap (λ ys. length c.args.bytes.now.items + (get_or ys k 0 - a)) lent))
+
+-- the offsets are those that there were and the moved ones
+written : (c : After-move_offsets) → c.extend_from_slice-2.new.self.items ≡ c.args.offsets.now.items ++ slice_range c.args.ends.now (c.args.first + 1) (c.args.first + c.args.count + 1)
+    → c.slice_mut.result.now ≡ slice_range c.args.ends.now (c.args.first + 1) (c.args.first + c.args.count + 1)
+    → take c.extend_from_slice-2.new.self.len (written_over c.len-held.result c.extend_from_slice-2.new.self.items c.move_offsets.new.offsets)
+    ≡ c.args.offsets.now.items ++ c.move_offsets.new.offsets
+written c copied lent =
+    written_back c.args.offsets.now.items _ c.extend_from_slice-2.new.self.items c.move_offsets.new.offsets c.len-held.result c.extend_from_slice-2.new.self.len copied
+    (omega (arith, c.len-held.ensures)) (omega arith) (c.move_offsets.auto.offsets ∙ ap length lent)
 
 pub returns-clause-offsets : goal.returns-clause-offsets
-returns-clause-offsets c = rw (← whole c) c.loop-i.invariant.added.1.are_offsets
+returns-clause-offsets c =
+    let b = (goal.at.returns-clause-offsets c).After-slice_mut in
+    let m = (goal.at.returns-clause-offsets c).After-move_offsets in
+    rw (written m (copied b) (lent b)) (whole m (lent b) (bytes_copied b)).are_offsets
 
 pub returns-clause-ok : goal.returns-clause-ok
 returns-clause-ok c =
-    let all : c.loop-i.i ≡ c.args.count = omega (arith, c.loop-i.auto.i-end, c.loop-i-test.false) in
-    let so_far = c.loop-i.invariant.added.1.so_far in
-    rw (← whole c, ← all) so_far
+    let b = (goal.at.returns-clause-ok c).After-slice_mut in
+    let m = (goal.at.returns-clause-ok c).After-move_offsets in
+    rw (written m (copied b) (lent b)) (whole m (lent b) (bytes_copied b)).so_far
