@@ -3,10 +3,12 @@ use crate::compared::{same, same_at};
 use crate::examples::Elements::{Fixed, Variable};
 use crate::examples::{Elements, array_of, fill, has, subset};
 use std::alloc::Global;
+use std::borrow::CowSlice;
 use std::ops::Range;
 use std::test::Fail;
+use zarr_elements::push_part;
 use zarr_parts::{
-    ArrayBuilder, ArrayBytes, CodecError, DataType, DataTypeSize, update_array_bytes,
+    ArrayBuilder, ArrayBytes, CodecError, DataType, DataTypeSize, VariableParts, update_array_bytes,
 };
 
 const SQUARE: [u8; 16] = [0, 1, 2, 3, 4, 5, 6, 7, 8, 9, 10, 11, 12, 13, 14, 15];
@@ -59,6 +61,23 @@ fn first_bytes_are_pushed(rt: HostRuntime) {
             );
         }
     }
+}
+
+// Parts that are put behind one another, with the offsets between them, become an array's elements.
+fn is_put_together(alloc: Global) -> Result<bool, CodecError> {
+    let mut bytes = Vec::new(alloc);
+    let mut offsets = Vec::with_capacity(alloc, 3)?;
+    offsets.push_reserved(0);
+    push_part(&mut bytes, &mut offsets, b"abx", 2)?;
+    push_part(&mut bytes, &mut offsets, b"c", 1)?;
+    let bytes = CowSlice::Owned(bytes);
+    let array = ArrayBytes::from_variable(VariableParts { bytes, offsets });
+    has(alloc, &array, Variable(&[0, 2, 3], b"abc"))
+}
+
+#[test]
+fn parts_are_put_together(rt: HostRuntime) {
+    assert!(rt; is_put_together(rt.alloc()) == Ok(true));
 }
 
 // What an array tells: its kind, how many elements it has, the first, and its bytes where the elements have one size.

@@ -1,16 +1,16 @@
 -- Steps of texts of elements: how long they are, and how they are read.
-use Rattle.std.proofs.Common.{◌≡◌, ◌<◌, ◌^◌, ◌+◌, ◌*◌, ◌-◌, ◌++◌, ℕ, suc, false, nat_lt, nat_eq, [], ◌∷◌, Option, Some, None, IsSome, length, take, drop, option_map, refl, sym, ap, ◌∙◌, arith, length-append, append_assoc, inl, inr}
-use Rattle.std.proofs.lemmas.List.{append-nil}
+use Rattle.std.proofs.Common.{◌≡◌, ◌<◌, ◌≤◌, ◌^◌, ◌+◌, ◌*◌, ◌-◌, ◌++◌, ℕ, zero, suc, Bool, true, false, nat_lt, nat_le, nat_eq, if◌then◌else◌, [], ◌∷◌, Option, Some, None, IsSome, IfSome, length, take, drop, option_map, option_and_then, refl, sym, ap, ◌∙◌, arith, length-append, append_assoc, inl, inr}
+use Rattle.std.proofs.lemmas.List.{append-nil, length-drop}
 use Rattle.std.proofs.lemmas.List.Concat.{flat_map-cons}
 use Rattle.std.proofs.lemmas.List.Sums.{sum_by-cons, get_or-le-sum_by}
-use Rattle.std.proofs.lemmas.Bool.{le-ltb, lt-ltb, eqb-false}
+use Rattle.std.proofs.lemmas.Bool.{le-ltb, lt-ltb, ltb-false, eqb-false}
 use Rattle.std.specs.Int.{w32, from_le_bytes}
 use Rattle.std.specs.List.{All, flat_map, sum_by}
 use Rattle.zarr_parts.specs.Words.{Bytes, Elements}
 use Rattle.zarr_parts.specs.Order.{RefusedBy}
 use Rattle.zarr_parts.specs.CodecError.TheVariants.{Damaged}
 use Rattle.whole_arrays.specs.WholeArrays.{WholeTests}
-use Rattle.variable_codec.specs.Text.{number_bytes, element_text, vlen_text, first_number, first_element, elements_in}
+use Rattle.variable_codec.specs.Text.{number_bytes, element_text, vlen_text, first_number, first_bytes, first_element, elements_in}
 use Rattle.variable_codec.specs.VlenLaws.{length-number_bytes, elements_in-more, elements_in-none}
 
 -- the elements behind their lengths
@@ -82,6 +82,36 @@ read_all count text so_far i rest end none h =
     h
     ∙ (ap (λ n. option_map (λ es. so_far ++ es) (elements_in n rest)) left
     ∙ (ap (option_map (λ es. so_far ++ es)) (all_read rest none) ∙ ap Some (append-nil so_far)))
+
+-- behind an element and its length are at least four bytes fewer
+abbrev IsShorter : Bytes → Option (Bytes × Bytes) → Type 0
+IsShorter b found = IfSome found (λ (e, rest). length rest + 4 ≤ length b)
+
+bytes_shorter : (n : ℕ) (rest b : Bytes) (enough : Bool) → length rest + 4 ≤ length b → IsShorter b (if enough then Some (take n rest, drop n rest) else None)
+bytes_shorter n rest b true long = omega (arith, length-drop n rest, long)
+bytes_shorter n rest b false long = tt
+
+first_shorter : (b : Bytes) → IsShorter b (first_element b)
+unfolding first_number
+first_shorter b = split (nat_lt (length b) 4) refl
+  where
+    split : (short : Bool) → nat_lt (length b) 4 ≡ short
+        → IsShorter b (option_and_then (λ (found : ℕ × Bytes). first_bytes found.0 found.1) (if short then None else Some (from_le_bytes w32 (take 4 b), drop 4 b)))
+    split true is = tt
+    split false is =
+        let n = from_le_bytes w32 (take 4 b) in
+        bytes_shorter n (drop 4 b) b (nat_le n (length (drop 4 b))) (omega (arith, length-drop 4 b, ltb-false (length b) 4 is))
+
+-- each element takes at least four bytes
+none_after : (n : ℕ) (text : Bytes) (found : Option (Bytes × Bytes)) → first_element text ≡ found → IsShorter text found → length text < 4 * suc n
+    → ((rest : Bytes) → length rest < 4 * n → elements_in n rest ≡ None) → elements_in (suc n) text ≡ None
+none_after n text None is shorter short later = elements_in-none n text is
+none_after n text (Some found) is shorter short later =
+    elements_in-more n text found.0 found.1 is ∙ ap (option_map (λ es. found.0 ∷ es)) (later found.1 (omega (arith, shorter)))
+
+pub too_many : (count : ℕ) (text : Bytes) → length text < 4 * count → elements_in count text ≡ None
+too_many zero text short = absurd (omega arith)
+too_many (suc n) text short = none_after n text (first_element text) refl (first_shorter text) short (too_many n)
 
 none_some : IsSome {T = Elements} None → ⊥
 none_some h = cc

@@ -7,7 +7,9 @@ ghost use Rattle.whole_arrays.specs.WholeArrays.{WholeTests};
 ghost use Rattle.variable_codec.specs.Text.{number_bytes, element_text, vlen_text, HasText, first_number, first_element, elements_in, vlen_elements};
 
 use std::alloc::{AllocError, Global};
-use zarr_parts::{ArrayBuilder, ArrayBytes, CodecError, DataTypeSize};
+use std::borrow::CowSlice;
+use zarr_elements::push_part;
+use zarr_parts::{ArrayBytes, CodecError, VariableParts};
 
 // Whether the length of each element is a number of four bytes.
 fn lengths_fit(array: &ArrayBytes) -> bool
@@ -97,7 +99,8 @@ fn split_len(text: &[u8]) -> Option<(usize, &[u8])>
     Some((len, rest))
 }
 
-// So many elements, each behind its length. Refused as `Damaged` where the text is anything else; or as `OutOfMemory`.
+// So many elements, each behind its length. Refused as `Damaged` where the text is anything else; or as `OutOfMemory`. Bytes and
+// offsets stand in variables of their own, which a loop keeps in registers where it could not keep a builder's.
 fn read_elements(
     alloc: Global,
     text: &[u8],
@@ -107,23 +110,26 @@ fn read_elements(
     ensures elements { IfOk result (λ array. elements_in count text.now ≡ Some array.elements) }
     ensures refused { IfErr result (RefusedBy (WholeTests (elements_in count text.now))) }
 {
-    let mut builder = ArrayBuilder::new(alloc, DataTypeSize::Variable)?;
-    // (room in proportion to the text, whatever it tells)
-    if count <= text.len() / 4 {
-        builder.reserve(count, text.len() - 4 * count)?;
+    // (so the room is in proportion to the text, whatever it tells)
+    if count > text.len() / 4 {
+        return Err(CodecError::Damaged);
     }
+    let mut bytes = Vec::with_capacity(alloc, text.len() - 4 * count)?;
+    let mut offsets = Vec::with_capacity(alloc, count + 1)?;
+    offsets.push_reserved(0);
     let mut rest = text;
     for i in 0..count {
         let Some((len, found)) = split_len(rest) else {
             return Err(CodecError::Damaged);
         };
-        builder.push_first(found, len)?;
+        push_part(&mut bytes, &mut offsets, found, len)?;
         rest = &found[len..];
     }
     if !rest.is_empty() {
         return Err(CodecError::Damaged);
     }
-    Ok(builder.finish())
+    let bytes = CowSlice::Owned(bytes);
+    Ok(ArrayBytes::from_variable(VariableParts { bytes, offsets }))
 }
 
 // The array of so many elements that a text is of. No count grows anything that the text is too short for. Refused as

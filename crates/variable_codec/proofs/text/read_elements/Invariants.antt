@@ -1,10 +1,12 @@
-use Rattle.std.proofs.Common.{◌≡◌, ◌-◌, ◌++◌, option_map}
-use Rattle.zarr_parts.specs.DataTypeSize.TheVariants.{Variable}
+use Rattle.std.proofs.Common.{◌≡◌, ◌≤◌, ◌+◌, ◌-◌, ◌++◌, length, option_map}
+use Rattle.std.specs.Vec.{vec_len, vec_capacity}
+use Rattle.zarr_parts.specs.Arrays.{AreOffsets, parts}
 use Rattle.variable_codec.specs.Text.{elements_in}
 use Rattle.variable_codec.proofs.text.read_elements.Given as goal
 
 abbrev pub invariant-loop-i : goal.invariant-loop-i
 invariant-loop-i l = record {
-  kind : l.builder.kind ≡ Variable;
-  read : elements_in l.count l.text ≡ option_map (λ es. l.builder.elements ++ es) (elements_in (l.count - l.i) l.rest);
+  offsets : AreOffsets l.offsets.items (length l.bytes.items);
+  room : vec_len l.offsets + (l.count - l.i) ≤ vec_capacity l.offsets;
+  read : elements_in l.count l.text ≡ option_map (λ es. parts l.offsets.items l.bytes.items ++ es) (elements_in (l.count - l.i) l.rest);
 }
