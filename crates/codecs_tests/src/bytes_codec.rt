@@ -1,48 +1,50 @@
 // The codec `bytes` on small arrays worked by hand.
 use crate::compared::{same, same_at};
-use crate::examples::{done, fill, fixed, shape};
+use crate::examples::{Asked, asked_for, checked, decoded, done, encoded, fixed, told};
 use std::alloc::Global;
 use std::borrow::CowSlice;
-use zarr_codecs::{ArrayToBytesCodecTraits, BytesCodec, BytesRepresentation, FunctionalCodec};
-use zarr_parts::{ArrayBytes, ChunkShape, CodecError, CodecOptions, DataType, FillValue};
+use zarr_codecs::{BytesCodec, BytesRepresentation, FunctionalCodec};
+use zarr_parts::{ArrayBytes, CodecError, DataType};
 
-fn encoded(
-    alloc: Global,
-    codec: BytesCodec,
-    data_type: &DataType,
-    axes: &ChunkShape,
-    zero: &FillValue,
-    array: &ArrayBytes,
-) -> Result<Vec<u8>, CodecError> {
-    let options = CodecOptions::default();
-    codec.encode(alloc, array, axes, data_type, zero, &options)
+// The numbers of 16 bits of these axes.
+fn numbers(alloc: Global, axes: &[u64]) -> Result<Asked, CodecError> {
+    asked_for(alloc, axes, DataType::UInt16, &[0, 0])
 }
 
-fn decoded<'a>(
+// Whether bytes are these, and are decoded to an array.
+fn is_text_of(
     alloc: Global,
     codec: BytesCodec,
-    data_type: &DataType,
-    axes: &ChunkShape,
-    zero: &FillValue,
-    bytes: &'a [u8],
-) -> Result<ArrayBytes<'a>, CodecError> {
-    let options = CodecOptions::default();
-    codec.decode(alloc, bytes, axes, data_type, zero, &options)
+    asked: &Asked,
+    array: &ArrayBytes,
+    bytes: &[u8],
+    want: &[u8],
+) -> Result<bool, CodecError> {
+    let again = decoded(alloc, &codec, asked, bytes)?;
+    Ok(again == *array && bytes == want)
 }
 
 // Whether an array is stored as these bytes, and they are decoded to it again.
 fn turns_over(
     alloc: Global,
     codec: BytesCodec,
-    data_type: &DataType,
-    zero: &FillValue,
+    asked: &Asked,
     array: &ArrayBytes,
     want: &[u8],
 ) -> Result<bool, CodecError> {
-    let axes = shape(alloc, &[array.len() as u64])?;
-    let stored = encoded(alloc, codec, data_type, &axes, zero, array)?;
-    let again = decoded(alloc, codec, data_type, &axes, zero, &stored)? == *array;
-    Ok(again && stored.as_slice() == want)
+    let stored = encoded(alloc, &codec, asked, array)?;
+    is_text_of(alloc, codec, asked, array, &stored, want)
+}
+
+// As many elements of this size, whose fill value is zero, as an array has.
+fn elements_like(
+    alloc: Global,
+    data_type: DataType,
+    size: usize,
+    array: &ArrayBytes,
+) -> Result<Asked, CodecError> {
+    let zero = Vec::from_elem(alloc, 0, size)?;
+    asked_for(alloc, &[array.len() as u64], data_type, &zero)
 }
 
 // The same of an array of elements of this size, whose fill value is zero.
@@ -55,8 +57,8 @@ fn is_stored_as(
     want: &[u8],
 ) -> Result<bool, CodecError> {
     let array = fixed(memory, size)?;
-    let zero = FillValue::new(Vec::from_elem(alloc, 0, size)?);
-    turns_over(alloc, codec, &data_type, &zero, &array, want)
+    let asked = elements_like(alloc, data_type, size, &array)?;
+    turns_over(alloc, codec, &asked, &array, want)
 }
 
 // Whole numbers are stored in the codec's byte order, and elements without one as they are.
@@ -83,16 +85,15 @@ fn whole_numbers_are_stored_in_their_order(rt: HostRuntime) {
 }
 
 // How the codec serves arrays of these axes, of this type and with this fill value.
-fn checked(
+fn serves(
     alloc: Global,
     codec: BytesCodec,
     data_type: DataType,
     value: &[u8],
     axes: &[u64],
 ) -> Result<(), CodecError> {
-    let axes = shape(alloc, axes)?;
-    let value = fill(alloc, value)?;
-    codec.check(alloc, &axes, &data_type, &value)
+    let asked = asked_for(alloc, axes, data_type, value)?;
+    checked(alloc, &codec, &asked)
 }
 
 // The type is tested before the fill value, and this before the shape.
@@ -120,23 +121,15 @@ fn types_fill_values_and_shapes_are_tested_in_order(rt: HostRuntime) {
         (unordered, DataType::Bool, &[0], &[2], Ok(())),
     ];
     for (codec, data_type, value, axes, want) in rows {
-        let answer = checked(rt.alloc(), codec, data_type, value, axes);
+        let answer = serves(rt.alloc(), codec, data_type, value, axes);
         same_at(&rt, (data_type, codec), answer, want);
     }
 }
 
 // How an array is encoded as two big-endian numbers of 16 bits.
 fn encode_two(alloc: Global, array: &ArrayBytes) -> Result<(), CodecError> {
-    let axes = shape(alloc, &[2])?;
-    let zero = fill(alloc, &[0, 0])?;
-    done(encoded(
-        alloc,
-        BytesCodec::big(),
-        &DataType::UInt16,
-        &axes,
-        &zero,
-        array,
-    ))
+    let two = numbers(alloc, &[2])?;
+    done(encoded(alloc, &BytesCodec::big(), &two, array))
 }
 
 fn encode_fixed(alloc: Global, bytes: &[u8], size: usize) -> Result<(), CodecError> {
@@ -172,16 +165,8 @@ fn arrays_of_no_fixed_size_are_refused(rt: HostRuntime) {
 
 // How bytes are decoded to two big-endian numbers of 16 bits.
 fn decode_two(alloc: Global, bytes: &[u8]) -> Result<(), CodecError> {
-    let axes = shape(alloc, &[2])?;
-    let zero = fill(alloc, &[0, 0])?;
-    done(decoded(
-        alloc,
-        BytesCodec::big(),
-        &DataType::UInt16,
-        &axes,
-        &zero,
-        bytes,
-    ))
+    let two = numbers(alloc, &[2])?;
+    done(decoded(alloc, &BytesCodec::big(), &two, bytes))
 }
 
 // Bytes are decoded where they are as many as the elements have.
@@ -200,10 +185,9 @@ fn bytes_of_another_length_are_refused(rt: HostRuntime) {
 }
 
 // What is told of the encodings of sixteen numbers of 16 bits.
-fn told(alloc: Global) -> Result<BytesRepresentation, CodecError> {
-    let axes = shape(alloc, &[4, 4])?;
-    let zero = fill(alloc, &[0, 0])?;
-    BytesCodec::big().encoded_representation(alloc, &axes, &DataType::UInt16, &zero)
+fn told_of_sixteen(alloc: Global) -> Result<BytesRepresentation, CodecError> {
+    let sixteen = numbers(alloc, &[4, 4])?;
+    told(alloc, &BytesCodec::big(), &sixteen)
 }
 
 // Each encoding has the length of the elements.
@@ -211,7 +195,7 @@ fn told(alloc: Global) -> Result<BytesRepresentation, CodecError> {
 fn encodings_have_one_length(rt: HostRuntime) {
     same(
         &rt,
-        told(rt.alloc()),
+        told_of_sixteen(rt.alloc()),
         Ok(BytesRepresentation::FixedSize(32)),
     );
 }

@@ -1,26 +1,17 @@
 // Codecs behind the codec `bytes`: one that puts the byte 42 behind bytes, and the checksum.
 use crate::compared::{same, same_at};
-use crate::examples::{fill, fixed, shape, subset};
+use crate::examples::{Asked, asked_for, decoded, encoded_elements, read_range_of, told};
 use std::alloc::Global;
 use test_codecs::MarkedCodec;
 use zarr_codecs::{
-    ArrayToBytesCodecTraits, BytesChain, BytesCodec, BytesRepresentation, BytesToBytesCodecTraits,
-    FunctionalCodec, Interval, MemoryHandle,
+    BytesChain, BytesCodec, BytesRepresentation, BytesToBytesCodecTraits, FunctionalCodec, Interval,
 };
 use zarr_crc32c::{Crc32cCodec, crc32c};
-use zarr_parts::{ArrayBytes, ChunkShape, CodecError, CodecOptions, DataType, FillValue};
+use zarr_parts::{ArrayBytes, CodecError, DataType};
 
-// An array of two bytes.
-#[derive(Drop)]
-struct Cells {
-    axes: ChunkShape,
-    zero: FillValue,
-}
-
-fn two_cells(alloc: Global) -> Result<Cells, CodecError> {
-    let axes = shape(alloc, &[2])?;
-    let zero = fill(alloc, &[0])?;
-    Ok(Cells { axes, zero })
+// Arrays of two bytes.
+fn two_cells(alloc: Global) -> Result<Asked, CodecError> {
+    asked_for(alloc, &[2], DataType::UInt8, &[0])
 }
 
 fn marked() -> BytesChain<BytesCodec, MarkedCodec> {
@@ -45,11 +36,9 @@ fn said(answer: &Result<Vec<u8>, CodecError>) -> Result<&[u8], CodecError> {
     }
 }
 
-fn encoded(alloc: Global, elements: &[u8]) -> Result<Vec<u8>, CodecError> {
-    let Cells { axes, zero } = two_cells(alloc)?;
-    let array = fixed(elements, 1)?;
-    let options = CodecOptions::default();
-    marked().encode(alloc, &array, &axes, &DataType::UInt8, &zero, &options)
+fn marked_text(alloc: Global, elements: &[u8]) -> Result<Vec<u8>, CodecError> {
+    let two = two_cells(alloc)?;
+    encoded_elements(alloc, &marked(), &two, elements, 1)
 }
 
 // A chain encodes what its first codec wrote, and refuses what that refuses.
@@ -57,15 +46,13 @@ fn encoded(alloc: Global, elements: &[u8]) -> Result<Vec<u8>, CodecError> {
 fn a_chain_encodes_twice(rt: HostRuntime) {
     let one = Err(CodecError::InvalidNumberOfElements);
     for (elements, want) in [([1, 2].as_slice(), Ok([1, 2, 42].as_slice())), (&[1], one)] {
-        same(&rt, said(&encoded(rt.alloc(), elements)), want);
+        same(&rt, said(&marked_text(rt.alloc(), elements)), want);
     }
 }
 
-fn decoded(alloc: Global, bytes: &[u8]) -> Result<Vec<u8>, CodecError> {
-    let Cells { axes, zero } = two_cells(alloc)?;
-    let options = CodecOptions::default();
-    let array = marked().decode(alloc, bytes, &axes, &DataType::UInt8, &zero, &options);
-    elements_of(alloc, array)
+fn elements(alloc: Global, bytes: &[u8]) -> Result<Vec<u8>, CodecError> {
+    let two = two_cells(alloc)?;
+    elements_of(alloc, decoded(alloc, &marked(), &two, bytes))
 }
 
 // A chain is damaged where either of its codecs finds its bytes so.
@@ -79,26 +66,18 @@ fn a_chain_decodes_twice(rt: HostRuntime) {
         (&[42], damaged),
         (&[], damaged),
     ] {
-        same_at(&rt, bytes, said(&decoded(rt.alloc(), bytes)), want);
+        same_at(&rt, bytes, said(&elements(rt.alloc(), bytes)), want);
     }
 }
 
 // The second cell, read of an interval of 7, 1, 2, 42, 7.
-fn read(alloc: Global, offset: u64, size: u64) -> Result<Vec<u8>, CodecError> {
-    let Cells { axes, zero } = two_cells(alloc)?;
-    let second = subset(alloc, &[1..2])?;
-    let mut handle = MemoryHandle::new(Some([7, 1, 2, 42, 7].to_vec(alloc)?));
-    let cells = marked().partial_decode(
+fn read(alloc: Global, interval: Interval) -> Result<Vec<u8>, CodecError> {
+    let two = two_cells(alloc)?;
+    let object = [7, 1, 2, 42, 7].as_slice();
+    elements_of(
         alloc,
-        &mut handle,
-        Interval { offset, size },
-        &axes,
-        &DataType::UInt8,
-        &zero,
-        &second,
-        &CodecOptions::default(),
-    );
-    elements_of(alloc, cells)
+        read_range_of(alloc, &marked(), &two, object, interval, 1..2),
+    )
 }
 
 // The bytes of an interval are decoded whole.
@@ -114,22 +93,26 @@ fn a_chain_is_read_whole(rt: HostRuntime) {
         same_at(
             &rt,
             (offset, size),
-            said(&read(rt.alloc(), offset, size)),
+            said(&read(rt.alloc(), Interval { offset, size })),
             want,
         );
     }
 }
 
-fn told(alloc: Global) -> Result<BytesRepresentation, CodecError> {
-    let Cells { axes, zero } = two_cells(alloc)?;
-    marked().encoded_representation(alloc, &axes, &DataType::UInt8, &zero)
+fn told_of_two(alloc: Global) -> Result<BytesRepresentation, CodecError> {
+    let two = two_cells(alloc)?;
+    told(alloc, &marked(), &two)
 }
 
 // A chain has one encoding of an array where its first codec has, which is longer by what the second puts behind it.
 #[test]
 fn a_chain_tells_its_size(rt: HostRuntime) {
     assert!(rt; marked().is_functional());
-    same(&rt, told(rt.alloc()), Ok(BytesRepresentation::FixedSize(3)));
+    same(
+        &rt,
+        told_of_two(rt.alloc()),
+        Ok(BytesRepresentation::FixedSize(3)),
+    );
 }
 
 // The check values of CRC-32C.

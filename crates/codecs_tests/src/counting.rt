@@ -1,5 +1,5 @@
 // A handle that counts what is read.
-use crate::compared::same;
+use crate::compared::{same, same_at};
 use crate::examples::{is_copied, is_lent};
 use std::alloc::Global;
 use std::process::Abort;
@@ -16,7 +16,7 @@ fn lend_ranges(rt: &impl Abort, alloc: Global, handle: &mut CountingHandle) {
         (ByteRange::FromStart(0, Some(1)), Ok(Some(&[1]))),
     ];
     for (range, want) in rows {
-        assert!(rt; is_lent(alloc, handle, range, want), "at {range:?}");
+        same_at(rt, range, is_lent(alloc, handle, range, want), true);
     }
 }
 

@@ -2,8 +2,14 @@
 use std::alloc::{AllocError, Global};
 use std::borrow::CowSlice;
 use std::ops::Range;
-use zarr_codecs::{ByteRange, BytesPartialDecoderTraits, MemoryHandle, copy_range, read_range};
-use zarr_parts::{ArrayBytes, ArraySubset, ChunkShape, CodecError, FillValue};
+use zarr_codecs::{
+    ArrayToBytesCodecTraits, ByteRange, BytesPartialDecoderTraits, BytesRepresentation, Interval,
+    MemoryHandle, copy_range, read_range,
+};
+use zarr_parts::{
+    ArrayBytes, ArraySubset, ChunkShape, CodecError, CodecOptions, Coordinates, DataType,
+    FillValue, FixedTarget, Indexer,
+};
 
 pub fn shape(alloc: Global, axes: &[u64]) -> Result<ChunkShape, CodecError> {
     ChunkShape::new(alloc, axes)?.ok_or(CodecError::Fault)
@@ -19,6 +25,156 @@ pub fn fixed(bytes: &[u8], size: usize) -> Result<ArrayBytes<'_>, CodecError> {
 
 pub fn subset(alloc: Global, ranges: &[Range<u64>]) -> Result<ArraySubset, CodecError> {
     ArraySubset::new_with_ranges(alloc, ranges)?.ok_or(CodecError::Fault)
+}
+
+pub fn coordinates(
+    alloc: Global,
+    axes: usize,
+    count: u64,
+    flat: &[u64],
+) -> Result<Coordinates, CodecError> {
+    Coordinates::new(axes, count, flat.to_vec(alloc)?).ok_or(CodecError::Fault)
+}
+
+// Arrays that a codec is asked to serve.
+#[derive(Drop)]
+pub struct Asked {
+    pub axes: ChunkShape,
+    pub data_type: DataType,
+    pub none: FillValue,
+}
+
+pub fn asked_for(
+    alloc: Global,
+    axes: &[u64],
+    data_type: DataType,
+    none: &[u8],
+) -> Result<Asked, CodecError> {
+    let axes = shape(alloc, axes)?;
+    let none = fill(alloc, none)?;
+    Ok(Asked {
+        axes,
+        data_type,
+        none,
+    })
+}
+
+// How a codec serves such arrays.
+pub fn checked<C: ArrayToBytesCodecTraits>(
+    alloc: Global,
+    codec: &C,
+    asked: &Asked,
+) -> Result<(), CodecError> {
+    codec.check(alloc, &asked.axes, &asked.data_type, &asked.none)
+}
+
+// What a codec tells of the encodings of such arrays.
+pub fn told<C: ArrayToBytesCodecTraits>(
+    alloc: Global,
+    codec: &C,
+    asked: &Asked,
+) -> Result<BytesRepresentation, CodecError> {
+    codec.encoded_representation(alloc, &asked.axes, &asked.data_type, &asked.none)
+}
+
+// The encoding of such an array.
+pub fn encoded<C: ArrayToBytesCodecTraits>(
+    alloc: Global,
+    codec: &C,
+    asked: &Asked,
+    array: &ArrayBytes,
+) -> Result<Vec<u8>, CodecError> {
+    codec.encode(
+        alloc,
+        array,
+        &asked.axes,
+        &asked.data_type,
+        &asked.none,
+        &CodecOptions::default(),
+    )
+}
+
+// The same of elements that have one size, of which these are the bytes.
+pub fn encoded_elements<C: ArrayToBytesCodecTraits>(
+    alloc: Global,
+    codec: &C,
+    asked: &Asked,
+    bytes: &[u8],
+    size: usize,
+) -> Result<Vec<u8>, CodecError> {
+    let array = fixed(bytes, size)?;
+    encoded(alloc, codec, asked, &array)
+}
+
+// The array that bytes are decoded to.
+pub fn decoded<'a, C: ArrayToBytesCodecTraits>(
+    alloc: Global,
+    codec: &C,
+    asked: &Asked,
+    bytes: &'a [u8],
+) -> Result<ArrayBytes<'a>, CodecError> {
+    codec.decode(
+        alloc,
+        bytes,
+        &asked.axes,
+        &asked.data_type,
+        &asked.none,
+        &CodecOptions::default(),
+    )
+}
+
+// Decodes bytes into a target.
+pub fn decoded_into<C: ArrayToBytesCodecTraits>(
+    alloc: Global,
+    codec: &C,
+    asked: &Asked,
+    bytes: &[u8],
+    target: &mut FixedTarget,
+) -> Result<(), CodecError> {
+    codec.decode_into(
+        alloc,
+        bytes,
+        &asked.axes,
+        &asked.data_type,
+        &asked.none,
+        target,
+        &CodecOptions::default(),
+    )
+}
+
+// The cells that an indexer asks, read of an interval of an object.
+pub fn read<C: ArrayToBytesCodecTraits, N: Indexer>(
+    alloc: Global,
+    codec: &C,
+    asked: &Asked,
+    handle: &mut MemoryHandle,
+    interval: Interval,
+    indexer: &N,
+) -> Result<ArrayBytes<'static>, CodecError> {
+    codec.partial_decode(
+        alloc,
+        handle,
+        interval,
+        &asked.axes,
+        &asked.data_type,
+        &asked.none,
+        indexer,
+        &CodecOptions::default(),
+    )
+}
+
+// The cells of a range of one axis, read of an interval of an object of these bytes.
+pub fn read_range_of<C: ArrayToBytesCodecTraits>(
+    alloc: Global,
+    codec: &C,
+    asked: &Asked,
+    object: &[u8],
+    interval: Interval,
+    range: Range<u64>,
+) -> Result<ArrayBytes<'static>, CodecError> {
+    let cells = subset(alloc, &[range])?;
+    let mut handle = handle_over(alloc, Some(object))?;
+    read(alloc, codec, asked, &mut handle, interval, &cells)
 }
 
 // A handle over an object of these bytes, or over none.

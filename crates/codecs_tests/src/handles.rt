@@ -1,5 +1,5 @@
 // Handles over bytes in memory, read.
-use crate::compared::same;
+use crate::compared::{same, same_at};
 use crate::examples::is_copied;
 use std::alloc::Global;
 use std::borrow::CowSlice;
@@ -31,7 +31,7 @@ const RANGES: [(ByteRange, Result<Option<&[u8]>, CodecError>); 10] = [
 // Reads these ranges.
 fn read_ranges<H: BytesPartialDecoderTraits>(rt: &impl Abort, alloc: Global, handle: &mut H) {
     for (range, want) in RANGES {
-        assert!(rt; is_copied(alloc, handle, range, want), "at {range:?}");
+        same_at(rt, range, is_copied(alloc, handle, range, want), true);
     }
 }
 
@@ -71,7 +71,7 @@ fn read_nothing(rt: &impl Abort, alloc: Global, handle: &mut MemoryHandle) {
         ByteRange::FromStart(0, Some(1)),
         ByteRange::Suffix(1),
     ] {
-        assert!(rt; is_copied(alloc, handle, range, Ok(None)), "at {range:?}");
+        same_at(rt, range, is_copied(alloc, handle, range, Ok(None)), true);
     }
 }
 

@@ -1,35 +1,23 @@
 // A codec from arrays to arrays before the codec `bytes`: one that takes each byte from 255.
 use crate::compared::{same, same_at};
-use crate::examples::{fill, fixed, shape, subset};
+use crate::examples::{Asked, asked_for, decoded, encoded_elements, fixed, read_range_of};
 use std::alloc::Global;
 use test_codecs::InvertedCodec;
-use zarr_codecs::{
-    ArrayChain, ArrayToBytesCodecTraits, BytesCodec, FunctionalCodec, Interval, MemoryHandle,
-};
-use zarr_parts::{ArrayBytes, ChunkShape, CodecError, CodecOptions, DataType, FillValue};
+use zarr_codecs::{ArrayChain, BytesCodec, FunctionalCodec, Interval};
+use zarr_parts::{ArrayBytes, CodecError, DataType};
 
-// An array of two bytes.
-#[derive(Drop)]
-struct Cells {
-    axes: ChunkShape,
-    zero: FillValue,
-}
-
-fn two_cells(alloc: Global) -> Result<Cells, CodecError> {
-    let axes = shape(alloc, &[2])?;
-    let zero = fill(alloc, &[0])?;
-    Ok(Cells { axes, zero })
+// Arrays of two bytes.
+fn two_cells(alloc: Global) -> Result<Asked, CodecError> {
+    asked_for(alloc, &[2], DataType::UInt8, &[0])
 }
 
 fn inverted() -> ArrayChain<InvertedCodec, BytesCodec> {
     ArrayChain::new(InvertedCodec, BytesCodec::little())
 }
 
-fn encoded(alloc: Global, elements: &[u8]) -> Result<Vec<u8>, CodecError> {
-    let Cells { axes, zero } = two_cells(alloc)?;
-    let array = fixed(elements, 1)?;
-    let options = CodecOptions::default();
-    inverted().encode(alloc, &array, &axes, &DataType::UInt8, &zero, &options)
+fn inverted_text(alloc: Global, elements: &[u8]) -> Result<Vec<u8>, CodecError> {
+    let two = two_cells(alloc)?;
+    encoded_elements(alloc, &inverted(), &two, elements, 1)
 }
 
 // What an answer says, for a comparison.
@@ -45,19 +33,18 @@ fn said(answer: &Result<Vec<u8>, CodecError>) -> Result<&[u8], CodecError> {
 fn an_array_is_encoded_before_it_is_laid_out(rt: HostRuntime) {
     let few = Err(CodecError::InvalidNumberOfElements);
     for (elements, want) in [([1, 2].as_slice(), Ok([254, 253].as_slice())), (&[1], few)] {
-        same(&rt, said(&encoded(rt.alloc(), elements)), want);
+        same(&rt, said(&inverted_text(rt.alloc(), elements)), want);
     }
 }
 
-fn decoded(alloc: Global, bytes: &[u8]) -> Result<ArrayBytes<'_>, CodecError> {
-    let Cells { axes, zero } = two_cells(alloc)?;
-    let options = CodecOptions::default();
-    inverted().decode(alloc, bytes, &axes, &DataType::UInt8, &zero, &options)
+fn elements(alloc: Global, bytes: &[u8]) -> Result<ArrayBytes<'_>, CodecError> {
+    let two = two_cells(alloc)?;
+    decoded(alloc, &inverted(), &two, bytes)
 }
 
 // Whether bytes are decoded as the elements 1 and 2, lent or owned; or the refusal.
 fn is_one_two(alloc: Global, bytes: &[u8]) -> Result<bool, CodecError> {
-    let array = decoded(alloc, bytes)?;
+    let array = elements(alloc, bytes)?;
     let same = array == fixed(&[1, 2], 1)?;
     let copy = array.try_clone(alloc)?;
     Ok(same && array.into_owned(alloc)? == copy)
@@ -76,21 +63,16 @@ fn an_array_is_decoded_after_its_bytes(rt: HostRuntime) {
     }
 }
 
-// Whether the second cell, read of an interval of 7, 254, 253, 7, is 2; or the refusal.
+// The second cell, read of an interval of 7, 254, 253, 7.
+fn second_of(alloc: Global, interval: Interval) -> Result<ArrayBytes<'static>, CodecError> {
+    let two = two_cells(alloc)?;
+    let object = [7, 254, 253, 7].as_slice();
+    read_range_of(alloc, &inverted(), &two, object, interval, 1..2)
+}
+
+// Whether that cell is 2; or the refusal.
 fn reads_two(alloc: Global, offset: u64, size: u64) -> Result<bool, CodecError> {
-    let Cells { axes, zero } = two_cells(alloc)?;
-    let second = subset(alloc, &[1..2])?;
-    let mut handle = MemoryHandle::new(Some([7, 254, 253, 7].to_vec(alloc)?));
-    let cells = inverted().partial_decode(
-        alloc,
-        &mut handle,
-        Interval { offset, size },
-        &axes,
-        &DataType::UInt8,
-        &zero,
-        &second,
-        &CodecOptions::default(),
-    )?;
+    let cells = second_of(alloc, Interval { offset, size })?;
     Ok(cells == fixed(&[2], 1)?)
 }
 

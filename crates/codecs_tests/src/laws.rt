@@ -1,32 +1,33 @@
 // The laws of codecs, called.
 use crate::compared::same;
+use crate::examples::{Asked, asked_for, checked, coordinates};
 use std::alloc::Global;
 use std::borrow::CowSlice;
 use std::test::Fail;
 use zarr_codecs::{ArrayToBytesCodecTraits, BytesCodec, decode_after_encode, read_after_decode};
-use zarr_parts::{
-    ArrayBytes, ChunkShape, CodecError, CodecOptions, Coordinates, DataType, FillValue,
-};
+use zarr_parts::{ArrayBytes, CodecError, CodecOptions, Coordinates, DataType};
+
+// Whether the encoding of an array, big endian, is decoded to it.
+fn is_decoded_again(alloc: Global, asked: &Asked, array: &ArrayBytes) -> Result<bool, CodecError> {
+    let Asked {
+        axes,
+        data_type,
+        none,
+    } = asked;
+    let codec = BytesCodec::big();
+    let options = CodecOptions::default();
+    let encoded = codec.encode(alloc, array, axes, data_type, none, &options)?;
+    let again = decode_after_encode(
+        &codec, alloc, array, &encoded, axes, data_type, none, &options,
+    );
+    Ok(again? == *array)
+}
 
 // What the encoding of an array of two elements, big endian, is decoded to.
 fn decoded_again(alloc: Global, array: &ArrayBytes) -> Result<bool, CodecError> {
-    let shape = ChunkShape::from_positive([2, 1].to_vec(alloc)?);
-    let zero = FillValue::new([0, 0].to_vec(alloc)?);
-    let codec = BytesCodec::big();
-    let options = CodecOptions::default();
-    codec.check(alloc, &shape, &DataType::UInt16, &zero)?;
-    let encoded = codec.encode(alloc, array, &shape, &DataType::UInt16, &zero, &options)?;
-    let again = decode_after_encode(
-        &codec,
-        alloc,
-        array,
-        &encoded,
-        &shape,
-        &DataType::UInt16,
-        &zero,
-        &options,
-    )?;
-    Ok(again == *array)
+    let column = asked_for(alloc, &[2, 1], DataType::UInt16, &[0, 0])?;
+    checked(alloc, &BytesCodec::big(), &column)?;
+    is_decoded_again(alloc, &column, array)
 }
 
 #[test]
@@ -37,27 +38,29 @@ fn an_encoding_is_decoded_again(rt: HostRuntime) -> Result<(), Fail> {
     Ok(())
 }
 
+// The cells at coordinates, of bytes that were decoded before.
+fn read_after<C: ArrayToBytesCodecTraits>(
+    alloc: Global,
+    codec: &C,
+    asked: &Asked,
+    bytes: &[u8],
+    cells: &Coordinates,
+) -> Result<ArrayBytes<'static>, CodecError> {
+    let Asked {
+        axes,
+        data_type,
+        none,
+    } = asked;
+    let options = CodecOptions::default();
+    let array = codec.decode(alloc, bytes, axes, data_type, none, &options)?;
+    read_after_decode(codec, alloc, bytes, &array, axes, data_type, none, cells)
+}
+
 // The cells 2, 0 and 2 of three bytes, which were decoded before.
 fn read_again(alloc: Global, bytes: &[u8]) -> Result<ArrayBytes<'static>, CodecError> {
-    let shape = ChunkShape::from_positive([3].to_vec(alloc)?);
-    let zero = FillValue::new([0].to_vec(alloc)?);
-    let codec = BytesCodec::little();
-    let options = CodecOptions::default();
-    let array = codec.decode(alloc, bytes, &shape, &DataType::UInt8, &zero, &options)?;
-    let twice = Coordinates::new(1, 3, [2, 0, 2].to_vec(alloc)?);
-    let Some(twice) = twice else {
-        return Err(CodecError::OutOfBounds);
-    };
-    read_after_decode(
-        &codec,
-        alloc,
-        bytes,
-        &array,
-        &shape,
-        &DataType::UInt8,
-        &zero,
-        &twice,
-    )
+    let three = asked_for(alloc, &[3], DataType::UInt8, &[0])?;
+    let twice = coordinates(alloc, 1, 3, &[2, 0, 2])?;
+    read_after(alloc, &BytesCodec::little(), &three, bytes, &twice)
 }
 
 #[test]

@@ -1,43 +1,33 @@
 // Reads of the codec `bytes`, on numbers worked by hand.
 use crate::compared::same_at;
-use crate::examples::{done, fill, handle_over, shape, subset};
+use crate::examples::{asked_for, coordinates, done, handle_over, read, subset};
 use std::alloc::Global;
-use zarr_codecs::{ArrayToBytesCodecTraits, BytesCodec, Interval, MemoryHandle};
-use zarr_parts::{ArrayBytes, CodecError, CodecOptions, Coordinates, DataType, Indexer};
+use zarr_codecs::{BytesCodec, Interval, MemoryHandle};
+use zarr_parts::{ArrayBytes, CodecError, DataType, Indexer};
 
 // One byte, and then 1 to 4 as big-endian 16-bit numbers.
 const OBJECT: [u8; 9] = [9, 0, 1, 0, 2, 0, 3, 0, 4];
 
-fn read<N: Indexer>(
+fn read_numbers<N: Indexer>(
     alloc: Global,
     handle: &mut MemoryHandle,
     interval: Interval,
     indexer: &N,
 ) -> Result<ArrayBytes<'static>, CodecError> {
-    let shape = shape(alloc, &[2, 2])?;
-    let zero = fill(alloc, &[0, 0])?;
-    let options = CodecOptions::default();
-    let big = BytesCodec::big();
-    let numbers = &DataType::UInt16;
-    big.partial_decode(
-        alloc, handle, interval, &shape, numbers, &zero, indexer, &options,
-    )
-}
-
-fn coordinates(alloc: Global, count: u64, flat: &[u64]) -> Result<Coordinates, CodecError> {
-    Coordinates::new(2, count, flat.to_vec(alloc)?).ok_or(CodecError::Fault)
+    let four = asked_for(alloc, &[2, 2], DataType::UInt16, &[0, 0])?;
+    read(alloc, &BytesCodec::big(), &four, handle, interval, indexer)
 }
 
 // Whether these elements are read behind the first byte.
 fn are_read<N: Indexer>(alloc: Global, indexer: &N, want: &[u8]) -> Result<bool, CodecError> {
     let mut handle = handle_over(alloc, Some(&OBJECT))?;
     let numbers = Interval { offset: 1, size: 8 };
-    let array = read(alloc, &mut handle, numbers, indexer)?;
+    let array = read_numbers(alloc, &mut handle, numbers, indexer)?;
     Ok(array.fixed_bytes() == Some(want))
 }
 
 fn corners_are_read(alloc: Global) -> Result<bool, CodecError> {
-    let twice = coordinates(alloc, 3, &[1, 1, 0, 0, 1, 1])?;
+    let twice = coordinates(alloc, 2, 3, &[1, 1, 0, 0, 1, 1])?;
     are_read(alloc, &twice, &[4, 0, 1, 0, 4, 0])
 }
 
@@ -60,9 +50,10 @@ fn read_cell(
     size: u64,
     cell: &[u64],
 ) -> Result<(), CodecError> {
-    let cell = coordinates(alloc, 1, cell)?;
+    let cell = coordinates(alloc, 2, 1, cell)?;
     let mut handle = handle_over(alloc, object)?;
-    done(read(alloc, &mut handle, Interval { offset, size }, &cell))
+    let interval = Interval { offset, size };
+    done(read_numbers(alloc, &mut handle, interval, &cell))
 }
 
 // The cell is tested before the size, and this before the place in the object.

@@ -1,26 +1,15 @@
 // Arrays of the codec `bytes`, decoded into a target.
 use crate::compared::same;
-use crate::examples::{fill, shape, subset};
+use crate::examples::{asked_for, decoded_into, subset};
 use std::alloc::Global;
 use std::ops::Range;
-use zarr_codecs::{ArrayToBytesCodecTraits, BytesCodec};
-use zarr_parts::{CodecError, CodecOptions, DataType, FixedTarget};
+use zarr_codecs::BytesCodec;
+use zarr_parts::{CodecError, DataType, FixedTarget};
 
 // Decodes two big-endian numbers of 16 bits into a target.
 fn decode(alloc: Global, bytes: &[u8], target: &mut FixedTarget) -> Result<(), CodecError> {
-    let shape = shape(alloc, &[2])?;
-    let zero = fill(alloc, &[0, 0])?;
-    let options = CodecOptions::default();
-    let big = BytesCodec::big();
-    big.decode_into(
-        alloc,
-        bytes,
-        &shape,
-        &DataType::UInt16,
-        &zero,
-        target,
-        &options,
-    )
+    let two = asked_for(alloc, &[2], DataType::UInt16, &[0, 0])?;
+    decoded_into(alloc, &BytesCodec::big(), &two, bytes, target)
 }
 
 // Decodes them into a range of so many elements.

@@ -1,28 +1,17 @@
 // The codec for elements that have lengths of their own.
 use crate::compared::{same, same_at};
-use crate::examples::{done, fill, fixed, shape, subset};
+use crate::examples::{Asked, asked_for, decoded, done, encoded, fixed, read_range_of, told};
 use std::alloc::Global;
 use std::borrow::CowSlice;
-use zarr_codecs::{
-    ArrayToBytesCodecTraits, BytesRepresentation, FunctionalCodec, Interval, MemoryHandle,
-    VlenCodec,
-};
-use zarr_parts::{ArrayBytes, ChunkShape, CodecError, CodecOptions, DataType, FillValue};
+use zarr_codecs::{BytesRepresentation, FunctionalCodec, Interval, VlenCodec};
+use zarr_parts::{ArrayBytes, CodecError, DataType};
 
 // The text of the elements "a" and "".
 const TEXT: [u8; 13] = [2, 0, 0, 0, 1, 0, 0, 0, 97, 0, 0, 0, 0];
 
-// An array of two elements.
-#[derive(Drop)]
-struct Pair {
-    axes: ChunkShape,
-    none: FillValue,
-}
-
-fn pair_of(alloc: Global) -> Result<Pair, CodecError> {
-    let axes = shape(alloc, &[2])?;
-    let none = fill(alloc, &[])?;
-    Ok(Pair { axes, none })
+// Arrays of two elements.
+fn pair_of(alloc: Global, data_type: DataType) -> Result<Asked, CodecError> {
+    asked_for(alloc, &[2], data_type, &[])
 }
 
 // The elements that lie between offsets.
@@ -35,16 +24,9 @@ fn variable<'a>(
     ArrayBytes::new_vlen(CowSlice::Borrowed(bytes), offsets).ok_or(CodecError::Fault)
 }
 
-fn encoded(alloc: Global, array: &ArrayBytes, data_type: DataType) -> Result<Vec<u8>, CodecError> {
-    let Pair { axes, none } = pair_of(alloc)?;
-    VlenCodec.encode(
-        alloc,
-        array,
-        &axes,
-        &data_type,
-        &none,
-        &CodecOptions::default(),
-    )
+fn text_of(alloc: Global, array: &ArrayBytes, data_type: DataType) -> Result<Vec<u8>, CodecError> {
+    let pair = pair_of(alloc, data_type)?;
+    encoded(alloc, &VlenCodec, &pair, array)
 }
 
 // Whether the elements are encoded as this text.
@@ -55,7 +37,7 @@ fn has_text(
     text: &[u8],
 ) -> Result<bool, CodecError> {
     let array = variable(alloc, bytes, offsets)?;
-    let found = encoded(alloc, &array, DataType::Bytes)?;
+    let found = text_of(alloc, &array, DataType::Bytes)?;
     Ok(found.as_slice() == text)
 }
 
@@ -75,41 +57,39 @@ fn elements_stand_behind_their_lengths(rt: HostRuntime) {
     }
 }
 
-fn refused_encoding(alloc: Global) -> Result<[Result<(), CodecError>; 3], CodecError> {
+// How the encoding of one element is refused.
+fn refused_one(alloc: Global, data_type: DataType) -> Result<(), CodecError> {
     let one = variable(alloc, b"a", &[0, 1])?;
+    done(text_of(alloc, &one, data_type))
+}
+
+// How the encoding of two elements of one byte is refused.
+fn refused_bytes(alloc: Global) -> Result<(), CodecError> {
     let bytes = fixed(&[1, 2], 1)?;
-    Ok([
-        done(encoded(alloc, &one, DataType::UInt8)),
-        done(encoded(alloc, &bytes, DataType::Bytes)),
-        done(encoded(alloc, &one, DataType::Bytes)),
-    ])
+    done(text_of(alloc, &bytes, DataType::Bytes))
 }
 
 // Another type, elements of one size, another number of elements.
 #[test]
 fn what_has_no_text_is_refused(rt: HostRuntime) {
-    let want = [
-        Err(CodecError::UnsupportedDataType),
+    let unsupported = Err(CodecError::UnsupportedDataType);
+    same(&rt, refused_one(rt.alloc(), DataType::UInt8), unsupported);
+    same(
+        &rt,
+        refused_bytes(rt.alloc()),
         Err(CodecError::WrongElementKind),
-        Err(CodecError::InvalidNumberOfElements),
-    ];
-    same(&rt, refused_encoding(rt.alloc()), Ok(want));
+    );
+    let few = Err(CodecError::InvalidNumberOfElements);
+    same(&rt, refused_one(rt.alloc(), DataType::Bytes), few);
 }
 
-fn decoded(alloc: Global, text: &[u8]) -> Result<ArrayBytes<'_>, CodecError> {
-    let Pair { axes, none } = pair_of(alloc)?;
-    VlenCodec.decode(
-        alloc,
-        text,
-        &axes,
-        &DataType::Bytes,
-        &none,
-        &CodecOptions::default(),
-    )
+fn elements(alloc: Global, text: &[u8]) -> Result<ArrayBytes<'_>, CodecError> {
+    let pair = pair_of(alloc, DataType::Bytes)?;
+    decoded(alloc, &VlenCodec, &pair, text)
 }
 
 fn is_read_again(alloc: Global) -> Result<bool, CodecError> {
-    Ok(decoded(alloc, &TEXT)? == variable(alloc, b"a", &[0, 1, 1])?)
+    Ok(elements(alloc, &TEXT)? == variable(alloc, b"a", &[0, 1, 1])?)
 }
 
 #[test]
@@ -127,7 +107,7 @@ fn with_bit(alloc: Global, place: usize, bit: u8) -> Result<Vec<u8>, CodecError>
 }
 
 fn refusal_with_bit(alloc: Global, place: usize, bit: u8) -> Result<(), CodecError> {
-    done(decoded(alloc, &with_bit(alloc, place, bit)?))
+    done(elements(alloc, &with_bit(alloc, place, bit)?))
 }
 
 // Each bit of the count and of both lengths is needed, and no text that claims more than it has is believed.
@@ -142,7 +122,7 @@ fn a_changed_number_is_damaged(rt: HostRuntime) {
 }
 
 fn refusal_of_front(alloc: Global, len: usize) -> Result<(), CodecError> {
-    done(decoded(alloc, TEXT.get(..len).unwrap_or(&TEXT)))
+    done(elements(alloc, TEXT.get(..len).unwrap_or(&TEXT)))
 }
 
 // Each byte is needed.
@@ -165,29 +145,23 @@ fn a_text_of_other_elements_is_damaged(rt: HostRuntime) {
         &[1, 0, 0, 0, 1, 0, 0, 0, 97],
         &[3, 0, 0, 0, 0, 0, 0, 0, 0, 0, 0, 0, 0, 0, 0, 0],
     ] {
-        let found = done(decoded(rt.alloc(), text));
+        let found = done(elements(rt.alloc(), text));
         same_at(&rt, text, found, Err(CodecError::Damaged));
     }
 }
 
-// Whether the first element, read of an interval of a longer object, is "a"; or the refusal.
+// The text with a byte before it and one behind it.
+const LONGER: [u8; 15] = [7, 2, 0, 0, 0, 1, 0, 0, 0, 97, 0, 0, 0, 0, 7];
+
+// The first element, read of an interval of that longer object.
+fn first_of(alloc: Global, interval: Interval) -> Result<ArrayBytes<'static>, CodecError> {
+    let pair = pair_of(alloc, DataType::Bytes)?;
+    read_range_of(alloc, &VlenCodec, &pair, &LONGER, interval, 0..1)
+}
+
+// Whether that element is "a"; or the refusal.
 fn read_first(alloc: Global, offset: u64, size: u64) -> Result<bool, CodecError> {
-    let Pair { axes, none } = pair_of(alloc)?;
-    let first = subset(alloc, &[0..1])?;
-    let mut object = [7].to_vec(alloc)?;
-    object.extend_from_slice(&TEXT)?;
-    object.push(7)?;
-    let mut handle = MemoryHandle::new(Some(object));
-    let cells = VlenCodec.partial_decode(
-        alloc,
-        &mut handle,
-        Interval { offset, size },
-        &axes,
-        &DataType::Bytes,
-        &none,
-        &first,
-        &CodecOptions::default(),
-    )?;
+    let cells = first_of(alloc, Interval { offset, size })?;
     Ok(cells == variable(alloc, b"a", &[0, 1])?)
 }
 
@@ -209,9 +183,9 @@ fn a_text_is_read_whole(rt: HostRuntime) {
     }
 }
 
-fn told(alloc: Global) -> Result<BytesRepresentation, CodecError> {
-    let Pair { axes, none } = pair_of(alloc)?;
-    VlenCodec.encoded_representation(alloc, &axes, &DataType::Bytes, &none)
+fn told_of_two(alloc: Global) -> Result<BytesRepresentation, CodecError> {
+    let pair = pair_of(alloc, DataType::Bytes)?;
+    told(alloc, &VlenCodec, &pair)
 }
 
 #[test]
@@ -219,7 +193,7 @@ fn a_text_may_have_any_length(rt: HostRuntime) {
     assert!(rt; VlenCodec.is_functional());
     same(
         &rt,
-        told(rt.alloc()),
+        told_of_two(rt.alloc()),
         Ok(BytesRepresentation::UnboundedSize),
     );
 }
