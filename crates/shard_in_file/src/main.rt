@@ -61,11 +61,16 @@ fn all_numbers(alloc: Global) -> Result<Vec<u16>, AllocError> {
     (0..64u16).collect(alloc)
 }
 
+// Erases the shard, and then reads it.
+fn erase_and_read(alloc: Global, session: &mut Session) -> Result<Vec<u16>, CodecError> {
+    session.erase()?;
+    read(alloc, session, [7..8, 6..8])
+}
+
 // A session in which the shard is erased, and then read.
 fn erase(rt: &HostRuntime, shards: &Shards) -> Result<Vec<u16>, CodecError> {
     let mut session = opened(rt, shards)?;
-    session.erase()?;
-    read(rt.alloc(), &mut session, [7..8, 6..8])
+    erase_and_read(rt.alloc(), &mut session)
 }
 
 // What a handle over a path says of its length, how often it failed, and why.
@@ -105,14 +110,18 @@ fn run(rt: &HostRuntime, shards: &Shards) -> anyhow::Result<()> {
     show(rt, shards, [0..1, 0..5])
 }
 
-fn main(rt: HostRuntime) -> anyhow::Result<()> {
-    let shards = Shards::new(rt.alloc())?;
-    run(&rt, &shards)?;
-    let erased = erase(&rt, &shards)?;
+fn run_all(rt: &HostRuntime, shards: &Shards) -> anyhow::Result<()> {
+    run(rt, shards)?;
+    let erased = erase(rt, shards)?;
     println!(rt; "erased: {erased:?}")?;
-    replace_twice(&rt)?;
+    replace_twice(rt)?;
     for path in ["folder/c/0/0", "folder/c", "folder/other/0"] {
-        refuse(&rt, path)?;
+        refuse(rt, path)?;
     }
     Ok(())
+}
+
+fn main(rt: HostRuntime) -> anyhow::Result<()> {
+    let shards = Shards::new(rt.alloc())?;
+    run_all(&rt, &shards)
 }
