@@ -1,1 +1,2 @@
+pub mod BothRows
 pub mod RowParts

@@ -12,9 +12,9 @@ use zarr_boxes::{ArraySubset, BoxRows, points_in};
 
 // Where rows of elements begin: the first, and how far behind it each further one.
 #[derive(Clone, Copy)]
-struct Rows {
-    first: usize,
-    stride: usize,
+pub(crate) struct Rows {
+    pub first: usize,
+    pub stride: usize,
 }
 
 // Copies so many rows of so many elements over others. The first number, where it isn't 0, is how many bytes a row has; the
@@ -47,7 +47,7 @@ fn copy_rows_of<const N: usize, const M: usize>(
 
 // Copies so many rows of so many elements over others: short rows with a length that stands here, or with two copies of such a
 // length from either end, which takes no call.
-fn copy_rows(
+pub(crate) fn copy_rows(
     output: &mut [u8],
     size: usize,
     to: Rows,

@@ -1,0 +1,11 @@
+use Rattle.std.proofs.Common.{◌≡◌, ◌*◌, length}
+use Rattle.zarr_boxes.specs.Boxes.{number_in}
+use Rattle.zarr_boxes.specs.Pieces.{piece, IsUpdated}
+use Rattle.byte_rows.proofs.boxes.copy_box.Given as goal
+
+abbrev pub invariant-loop-q : goal.invariant-loop-q
+invariant-loop-q l = record {
+  whole : length l.output ≡ length l.initial.output;
+  so_far : IsUpdated (l.q * (l.set.rows * l.set.run)) (number_in l.into l.shape) (piece l.size l.initial.output)
+      (λ k. piece l.size l.update (number_in l.from l.other k)) (piece l.size l.output);
+}
