@@ -10,7 +10,7 @@ mod target;
 pub use array_bytes::{
     ArrayBuilder, ArrayBytes, VariableParts, push_part, repeated, update_array_bytes,
 };
-pub use byte_rows::scatter;
+pub use byte_rows::{copy_box, scatter};
 pub use data_type::{DataType, DataTypeSize};
 pub use fill_value::FillValue;
 pub use numbers::Number;

@@ -2,7 +2,7 @@
 ghost use Rattle.std.specs.Prelude.{◌≡◌, ℕ, ◌*◌, ◌<◌, IsTrue, IfOk, IfErr, OnOk, OnErr, IsSome, IfSome, ◌↔◌, length};
 ghost use Rattle.zarr_words.specs.Order.{◌or◌then◌, done};
 ghost use Rattle.zarr_boxes.specs.Numbering.{count_of};
-ghost use Rattle.zarr_boxes.specs.Boxes.{IsTarget};
+ghost use Rattle.zarr_boxes.specs.Boxes.{number_in, IsServed, IsTarget};
 ghost use Rattle.zarr_elements.specs.TargetLaws.{target-prop};
 ghost use Rattle.zarr_boxes.specs.Pieces.{piece};
 ghost use Rattle.zarr_elements.specs.Arrays.{element_of};
@@ -12,7 +12,7 @@ ghost use Rattle.zarr_words.specs.declared.error.CodecError.TheVariants.{Invalid
 use crate::array_bytes::ArrayBytes;
 use crate::data_type::DataTypeSize;
 use crate::fill_value::FillValue;
-use byte_rows::{fill_box, scatter};
+use byte_rows::{copy_box, fill_box, scatter};
 use zarr_boxes::{ArraySubset, check_box, points_in};
 use zarr_words::CodecError;
 
@@ -25,6 +25,16 @@ pub struct FixedTarget<'a> {
     shape: &'a [u64],
     subset: &'a ArraySubset,
     pub ghost is_target: { IsTarget (length bytes.now) element_size shape.now subset.now } by { target-prop (length bytes.now) element_size shape.now subset.now },
+}
+
+// The bytes of an array whose elements have this size.
+fn whole_elements<'a>(array: &'a ArrayBytes, size: usize) -> &'a [u8]
+    requires { array.now.kind ≡ Fixed size }
+    ensures whole { length result.now ≡ length array.now.elements * size }
+    ensures elements { (k : ℕ) → k < length array.now.elements → piece size result.now k ≡ element_of array.now k }
+{
+    let _kind = array.kind();
+    array.bytes()
 }
 
 // The bytes of an array that has so many elements of a size, or the first reason to refuse it.
@@ -48,7 +58,7 @@ fn elements_of_size<'a>(
     if array.len() as u64 != count {
         return Err(CodecError::InvalidNumberOfElements);
     }
-    Ok(array.fixed_bytes().unwrap())
+    Ok(whole_elements(array, size))
 }
 
 impl<'a> FixedTarget<'a> {
@@ -171,5 +181,26 @@ impl<'a> FixedTarget<'a> {
             update,
         );
         Ok(())
+    }
+
+    /// Writes the elements at the points of a box of an array at the points of the subset, both in row-major order: the array has
+    /// the shape and elements of the target's size, and its box as many points as the subset. Takes no memory.
+    pub fn copy_box_from(&mut self, array: &ArrayBytes, subset: &ArraySubset, shape: &[u64])
+        requires kind { array.now.kind ≡ Fixed (target_element_size self.old) }
+        requires all { length array.now.elements ≡ count_of shape.now }
+        requires served { IsServed subset.now shape.now }
+        requires counted { count_of subset.now.shape ≡ count_of (target_box self.old).shape }
+        ensures { IsWritten self.old self.new (λ k. element_of array.now (number_in subset.now shape.now k)) }
+    {
+        let update = whole_elements(array, self.element_size);
+        copy_box(
+            self.bytes,
+            self.element_size,
+            self.subset,
+            self.shape,
+            update,
+            subset,
+            shape,
+        );
     }
 }
