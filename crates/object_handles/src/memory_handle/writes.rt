@@ -1,8 +1,9 @@
 // Writes to an object in memory, in place.
-ghost use Rattle.std.specs.Prelude.{◌≡◌, ◌≤◌, ◌<◌, ◌+◌, ◌^◌, Some, IfOk, IfErr, OnOk, OnErr, length};
+ghost use Rattle.std.specs.Prelude.{◌≡◌, ◌≤◌, ◌<◌, ◌+◌, ◌-◌, ◌++◌, ◌^◌, Some, IfOk, IfErr, OnOk, OnErr, length, replicate};
+ghost use Rattle.std.specs.Vec.{vec_capacity};
 ghost use Rattle.zarr_words.specs.declared.error.CodecError.TheVariants.{TooLarge};
 ghost use Rattle.object_handles.specs.Handles.{in_memory};
-ghost use Rattle.object_handles.specs.Writes.{RefusesWrite, written_all};
+ghost use Rattle.object_handles.specs.Writes.{RefusesWrite, written_at, written_all};
 
 use super::MemoryHandle;
 use crate::writing::BytesPartialEncoderTraits;
@@ -26,15 +27,40 @@ fn length_after(bytes: &[u8], pieces: &[(u64, &[u8])]) -> Result<usize, CodecErr
     Ok(length)
 }
 
-// Writes pieces, which lie in the bytes.
-fn overwrite(bytes: &mut [u8], pieces: &[(u64, &[u8])])
-    requires { length (written_all pieces.now bytes.old) ≤ length bytes.old }
-    ensures { bytes.new ≡ written_all pieces.now bytes.old }
+// Adds zeros where bytes end before an offset, up to which they have room.
+fn fill_gap(bytes: &mut Vec<u8>, offset: usize)
+    requires { offset ≤ vec_capacity bytes.old }
+    ensures filled { bytes.new.items ≡ bytes.old.items ++ replicate (offset - length bytes.old.items) 0 }
+    ensures room { vec_capacity bytes.old ≤ vec_capacity bytes.new }
+{
+    if bytes.len() < offset {
+        let Ok(()) = bytes.resize(offset, 0) else {
+            unreachable!()
+        };
+    }
+}
+
+// Writes a piece into bytes that have room for it: over those that are there, and behind them.
+fn put_piece(bytes: &mut Vec<u8>, offset: usize, piece: &[u8])
+    requires { offset + length piece.now ≤ vec_capacity bytes.old }
+    ensures written { bytes.new.items ≡ written_at offset piece.now bytes.old.items }
+    ensures room { vec_capacity bytes.old ≤ vec_capacity bytes.new }
+{
+    fill_gap(bytes, offset);
+    let over = piece.len().min(bytes.len() - offset);
+    bytes[offset..offset + over].copy_from_slice(&piece[..over]);
+    let Ok(()) = bytes.extend_from_slice(&piece[over..]) else {
+        unreachable!()
+    };
+}
+
+// Writes pieces into bytes that have room for them.
+fn put_pieces(bytes: &mut Vec<u8>, pieces: &[(u64, &[u8])])
+    requires { length (written_all pieces.now bytes.old.items) ≤ vec_capacity bytes.old }
+    ensures { bytes.new.items ≡ written_all pieces.now bytes.old.items }
 {
     for piece in pieces {
-        let start = piece.0 as usize;
-        let end = start + piece.1.len();
-        bytes[start..end].copy_from_slice(piece.1);
+        put_piece(bytes, piece.0 as usize, piece.1);
     }
 }
 
@@ -46,8 +72,8 @@ fn write_into(bytes: &mut Vec<u8>, pieces: &[(u64, &[u8])]) -> Result<(), CodecE
     ensures refused { IfErr result (RefusesWrite (length (written_all pieces.now bytes.old.items)) (in_memory (Some bytes.old.items)) (in_memory (Some bytes.new.items))) }
 {
     let length = length_after(bytes.as_slice(), pieces)?;
-    bytes.resize(length, 0)?;
-    overwrite(bytes.as_mut_slice(), pieces);
+    bytes.reserve(length - bytes.len())?;
+    put_pieces(bytes, pieces);
     Ok(())
 }
 
