@@ -4,7 +4,7 @@ use std::borrow::CowSlice;
 use std::ops::Range;
 use zarr_codecs::{
     ArrayToBytesCodecTraits, ByteRange, BytesPartialDecoderTraits, BytesRepresentation, Interval,
-    MemoryHandle, copy_range, read_range,
+    MemoryHandle, StoredArray, copy_range, read_range,
 };
 use zarr_parts::{
     ArrayBytes, ArraySubset, ChunkShape, CodecError, CodecOptions, Coordinates, DataType,
@@ -161,6 +161,26 @@ pub fn read<C: ArrayToBytesCodecTraits, N: Indexer>(
         indexer,
         &CodecOptions::default(),
     )
+}
+
+// Reads the cells that an indexer asks of an interval of an object into a target.
+pub fn read_into<C: ArrayToBytesCodecTraits, N: Indexer>(
+    alloc: Global,
+    codec: &C,
+    asked: &Asked,
+    handle: &mut MemoryHandle,
+    interval: Interval,
+    indexer: &N,
+    target: &mut FixedTarget,
+) -> Result<(), CodecError> {
+    let stored = StoredArray {
+        interval,
+        shape: &asked.axes,
+        data_type: &asked.data_type,
+        fill_value: &asked.none,
+    };
+    let options = CodecOptions::default();
+    codec.partial_decode_into(alloc, handle, &stored, indexer, target, &options)
 }
 
 // The cells of a range of one axis, read of an interval of an object of these bytes.

@@ -22,6 +22,8 @@ mod laws;
 #[cfg(test)]
 mod reads;
 #[cfg(test)]
+mod reads_into;
+#[cfg(test)]
 mod targets;
 #[cfg(test)]
 mod variable;
