@@ -3,21 +3,14 @@ use Rattle.std.proofs.Common.{◌≡◌, ℕ, ◌+◌, ◌-◌, ◌^◌, ◌<◌
 use Rattle.std.specs.List.{All}
 use Rattle.std.proofs.lemmas.List.{ext_get_or, length-map, get_or-map, length-replicate, get_or-replicate}
 use Rattle.std.proofs.lemmas.List.Elements.{length_all_zip, All-get_or, All-from_get_or}
-use Rattle.std.proofs.lemmas.List.FromFn.{get_or-map-range_with_len, length-map-range_with_len}
 use Rattle.zarr_parts.specs.Numbering.{count_of, number_of, point_of, IsInside, AllPositive}
-use Rattle.zarr_parts.specs.Boxes.{Region, IsBox, LiesIn, number_in, numbers_in}
+use Rattle.zarr_parts.specs.Boxes.{Region, IsBox, IsServed, LiesIn, number_in}
 use Rattle.zarr_parts.specs.Grid.{cell_number}
 use Rattle.zarr_parts.specs.Laws.{IsOnAxis}
 use Rattle.zarr_parts.specs.Touched.{Touches}
 use Rattle.zarr_parts.specs.Geo.{Geo, IsArrayOf}
-use Rattle.zarr_parts.specs.Types.{size_of, FitsKind, HasElements}
+use Rattle.zarr_parts.specs.Types.{size_of, FitsKind}
 use Rattle.zarr_parts.specs.Arrays.{Array, element_of, extracted, IsOverlaid}
-use Rattle.zarr_parts.specs.Order.{done, RefusedBy}
-use Rattle.zarr_parts.specs.BoxRefusals.{BoxTests}
-use Rattle.zarr_parts.specs.Refusals.{ValidTests}
-use Rattle.zarr_elements.specs.declared.data_type.DataType.{DataType}
-use Rattle.zarr_parts.specs.CodecError.{CodecError}
-use Rattle.zarr_parts.specs.CodecError.TheVariants.{OutOfMemory}
 use Rattle.zarr_parts.proofs.CountLaws.{box_count_le}
 use Rattle.zarr_parts.proofs.NumberingLaws.{number_below, point_inside, number_of-point_of}
 use Rattle.zarr_parts.proofs.BoxLaws.{all_zip_from_each, lies_in_length, lies_in_at}
@@ -27,6 +20,7 @@ use Rattle.zarr_parts.proofs.MissLaws.{on_or_off, place_of_point, elsewhere_from
 use Rattle.shard_cells.specs.Meetings.{IsMeeting}
 use Rattle.shard_writing.specs.Writing.{IsUncovered, AreNewCells}
 use Rattle.shard_writing.specs.WriteTests.{Straddles}
+use Rattle.shard_writing.proofs.PartLemmas.{counted, element_at, fitting}
 
 -- a box has as many starts as lengths
 pub axes_of : (box : Region) → IsBox box.start box.shape → length box.start ≡ length box.shape
@@ -34,26 +28,22 @@ axes_of box well = length_all_zip (λ begin len. begin + len < 2 ^ 64) box.start
 
 module _ (shape : List ℕ) (sub_g : Geo) (box : Region) (k : ℕ) (in_sub in_box : Region) (m : IsMeeting shape sub_g.shape box k in_sub in_box) where
   pub counted_part : (update part : Array) → part ≡ extracted update in_box box.shape → length part.elements ≡ count_of in_sub.shape
-  counted_part update part is =
-      ap (λ (a : Array). length a.elements) is ∙ length-map (numbers_in in_box box.shape) (element_of update) ∙ length-map-range_with_len (number_in in_box box.shape) 0 (count_of in_box.shape)
-      ∙ ap count_of (sym m.same_shape)
+  counted_part update part is = ap (λ (a : Array). length a.elements) is ∙ (counted update in_box box.shape ∙ ap count_of (sym m.same_shape))
+
+  -- both boxes lie where they are seen from
+  pub served_in_box : IsBox box.start box.shape → LiesIn box shape → count_of shape < 2 ^ 64 → IsServed in_box box.shape
+  served_in_box well inside fits = (m.box_inside, omega (arith, box_count_le box.start box.shape shape (axes_of box well) inside, fits))
 
   -- the part of the update that was taken out
   part_at : (update part : Array) (r : ℕ) → part ≡ extracted update in_box box.shape → r < count_of in_sub.shape
       → get_or part.elements r [] ≡ get_or update.elements (number_in in_box box.shape r) []
   part_at update part r is lt =
       let below : r < count_of in_box.shape = omega (arith, lt, ap count_of m.same_shape) in
-      ap (λ (a : Array). get_or a.elements r []) is
-      ∙ get_or-map (element_of update) (numbers_in in_box box.shape) r 0 [] (omega (arith, below, length-map-range_with_len (number_in in_box box.shape) 0 (count_of in_box.shape)))
-      ∙ ap (element_of update) (get_or-map-range_with_len (number_in in_box box.shape) 0 (count_of in_box.shape) r r 0 below (omega arith))
+      ap (λ (a : Array). get_or a.elements r []) is ∙ element_at update in_box box.shape r below
 
   fitting_part : (update part : Array) → part ≡ extracted update in_box box.shape → length update.elements ≡ count_of box.shape → All (FitsKind (size_of sub_g.data_type)) update.elements
       → All (FitsKind (size_of sub_g.data_type)) part.elements
-  fitting_part update part is counted fits =
-      All-from_get_or (FitsKind (size_of sub_g.data_type)) part.elements [] (λ r lt.
-      let below : r < count_of in_sub.shape = omega (arith, lt, counted_part update part is) in
-      let inside : number_in in_box box.shape r < count_of box.shape = number_in_below in_box box.shape r m.box_inside (omega (arith, below, ap count_of m.same_shape)) in
-      rw (part_at update part r is below) (All-get_or (FitsKind (size_of sub_g.data_type)) update.elements (number_in in_box box.shape r) [] (omega (arith, inside, counted)) fits))
+  fitting_part update part is all fits = rw is (fitting (size_of sub_g.data_type) update in_box box.shape m.box_inside all fits)
 
   -- a box that has the whole subchunk
   module _ (whole : in_sub.shape ≡ sub_g.shape) (axes : length in_sub.start ≡ length in_sub.shape) where
@@ -168,60 +158,3 @@ module _ (shape : List ℕ) (sub_g : Geo) (box : Region) (k : ℕ) (in_sub in_bo
                 omega (arith, (on j below).0, first_at j below, (on_last j below).1, last_at j below, positive j 0 below, lies_in_at in_sub.start in_sub.shape sub_g.shape j axes m.sub_inside below))))
           ]
         ]
-
--- tests that are passed
-pub box_passes : (box : Region) (shape : List ℕ) (later : CodecError → Type 0) (e : CodecError) → length box.start ≡ length shape → LiesIn box shape → count_of shape < 2 ^ 64
-    → RefusedBy (BoxTests box shape later) e → RefusedBy later e
-box_passes box shape later e axes inside fits h =
-    elim h [
-      | inl memory ↦ inl memory
-      | inr tests ↦ elim tests [
-        | inl other ↦ absurd (other.0 axes)
-        | inr after_axes ↦ elim after_axes.1 [
-          | inl outside ↦ absurd (outside.0 inside)
-          | inr after_box ↦ elim after_box.1 [ inl many ↦ absurd (many.0 fits) | inr rest ↦ inr rest.1 ]
-        ]
-      ]
-    ]
-
-pub valid_passes : (array : Array) (n : ℕ) (data_type : DataType) (later : CodecError → Type 0) (e : CodecError) → HasElements data_type → array.kind ≡ size_of data_type → length array.elements ≡ n
-    → RefusedBy (ValidTests array n data_type later) e → RefusedBy later e
-valid_passes array n data_type later e supported kind counted h =
-    elim h [
-      | inl memory ↦ inl memory
-      | inr tests ↦ elim tests [
-        | inl none ↦ absurd (none.0 supported)
-        | inr after_type ↦ elim after_type.1 [
-          | inl wrong ↦ absurd (wrong.0 kind)
-          | inr after_kind ↦ elim after_kind.1 [ inl few ↦ absurd (few.0 counted) | inr rest ↦ inr rest.1 ]
-        ]
-      ]
-    ]
-
--- the part of the update is refused only for memory
-pub taken_refused : (shape sub : List ℕ) (box : Region) (k : ℕ) (in_sub in_box : Region) (update : Array) (data_type : DataType) (e : CodecError)
-    → IsMeeting shape sub box k in_sub in_box → IsBox box.start box.shape → LiesIn box shape → count_of shape < 2 ^ 64 → HasElements data_type → update.kind ≡ size_of data_type → length update.elements ≡ count_of box.shape
-    → RefusedBy (BoxTests in_box box.shape (ValidTests update (count_of box.shape) data_type done)) e → e ≡ OutOfMemory
-taken_refused shape sub box k in_sub in_box update data_type e m well inside fits supported kind counted h =
-    let axes = length_all_zip (λ begin len. begin + len < 2 ^ 64) in_box.start in_box.shape m.box_well_formed in
-    let few = box_count_le box.start box.shape shape (length_all_zip (λ begin len. begin + len < 2 ^ 64) box.start box.shape well) inside in
-    elim (valid_passes update (count_of box.shape) data_type done e supported kind counted
-    (box_passes in_box box.shape (ValidTests update (count_of box.shape) data_type done) e (lies_in_length in_box.start in_box.shape box.shape axes m.box_inside) m.box_inside (omega (arith, few, fits)) h)) [
-      | inl memory ↦ memory
-      | inr nothing ↦ absurd nothing
-    ]
-
--- and so is what is put together
-pub put_refused : (shape : List ℕ) (sub_g : Geo) (box : Region) (k : ℕ) (in_sub in_box : Region) (update part before : Array) (e : CodecError)
-    → IsMeeting shape sub_g.shape box k in_sub in_box → count_of sub_g.shape < 2 ^ 64 → HasElements sub_g.data_type → update.kind ≡ size_of sub_g.data_type
-    → part ≡ extracted update in_box box.shape → before.kind ≡ size_of sub_g.data_type → IsArrayOf sub_g before.elements
-    → RefusedBy (BoxTests in_sub sub_g.shape (ValidTests before (count_of sub_g.shape) sub_g.data_type (ValidTests part (count_of in_sub.shape) sub_g.data_type done))) e → e ≡ OutOfMemory
-put_refused shape sub_g box k in_sub in_box update part before e m fits supported kind is before_kind array h =
-    let axes = length_all_zip (λ begin len. begin + len < 2 ^ 64) in_sub.start in_sub.shape m.sub_well_formed in
-    let first = box_passes in_sub sub_g.shape (ValidTests before (count_of sub_g.shape) sub_g.data_type (ValidTests part (count_of in_sub.shape) sub_g.data_type done)) e
-    (lies_in_length in_sub.start in_sub.shape sub_g.shape axes m.sub_inside) m.sub_inside fits h in
-    let second = valid_passes before (count_of sub_g.shape) sub_g.data_type (ValidTests part (count_of in_sub.shape) sub_g.data_type done) e supported before_kind array.counted first in
-    elim (valid_passes part (count_of in_sub.shape) sub_g.data_type done e supported (ap (λ (a : Array). a.kind) is ∙ kind) (counted_part shape sub_g box k in_sub in_box m update part is) second) [
-      | inl memory ↦ memory
-      | inr nothing ↦ absurd nothing
-    ]

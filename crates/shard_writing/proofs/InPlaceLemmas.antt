@@ -1,14 +1,15 @@
 -- Elements of one size, written over some of an array's in place.
-use Rattle.std.proofs.Common.{◌≡◌, ℕ, ◌*◌, ◌<◌, List, length, ap, sym, ◌∙◌, subst}
+use Rattle.std.proofs.Common.{◌≡◌, ℕ, ◌*◌, ◌<◌, List, length, ap, sym, ◌∙◌, subst, arith}
 use Rattle.std.specs.List.{All, concat}
 use Rattle.zarr_parts.specs.Numbering.{count_of}
-use Rattle.zarr_parts.specs.Boxes.{Region, number_in}
+use Rattle.zarr_parts.specs.Boxes.{Region, LiesIn, number_in}
 use Rattle.zarr_parts.specs.Types.{FitsKind}
 use Rattle.zarr_parts.specs.Pieces.{piece, IsUpdated}
-use Rattle.zarr_parts.specs.Arrays.{Array, IsWhole, fixed_array, IsOverlaid}
+use Rattle.zarr_parts.specs.Arrays.{Array, IsWhole, fixed_array, extracted, IsOverlaid}
 use Rattle.zarr_elements.specs.declared.data_type.DataTypeSize.TheVariants.{Fixed}
 use Rattle.zarr_elements.proofs.ArrayLaws.{whole-concat, fixed_array-concat, overlaid_array}
-use Rattle.zarr_parts.proofs.PieceLaws.{length-concat}
+use Rattle.zarr_parts.proofs.PieceLaws.{length-concat, number_in_below, piece_of-concat}
+use Rattle.shard_writing.proofs.PartLemmas.{counted, element_at, fitting}
 
 -- so many elements of one size have so many bytes
 pub many_bytes : (size count : ℕ) (array : Array) → All (FitsKind (Fixed size)) array.elements → length array.elements ≡ count → length (concat array.elements) ≡ count * size
@@ -28,6 +29,25 @@ overlaid_bytes size old part new box shape some kind part_kind fits part_fits lo
     let made = overlaid_array size (concat old.elements) (concat part.elements) new box shape (whole-concat size old.elements some fits) (whole-concat size part.elements some part_fits) long written in
     subst (λ (a : Array). IsOverlaid box shape a part (fixed_array size new)) (cut_back size old some kind fits)
     (subst (λ (p : Array). IsOverlaid box shape (fixed_array size (concat old.elements)) p (fixed_array size new)) (cut_back size part some part_kind part_fits) made)
+
+-- bytes of a box of an update, written over others, are its elements written over others
+pub overlaid_box : (size : ℕ) (old update : Array) (new : List ℕ) (box part : Region) (shape other : List ℕ) → 0 < size → old.kind ≡ Fixed size → update.kind ≡ Fixed size
+    → All (FitsKind (Fixed size)) old.elements → All (FitsKind (Fixed size)) update.elements → length update.elements ≡ count_of other → LiesIn part other → count_of part.shape ≡ count_of box.shape
+    → length new ≡ length (concat old.elements)
+    → IsUpdated (count_of box.shape) (number_in box shape) (piece size (concat old.elements)) (λ k. piece size (concat update.elements) (number_in part other k)) (piece size new)
+    → IsOverlaid box shape old (extracted update part other) (fixed_array size new)
+overlaid_box size old update new box part shape other some kind update_kind fits update_fits all inside same long written =
+    let taken = extracted update part other in
+    let part_fits = fitting (Fixed size) update part other inside all update_fits in
+    overlaid_bytes size old taken new box shape some kind update_kind fits part_fits long (record {
+      inside = λ k lt.
+          let small : k < count_of part.shape = omega (arith, lt, same) in
+          let below = number_in_below part other k inside small in
+          written.inside k lt
+          ∙ (piece_of-concat size update.elements (number_in part other k) update_fits (omega (arith, below, all))
+          ∙ (sym (element_at update part other k small) ∙ sym (piece_of-concat size taken.elements k part_fits (omega (arith, small, counted update part other)))));
+      outside = written.outside;
+    })
 
 pub whole_new : (size : ℕ) (old : Array) (new : List ℕ) → 0 < size → All (FitsKind (Fixed size)) old.elements → length new ≡ length (concat old.elements) → IsWhole size new
 whole_new size old new some fits long = rw long (whole-concat size old.elements some fits)

@@ -10,5 +10,6 @@ pub mod AnewLemmas
 pub mod RefusalLemmas
 pub mod MadeLemmas
 pub mod HeldLemmas
+pub mod PartLemmas
 pub mod OverlayLemmas
 pub mod InPlaceLemmas

@@ -1,5 +1,5 @@
 -- The cells after a write are the old ones, and in the box those of the update.
-use Rattle.std.proofs.Common.{◌≡◌, ◌≢◌, ℕ, ◌+◌, ◌*◌, ◌<◌, ◌≤◌, inl, inr, List, [], Option, Some, None, length, get_or, map, refl, sym, ap, ◌∙◌, subst, arith}
+use Rattle.std.proofs.Common.{◌≡◌, ◌≢◌, ℕ, ◌<◌, inl, inr, List, [], Option, Some, None, length, get_or, map, refl, sym, ap, ◌∙◌, subst, arith}
 use Rattle.std.proofs.lemmas.Bool.{cases_lt}
 use Rattle.std.proofs.lemmas.List.{get_or_past, get_or-map, length-map}
 use Rattle.zarr_parts.specs.Words.{Elements, CellsOf, CellList}
@@ -14,7 +14,7 @@ use Rattle.object_handles.specs.Writes.{bytes_of}
 use Rattle.codec_laws.specs.Meanings.{Meaning}
 use Rattle.codec_laws.specs.Reads.{cells_at}
 use Rattle.shard_format.specs.Index.{slot_at}
-use Rattle.shard_format.specs.Cells.{Layout, cell_in, indexed_cell}
+use Rattle.shard_format.specs.Cells.{cell_in, indexed_cell}
 use Rattle.shard_format.specs.Laws.{cell_of_standing}
 use Rattle.shard_format.specs.Packing.{slice_of}
 use Rattle.shard_format.specs.declared.location.ShardingIndexLocation.{ShardingIndexLocation}

@@ -87,13 +87,16 @@ impl<I: ArrayToBytesCodecTraits, X> Writing<'_, I, X> {
             self.subchunks.shape,
         )?;
         let data_type = self.subchunks.data_type;
-        let part = update.extract_array_subset(alloc, &meeting.in_box, subset.shape(), data_type)?;
-        if is_whole(&meeting.in_sub, self.subchunks.shape) {
+        let in_sub = &meeting.in_sub;
+        let in_box = &meeting.in_box;
+        let axes = subset.shape();
+        if is_whole(in_sub, self.subchunks.shape) {
+            let part = update.extract_array_subset(alloc, in_box, axes, data_type)?;
             return Ok(part);
         }
         let old = old_cells(&self.subchunks, alloc, handle, places, number, slot)?;
         let sub = self.subchunks.shape.as_slice();
-        let new = overlaid(alloc, old, sub, &meeting.in_sub, &part, data_type)?;
+        let new = overlaid(alloc, old, sub, in_sub, update, in_box, axes, data_type)?;
         Ok(new)
     }
 }

@@ -1,19 +1,17 @@
-// Elements written over some of an array's.
+// Elements of a box of an array, written over those of a box of another.
 ghost use Rattle.std.specs.Prelude.{◌≡◌, ◌<◌, IfOk, IfErr, length};
 ghost use Rattle.std.specs.List.{All};
 ghost use Rattle.std.specs.Cow.{cow_slice_items};
-ghost use Rattle.zarr_parts.specs.Order.{done, RefusedBy};
 ghost use Rattle.zarr_parts.specs.Numbering.{count_of};
-ghost use Rattle.zarr_parts.specs.Boxes.{IsServed};
-ghost use Rattle.zarr_parts.specs.BoxRefusals.{BoxTests};
-ghost use Rattle.zarr_parts.specs.Refusals.{ValidTests};
-ghost use Rattle.zarr_parts.specs.Arrays.{IsOverlaid};
-ghost use Rattle.zarr_parts.specs.Types.{FitsKind};
+ghost use Rattle.zarr_parts.specs.Boxes.{IsBox, IsServed};
+ghost use Rattle.zarr_parts.specs.Arrays.{extracted, IsOverlaid};
+ghost use Rattle.zarr_parts.specs.Types.{size_of, HasElements, FitsKind};
+ghost use Rattle.zarr_parts.specs.CodecError.TheVariants.{OutOfMemory};
 ghost use Rattle.zarr_elements.specs.declared.data_type.DataTypeSize.TheVariants.{Fixed};
 
 use std::alloc::{AllocError, Global};
 use std::borrow::CowSlice;
-use zarr_elements::scatter;
+use zarr_elements::copy_box;
 use zarr_parts::{ArrayBytes, ArraySubset, CodecError, DataType, DataTypeSize, update_array_bytes};
 
 // Bytes of their own: lent ones are copied.
@@ -26,59 +24,73 @@ fn owned_bytes(alloc: Global, bytes: CowSlice<'static, u8>) -> Result<Vec<u8>, A
     }
 }
 
-// The elements of one size with a part's written over those at the points of a box: in place, but where the bytes are lent.
+// The elements of one size with those at the points of a box of an update written over those at the points of a box: in place, but
+// where the bytes are lent.
 fn overlaid_in_place(
     alloc: Global,
     old: ArrayBytes<'static>,
     size: usize,
     shape: &[u64],
     subset: &ArraySubset,
-    part: &ArrayBytes,
+    update: &ArrayBytes,
+    part: &ArraySubset,
+    update_shape: &[u64],
 ) -> Result<ArrayBytes<'static>, AllocError>
     requires some { 0 < size }
     requires kind { old.kind ≡ Fixed size }
-    requires part_kind { part.now.kind ≡ Fixed size }
+    requires update_kind { update.now.kind ≡ Fixed size }
     requires fitting { All (FitsKind (Fixed size)) old.elements }
-    requires part_fitting { All (FitsKind (Fixed size)) part.now.elements }
+    requires update_fitting { All (FitsKind (Fixed size)) update.now.elements }
     requires all { length old.elements ≡ count_of shape.now }
-    requires all_part { length part.now.elements ≡ count_of subset.now.shape }
+    requires all_update { length update.now.elements ≡ count_of update_shape.now }
     requires served { IsServed subset.now shape.now }
-    ensures { IfOk result (IsOverlaid subset.now shape.now old.entry part.now) }
+    requires part_served { IsServed part.now update_shape.now }
+    requires same { count_of part.now.shape ≡ count_of subset.now.shape }
+    ensures { IfOk result (IsOverlaid subset.now shape.now old.entry (extracted update.now part.now update_shape.now)) }
 {
     let Ok(held) = old.into_fixed() else {
         unreachable!()
     };
     let mut bytes = owned_bytes(alloc, held)?;
-    scatter(&mut bytes, size, subset, shape, part.bytes());
+    let given = update.bytes();
+    copy_box(&mut bytes, size, subset, shape, given, part, update_shape);
     match ArrayBytes::new_flen(CowSlice::Owned(bytes), size) {
         Some(array) => Ok(array),
         None => unreachable!(),
     }
 }
 
-// The array of a shape with the elements at the points of a box replaced by those of a part, which come in row-major order of
-// the box: in place where they have one size. Refused as `update_array_bytes` refuses.
+// The array of a shape with the elements at the points of a box replaced by those at the points of a box of an update, both in
+// row-major order: in place where they have one size. Refused only as out of memory.
 pub fn overlaid(
     alloc: Global,
     old: ArrayBytes<'static>,
     shape: &[u64],
     subset: &ArraySubset,
-    part: &ArrayBytes,
+    update: &ArrayBytes,
+    part: &ArraySubset,
+    update_shape: &[u64],
     data_type: &DataType,
 ) -> Result<ArrayBytes<'static>, CodecError>
-    requires same_kind { part.now.kind ≡ old.kind }
+    requires supported { HasElements data_type.now }
+    requires kind { old.kind ≡ size_of data_type.now }
+    requires update_kind { update.now.kind ≡ size_of data_type.now }
     requires all { length old.elements ≡ count_of shape.now }
-    requires all_part { length part.now.elements ≡ count_of subset.now.shape }
+    requires all_update { length update.now.elements ≡ count_of update_shape.now }
+    requires well_formed { IsBox subset.now.start subset.now.shape }
     requires served { IsServed subset.now shape.now }
-    ensures updated { IfOk result (IsOverlaid subset.now shape.now old.entry part.now) }
-    ensures refused { IfErr result (RefusedBy (BoxTests subset.now shape.now
-        (ValidTests old.entry (count_of shape.now) data_type.now
-        (ValidTests part.now (count_of subset.now.shape) data_type.now done)))) }
+    requires part_well_formed { IsBox part.now.start part.now.shape }
+    requires part_served { IsServed part.now update_shape.now }
+    requires same { count_of part.now.shape ≡ count_of subset.now.shape }
+    ensures updated { IfOk result (IsOverlaid subset.now shape.now old.entry (extracted update.now part.now update_shape.now)) }
+    ensures refused { IfErr result (λ e. e ≡ OutOfMemory) }
 {
-    let _part_kind = part.kind();
+    let _update_kind = update.kind();
     if let DataTypeSize::Fixed(size) = old.kind() {
-        let new = overlaid_in_place(alloc, old, size, shape, subset, part)?;
+        let new = overlaid_in_place(alloc, old, size, shape, subset, update, part, update_shape)?;
         return Ok(new);
     }
-    update_array_bytes(alloc, &old, shape, subset, part, data_type)
+    let taken = update.extract_array_subset(alloc, part, update_shape, data_type)?;
+    let updated = update_array_bytes(alloc, &old, shape, subset, &taken, data_type)?;
+    Ok(updated)
 }

@@ -1,28 +1,33 @@
-use Rattle.std.proofs.Common.{◌∙◌, sym, inl, inr, arith}
+use Rattle.std.proofs.Common.{◌∙◌, ap, sym, refl, inl, inr}
+use Rattle.zarr_parts.specs.Numbering.{count_of}
+use Rattle.zarr_parts.specs.Arrays.{extracted}
 use Rattle.std.proofs.lemmas.Bool.{false≢true}
 use Rattle.object_handles.specs.Writes.{bytes_of}
 use Rattle.shard_format.specs.Cells.{cell_in}
 use Rattle.codec_laws.specs.RefusalLaws.{passed_on}
 use Rattle.shard_subchunks.specs.Inner.{subchunk_geo, inner_meaning}
-use Rattle.shard_writing.proofs.CellLemmas.{axes_of, counted_part, no_straddle, covered_array, covered_cells, overlaid_array, overlaid_part, straddles, taken_refused, put_refused}
+use Rattle.shard_writing.proofs.PartLemmas.{taken_refused}
+use Rattle.shard_writing.proofs.CellLemmas.{axes_of, no_straddle, covered_array, covered_cells, overlaid_array, overlaid_part, straddles, served_in_box}
 use Rattle.shard_writing.proofs.writing.Writing.new_cells.Goals as goal
 
 pub returns-in_err-part-clause-refused : goal.returns-in_err-part-clause-refused
 returns-in_err-part-clause-refused g c =
     let a = c.args in
     let s = a.self.now in
+    let m = c.in_ok-meeting.ensures.meets in
+    let meeting = c.in_ok-meeting.meeting in
     let e = c.in_err-part.field-0.0 in
-    let refused = rw c.shape.ensures.value at c.in_err-part.ensures.refused in
+    let refused = rw c.shape-axes.ensures.value at c.in_err-part.ensures.refused in
+    let served = served_in_box s.shape.now (subchunk_geo s.subchunks) a.subset.now a.number meeting.in_sub meeting.in_box m c.requires.well_formed c.requires.inside c.requires.fits in
     passed_on _ e _ c.from_residual-in_err-part.ensures.1
-    (inl (taken_refused s.shape.now s.subchunks.shape.now a.subset.now a.number c.in_ok-meeting.meeting.in_sub c.in_ok-meeting.meeting.in_box a.update.now s.subchunks.data_type.now e
-    c.in_ok-meeting.ensures.meets c.requires.well_formed c.requires.inside c.requires.fits c.requires.supported c.requires.kind c.requires.all refused))
+    (inl (taken_refused a.update.now meeting.in_box a.subset.now.shape s.subchunks.data_type.now e m.box_well_formed served c.requires.supported c.requires.kind c.requires.all refused))
 
 pub returns-then-is_whole-clause-cells : goal.returns-then-is_whole-clause-cells
 returns-then-is_whole-clause-cells g c = λ t.
     let a = c.args in
     let s = a.self.now in
     let meeting = c.in_ok-meeting.meeting in
-    let part = rw c.shape.ensures.value at c.in_ok-part.ensures.extracted in
+    let part = rw c.shape-axes.ensures.value at c.in_ok-part.ensures.extracted in
     let inner = inner_meaning g.I.ArrayToBytesCodecTraits.meaning s.subchunks in
     let whole = c.is_whole.ensures.whole.0 c.if-is_whole.true in
     covered_cells s.shape.now (subchunk_geo s.subchunks) a.subset.now a.number meeting.in_sub meeting.in_box c.in_ok-meeting.ensures.meets whole (axes_of meeting.in_sub c.in_ok-meeting.ensures.meets.sub_well_formed)
@@ -51,35 +56,26 @@ returns-in_err-old-clause-refused g c =
     ])
 
 pub returns-in_err-new-clause-refused : goal.returns-in_err-new-clause-refused
-returns-in_err-new-clause-refused g c =
-    let a = c.args in
-    let s = a.self.now in
-    let meeting = c.in_ok-meeting.meeting in
-    let e = c.in_err-new.field-0.0 in
-    let part = rw c.shape.ensures.value at c.in_ok-part.ensures.extracted in
-    let refused = rw c.as_slice-sub.ensures.value at c.in_err-new.ensures.refused in
-    passed_on _ e _ c.from_residual-in_err-new.ensures.1
-    (inl (put_refused s.shape.now (subchunk_geo s.subchunks) a.subset.now a.number meeting.in_sub meeting.in_box a.update.now c.in_ok-part.part c.in_ok-old.old e c.in_ok-meeting.ensures.meets
-    (omega (arith, c.ranges.places.fits, c.requires.places)) c.requires.supported c.requires.kind part c.in_ok-old.ensures.kind c.in_ok-old.ensures.array refused))
+returns-in_err-new-clause-refused g c = passed_on _ c.in_err-new.field-0.0 _ c.from_residual-in_err-new.ensures.1 (inl c.in_err-new.ensures.refused)
 
 pub returns-clause-cells : goal.returns-clause-cells
 returns-clause-cells g c = λ t.
     let a = c.args in
     let s = a.self.now in
     let meeting = c.in_ok-meeting.meeting in
-    let part = rw c.shape.ensures.value at c.in_ok-part.ensures.extracted in
-    let updated = rw c.as_slice-sub.ensures.value at c.in_ok-new.ensures.updated in
+    let part = extracted a.update.now meeting.in_box a.subset.now.shape in
+    let updated = rw (c.as_slice-sub.ensures.value, c.shape-axes.ensures.value) at c.in_ok-new.ensures.updated in
     let inner = inner_meaning g.I.ArrayToBytesCodecTraits.meaning s.subchunks in
     overlaid_part s.shape.now (subchunk_geo s.subchunks) a.subset.now a.number meeting.in_sub meeting.in_box c.in_ok-meeting.ensures.meets
-    a.update.now c.in_ok-part.part c.in_ok-old.old c.in_ok-new.new (cell_in inner.cells s.subchunks.fill_value.now (bytes_of (g.H.BytesPartialDecoderTraits.state a.handle.now).contents) a.slot)
-    part c.requires.all c.requires.fitting updated c.in_ok-old.ensures.array (c.in_ok-old.ensures.cells t)
+    a.update.now part c.in_ok-old.old c.in_ok-new.new (cell_in inner.cells s.subchunks.fill_value.now (bytes_of (g.H.BytesPartialDecoderTraits.state a.handle.now).contents) a.slot)
+    refl c.requires.all c.requires.fitting updated c.in_ok-old.ensures.array (c.in_ok-old.ensures.cells t)
 
 pub returns-then-is_whole-clause-array : goal.returns-then-is_whole-clause-array
 returns-then-is_whole-clause-array g c =
     let a = c.args in
     let s = a.self.now in
     let meeting = c.in_ok-meeting.meeting in
-    let part = rw c.shape.ensures.value at c.in_ok-part.ensures.extracted in
+    let part = rw c.shape-axes.ensures.value at c.in_ok-part.ensures.extracted in
     let whole = c.is_whole.ensures.whole.0 c.if-is_whole.true in
     covered_array s.shape.now (subchunk_geo s.subchunks) a.subset.now a.number meeting.in_sub meeting.in_box c.in_ok-meeting.ensures.meets whole (axes_of meeting.in_sub c.in_ok-meeting.ensures.meets.sub_well_formed)
     a.update.now c.in_ok-part.part part c.requires.all c.requires.fitting
@@ -89,15 +85,18 @@ returns-clause-array g c =
     let a = c.args in
     let s = a.self.now in
     let meeting = c.in_ok-meeting.meeting in
-    let part = rw c.shape.ensures.value at c.in_ok-part.ensures.extracted in
-    let updated = rw c.as_slice-sub.ensures.value at c.in_ok-new.ensures.updated in
+    let part = extracted a.update.now meeting.in_box a.subset.now.shape in
+    let updated = rw (c.as_slice-sub.ensures.value, c.shape-axes.ensures.value) at c.in_ok-new.ensures.updated in
     overlaid_array s.shape.now (subchunk_geo s.subchunks) a.subset.now a.number meeting.in_sub meeting.in_box c.in_ok-meeting.ensures.meets
-    a.update.now c.in_ok-part.part c.in_ok-old.old c.in_ok-new.new part c.requires.all c.requires.fitting updated c.in_ok-old.ensures.array
+    a.update.now part c.in_ok-old.old c.in_ok-new.new refl c.requires.all c.requires.fitting updated c.in_ok-old.ensures.array
 
-pub overlaid-requires-clause-all_part : goal.overlaid-requires-clause-all_part
-overlaid-requires-clause-all_part g c =
+pub overlaid-requires-clause-same : goal.overlaid-requires-clause-same
+overlaid-requires-clause-same g c = ap count_of (sym c.in_ok-meeting.ensures.meets.same_shape)
+
+pub overlaid-requires-clause-part_served : goal.overlaid-requires-clause-part_served
+overlaid-requires-clause-part_served g c =
     let a = c.args in
     let s = a.self.now in
     let meeting = c.in_ok-meeting.meeting in
-    let part = rw c.shape.ensures.value at c.in_ok-part.ensures.extracted in
-    counted_part s.shape.now (subchunk_geo s.subchunks) a.subset.now a.number meeting.in_sub meeting.in_box c.in_ok-meeting.ensures.meets a.update.now c.in_ok-part.part part
+    rw c.shape-axes.ensures.value
+    (served_in_box s.shape.now (subchunk_geo s.subchunks) a.subset.now a.number meeting.in_sub meeting.in_box c.in_ok-meeting.ensures.meets c.requires.well_formed c.requires.inside c.requires.fits)
