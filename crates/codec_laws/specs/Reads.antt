@@ -3,7 +3,7 @@ use Rattle.std.specs.Prelude.{◌≡◌, ◌≤◌, ◌^◌, ◌⊎◌, ⊤, ℕ
 use Rattle.std.specs.List.{All}
 use Rattle.zarr_parts.specs.Order.{◌or◌then◌}
 use Rattle.zarr_parts.specs.Numbering.{number_of}
-use Rattle.zarr_parts.specs.Geo.{Geo}
+use Rattle.zarr_parts.specs.Geo.{Geo, geo}
 use Rattle.zarr_parts.specs.Types.{size_of, FitsKind}
 use Rattle.zarr_parts.specs.Arrays.{Array}
 use Rattle.zarr_parts.specs.Targets.{IsWritten}
@@ -14,6 +14,11 @@ use Rattle.zarr_parts.specs.CodecError.TheVariants.{OutOfMemory, TooLarge, Fault
 use Rattle.object_handles.specs.declared.bytes.Interval.{Interval}
 use Rattle.object_handles.specs.Objects.{interval_part, HasInterval}
 use Rattle.codec_laws.specs.Refusals.{AreTooLong, AreDamaged}
+use Rattle.codec_laws.specs.declared.stored.StoredArray.{StoredArray}
+
+-- the shape, the type and the fill value of an array that stands in an interval
+abbrev pub stored_geo : StoredArray → Geo
+stored_geo stored = geo stored.shape.now stored.data_type.now stored.fill_value.now
 
 -- the cells at some coordinates of a shape, in their order, duplicates kept
 abbrev pub cells_at : List (Option (List ℕ)) → List ℕ → List (List ℕ) → List (Option (List ℕ))
@@ -39,6 +44,10 @@ pub record IsDecodedInto (old new : FixedTarget) (cells : List (Option (List ℕ
   pub elements : List (List ℕ)
   pub there : cells ≡ map Some elements
   pub written : IsWritten old new (λ k. slice_index_or elements k [])
+
+-- the target's subset was overwritten by some elements in row-major order, whether the handle tells its bytes or not
+abbrev pub IsOverwritten : (old new : FixedTarget) → Type 0
+IsOverwritten old new = (elements : List (List ℕ)) × IsWritten old new (λ k. slice_index_or elements k [])
 
 -- how a read of the asked ones of some cells may be refused, faults aside: as `decode` for all of them or the asked ones, or where more are
 -- asked than can be counted

@@ -6,12 +6,12 @@ ghost use Rattle.zarr_parts.specs.Geo.{Geo, geo, IsArrayOf};
 ghost use Rattle.zarr_parts.specs.Types.{size_of, FitsKind};
 ghost use Rattle.zarr_parts.specs.Arrays.{Array};
 ghost use Rattle.zarr_parts.specs.CodecError.{CodecError};
-ghost use Rattle.zarr_parts.specs.Selections.{LiesWithin};
+ghost use Rattle.zarr_parts.specs.Selections.{LiesWithin, IsSelectionOf};
 ghost use Rattle.zarr_parts.specs.Targets.{target_element_size, target_box, TargetTests};
 ghost use Rattle.zarr_parts.specs.DataTypeSize.TheVariants.{Fixed};
 ghost use Rattle.zarr_parts.specs.CodecError.TheVariants.{TooLarge};
 ghost use Rattle.object_handles.specs.Handles.{IsRead, IsCounted, MayFault};
-ghost use Rattle.codec_laws.specs.Reads.{IsDecodedInto, cells_at, IsAnswer, IsReadOf, MayRefuseRead, AskedTests};
+ghost use Rattle.codec_laws.specs.Reads.{stored_geo, IsDecodedInto, IsOverwritten, cells_at, IsAnswer, IsReadOf, MayRefuseRead, AskedTests};
 ghost use Rattle.object_handles.specs.Objects.{interval_part, HasInterval, ObjectTests, IntervalTests};
 ghost use Rattle.codec_laws.specs.Encodings.{IsEncodedOnto};
 ghost use Rattle.codec_laws.specs.Meanings.{Meaning, Concurrency};
@@ -21,6 +21,7 @@ ghost use Rattle.codec_laws.specs.declared.representation.BytesRepresentation.{B
 
 use crate::concurrency::RecommendedConcurrency;
 use crate::representation::BytesRepresentation;
+use crate::stored::StoredArray;
 use object_handles::{BytesPartialDecoderTraits, Interval};
 use std::alloc::Global;
 use zarr_parts::{
@@ -266,6 +267,65 @@ pub trait ArrayToBytesCodecTraits {
             AskedTests g (N.selection indexer.now) m.answerable (
             ObjectTests (H.state handle.old) (H.state handle.new) (
             IntervalTests interval (H.state handle.old).contents (λ b. m.read_tests b (N.selection indexer.now).points))))) };
+
+    /// Reads the cells that an indexer asks, as `partial_decode`, into a target: in the indexer's order they go to the target's
+    /// subset, in row-major order of this. Ok or refused, the object stays; a refusal leaves the target. Refused as `check`
+    /// refuses, then as `WrongElementKind` (a type of another element size or of none), `InvalidNumberOfElements` (another
+    /// number of elements in the target's subset), then as `partial_decode`.
+    fn partial_decode_into<H: BytesPartialDecoderTraits, N: Indexer>(
+        &self,
+        alloc: Global,
+        handle: &mut H,
+        stored: &StoredArray,
+        indexer: &N,
+        target: &mut FixedTarget,
+        options: &CodecOptions,
+    ) -> Result<(), CodecError>
+        ensures serves { OnOk result (meaning self.now (stored_geo stored.now)).serves }
+        ensures read { IsRead (H.state handle.old) (H.state handle.new) }
+        ensures kind { OnOk result (size_of stored.now.data_type.now ≡ Fixed (target_element_size target.old)) }
+        ensures counted { OnOk result (count_of (target_box target.old).shape ≡ length (N.selection indexer.now).points) }
+        ensures selected { OnOk result (IsSelectionOf stored.now.shape.now (N.selection indexer.now)) }
+        ensures answerable { let m = meaning self.now (stored_geo stored.now) in
+            OnOk result (m.answerable (length (N.selection indexer.now).points)) }
+        ensures written { OnOk result (IsOverwritten target.old target.new) }
+        ensures cells { let m = meaning self.now (stored_geo stored.now) in
+            OnOk result (IsTrue (H.state handle.old).tells
+            → HasInterval stored.now.interval (H.state handle.old).contents
+            × IsDecodedInto target.old target.new (cells_at (m.cells (interval_part stored.now.interval (H.state handle.old).contents)) stored.now.shape.now (N.selection indexer.now).points)) }
+        ensures kept { OnErr result (target.new ≡ target.old) }
+        ensures fault { IfErr result (IsCounted (H.state handle.old) (H.state handle.new)) }
+        ensures lawful { let m = meaning self.now (stored_geo stored.now) in
+            IfErr result (λ e. m.serves → size_of stored.now.data_type.now ≡ Fixed (target_element_size target.old)
+            → count_of (target_box target.old).shape ≡ length (N.selection indexer.now).points
+            → IsTrue (H.state handle.old).tells → (N.selection indexer.now).axes ≡ length stored.now.shape.now
+            → LiesWithin (N.selection indexer.now).box (N.selection indexer.now).points stored.now.shape.now
+            → HasInterval stored.now.interval (H.state handle.old).contents
+            → MayFault (H.state handle.old) (H.state handle.new) e
+            ⊎ MayRefuseRead (m.cells (interval_part stored.now.interval (H.state handle.old).contents))
+            (cells_at (m.cells (interval_part stored.now.interval (H.state handle.old).contents)) stored.now.shape.now (N.selection indexer.now).points) e) }
+        ensures refused { let m = meaning self.now (stored_geo stored.now) in
+            IfErr result (RefusedBy (
+            m.serves or_as RefusesUnserved m then
+            TargetTests (size_of stored.now.data_type.now) (length (N.selection indexer.now).points) target.old (
+            AskedTests (stored_geo stored.now) (N.selection indexer.now) m.answerable (
+            ObjectTests (H.state handle.old) (H.state handle.new) (
+            IntervalTests stored.now.interval (H.state handle.old).contents (λ b. m.read_tests b (N.selection indexer.now).points)))))) }
+    {
+        self.check(alloc, stored.shape, stored.data_type, stored.fill_value)?;
+        check_target(target, indexer.len(), stored.data_type)?;
+        let read = self.partial_decode(
+            alloc,
+            handle,
+            stored.interval,
+            stored.shape,
+            stored.data_type,
+            stored.fill_value,
+            indexer,
+            options,
+        )?;
+        target.copy_from(&read)
+    }
 
     // what the codec means for the arrays of a shape, a type and a fill value keeps the laws
     ghost lawful: { (x : Self) (g : Geo) → IsLawful g (meaning x g) };

@@ -6,9 +6,11 @@ mod concurrency;
 mod functional;
 mod laws;
 mod representation;
+mod stored;
 
 pub use codec::{ArrayToBytesCodecTraits, check_target};
 pub use concurrency::RecommendedConcurrency;
 pub use functional::FunctionalCodec;
 pub use laws::{decode_after_encode, read_after_decode};
 pub use representation::BytesRepresentation;
+pub use stored::StoredArray;

@@ -1,0 +1,12 @@
+// An array that stands in an interval of an object.
+use object_handles::Interval;
+use zarr_parts::{ChunkShape, DataType, FillValue};
+
+/// An array that stands in an interval of an object: its shape, its data type and its fill value.
+#[derive(Clone, Copy)]
+pub struct StoredArray<'a> {
+    pub interval: Interval,
+    pub shape: &'a ChunkShape,
+    pub data_type: &'a DataType,
+    pub fill_value: &'a FillValue,
+}
