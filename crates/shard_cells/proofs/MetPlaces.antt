@@ -7,14 +7,13 @@ use Rattle.std.proofs.lemmas.List.Elements.{length_all_zip, All-from_get_or, All
 use Rattle.std.proofs.lemmas.List.Kept.{AllPairs-filter}
 use Rattle.std.proofs.lemmas.List.FromFn.{get_or-map-range_with_len, length-map-range_with_len}
 use Rattle.std.specs.List.{All, AllPairs, Contains, filter}
-use Rattle.zarr_parts.specs.Numbering.{count_of, IsInside}
-use Rattle.zarr_parts.specs.Boxes.{Region, IsBox, LiesIn, number_in, numbers_in, points_of}
+use Rattle.zarr_parts.specs.Numbering.{count_of}
+use Rattle.zarr_parts.specs.Boxes.{Region, IsBox, LiesIn, number_in, numbers_in}
 use Rattle.zarr_parts.specs.Grid.{Divides, grid_of, subchunk_number, place_number, cell_number, subchunk_box}
 use Rattle.zarr_parts.specs.Touched.{Touches}
 use Rattle.zarr_parts.specs.Selections.{IsSelectionOf, box_selection}
 use Rattle.zarr_boxes.proofs.CountLaws.{box_count_le}
 use Rattle.zarr_boxes.proofs.BoxLaws.{lies_in_length, length-points_of}
-use Rattle.zarr_boxes.proofs.SelectionLemmas.{inside-points_of}
 use Rattle.zarr_boxes.proofs.PieceLaws.{number_in_below}
 use Rattle.zarr_boxes.proofs.TouchedLaws.{number_rising}
 use Rattle.zarr_boxes.proofs.GridLaws.{count-grid, at_least, place_number-below, cell_number-located, subchunk_number-cell_number, place_number-cell_number, subchunk_box-axes, subchunk_box-lies_in, number_in-subchunk_box}
@@ -209,16 +208,6 @@ module _ (shape sub : List ℕ) (box : Region) (k : ℕ) (in_sub in_box : Region
     within = m.sub_inside;
     counted = omega (arith, length-points_of in_sub, box_count_le in_sub.start in_sub.shape sub met_axes m.sub_inside, fits);
   }
-
-  pub met_points : All (λ point. IsInside point sub) (points_of in_sub)
-  met_points = inside-points_of in_sub sub m.sub_inside
-
-  pub met_some : 0 < count_of in_sub.shape → points_of in_sub ≢ []
-  met_some some none = omega (arith, some, length-points_of in_sub, ap length none)
-
-  -- as many cells as the box has there
-  pub met_count : length (points_of in_sub) ≡ count_of in_box.shape
-  met_count = length-points_of in_sub ∙ ap count_of m.same_shape
 
 -- a subchunk has no more places than the shape has cells
 pub places_fit : (shape sub : List ℕ) (k : ℕ) → Divides sub shape → k < count_of (grid_of shape sub) → count_of shape < 2 ^ 64 → count_of sub < 2 ^ 64

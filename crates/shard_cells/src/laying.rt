@@ -2,7 +2,6 @@
 ghost use Rattle.std.specs.Prelude.{◌≡◌, ◌+◌, ◌*◌, ◌^◌, ◌<◌, ℕ, [], Option, None, IsTrue, IfOk, IfErr, OnOk, map, length, drop, replicate, slice_index_or};
 ghost use Rattle.std.specs.List.{concat, range_with_len};
 ghost use Rattle.zarr_parts.specs.Numbering.{count_of};
-ghost use Rattle.zarr_parts.specs.Boxes.{IsServed, number_in};
 ghost use Rattle.zarr_parts.specs.Grid.{Divides, grid_of, cell_number};
 ghost use Rattle.zarr_parts.specs.Pieces.{piece, IsUpdated};
 ghost use Rattle.zarr_elements.specs.declared.data_type.DataTypeSize.TheVariants.{Fixed};
@@ -15,7 +14,7 @@ use std::alloc::{AllocError, Global};
 use std::borrow::CowSlice;
 use zarr_boxes::subchunks_follow;
 use zarr_elements::{repeated, scatter};
-use zarr_parts::{ArrayBytes, ArraySubset, ChunkShape, CodecError};
+use zarr_parts::{ArrayBytes, ChunkShape, CodecError};
 
 // Whether some subchunk is absent.
 fn any_absent(subchunks: &[Option<ArrayBytes>]) -> bool
@@ -140,25 +139,6 @@ pub fn room_for(
         return Ok(all);
     }
     Vec::from_elem(alloc, 0, cells * fill.len())
-}
-
-/// Writes what was read of a part of a subchunk at the cells of a box where it lies, if the subchunk is there.
-pub fn put_part(
-    bytes: &mut [u8],
-    size: usize,
-    subset: &ArraySubset,
-    shape: &[u64],
-    part: &Option<ArrayBytes>,
-)
-    requires some { 0 < size }
-    requires served { IsServed subset.now shape.now }
-    requires whole { length bytes.old ≡ count_of shape.now * size }
-    requires part { IsPartOf (Fixed size) (count_of subset.now.shape) part.now }
-    ensures { IsUpdated (places_there (count_of subset.now.shape) part.now) (number_in subset.now shape.now) (piece size bytes.old) (element_at [] part.now) (piece size bytes.new) }
-{
-    if let Some(array) = part {
-        scatter(bytes, size, subset, shape, array.bytes());
-    }
 }
 
 // The bytes of a shard's elements, of which those of each subchunk are written at the cells of its box.

@@ -14,7 +14,7 @@ pub use asked::{check_asked, put_together};
 pub use fill_values::filled;
 pub use gathering::{check_lengths, gathered};
 pub use grouping::{Grouping, Places, Standing, grouped};
-pub use laying::{put_part, room_for};
+pub use laying::room_for;
 pub use meeting::{Meeting, meeting_of};
 pub use sorted::{AskedCell, list_places, put_cells, run_length, sorted_cells};
 pub use update::check_update;

@@ -1,10 +1,11 @@
 // The cells of a box of a shard, whose elements have one size: read subchunk by subchunk, each where the box meets it.
-ghost use Rattle.std.specs.Prelude.{◌≡◌, ◌+◌, ◌*◌, ◌^◌, ◌<◌, ℕ, Some, IsTrue, IfOk, IfErr, map, length, slice_index};
+ghost use Rattle.std.specs.Prelude.{◌≡◌, ◌+◌, ◌*◌, ◌^◌, ◌<◌, ℕ, Some, IsTrue, IfOk, IfErr, OnOk, map, length, slice_index};
 ghost use Rattle.std.specs.List.{All};
 ghost use Rattle.zarr_parts.specs.Order.{RefusedBy};
 ghost use Rattle.zarr_parts.specs.Numbering.{count_of};
-ghost use Rattle.zarr_parts.specs.Boxes.{LiesIn, numbers_in};
-ghost use Rattle.zarr_parts.specs.Pieces.{pieces};
+ghost use Rattle.zarr_parts.specs.Boxes.{IsTarget, LiesIn, number_in, numbers_in};
+ghost use Rattle.zarr_parts.specs.Selections.{box_selection, IsSelectionOf};
+ghost use Rattle.zarr_parts.specs.Pieces.{piece, pieces};
 ghost use Rattle.zarr_parts.specs.Grid.{Divides, grid_of};
 ghost use Rattle.zarr_parts.specs.Types.{size_of, HasElements, FitsKind};
 ghost use Rattle.zarr_parts.specs.DataTypeSize.TheVariants.{Fixed};
@@ -12,18 +13,21 @@ ghost use Rattle.object_handles.specs.Handles.{IsRead, IsCounted};
 ghost use Rattle.object_handles.specs.Objects.{interval_part, HasInterval, ObjectTests};
 ghost use Rattle.shard_format.specs.Index.{slot_at};
 ghost use Rattle.shard_format.specs.Cells.{indexed_cell};
+ghost use Rattle.shard_format.specs.Decoding.{FitsSlot};
+ghost use Rattle.shard_format.specs.ReadTests.{AnswerTests, RefusesPlaces};
 ghost use Rattle.shard_format.specs.Reading.{ReadByTests};
 ghost use Rattle.shard_format.specs.declared.slot.Slot.TheVariants.{Absent};
 ghost use Rattle.shard_subchunks.specs.Inner.{inner_meaning};
+ghost use Rattle.shard_subchunks.specs.Reads.{IsReadInto};
 
 use crate::subchunks::Subchunks;
-use codec_laws::ArrayToBytesCodecTraits;
+use codec_laws::{ArrayToBytesCodecTraits, StoredArray};
 use object_handles::{BytesPartialDecoderTraits, Interval};
-use shard_cells::{meeting_of, put_part, room_for};
-use shard_format::{ShardIndex, Slot, calculate_chunks_per_shard};
+use shard_cells::{Meeting, meeting_of, room_for};
+use shard_format::{ShardIndex, Slot, calculate_chunks_per_shard, of_stored};
 use std::alloc::Global;
 use std::borrow::CowSlice;
-use zarr_parts::{ArrayBytes, ArraySubset, ChunkShape, CodecError};
+use zarr_parts::{ArrayBytes, ArraySubset, ChunkShape, CodecError, FixedTarget};
 
 // Whether one of these subchunks is absent.
 fn any_absent(index: &ShardIndex, subchunks: &[u64]) -> bool
@@ -39,6 +43,69 @@ fn any_absent(index: &ShardIndex, subchunks: &[u64]) -> bool
 }
 
 impl<I: ArrayToBytesCodecTraits> Subchunks<'_, I> {
+    // Reads the cells that a box and the subchunk that a slot names both have to where they lie in the box, whose elements have
+    // these bytes; nothing where the subchunk is absent.
+    fn read_into<H: BytesPartialDecoderTraits>(
+        &self,
+        alloc: Global,
+        handle: &mut H,
+        outer: Interval,
+        number: u64,
+        slot: Slot,
+        meeting: &Meeting,
+        axes: &[u64],
+        bytes: &mut [u8],
+    ) -> Result<(), CodecError>
+        requires fits { FitsSlot outer.size slot }
+        requires room { outer.offset + outer.size < 2 ^ 64 }
+        requires inside { IsTrue (H.state handle.old).tells → HasInterval outer (H.state handle.old).contents }
+        requires serves { (inner_meaning I.meaning self.now).serves }
+        requires selection { IsSelectionOf self.now.shape.now (box_selection meeting.now.in_sub) }
+        requires some { 0 < count_of meeting.now.in_sub.shape }
+        requires same { count_of meeting.now.in_sub.shape ≡ count_of meeting.now.in_box.shape }
+        requires fixed { size_of self.now.data_type.now ≡ Fixed (length self.now.fill_value.now) }
+        requires target { IsTarget (length bytes.old) (length self.now.fill_value.now) axes.now meeting.now.in_box }
+        ensures read { IsRead (H.state handle.old) (H.state handle.new) }
+        ensures cells { let inner = inner_meaning I.meaning self.now in let size = length self.now.fill_value.now in
+            OnOk result (IsTrue (H.state handle.old).tells
+            → IsReadInto inner.cells (interval_part outer (H.state handle.old).contents) slot (numbers_in meeting.now.in_sub self.now.shape.now)
+            (number_in meeting.now.in_box axes.now) (piece size bytes.old) (piece size bytes.new)) }
+        ensures fault { IfErr result (IsCounted (H.state handle.old) (H.state handle.new)) }
+        ensures refused { let inner = inner_meaning I.meaning self.now in
+            IfErr result (RefusedBy (ObjectTests (H.state handle.old) (H.state handle.new) (
+            RefusesPlaces (AnswerTests inner.answerable inner.read_tests) inner.cells self.now.shape.now
+            (interval_part outer (H.state handle.old).contents) slot (numbers_in meeting.now.in_sub self.now.shape.now) number))) }
+    {
+        match slot {
+            Slot::Absent => Ok(()),
+            Slot::InRange { offset, size } => {
+                let stored = StoredArray {
+                    interval: Interval {
+                        offset: outer.offset + offset,
+                        size,
+                    },
+                    shape: self.shape,
+                    data_type: self.data_type,
+                    fill_value: self.fill_value,
+                };
+                let element = self.fill_value.as_ne_bytes();
+                let mut target = FixedTarget::over(bytes, element.len(), axes, &meeting.in_box);
+                match self.codec.partial_decode_into(
+                    alloc,
+                    handle,
+                    &stored,
+                    &meeting.in_sub,
+                    &mut target,
+                    self.options,
+                ) {
+                    Ok(()) => Ok(()),
+                    Err(error) => Err(of_stored(error)),
+                }
+            }
+            Slot::Bad => Err(CodecError::BadIndexEntry { number }),
+        }
+    }
+
     // The bytes of the cells of a box, of which there are so many.
     fn box_bytes<H: BytesPartialDecoderTraits>(
         &self,
@@ -83,8 +150,9 @@ impl<I: ArrayToBytesCodecTraits> Subchunks<'_, I> {
             let number = touched[j];
             let meeting = meeting_of(alloc, number, subset, &grid, shape, self.shape)?;
             let slot = index.slot(number as usize);
-            let part = self.read_in_slot(alloc, handle, outer, number, slot, &meeting.in_sub)?;
-            put_part(&mut bytes, fill.len(), &meeting.in_box, axes, &part);
+            self.read_into(
+                alloc, handle, outer, number, slot, &meeting, axes, &mut bytes,
+            )?;
         }
         Ok(bytes)
     }

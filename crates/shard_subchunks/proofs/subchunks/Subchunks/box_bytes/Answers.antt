@@ -1,21 +1,17 @@
-use Rattle.std.proofs.Common.{◌≡◌, ◌<◌, ◌∙◌, ap, sym, get_or, map, length, [], arith}
+use Rattle.std.proofs.Common.{◌≡◌, ◌<◌, ◌∙◌, ap, sym, get_or, map, length, arith}
 use Rattle.std.proofs.lemmas.List.{get_or_read}
 use Rattle.zarr_parts.proofs.ListLaws.{whole_after}
 use Rattle.zarr_parts.specs.Numbering.{count_of}
-use Rattle.zarr_parts.specs.Boxes.{numbers_in, number_in}
-use Rattle.zarr_parts.specs.Pieces.{piece, IsUpdated}
-use Rattle.zarr_parts.proofs.SelectionLemmas.{numbers_of-points_of}
+use Rattle.zarr_parts.specs.Boxes.{numbers_in}
 use Rattle.object_handles.specs.Objects.{interval_part}
 use Rattle.codec_laws.proofs.ReadLemmas.{length-interval_part}
 use Rattle.shard_format.specs.Index.{slot_at}
 use Rattle.shard_format.specs.Cells.{indexed_cell}
-use Rattle.shard_format.specs.Decoding.{element_at}
 use Rattle.shard_format.specs.DecodeTests.{RefusesLengths}
 use Rattle.shard_format.specs.ReadTests.{AnswerTests}
 use Rattle.codec_laws.specs.RefusalLaws.{passed_on}
-use Rattle.shard_cells.specs.Gathering.{places_there}
 use Rattle.shard_cells.proofs.ReadGroupLemmas.{read_then}
-use Rattle.shard_cells.proofs.MetPlaces.{met_selection, met_points, met_some, met_count, some_met, places_fit}
+use Rattle.shard_cells.proofs.MetPlaces.{met_selection, numbers_counted, some_met, places_fit}
 use Rattle.shard_cells.proofs.BoxReadLemmas.{read_more, box_read, met_refused}
 use Rattle.shard_subchunks.specs.Inner.{inner_meaning}
 use Rattle.shard_subchunks.proofs.subchunks.Subchunks.box_bytes.Goals as goal
@@ -27,8 +23,8 @@ meeting_of-requires-clause-touches g c =
     let number : c.index-number.result.now ≡ get_or touched c.loop-j.j 0 = get_or_read touched _ _ lt c.index-number.ensures 0 in
     rw number (c.in_ok-touched.ensures.touched.touched c.loop-j.j lt)
 
-pub read_in_slot-requires-clause-selection : goal.read_in_slot-requires-clause-selection
-read_in_slot-requires-clause-selection g c =
+pub read_into-requires-clause-selection : goal.read_into-requires-clause-selection
+read_into-requires-clause-selection g c =
     let a = c.args in
     let s = a.self.now in
     let touched = c.in_ok-touched.touched.items in
@@ -37,14 +33,8 @@ read_in_slot-requires-clause-selection g c =
     met_selection a.shape.now s.shape.now a.subset.now c.index-number.result.now meeting.in_sub meeting.in_box c.in_ok-meeting.ensures.meets
     (places_fit a.shape.now s.shape.now (get_or touched c.loop-j.j 0) c.requires.divides (c.in_ok-touched.ensures.below c.loop-j.j 0 lt) c.requires.fits)
 
-pub read_in_slot-requires-clause-points : goal.read_in_slot-requires-clause-points
-read_in_slot-requires-clause-points g c =
-    let a = c.args in
-    let meeting = c.in_ok-meeting.meeting in
-    met_points a.shape.now a.self.now.shape.now a.subset.now c.index-number.result.now meeting.in_sub meeting.in_box c.in_ok-meeting.ensures.meets
-
-pub read_in_slot-requires-clause-some : goal.read_in_slot-requires-clause-some
-read_in_slot-requires-clause-some g c =
+pub read_into-requires-clause-some : goal.read_into-requires-clause-some
+read_into-requires-clause-some g c =
     let a = c.args in
     let s = a.self.now in
     let touched = c.in_ok-touched.touched.items in
@@ -53,19 +43,11 @@ read_in_slot-requires-clause-some g c =
     let meeting = c.in_ok-meeting.meeting in
     let meets = rw number at c.in_ok-meeting.ensures.meets in
     let below = c.in_ok-touched.ensures.below c.loop-j.j 0 lt in
-    met_some a.shape.now s.shape.now a.subset.now (get_or touched c.loop-j.j 0) meeting.in_sub meeting.in_box meets
-    (some_met a.shape.now s.shape.now a.subset.now (get_or touched c.loop-j.j 0) c.requires.divides below c.shape-axes.ensures.well_formed c.requires.lies meeting.in_sub meeting.in_box meets
-    (c.in_ok-touched.ensures.touched.touched c.loop-j.j lt))
+    some_met a.shape.now s.shape.now a.subset.now (get_or touched c.loop-j.j 0) c.requires.divides below c.shape-axes.ensures.well_formed c.requires.lies meeting.in_sub meeting.in_box meets
+    (c.in_ok-touched.ensures.touched.touched c.loop-j.j lt)
 
-pub put_part-requires-clause-part : goal.put_part-requires-clause-part
-put_part-requires-clause-part g c =
-    let a = c.args in
-    let meeting = c.in_ok-meeting.meeting in
-    let count = met_count a.shape.now a.self.now.shape.now a.subset.now c.index-number.result.now meeting.in_sub meeting.in_box c.in_ok-meeting.ensures.meets in
-    rw c.as_ne_bytes-fill.ensures (rw (c.requires.fixed, count) at c.in_ok-part.ensures.part)
-
-pub returns-in_err-part-clause-refused : goal.returns-in_err-part-clause-refused
-returns-in_err-part-clause-refused g c =
+pub returns-in_err-read_into-clause-refused : goal.returns-in_err-read_into-clause-refused
+returns-in_err-read_into-clause-refused g c =
     let a = c.args in
     let s = a.self.now in
     let h = g.H.BytesPartialDecoderTraits in
@@ -79,16 +61,16 @@ returns-in_err-part-clause-refused g c =
     let touched = c.in_ok-touched.touched.items in
     let j = c.loop-j.j in
     let inv = c.loop-j.invariant in
-    let e = c.in_err-part.field-0.0 in
+    let e = c.in_err-read_into.field-0.0 in
     let lt : j < length touched = omega arith in
     let number : c.index-number.result.now ≡ get_or touched j 0 = get_or_read touched _ _ lt c.index-number.ensures 0 in
     let slot : c.slot-slot.result ≡ slot_at a.outer.size index (get_or touched j 0) = (rw c.requires.len at c.slot-slot.ensures.slot) ∙ ap (slot_at a.outer.size index) number in
     let meeting = c.in_ok-meeting.meeting in
     let meets = rw number at c.in_ok-meeting.ensures.meets in
-    let refused = rw (inv.read.contents_same, slot, ← numbers_of-points_of meeting.in_sub sub, number) at c.in_err-part.ensures.refused in
-    passed_on _ e _ c.from_residual-in_err-part.ensures.1
+    let refused = rw (inv.read.contents_same, slot, number) at c.in_err-read_into.ensures.refused in
+    passed_on _ e _ c.from_residual-in_err-read_into.ensures.1
     (met_refused (AnswerTests inner.answerable inner.read_tests) inner.cells shape sub fill index box touched c.requires.divides c.shape-axes.ensures.well_formed c.requires.lies c.in_ok-touched.ensures.touched
-    (h.state a.handle.now) (h.state c.loop-j.handle) (h.state c.read_in_slot.new.handle) a.outer j meeting.in_sub meeting.in_box c.loop-j.bytes.items
+    (h.state a.handle.now) (h.state c.loop-j.handle) (h.state c.read_into.new.handle) a.outer j meeting.in_sub meeting.in_box c.loop-j.bytes.items
     (RefusesLengths (map (indexed_cell inner.cells shape sub fill b index) (numbers_in box shape))) e
     inv.read c.requires.inside lt (c.in_ok-touched.ensures.below j 0 lt) meets inv.so_far refused)
 
@@ -108,21 +90,20 @@ loop-j-preserved g c =
     let j = c.loop-j.j in
     let inv = c.loop-j.invariant in
     let old = c.loop-j.bytes.items in
-    let new = c.put_part.new.bytes in
+    let new = c.read_into.new.bytes in
     let lt : j < length touched = omega arith in
     let number : c.index-number.result.now ≡ get_or touched j 0 = get_or_read touched _ _ lt c.index-number.ensures 0 in
     let slot : c.slot-slot.result ≡ slot_at a.outer.size index (get_or touched j 0) = (rw c.requires.len at c.slot-slot.ensures.slot) ∙ ap (slot_at a.outer.size index) number in
     let meeting = c.in_ok-meeting.meeting in
     let meets = rw number at c.in_ok-meeting.ensures.meets in
-    let read = rw (inv.read.tells_same, inv.read.contents_same, slot, ← numbers_of-points_of meeting.in_sub sub) at c.in_ok-part.ensures.cells in
-    let wrote : IsUpdated (places_there (count_of meeting.in_box.shape) c.in_ok-part.part) (number_in meeting.in_box box.shape) (piece (length fill) old) (element_at [] c.in_ok-part.part) (piece (length fill) new) =
-    rw (c.deref_mut.ensures.value, c.as_ne_bytes-fill.ensures, c.shape-axes.ensures.value) at c.put_part.ensures in
-    let long : length new ≡ length old = omega (arith, c.put_part.auto.bytes, ap length c.deref_mut.ensures.value) in
+    let put = rw (inv.read.tells_same, inv.read.contents_same, slot, c.deref_mut.ensures.value, c.shape-axes.ensures.value) at c.in_ok-read_into.ensures.cells in
+    let counted : length (numbers_in meeting.in_sub sub) ≡ count_of meeting.in_box.shape = numbers_counted meeting.in_sub sub ∙ ap count_of meets.same_shape in
+    let long : length new ≡ length old = omega (arith, c.read_into.auto.bytes, ap length c.deref_mut.ensures.value) in
     rw (whole_after c.loop-j.bytes.len new old long (omega (arith, c.loop-j.bytes.ok.0))) (record {
-      read = read_then (h.state a.handle.now) (h.state c.loop-j.handle) (h.state c.read_in_slot.new.handle) inv.read c.in_ok-part.ensures.read;
+      read = read_then (h.state a.handle.now) (h.state c.loop-j.handle) (h.state c.read_into.new.handle) inv.read c.in_ok-read_into.ensures.read;
       whole = long ∙ inv.whole;
       so_far = λ t. read_more inner.cells shape sub fill b index box touched a.outer.size c.requires.divides c.shape-axes.ensures.well_formed c.requires.lies c.in_ok-touched.ensures.touched
-          j lt (c.in_ok-touched.ensures.below j 0 lt) meeting.in_sub meeting.in_box meets c.in_ok-part.part old new (read t) wrote (inv.so_far t);
+          j lt (c.in_ok-touched.ensures.below j 0 lt) meeting.in_sub meeting.in_box meets (put t).part old new (put t).read (rw counted at (put t).written) (inv.so_far t);
     })
 
 pub returns-clause-cells : goal.returns-clause-cells
