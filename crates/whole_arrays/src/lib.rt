@@ -3,4 +3,4 @@
 
 mod asked;
 
-pub use asked::asked_of;
+pub use asked::{asked_of, put_asked};

@@ -3,7 +3,7 @@ use Rattle.std.proofs.lemmas.List.{take_all}
 use Rattle.zarr_parts.specs.Numbering.{number_of}
 use Rattle.zarr_parts.specs.Arrays.{element_of}
 use Rattle.zarr_parts.proofs.PieceLaws.{map-map}
-use Rattle.zarr_parts.proofs.SelectionLemmas.{numbers_of-points_of, selection_inside, point_inside_at, mapped_more}
+use Rattle.zarr_parts.proofs.SelectionLemmas.{numbers_of-points_of, selection_inside, point_inside_at}
 use Rattle.whole_arrays.proofs.asked.asked_of.Goals as goal
 
 pub returns-in-Some-clause-asked : goal.returns-in-Some-clause-asked
