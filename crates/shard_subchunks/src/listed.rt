@@ -32,7 +32,7 @@ impl<I: ArrayToBytesCodecTraits> Subchunks<'_, I> {
         outer: Interval,
         index: &ShardIndex,
         asked: &[AskedCell],
-        _numbers: &[u64],
+        numbers: &[u64],
         _shape: &ChunkShape,
     ) -> Result<Vec<u8>, CodecError>
         requires room { outer.offset + outer.size < 2 ^ 64 }
@@ -40,24 +40,24 @@ impl<I: ArrayToBytesCodecTraits> Subchunks<'_, I> {
         requires serves { (inner_meaning I.meaning self.now).serves }
         requires len { index.now.len ≡ outer.size }
         requires index { length index.now.numbers.items ≡ 2 * count_of (grid_of _shape.now self.now.shape.now) }
-        requires sorted { AreSorted _shape.now self.now.shape.now _numbers.now asked.now }
-        requires numbers { All (λ number. number < count_of _shape.now) _numbers.now }
+        requires sorted { AreSorted _shape.now self.now.shape.now numbers.now asked.now }
+        requires numbers { All (λ number. number < count_of _shape.now) numbers.now }
         requires divides { Divides self.now.shape.now _shape.now }
         requires fixed { size_of self.now.data_type.now ≡ Fixed (length self.now.fill_value.now) }
-        requires whole { length _numbers.now * length self.now.fill_value.now < 2 ^ 64 }
+        requires whole { length numbers.now * length self.now.fill_value.now < 2 ^ 64 }
         ensures read { IsRead (H.state handle.old) (H.state handle.new) }
-        ensures counted { IfOk result (λ bytes. length bytes.items ≡ length _numbers.now * length self.now.fill_value.now) }
+        ensures counted { IfOk result (λ bytes. length bytes.items ≡ length numbers.now * length self.now.fill_value.now) }
         ensures cells { let inner = inner_meaning I.meaning self.now in let bytes = interval_part outer (H.state handle.old).contents in
             IfOk result (λ read. IsTrue (H.state handle.old).tells
-            → map (indexed_cell inner.cells _shape.now self.now.shape.now self.now.fill_value.now bytes index.now.numbers.items) _numbers.now
-            ≡ map Some (pieces (length self.now.fill_value.now) (length _numbers.now) read.items)) }
+            → map (indexed_cell inner.cells _shape.now self.now.shape.now self.now.fill_value.now bytes index.now.numbers.items) numbers.now
+            ≡ map Some (pieces (length self.now.fill_value.now) (length numbers.now) read.items)) }
         ensures fault { IfErr result (IsCounted (H.state handle.old) (H.state handle.new)) }
         ensures refused { let inner = inner_meaning I.meaning self.now in let bytes = interval_part outer (H.state handle.old).contents in
             IfErr result (RefusedBy (ObjectTests (H.state handle.old) (H.state handle.new) (
-            ReadByTests inner _shape.now self.now.shape.now self.now.fill_value.now bytes index.now.numbers.items _numbers.now))) }
+            ReadByTests inner _shape.now self.now.shape.now self.now.fill_value.now bytes index.now.numbers.items numbers.now))) }
     {
         let fill = self.fill_value.as_ne_bytes();
-        let mut bytes = room_for(alloc, true, _numbers.len(), fill)?;
+        let mut bytes = room_for(alloc, true, numbers.len(), fill)?;
         let mut places = Vec::new(alloc);
         let mut done = 0;
         while done < asked.len() {

@@ -25,7 +25,7 @@ slot-slot-requires g c =
     let j = c.loop-done.done in
     let n = c.run_length.result in
     rw (take_rest asked j, run_first asked j n c.run_length.ensures.some)
-    (omega (arith, c.requires.index, asked_below a._shape.now a.self.now.shape.now a._numbers.now asked c.requires.sorted c.requires.divides c.requires.numbers j (omega arith)))
+    (omega (arith, c.requires.index, asked_below a._shape.now a.self.now.shape.now a.numbers.now asked c.requires.sorted c.requires.divides c.requires.numbers j (omega arith)))
 
 pub read_slot-requires-clause-below : goal.read_slot-requires-clause-below
 read_slot-requires-clause-below g c =
@@ -34,7 +34,7 @@ read_slot-requires-clause-below g c =
     let j = c.loop-done.done in
     let listed = rw (take_rest asked j) at c.in_ok-list_places.ensures in
     rw (c.deref.ensures.value, listed)
-    (places_inside a._shape.now a.self.now.shape.now a._numbers.now asked c.requires.sorted c.requires.divides c.requires.numbers j c.run_length.result)
+    (places_inside a._shape.now a.self.now.shape.now a.numbers.now asked c.requires.sorted c.requires.divides c.requires.numbers j c.run_length.result)
 
 pub put_cells-requires-clause-inside : goal.put_cells-requires-clause-inside
 put_cells-requires-clause-inside g c =
@@ -43,7 +43,7 @@ put_cells-requires-clause-inside g c =
     let asked = a.asked.now in
     let j = c.loop-done.done in
     rw (take_rest asked j, c.as_ne_bytes-fill.ensures, c.deref_mut.ensures.value)
-    (ranks_inside a._shape.now s.shape.now a._numbers.now asked c.requires.sorted (length s.fill_value.now) (length c.loop-done.bytes.items) j c.run_length.result c.loop-done.invariant.whole)
+    (ranks_inside a._shape.now s.shape.now a.numbers.now asked c.requires.sorted (length s.fill_value.now) (length c.loop-done.bytes.items) j c.run_length.result c.loop-done.invariant.whole)
 
 pub returns-in_err-part-clause-refused : goal.returns-in_err-part-clause-refused
 returns-in_err-part-clause-refused g c =
@@ -54,7 +54,7 @@ returns-in_err-part-clause-refused g c =
     let shape = a._shape.now in
     let sub = s.shape.now in
     let fill = s.fill_value.now in
-    let numbers = a._numbers.now in
+    let numbers = a.numbers.now in
     let index = a.index.now.numbers.items in
     let b = interval_part a.outer (h.state a.handle.now).contents in
     let asked = a.asked.now in
@@ -82,7 +82,7 @@ returns-clause-cells g c = λ t.
     let inner = inner_meaning g.I.ArrayToBytesCodecTraits.meaning s in
     let contents = (h.state a.handle.now).contents in
     let size = length-interval_part a.outer contents (c.requires.inside t) in
-    sorted_read a._shape.now s.shape.now a._numbers.now a.asked.now c.requires.sorted inner.cells s.fill_value.now (interval_part a.outer contents) a.index.now.numbers.items a.outer.size
+    sorted_read a._shape.now s.shape.now a.numbers.now a.asked.now c.requires.sorted inner.cells s.fill_value.now (interval_part a.outer contents) a.index.now.numbers.items a.outer.size
     c.loop-done.done c.loop-done.bytes.items (omega (arith, c.loop-done.invariant.most)) (sym size) (c.loop-done.invariant.so_far t)
 
 pub loop-done-preserved : goal.loop-done-preserved
@@ -94,7 +94,7 @@ loop-done-preserved g c =
     let shape = a._shape.now in
     let sub = s.shape.now in
     let fill = s.fill_value.now in
-    let numbers = a._numbers.now in
+    let numbers = a.numbers.now in
     let index = a.index.now.numbers.items in
     let b = interval_part a.outer (h.state a.handle.now).contents in
     let asked = a.asked.now in
