@@ -2,7 +2,7 @@
 # make try    runs the same script with no proof
 # make refuse refuses each allocation of an example in turn: whichever is refused, the answers stay (two minutes, no proof)
 # make install PREFIX=DIR  proves shard_tool and zarr_shard, and puts them into DIR/bin
-# make test   the whole gate: every proof from nothing, the must-fail edits, the tests and the program
+# make test   the whole gate: every proof, the must-fail edits, the tests and the programs
 .PHONY: run try refuse test install
 
 SCRIPT := $(CURDIR)/crates/shard_tool/stdin
