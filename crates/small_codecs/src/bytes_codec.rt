@@ -11,15 +11,16 @@ ghost use Rattle.small_codecs.specs.declared.bytes_codec.Endianness.TheVariants.
 
 use codec_laws::{
     ArrayToBytesCodecTraits, BytesRepresentation, FunctionalCodec, RecommendedConcurrency,
+    StoredArray, check_target,
 };
 use object_handles::{ByteRange, BytesPartialDecoderTraits, Interval, check_interval, read_range};
 use std::alloc::{AllocError, Global};
 use std::borrow::CowSlice;
 use std::marker::Model;
-use whole_arrays::asked_of;
+use whole_arrays::{asked_of, put_asked};
 use zarr_parts::{
-    ArrayBytes, ChunkShape, CodecError, CodecOptions, DataType, DataTypeSize, FillValue, Indexer,
-    check_selection,
+    ArrayBytes, ChunkShape, CodecError, CodecOptions, DataType, DataTypeSize, FillValue,
+    FixedTarget, Indexer, check_selection,
 };
 
 /// In which order the bytes of a whole number are stored.
@@ -395,6 +396,47 @@ impl ArrayToBytesCodecTraits for BytesCodec {
         let array = array_of_bytes(alloc, bytes, size, reversed)?;
         let asked = asked_of(alloc, &array, indexer, count, shape, data_type)?;
         Ok(asked)
+    }
+
+    /// As `partial_decode`, with the tests of a target before those of what is asked. Where the bytes are stored as in memory, the
+    /// elements of a box go from there to the target with no copy between.
+    fn partial_decode_into<H: BytesPartialDecoderTraits, N: Indexer>(
+        &self,
+        alloc: Global,
+        handle: &mut H,
+        stored: &StoredArray,
+        indexer: &N,
+        target: &mut FixedTarget,
+        _options: &CodecOptions,
+    ) -> Result<(), CodecError> {
+        let StoredArray {
+            interval,
+            shape,
+            data_type,
+            fill_value,
+        } = *stored;
+        let Measure {
+            size,
+            total,
+            reversed,
+            ..
+        } = self.measured(shape, data_type, fill_value)?;
+        check_target(target, indexer.len(), data_type)?;
+        let count = check_selection(indexer, shape)?;
+        check_interval(handle, interval)?;
+        if interval.size != total {
+            return Err(CodecError::Damaged);
+        }
+        let Some(_) = count.checked_mul(size as u64) else {
+            return Err(CodecError::TooLarge);
+        };
+        let mut room = Vec::new(alloc);
+        let range = ByteRange::FromStart(interval.offset, Some(total));
+        let Some(bytes) = read_range(handle, &mut room, alloc, range)? else {
+            return Err(CodecError::OutOfBounds);
+        };
+        let array = array_of_bytes(alloc, bytes, size, reversed)?;
+        put_asked(alloc, &array, indexer, count, shape, data_type, target)
     }
 
     /// Each encoding has this length. Refused as `check` refuses.
