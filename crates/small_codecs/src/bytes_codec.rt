@@ -108,6 +108,7 @@ impl BytesCodec {
     }
 
     // The tests of `check` in their order, and what they find.
+    #[inline(always)]
     fn measured(
         &self,
         shape: &ChunkShape,
