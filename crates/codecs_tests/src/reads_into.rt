@@ -34,7 +34,15 @@ fn answered<N: Indexer>(
     let place = subset(alloc, into)?;
     let mut target = FixedTarget::new(output, 2, &[2, 4], &place).ok_or(CodecError::Fault)?;
     let mut handle = handle_over(alloc, Some(&OBJECT))?;
-    read_into(alloc, codec, &asked, &mut handle, interval, indexer, &mut target)
+    read_into(
+        alloc,
+        codec,
+        &asked,
+        &mut handle,
+        interval,
+        indexer,
+        &mut target,
+    )
 }
 
 // Whether these bytes stand there then.
@@ -120,7 +128,14 @@ fn refused(
     let asked = subset(alloc, asked)?;
     let mut output = Vec::from_elem(alloc, 77, 16)?;
     let little = BytesCodec::little();
-    let answer = answered(alloc, &little, interval, &asked, &[0..1, 0..many], &mut output);
+    let answer = answered(
+        alloc,
+        &little,
+        interval,
+        &asked,
+        &[0..1, 0..many],
+        &mut output,
+    );
     if output.as_slice() == [77; 16].as_slice() {
         answer
     } else {
