@@ -4,13 +4,15 @@ ghost use Rattle.default_codec.specs.DefaultCodec.{default_codec_of};
 
 use codec_laws::{
     ArrayToBytesCodecTraits, BytesRepresentation, FunctionalCodec, RecommendedConcurrency,
+    StoredArray,
 };
 use object_handles::{BytesPartialDecoderTraits, Interval};
 use small_codecs::BytesCodec;
 use std::alloc::Global;
 use variable_codec::VlenCodec;
 use zarr_parts::{
-    ArrayBytes, ChunkShape, CodecError, CodecOptions, DataType, DataTypeSize, FillValue, Indexer,
+    ArrayBytes, ChunkShape, CodecError, CodecOptions, DataType, DataTypeSize, FillValue,
+    FixedTarget, Indexer,
 };
 
 /// One of the codecs of this crate: `bytes`, or the one for elements that have lengths of their own. In each call it is the codec
@@ -148,6 +150,26 @@ impl ArrayToBytesCodecTraits for DefaultArrayToBytesCodec {
             DefaultArrayToBytesCodec::Vlen(codec) => codec.partial_decode(
                 alloc, handle, interval, shape, data_type, fill_value, indexer, options,
             ),
+        }
+    }
+
+    /// As `partial_decode_into` of the codec that it holds.
+    fn partial_decode_into<H: BytesPartialDecoderTraits, N: Indexer>(
+        &self,
+        alloc: Global,
+        handle: &mut H,
+        stored: &StoredArray,
+        indexer: &N,
+        target: &mut FixedTarget,
+        options: &CodecOptions,
+    ) -> Result<(), CodecError> {
+        match self {
+            DefaultArrayToBytesCodec::Bytes(codec) => {
+                codec.partial_decode_into(alloc, handle, stored, indexer, target, options)
+            }
+            DefaultArrayToBytesCodec::Vlen(codec) => {
+                codec.partial_decode_into(alloc, handle, stored, indexer, target, options)
+            }
         }
     }
 }

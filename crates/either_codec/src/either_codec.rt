@@ -1,8 +1,12 @@
 // One of two codecs.
-use codec_laws::{ArrayToBytesCodecTraits, BytesRepresentation, RecommendedConcurrency};
+use codec_laws::{
+    ArrayToBytesCodecTraits, BytesRepresentation, RecommendedConcurrency, StoredArray,
+};
 use object_handles::{BytesPartialDecoderTraits, Interval};
 use std::alloc::Global;
-use zarr_parts::{ArrayBytes, ChunkShape, CodecError, CodecOptions, DataType, FillValue, Indexer};
+use zarr_parts::{
+    ArrayBytes, ChunkShape, CodecError, CodecOptions, DataType, FillValue, FixedTarget, Indexer,
+};
 
 /// One of two codecs, which is chosen when the program runs. In each call it is the codec that it holds.
 #[derive(Debug, Drop)]
@@ -146,6 +150,26 @@ impl<A: ArrayToBytesCodecTraits, B: ArrayToBytesCodecTraits> ArrayToBytesCodecTr
             EitherCodec::Second(codec) => codec.partial_decode(
                 alloc, handle, interval, shape, data_type, fill_value, indexer, options,
             ),
+        }
+    }
+
+    /// As `partial_decode_into` of the codec that it holds.
+    fn partial_decode_into<H: BytesPartialDecoderTraits, N: Indexer>(
+        &self,
+        alloc: Global,
+        handle: &mut H,
+        stored: &StoredArray,
+        indexer: &N,
+        target: &mut FixedTarget,
+        options: &CodecOptions,
+    ) -> Result<(), CodecError> {
+        match self {
+            EitherCodec::First(codec) => {
+                codec.partial_decode_into(alloc, handle, stored, indexer, target, options)
+            }
+            EitherCodec::Second(codec) => {
+                codec.partial_decode_into(alloc, handle, stored, indexer, target, options)
+            }
         }
     }
 }
