@@ -1,2 +1,5 @@
 pub mod MetadataFields
 pub mod KeyEncodings
+pub mod FillValues
+pub mod ArrayCodecs
+pub mod CodecNames

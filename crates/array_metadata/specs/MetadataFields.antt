@@ -1,8 +1,9 @@
 -- What stands in the text of an array's metadata.
-use Rattle.std.specs.Prelude.{ℕ, List, [], ◌∷◌, Option, Some, codes, option_map, option_and_then}
+use Rattle.std.specs.Prelude.{ℕ, Bool, true, not, ◌||◌, List, [], ◌∷◌, codes, bytes_eq}
+use Rattle.std.specs.Prelude.{Option, Some, option_map, option_and_then, unwrap_or}
 use Rattle.zarr_parts.specs.Words.{Bytes}
 use Rattle.serde_json.specs.Data.{Data, Items, no_items, item}
-use Rattle.serde_json.specs.Find.{get, as_array, as_number, as_u64}
+use Rattle.serde_json.specs.Find.{get, as_array, as_bool, as_number, as_u64}
 use Rattle.serde_json.specs.Read.{read}
 
 -- what stands under a key of the object that a text is
@@ -25,3 +26,14 @@ whole_numbers_in d = option_and_then whole_numbers_of (as_array d)
 -- what stands under a key of an extension's configuration
 abbrev pub configured_in : Bytes → Data → Option Data
 configured_in key d = option_and_then (get key) (get (codes "configuration") d)
+
+-- the keys of an array's metadata
+abbrev pub is_known : Bytes → Bool
+is_known key = bytes_eq key (codes "zarr_format") || bytes_eq key (codes "node_type") || bytes_eq key (codes "shape")
+    || bytes_eq key (codes "data_type") || bytes_eq key (codes "chunk_grid") || bytes_eq key (codes "chunk_key_encoding")
+    || bytes_eq key (codes "fill_value") || bytes_eq key (codes "codecs") || bytes_eq key (codes "attributes")
+    || bytes_eq key (codes "dimension_names") || bytes_eq key (codes "storage_transformers")
+
+-- whether a member is known, or says that it need not be understood
+abbrev pub is_understood : Bytes → Data → Bool
+is_understood key d = is_known key || not (unwrap_or (option_and_then as_bool (get (codes "must_understand") d)) true)

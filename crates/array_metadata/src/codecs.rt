@@ -1,5 +1,13 @@
 // The codecs of an array on disk.
-ghost use Rattle.std.specs.Prelude.{◌≡◌, IfOk, length};
+ghost use Rattle.std.specs.Prelude.{◌≡◌, Some, Ok, IfOk, IfSome, length, option_map, option_and_then, codes};
+ghost use Rattle.std.specs.List.{All};
+ghost use Rattle.serde_json.specs.Find.{get};
+ghost use Rattle.serde_json.specs.View.{view, items_view};
+ghost use Rattle.zarrs_sharding.specs.Configuration.{configuration_in, shape_in};
+ghost use Rattle.zarrs_sharding.specs.Configurations.{configuration_of};
+ghost use Rattle.array_metadata.specs.MetadataFields.{configured_in};
+ghost use Rattle.array_metadata.specs.ArrayCodecs.{bytes_in, crc32c_in, elements_in, shards_in, subchunks_in, sole_shards, chunks_in};
+ghost use Rattle.array_metadata.specs.CodecNames.{codec_name, Names, IsNamed, listed};
 
 use crate::error::MetadataError;
 use crate::fields::Placed;
@@ -9,9 +17,7 @@ use std::alloc::Global;
 use zarr_codecs::{BytesChain, BytesCodec, CodecTraitsV3, PluginCreateError};
 use zarr_crc32c::Crc32cCodec;
 use zarr_parts::{ChunkShape, DataType, DataTypeSize};
-use zarrs_sharding::{
-    ShardingCodec, ShardingCodecConfiguration, ShardingCodecConfigurationV1, ShardingIndexLocation,
-};
+use zarrs_sharding::{ShardingCodec, ShardingCodecConfiguration, ShardingCodecConfigurationV1};
 
 /// `bytes`, or `bytes` and `crc32c` behind it.
 pub type ElementCodec = EitherCodec<BytesCodec, BytesChain<BytesCodec, Crc32cCodec>>;
@@ -35,7 +41,9 @@ enum CodecName {
 
 impl CodecName {
     // The codec of a name.
-    fn of(name: &str) -> Option<CodecName> {
+    fn of(name: &str) -> Option<CodecName>
+        ensures { IfSome result (λ codec. codec_name codec ≡ name.now) }
+    {
         match name {
             "bytes" => Some(CodecName::Bytes),
             "crc32c" => Some(CodecName::Crc32c),
@@ -59,15 +67,12 @@ struct CodecList<'a> {
     place: String,
 }
 
-// What a shard's configuration says, but for the codec of its subchunks.
+// What a shard's configuration says, where the metadata of the codecs of subchunks stands, and the codec of the index.
 #[derive(Drop)]
 struct ShardParts {
-    chunk_shape: ChunkShape,
-    // The metadata of the codecs of subchunks, and where it stands.
-    codecs: Vec<Value>,
+    configuration: ShardingCodecConfigurationV1,
     place: String,
     index_codec: IndexCodec,
-    location: ShardingIndexLocation,
 }
 
 // Why a codec of another name is refused.
@@ -82,7 +87,10 @@ fn unserved(name: &str) -> &'static str {
 }
 
 // The codec that metadata names. Refused as `BadField` or `UnsupportedCodec`.
-fn named_codec<'a>(alloc: Global, metadata: Placed<'a>) -> Result<NamedCodec<'a>, MetadataError> {
+fn named_codec<'a>(alloc: Global, metadata: Placed<'a>) -> Result<NamedCodec<'a>, MetadataError>
+    ensures same { IfOk result (λ codec. codec.metadata.value.now ≡ metadata.entry.value.now) }
+    ensures named { IfOk result IsNamed }
+{
     let name = metadata.extension_name(alloc)?;
     match CodecName::of(name) {
         Some(name) => Ok(NamedCodec { name, metadata }),
@@ -100,7 +108,10 @@ fn listed_codec<'a>(
     key: &'static str,
     list: &str,
     index: usize,
-) -> Result<NamedCodec<'a>, MetadataError> {
+) -> Result<NamedCodec<'a>, MetadataError>
+    ensures same { IfOk result (λ codec. codec.metadata.value.now ≡ value.now) }
+    ensures named { IfOk result IsNamed }
+{
     let place = format!(in alloc; "{list}[{index}]")?;
     named_codec(alloc, Placed { value, key, place })
 }
@@ -112,7 +123,10 @@ impl<'a> CodecList<'a> {
         values: &'a [Value],
         key: &'static str,
         place: String,
-    ) -> Result<Self, MetadataError> {
+    ) -> Result<Self, MetadataError>
+        ensures values { IfOk result (λ list. listed list.codecs.items ≡ items_view values.now) }
+        ensures named { IfOk result (λ list. All IsNamed list.codecs.items) }
+    {
         let mut codecs = Vec::new(alloc);
         for (index, value) in values.iter().enumerate() {
             codecs.push(listed_codec(alloc, value, key, place.as_str(), index)?)?;
@@ -127,11 +141,20 @@ impl<'a> CodecList<'a> {
     }
 
     // The metadata of the only codec of a list, where it is the sharding codec.
-    fn sole_sharding(&self) -> Option<&Placed<'a>> {
-        match self.codecs.as_slice() {
-            [codec] if codec.name == CodecName::ShardingIndexed => Some(&codec.metadata),
-            _ => None,
+    #[tactic(auto, using(crate::proofs::Lists::not_sole))]
+    fn sole_sharding(&self) -> Option<&Placed<'a>>
+        requires named { All IsNamed self.now.codecs.items }
+        ensures sole { option_map (λ metadata. view metadata.now.value.now) result ≡ sole_shards (listed self.now.codecs.items) }
+        ensures named { IfSome result (λ metadata. Names (view metadata.now.value.now) (codes "sharding_indexed")) }
+    {
+        if self.codecs.len() != 1 {
+            return None;
         }
+        let codec = &self.codecs[0];
+        if codec.name != CodecName::ShardingIndexed {
+            return None;
+        }
+        Some(&codec.metadata)
     }
 
     // The codec of elements. Refused as `UnsupportedChain`, or as one of its codecs is.
@@ -139,7 +162,10 @@ impl<'a> CodecList<'a> {
         &self,
         alloc: Global,
         data_type: DataType,
-    ) -> Result<ElementCodec, MetadataError> {
+    ) -> Result<ElementCodec, MetadataError>
+        requires named { All IsNamed self.now.codecs.items }
+        ensures read { IfOk result (λ codec. elements_in (listed self.now.codecs.items) ≡ Ok codec) }
+    {
         match self.codecs.as_slice() {
             [first] if first.name == CodecName::Bytes => {
                 Ok(EitherCodec::First(bytes_codec(alloc, &first.metadata, data_type)?))
@@ -163,7 +189,10 @@ fn bytes_codec(
     alloc: Global,
     metadata: &Placed,
     data_type: DataType,
-) -> Result<BytesCodec, MetadataError> {
+) -> Result<BytesCodec, MetadataError>
+    requires named { Names (view metadata.now.value.now) (codes "bytes") }
+    ensures read { IfOk result (λ codec. bytes_in (view metadata.now.value.now) ≡ Ok codec) }
+{
     let codec = match BytesCodec::create(alloc, metadata.value) {
         Ok(codec) => codec,
         Err(error) => return Err(metadata.refused_by(alloc, error)),
@@ -180,21 +209,28 @@ fn bytes_codec(
 }
 
 // The codec `crc32c`, which has no configuration. Refused as `BadField`.
-fn crc32c_codec(alloc: Global, metadata: &Placed) -> Result<Crc32cCodec, MetadataError> {
+fn crc32c_codec(alloc: Global, metadata: &Placed) -> Result<Crc32cCodec, MetadataError>
+    requires named { Names (view metadata.now.value.now) (codes "crc32c") }
+    ensures read { IfOk result (λ codec. crc32c_in (view metadata.now.value.now) ≡ Ok codec) }
+{
     if let Some(configuration) = metadata.member(alloc, "configuration")? {
         configuration.only_member(alloc, "")?;
     }
     Ok(Crc32cCodec)
 }
 
-// The codec of a shard's index, whose numbers are of 64 bits.
-fn index_codec(
+// The codec of elements that values name. Refused as the first that is refused, or as `UnsupportedChain`.
+fn listed_elements(
     alloc: Global,
     values: &[Value],
+    key: &'static str,
     place: String,
-) -> Result<IndexCodec, MetadataError> {
-    let list = CodecList::named(alloc, values, "index_codecs", place)?;
-    list.element_codec(alloc, DataType::UInt64)
+    data_type: DataType,
+) -> Result<ElementCodec, MetadataError>
+    ensures read { IfOk result (λ codec. elements_in (items_view values.now) ≡ Ok codec) }
+{
+    let list = CodecList::named(alloc, values, key, place)?;
+    list.element_codec(alloc, data_type)
 }
 
 // The configuration of a shard. Refused as `ShardingCodecConfiguration::from_value` refuses, or as `BadField` where a subchunk
@@ -204,7 +240,8 @@ fn parsed_configuration(
     configuration: &Placed,
     axes: usize,
 ) -> Result<ShardingCodecConfigurationV1, MetadataError>
-    ensures { IfOk result (λ parsed. length parsed.chunk_shape ≡ axes) }
+    ensures axes { IfOk result (λ parsed. length parsed.chunk_shape ≡ axes) }
+    ensures read { IfOk result (λ parsed. configuration_in (view configuration.now.value.now) ≡ Ok (configuration_of (ShardingCodecConfiguration.V1 parsed))) }
 {
     let parsed = match ShardingCodecConfiguration::from_value(alloc, configuration.value) {
         Ok(ShardingCodecConfiguration::V1(parsed)) => parsed,
@@ -223,20 +260,28 @@ fn parsed_configuration(
 
 // What the configuration of a shard says. Refused as the configuration is, or as the codec of the index.
 fn shard_parts(alloc: Global, metadata: &Placed, axes: usize) -> Result<ShardParts, MetadataError>
-    ensures { IfOk result (λ parts. length parts.chunk_shape ≡ axes) }
+    ensures axes { IfOk result (λ parts. length parts.configuration.chunk_shape ≡ axes) }
+    ensures read { IfOk result (λ parts. option_map configuration_in (get (codes "configuration") (view metadata.now.value.now)) ≡ Some (Ok (configuration_of (ShardingCodecConfiguration.V1 parts.configuration)))) }
+    ensures index { IfOk result (λ parts. elements_in (items_view parts.configuration.index_codecs.items) ≡ Ok parts.index_codec) }
 {
-    let configuration = metadata.required(alloc, "configuration")?;
-    let parsed = parsed_configuration(alloc, &configuration, axes)?;
-    let outer = configuration.place.as_str();
-    let place = format!(in alloc; "{outer}.index_codecs")?;
-    let index_codec = index_codec(alloc, parsed.index_codecs.as_slice(), place)?;
+    let placed = metadata.required(alloc, "configuration")?;
+    let configuration = parsed_configuration(alloc, &placed, axes)?;
+    let outer = placed.place.as_str();
+    let index_place = format!(in alloc; "{outer}.index_codecs")?;
+    let values = configuration.index_codecs.as_slice();
+    // The numbers of an index are of 64 bits.
+    let index_codec = listed_elements(
+        alloc,
+        values,
+        "index_codecs",
+        index_place,
+        DataType::UInt64,
+    )?;
     let place = format!(in alloc; "{outer}.codecs")?;
     Ok(ShardParts {
-        chunk_shape: parsed.chunk_shape,
-        codecs: parsed.codecs,
+        configuration,
         place,
         index_codec,
-        location: parsed.index_location,
     })
 }
 
@@ -246,17 +291,23 @@ fn innermost_shards(
     metadata: &Placed,
     data_type: DataType,
     axes: usize,
-) -> Result<ShardingCodec<ElementCodec, IndexCodec>, MetadataError> {
+) -> Result<ShardingCodec<ElementCodec, IndexCodec>, MetadataError>
+    requires named { Names (view metadata.now.value.now) (codes "sharding_indexed") }
+    ensures read { IfOk result (λ codec. shards_in elements_in (view metadata.now.value.now) ≡ Ok codec) }
+{
     let ShardParts {
-        chunk_shape,
-        codecs,
+        configuration,
         place,
         index_codec,
-        location,
     } = shard_parts(alloc, metadata, axes)?;
-    let list = CodecList::named(alloc, codecs.as_slice(), "codecs", place)?;
-    let inner = list.element_codec(alloc, data_type)?;
-    Ok(ShardingCodec::new(chunk_shape, inner, index_codec, location))
+    let values = configuration.codecs.as_slice();
+    let inner = listed_elements(alloc, values, "codecs", place, data_type)?;
+    let ShardingCodecConfigurationV1 {
+        chunk_shape,
+        index_location,
+        ..
+    } = configuration;
+    Ok(ShardingCodec::new(chunk_shape, inner, index_codec, index_location))
 }
 
 // The codec of subchunks: of elements, or of shards.
@@ -266,7 +317,9 @@ fn inner_codec(
     place: String,
     data_type: DataType,
     axes: usize,
-) -> Result<InnerCodec, MetadataError> {
+) -> Result<InnerCodec, MetadataError>
+    ensures read { IfOk result (λ codec. subchunks_in (items_view values.now) ≡ Ok codec) }
+{
     let list = CodecList::named(alloc, values, "codecs", place)?;
     match list.sole_sharding() {
         Some(metadata) => Ok(EitherCodec::Second(innermost_shards(
@@ -276,6 +329,39 @@ fn inner_codec(
     }
 }
 
+// The codec of shards that metadata names.
+#[tactic(auto, using(crate::proofs::Lists::shape_said))]
+fn shards(
+    alloc: Global,
+    metadata: &Placed,
+    data_type: DataType,
+    axes: usize,
+) -> Result<ArrayCodec, MetadataError>
+    requires named { Names (view metadata.now.value.now) (codes "sharding_indexed") }
+    ensures axes { IfOk result (λ codec. length codec.subchunk_shape ≡ axes) }
+    ensures read { IfOk result (λ codec. shards_in subchunks_in (view metadata.now.value.now) ≡ Ok codec) }
+    ensures shape { IfOk result (λ codec. option_and_then shape_in (configured_in (codes "chunk_shape") (view metadata.now.value.now)) ≡ Some codec.subchunk_shape) }
+{
+    let ShardParts {
+        configuration,
+        place,
+        index_codec,
+    } = shard_parts(alloc, metadata, axes)?;
+    let inner = inner_codec(
+        alloc,
+        configuration.codecs.as_slice(),
+        place,
+        data_type,
+        axes,
+    )?;
+    let ShardingCodecConfigurationV1 {
+        chunk_shape,
+        index_location,
+        ..
+    } = configuration;
+    Ok(ShardingCodec::new(chunk_shape, inner, index_codec, index_location))
+}
+
 // The codec of the array's chunks, which are shards of so many axes.
 pub fn array_codec(
     alloc: Global,
@@ -283,26 +369,21 @@ pub fn array_codec(
     data_type: DataType,
     axes: usize,
 ) -> Result<ArrayCodec, MetadataError>
-    ensures { IfOk result (λ codec. length codec.subchunk_shape ≡ axes) }
+    ensures axes { IfOk result (λ codec. length codec.subchunk_shape ≡ axes) }
+    ensures read { IfOk result (λ codec. option_map (shards_in subchunks_in) (chunks_in (view codecs.now.value.now)) ≡ Some (Ok codec)) }
+    ensures shape { IfOk result (λ codec.
+        option_and_then shape_in (option_and_then (configured_in (codes "chunk_shape")) (chunks_in (view codecs.now.value.now))) ≡ Some codec.subchunk_shape) }
 {
     let Some(values) = codecs.value.as_array() else {
         return Err(codecs.bad(alloc, "this is no list of codecs"));
     };
     let place = String::from_str(alloc, codecs.place.as_str())?;
     let list = CodecList::named(alloc, values, "codecs", place)?;
-    let Some(metadata) = list.sole_sharding() else {
-        return Err(list.refused(
+    match list.sole_sharding() {
+        Some(metadata) => shards(alloc, metadata, data_type, axes),
+        None => Err(list.refused(
             alloc,
             "only arrays whose chunks are shards are read: codecs is sharding_indexed alone",
-        ));
-    };
-    let ShardParts {
-        chunk_shape,
-        codecs: inner_codecs,
-        place: inner_place,
-        index_codec,
-        location,
-    } = shard_parts(alloc, metadata, axes)?;
-    let inner = inner_codec(alloc, inner_codecs.as_slice(), inner_place, data_type, axes)?;
-    Ok(ShardingCodec::new(chunk_shape, inner, index_codec, location))
+        )),
+    }
 }

@@ -1,8 +1,8 @@
 // The values of the metadata, and where they stand.
-ghost use Rattle.std.specs.Prelude.{◌≡◌, Some, IfOk, length, option_map};
+ghost use Rattle.std.specs.Prelude.{◌≡◌, Some, None, IfOk, length, option_map};
 ghost use Rattle.serde_json.specs.Find.{get};
 ghost use Rattle.serde_json.specs.View.{view, items_view};
-ghost use Rattle.zarr_codecs.specs.Metadata.{name_in};
+ghost use Rattle.zarr_codecs.specs.Metadata.{name_in, is_metadata_member, first_refused, members_in};
 ghost use Rattle.array_metadata.specs.MetadataFields.{whole_numbers_of, whole_numbers_in};
 
 use crate::error::MetadataError;
@@ -134,7 +134,8 @@ impl<'a> Placed<'a> {
     // The name of an extension: the value itself where it is a string, or the string under "name". Refused as `BadField`, as is
     // an object with unknown members.
     pub fn extension_name(&self, alloc: Global) -> Result<&'a str, MetadataError>
-        ensures { IfOk result (λ name. name_in (view self.now.value.now) ≡ Some name.now) }
+        ensures named { IfOk result (λ name. name_in (view self.now.value.now) ≡ Some name.now) }
+        ensures tested { IfOk result (λ name. first_refused is_metadata_member (members_in (view self.now.value.now)) ≡ None) }
     {
         let Some(name) = metadata_name(self.value) else {
             return Err(self.bad(alloc, "this is neither a name nor an object with a name"));

@@ -1,11 +1,15 @@
 // An array's metadata.
-ghost use Rattle.std.specs.Prelude.{◌≡◌, Some, IfOk, codes, length, option_and_then, unwrap_or, vec_len};
-ghost use Rattle.serde_json.specs.Find.{as_str, get};
+ghost use Rattle.std.specs.Prelude.{◌≡◌, Some, None, Ok, IfOk, OnOk, IsTrue, codes, length, option_and_then, option_map, unwrap_or, vec_len};
+ghost use Rattle.serde_json.specs.Data.{no_items};
+ghost use Rattle.serde_json.specs.Find.{as_str, as_array, get};
 ghost use Rattle.serde_json.specs.Read.{read as read_text};
-ghost use Rattle.serde_json.specs.View.{view};
-ghost use Rattle.zarr_codecs.specs.Metadata.{name_in};
-ghost use Rattle.array_metadata.specs.MetadataFields.{member_in, configured_in, whole_numbers_in};
+ghost use Rattle.serde_json.specs.View.{view, members_view};
+ghost use Rattle.zarr_codecs.specs.Metadata.{name_in, first_refused, members_in};
+ghost use Rattle.array_metadata.specs.MetadataFields.{member_in, configured_in, whole_number_in, whole_numbers_in, is_understood};
 ghost use Rattle.array_metadata.specs.KeyEncodings.{encoding_name, default_separator, separator_text};
+ghost use Rattle.array_metadata.specs.FillValues.{number_in, number_of};
+ghost use Rattle.array_metadata.specs.ArrayCodecs.{chunks_in, shards_in, subchunks_in};
+ghost use Rattle.zarrs_sharding.specs.Configuration.{shape_in};
 ghost use Rattle.zarr_parts.specs.Types.{size_of, type_name, HasElements};
 ghost use Rattle.zarr_parts.specs.DataTypeSize.TheVariants.{Fixed};
 
@@ -52,7 +56,9 @@ fn value_in(alloc: Global, text: &str) -> Result<Value, MetadataError>
 }
 
 // Whether a member of the metadata is known, or says that it need not be.
-fn is_understood(key: &str, value: &Value) -> bool {
+fn is_understood(key: &str, value: &Value) -> bool
+    ensures { result ≡ is_understood key.now (view value.now) }
+{
     match key {
         "zarr_format" | "node_type" | "shape" | "data_type" | "chunk_grid" => true,
         "chunk_key_encoding" | "fill_value" | "codecs" | "attributes" => true,
@@ -62,7 +68,9 @@ fn is_understood(key: &str, value: &Value) -> bool {
 }
 
 // The key of the first member, in the order of keys, that is not understood.
-fn first_unknown(members: &Map<String, Value>) -> Option<&str> {
+fn first_unknown(members: &Map<String, Value>) -> Option<&str>
+    ensures { option_map (λ key. key.now) result ≡ first_refused is_understood (members_view members.now.entries) }
+{
     for (key, value) in members.iter() {
         if !is_understood(key.as_str(), value) {
             return Some(key.as_str());
@@ -72,7 +80,12 @@ fn first_unknown(members: &Map<String, Value>) -> Option<&str> {
 }
 
 // Tests that the value is the metadata of an array of Zarr V3, whose members are all understood.
-fn test_members_of(alloc: Global, whole: &Placed) -> Result<(), MetadataError> {
+fn test_members_of(alloc: Global, whole: &Placed) -> Result<(), MetadataError>
+    ensures format { OnOk result (option_and_then whole_number_in (get (codes "zarr_format") (view whole.now.value.now)) ≡ Some 3) }
+    ensures node_type { OnOk result (option_and_then as_str (get (codes "node_type") (view whole.now.value.now)) ≡ Some (codes "array")) }
+    ensures understood { OnOk result (first_refused is_understood (members_in (view whole.now.value.now)) ≡ None) }
+    ensures transformers { OnOk result (unwrap_or (option_map as_array (get (codes "storage_transformers") (view whole.now.value.now))) (Some no_items) ≡ Some no_items) }
+{
     let Some(members) = whole.value.as_object() else {
         return Err(whole.bad(alloc, "the text is JSON, but no object"));
     };
@@ -100,13 +113,16 @@ fn test_members_of(alloc: Global, whole: &Placed) -> Result<(), MetadataError> {
 }
 
 // Whether a value is a list of nothing.
-fn is_empty_list(value: &Value) -> bool {
+fn is_empty_list(value: &Value) -> bool
+    ensures { IsTrue result → as_array (view value.now) ≡ Some no_items }
+{
     value.as_array().is_some_and(|list| list.is_empty())
 }
 
 // The shape of a chunk of the regular grid. Refused as `BadField` where the grid is another, or as `MissingField`.
 fn shard_in(alloc: Global, grid: &Placed, axes: usize) -> Result<ChunkShape, MetadataError>
     ensures axes { IfOk result (λ shape. length shape ≡ axes) }
+    ensures regular { OnOk result (name_in (view grid.now.value.now) ≡ Some (codes "regular")) }
     ensures read { IfOk result (λ shape. option_and_then whole_numbers_in (configured_in (codes "chunk_shape") (view grid.now.value.now)) ≡ Some shape) }
 {
     let name = grid.extension_name(alloc)?;
@@ -134,6 +150,7 @@ fn cells_in(alloc: Global, whole: &Placed) -> Result<Cells, MetadataError>
     ensures data_type_read { IfOk result (λ cells. option_and_then as_str (get (codes "data_type") (view whole.now.value.now)) ≡ type_name cells.data_type) }
     ensures shard_read { IfOk result (λ cells.
         option_and_then whole_numbers_in (option_and_then (configured_in (codes "chunk_shape")) (get (codes "chunk_grid") (view whole.now.value.now))) ≡ Some cells.shard) }
+    ensures grid_read { OnOk result (option_and_then name_in (get (codes "chunk_grid") (view whole.now.value.now)) ≡ Some (codes "regular")) }
     ensures shard { IfOk result (λ cells. length cells.shard ≡ vec_len cells.shape) }
     ensures elements { IfOk result (λ cells. HasElements cells.data_type) }
 {
@@ -149,7 +166,9 @@ fn cells_in(alloc: Global, whole: &Placed) -> Result<Cells, MetadataError>
 
 // The fill value of an array whose elements are of this type. Refused for `fill_value`.
 fn fill_in(alloc: Global, whole: &Placed, data_type: DataType) -> Result<FillValue, MetadataError>
-    ensures { IfOk result (λ fill_value. size_of data_type ≡ Fixed (length fill_value)) }
+    ensures size { IfOk result (λ fill_value. size_of data_type ≡ Fixed (length fill_value)) }
+    ensures read { IfOk result (λ fill_value.
+        option_and_then (number_in data_type) (get (codes "fill_value") (view whole.now.value.now)) ≡ Some (number_of data_type fill_value)) }
 {
     let fill = whole.required(alloc, "fill_value")?;
     fill_value_in(alloc, &fill, data_type)
@@ -170,6 +189,10 @@ fn with_codecs(
     ensures fill_value { IfOk result (λ metadata. metadata.fill_value ≡ fill_value) }
     ensures subchunk { IfOk result (λ metadata. length metadata.subchunk ≡ vec_len metadata.shape) }
     ensures codec { IfOk result (λ metadata. metadata.codec.subchunk_shape ≡ metadata.subchunk) }
+    ensures subchunk_read { IfOk result (λ metadata.
+        option_and_then shape_in (option_and_then (configured_in (codes "chunk_shape")) (option_and_then chunks_in (get (codes "codecs") (view whole.now.value.now)))) ≡ Some metadata.subchunk) }
+    ensures codecs_read { IfOk result (λ metadata.
+        option_map (shards_in subchunks_in) (option_and_then chunks_in (get (codes "codecs") (view whole.now.value.now))) ≡ Some (Ok metadata.codec)) }
 {
     let codecs = whole.required(alloc, "codecs")?;
     let Cells {
@@ -198,6 +221,11 @@ impl ArrayMetadata {
     /// type) and `codecs` (`sharding_indexed` alone, with `bytes`, `bytes` and `crc32c`, or `sharding_indexed` once more inside)
     /// in turn: each with its place, and a sentence that says what is not served; or as `OutOfMemory`.
     pub fn from_text(alloc: Global, text: &str) -> Result<Self, MetadataError>
+        ensures format_read { OnOk result (option_and_then whole_number_in (member_in (codes "zarr_format") text.now) ≡ Some 3) }
+        ensures node_type_read { OnOk result (option_and_then as_str (member_in (codes "node_type") text.now) ≡ Some (codes "array")) }
+        ensures understood { OnOk result (option_map (λ d. first_refused is_understood (members_in d)) (read_text text.now) ≡ Some None) }
+        ensures transformers { OnOk result (unwrap_or (option_map as_array (member_in (codes "storage_transformers") text.now)) (Some no_items) ≡ Some no_items) }
+        ensures grid_read { OnOk result (option_and_then name_in (member_in (codes "chunk_grid") text.now) ≡ Some (codes "regular")) }
         ensures shape_read { IfOk result (λ metadata. option_and_then whole_numbers_in (member_in (codes "shape") text.now) ≡ Some metadata.shape.items) }
         ensures data_type_read { IfOk result (λ metadata. option_and_then as_str (member_in (codes "data_type") text.now) ≡ type_name metadata.data_type) }
         ensures shard_read { IfOk result (λ metadata.
@@ -207,6 +235,12 @@ impl ArrayMetadata {
         ensures separator_read { IfOk result (λ metadata.
             unwrap_or (option_and_then as_str (option_and_then (configured_in (codes "separator")) (member_in (codes "chunk_key_encoding") text.now)))
             (default_separator metadata.keys.encoding) ≡ separator_text metadata.keys.slashes) }
+        ensures fill_value_read { IfOk result (λ metadata.
+            option_and_then (number_in metadata.data_type) (member_in (codes "fill_value") text.now) ≡ Some (number_of metadata.data_type metadata.fill_value)) }
+        ensures subchunk_read { IfOk result (λ metadata.
+            option_and_then shape_in (option_and_then (configured_in (codes "chunk_shape")) (option_and_then chunks_in (member_in (codes "codecs") text.now))) ≡ Some metadata.subchunk) }
+        ensures codecs_read { IfOk result (λ metadata.
+            option_map (shards_in subchunks_in) (option_and_then chunks_in (member_in (codes "codecs") text.now)) ≡ Some (Ok metadata.codec)) }
         ensures shard { IfOk result (λ metadata. length metadata.shard ≡ vec_len metadata.shape) }
         ensures subchunk { IfOk result (λ metadata. length metadata.subchunk ≡ vec_len metadata.shape) }
         ensures codec { IfOk result (λ metadata. metadata.codec.subchunk_shape ≡ metadata.subchunk) }

@@ -1,0 +1,59 @@
+-- The codecs that the metadata of an array names.
+use Rattle.std.specs.Prelude.{Option, Ok, Err, Some, None, if◌then◌else◌, codes, bytes_eq, option_map, option_and_then, unwrap_or, false}
+use Rattle.serde_json.specs.Data.{Data, Items, no_items, item}
+use Rattle.serde_json.specs.Find.{as_array}
+use Rattle.zarr_codecs.specs.CreateErrors.{Reading, and_then, unsupported_chain}
+use Rattle.zarr_codecs.specs.Metadata.{name_in, codec_of}
+use Rattle.zarr_codecs.specs.BytesMetadata.{bytes_configured}
+use Rattle.zarr_codecs.specs.Endianness.{Endianness}
+use Rattle.codec_chains.specs.declared.bytes_chain.BytesChain.{BytesChain}
+use Rattle.zarr_crc32c.specs.declared.codec.Crc32cCodec.{Crc32cCodec}
+use Rattle.either_codec.specs.declared.either_codec.EitherCodec.{EitherCodec}
+use Rattle.either_codec.specs.declared.either_codec.EitherCodec.TheVariants.{First, Second}
+use Rattle.zarrs_sharding.specs.ShardingCodec.{ShardingCodec}
+use Rattle.zarrs_sharding.specs.ShardMetadata.{shard_configured}
+
+-- `bytes` by its byte order, or `bytes` and `crc32c` behind it
+abbrev pub Elements : Type 0
+Elements = EitherCodec (Option Endianness) (BytesChain (Option Endianness) Crc32cCodec)
+
+-- a codec of elements, or of shards once more
+abbrev pub Subchunks : Type 0
+Subchunks = EitherCodec Elements (ShardingCodec Elements Elements)
+
+-- the codec of the name `bytes`
+abbrev pub bytes_in : Data → Reading (Option Endianness)
+bytes_in = codec_of (bytes_eq (codes "bytes")) (λ name. bytes_configured)
+
+-- the codec of the name `crc32c`
+abbrev pub crc32c_in : Data → Reading Crc32cCodec
+crc32c_in = codec_of (bytes_eq (codes "crc32c")) (λ name configuration. Ok (record {}))
+
+-- the codec of elements that a list names
+abbrev pub elements_in : Items → Reading Elements
+elements_in (item d no_items) = and_then (bytes_in d) (λ bytes. Ok (First bytes))
+elements_in (item d (item e no_items)) =
+    and_then (bytes_in d) (λ bytes. and_then (crc32c_in e) (λ checksum.
+    Ok (Second (record { array_to_bytes = bytes; bytes_to_bytes = checksum }))))
+elements_in list = Err unsupported_chain
+
+-- the codec of the name `sharding_indexed`, by how the list of its subchunks' codecs is read
+abbrev pub shards_in : {I : Type 0} → (Items → Reading I) → Data → Reading (ShardingCodec I Elements)
+shards_in inner_in = codec_of (bytes_eq (codes "sharding_indexed")) (λ name. shard_configured inner_in elements_in)
+
+-- the metadata of the only codec of a list, where its name is `sharding_indexed`
+abbrev pub sole_shards : Items → Option Data
+sole_shards (item d no_items) = if unwrap_or (option_map (bytes_eq (codes "sharding_indexed")) (name_in d)) false then Some d else None
+sole_shards list = None
+
+-- the codec of subchunks that a list names: of shards where it is such a list, else of elements
+abbrev pub shards_or : Option Data → Reading Elements → Reading Subchunks
+shards_or (Some d) elements = and_then (shards_in elements_in d) (λ shards. Ok (Second shards))
+shards_or None elements = and_then elements (λ codec. Ok (First codec))
+
+abbrev pub subchunks_in : Items → Reading Subchunks
+subchunks_in list = shards_or (sole_shards list) (elements_in list)
+
+-- the metadata of the codec of chunks, where a list has that of shards alone
+abbrev pub chunks_in : Data → Option Data
+chunks_in d = option_and_then sole_shards (as_array d)

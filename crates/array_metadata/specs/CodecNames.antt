@@ -1,0 +1,30 @@
+-- Codecs that lists of metadata name.
+use Rattle.std.specs.Prelude.{◌≡◌, List, Some, None, codes, map}
+use Rattle.serde_json.specs.Data.{Data, Items}
+use Rattle.serde_json.specs.View.{view, items_of}
+use Rattle.zarr_parts.specs.Words.{Bytes as Text}
+use Rattle.zarr_codecs.specs.Metadata.{name_in, is_metadata_member, first_refused, members_in}
+use Rattle.array_metadata.specs.declared.codecs.CodecName.{CodecName}
+use Rattle.array_metadata.specs.declared.codecs.CodecName.TheVariants.{Bytes, Crc32c, ShardingIndexed}
+use Rattle.array_metadata.specs.declared.codecs.NamedCodec.{NamedCodec}
+
+-- the name of a codec that is served
+abbrev pub codec_name : CodecName → Text
+codec_name Bytes = codes "bytes"
+codec_name Crc32c = codes "crc32c"
+codec_name ShardingIndexed = codes "sharding_indexed"
+
+-- metadata has a name, and no members but those that metadata may have
+pub record Names (d : Data) (name : Text) : Type 0 where
+  pub named : name_in d ≡ Some name
+  pub tested : first_refused is_metadata_member (members_in d) ≡ None
+
+abbrev pub metadata_of : NamedCodec → Data
+metadata_of codec = view codec.metadata.value.now
+
+abbrev pub IsNamed : NamedCodec → Type 0
+IsNamed codec = Names (metadata_of codec) (codec_name codec.name)
+
+-- the list of the metadata of codecs
+abbrev pub listed : List NamedCodec → Items
+listed codecs = items_of (map metadata_of codecs)
