@@ -5,8 +5,7 @@ pub use array_chains::{ArrayChain, ArrayToArrayCodecTraits};
 pub use codec_chains::{BytesChain, BytesToBytesCodecTraits};
 pub use codec_laws::{
     ArrayToBytesCodecTraits, BytesRepresentation, FunctionalCodec, RecommendedConcurrency,
-    StoredArray,
-    check_target, decode_after_encode, read_after_decode,
+    StoredArray, check_target, decode_after_encode, read_after_decode,
 };
 pub use codec_metadata::{
     CodecTraitsV3, MemberTest, PluginCreateError, create_after_metadata, metadata_name,
