@@ -10,7 +10,8 @@ use Rattle.shard_cells.specs.Gathering.{places_there}
 
 -- of the subchunk that a slot names the cells at some places were read, and overwrote the elements that `place` names in their order;
 -- nothing where it is absent
-pub record IsReadInto (inner_cells : CellsOf) (b : Bytes) (slot : Slot) (places : List ℕ) (place : ℕ → ℕ) (old new : ℕ → Bytes) : Type 0 where
+pub record IsReadInto (inner_cells : CellsOf) (b : Bytes) (slot : Slot) (places : List ℕ) (place : ℕ → ℕ)
+    (old new : ℕ → Bytes) : Type 0 where
   pub part : Option Array
   pub read : IsReadAt inner_cells b slot places part
   pub written : IsUpdated (places_there (length places) part) place old (element_at [] part) new
