@@ -1,12 +1,12 @@
 // Rows of elements, copied from an array to another.
-ghost use Rattle.std.specs.Prelude.{◌≡◌, ◌≢◌, ℕ, ◌+◌, ◌*◌, ◌^◌, ◌<◌, ◌≤◌, ◌++◌, IfOk, OnOk, length, map};
-ghost use Rattle.std.specs.List.{flat_map, range_with_len};
+ghost use Rattle.std.specs.Prelude.{◌≡◌, ◌≢◌, ℕ, ◌+◌, ◌*◌, ◌<◌, ◌≤◌, IfOk, length};
+ghost use Rattle.std.specs.List.{flat_map};
 ghost use Rattle.zarr_boxes.specs.Numbering.{count_of};
 ghost use Rattle.zarr_boxes.specs.Boxes.{number_in, numbers_in, IsServed};
 ghost use Rattle.zarr_boxes.specs.Pieces.{piece, IsUpdated};
 ghost use Rattle.zarr_boxes.specs.Runs.{row_place};
 
-use crate::pieces::{copy_run, push_front};
+use crate::pieces::copy_run;
 use std::alloc::{AllocError, Global};
 use zarr_boxes::{ArraySubset, BoxRows, points_in};
 
@@ -107,25 +107,35 @@ pub fn scatter(output: &mut [u8], size: usize, subset: &ArraySubset, shape: &[u6
     }
 }
 
-// Adds so many rows of so many elements behind bytes.
-fn push_rows(
-    part: &mut Vec<u8>,
-    bytes: &[u8],
-    size: usize,
-    from: Rows,
-    rows: usize,
-    run: usize,
-) -> Result<(), AllocError>
+// Writes the elements at the points of a box of an array of a shape one after the other, in row-major order of the box.
+fn gather_into(part: &mut [u8], bytes: &[u8], size: usize, subset: &ArraySubset, shape: &[u64])
     requires some { 0 < size }
-    requires inside { (k : ℕ) → k < rows → (from.first + k * from.stride + run) * size ≤ length bytes.now }
-    ensures { OnOk result (part.new.items ≡ part.old.items
-        ++ flat_map (piece size bytes.now) (map (row_place from.first from.stride run) (range_with_len 0 (rows * run)))) }
+    requires served { IsServed subset.now shape.now }
+    requires whole { length bytes.now ≡ count_of shape.now * size }
+    requires whole_part { length part.old ≡ count_of subset.now.shape * size }
+    ensures { (k : ℕ) → k < count_of subset.now.shape → piece size part.new k ≡ piece size bytes.now (number_in subset.now shape.now k) }
 {
-    for k in 0..rows {
-        let taken = from.first + k * from.stride;
-        push_front(part, &bytes[taken * size..], run * size)?;
+    let set = subset.rows_in(shape);
+    for q in 0..set.sets {
+        let done = q * (set.rows * set.run);
+        let to = Rows {
+            first: done as usize,
+            stride: set.run as usize,
+        };
+        let from = Rows {
+            first: subset.number_at(done, shape) as usize,
+            stride: set.stride as usize,
+        };
+        copy_rows(
+            part,
+            size,
+            to,
+            bytes,
+            from,
+            set.rows as usize,
+            set.run as usize,
+        );
     }
-    Ok(())
 }
 
 /// The elements at the points of a box of an array of a shape, one after the other, in row-major order of the box.
@@ -141,22 +151,8 @@ pub fn gather(
     requires whole { length bytes.now ≡ count_of shape.now * size }
     ensures { IfOk result (λ part. part.items ≡ flat_map (piece size bytes.now) (numbers_in subset.now shape.now)) }
 {
-    let mut part = Vec::with_capacity(alloc, points_in(subset, shape) as usize * size)?;
-    let set = subset.rows_in(shape);
-    for q in 0..set.sets {
-        let done = q * (set.rows * set.run);
-        let from = Rows {
-            first: subset.number_at(done, shape) as usize,
-            stride: set.stride as usize,
-        };
-        push_rows(
-            &mut part,
-            bytes,
-            size,
-            from,
-            set.rows as usize,
-            set.run as usize,
-        )?;
-    }
+    let room = points_in(subset, shape) as usize * size;
+    let mut part = Vec::from_elem(alloc, 0, room)?;
+    gather_into(&mut part, bytes, size, subset, shape);
     Ok(part)
 }

@@ -1,0 +1,10 @@
+use Rattle.std.proofs.Common.{◌≡◌, ◌*◌, ◌<◌, ℕ, length}
+use Rattle.zarr_boxes.specs.Boxes.{number_in}
+use Rattle.zarr_boxes.specs.Pieces.{piece}
+use Rattle.byte_rows.proofs.rows.gather_into.Given as goal
+
+abbrev pub invariant-loop-q : goal.invariant-loop-q
+invariant-loop-q l = record {
+  whole : length l.part ≡ length l.initial.part;
+  so_far : (k : ℕ) → k < l.q * (l.set.rows * l.set.run) → piece l.size l.part k ≡ piece l.size l.bytes (number_in l.subset l.shape k);
+}
