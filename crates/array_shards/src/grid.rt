@@ -9,7 +9,7 @@ ghost use Rattle.array_shards.specs.Shards.{rounded_up, whole_shards, AxesTests,
 use shard_format::calculate_chunks_per_shard;
 use std::alloc::{AllocError, Global};
 use std::marker::Model;
-use zarr_parts::{ChunkShape, CodecError, unravel_index};
+use zarr_parts::{Axes, ChunkShape, CodecError, unravel_index};
 
 /// The shards of an array of a regular chunk grid (Zarr V3 core, "Regular grids"), numbered in row-major order of the grid.
 /// Along an axis there are as many as hold all its cells, so that those at the edge may reach beyond the shape; an array
@@ -46,7 +46,7 @@ fn whole_axis(cells: u64, part: u64) -> Option<u64>
 }
 
 // The shape of an array, rounded up to whole shards.
-fn whole_axes(alloc: Global, shape: &[u64], shard: &[u64]) -> Result<Vec<u64>, CodecError>
+fn whole_axes(alloc: Global, shape: &[u64], shard: &[u64]) -> Result<Axes, CodecError>
     requires shard { AllPositive shard.now }
     ensures whole { IfOk result (λ whole. whole.items ≡ whole_shards shape.now shard.now) }
     ensures positive { IfOk result (λ whole. AllPositive whole.items) }
@@ -56,7 +56,7 @@ fn whole_axes(alloc: Global, shape: &[u64], shard: &[u64]) -> Result<Vec<u64>, C
     if shape.len() != shard.len() {
         return Err(CodecError::IncompatibleDimensionality);
     }
-    let mut whole = Vec::with_capacity(alloc, shape.len())?;
+    let mut whole = Axes::new(alloc);
     for axis in 0..shape.len() {
         let Some(cells) = whole_axis(shape[axis], shard[axis]) else {
             return Err(CodecError::TooLarge);

@@ -13,7 +13,7 @@ ghost use Rattle.zarr_parts.specs.CodecError.TheVariants.{TooLarge};
 ghost use Rattle.object_handles.specs.Handles.{IsRead, IsCounted, MayFault};
 ghost use Rattle.codec_laws.specs.Reads.{stored_geo, IsDecodedInto, IsOverwritten, cells_at, IsAnswer, IsReadOf, MayRefuseRead, AskedTests};
 ghost use Rattle.object_handles.specs.Objects.{interval_part, HasInterval, ObjectTests, IntervalTests};
-ghost use Rattle.codec_laws.specs.Encodings.{IsEncodedOnto};
+ghost use Rattle.codec_laws.specs.Encodings.{IsEncodedOnto, IsPlain};
 ghost use Rattle.codec_laws.specs.Meanings.{Meaning, Concurrency};
 ghost use Rattle.codec_laws.specs.Laws.{IsLawful};
 ghost use Rattle.codec_laws.specs.Refusals.{IsNoFault, RefusesUnserved, MayRefuseEncode, MayRefuseDecode, MayRefuseCompact};
@@ -124,6 +124,19 @@ pub trait ArrayToBytesCodecTraits {
         let encoding = self.encode(alloc, bytes, shape, data_type, fill_value, options)?;
         encoded.extend_from_slice(&encoding)?;
         Ok(())
+    }
+
+    /// How many bytes each encoding of such an array has, where it is the elements one after the other, as they are in memory;
+    /// `None` where it may be other bytes. By default `None`. Takes no memory.
+    fn plain_size(
+        &self,
+        shape: &ChunkShape,
+        data_type: &DataType,
+        fill_value: &FillValue,
+    ) -> Option<u64>
+        ensures { let g = geo shape.now data_type.now fill_value.now in IfSome result (IsPlain g (meaning self.now g)) }
+    {
+        None
     }
 
     /// Decodes an array. The answer may lend the bytes on. Refused as `check` refuses, then as the codec's

@@ -8,7 +8,7 @@ use zarr_codecs::{
     DefaultArrayToBytesCodec,
 };
 use zarr_crc32c::Crc32cCodec;
-use zarr_parts::{ArrayBytes, ChunkShape, CodecError, CodecOptions, DataType, FillValue};
+use zarr_parts::{ArrayBytes, Axes, ChunkShape, CodecError, CodecOptions, DataType, FillValue};
 use zarrs_sharding::{ShardingCodecBuilder, ShardingIndexLocation};
 
 type Pairs = ShardingCodecBuilder<DefaultArrayToBytesCodec, BytesCodec>;
@@ -97,7 +97,7 @@ fn a_codec_is_built_part_by_part(rt: HostRuntime) {
 
 // A shared codec for subchunks of 2 by 2, its index at the start: its configuration, and its metadata.
 fn told(alloc: Global, data_type: &DataType) -> Result<(String, String), Fail> {
-    let shape = ChunkShape::new(alloc, &[2, 2])?.unwrap_or(ChunkShape::from_positive(Vec::new(
+    let shape = ChunkShape::new(alloc, &[2, 2])?.unwrap_or(ChunkShape::from_positive(Axes::new(
         alloc,
     )));
     let codec = ShardingCodecBuilder::new(shape, data_type)

@@ -6,7 +6,7 @@ use std::test::Fail;
 use zarr_codecs::{
     BytesCodec, CodecTraitsV3, DefaultArrayToBytesCodec, VlenCodec, create_after_metadata,
 };
-use zarr_parts::ChunkShape;
+use zarr_parts::{Axes, ChunkShape};
 use zarrs_sharding::{ShardingCodec, ShardingIndexLocation, new_after_configuration};
 
 // The metadata of a codec names the codec.
@@ -58,7 +58,7 @@ fn the_default_codec_is_given_back(rt: HostRuntime) -> Result<(), Fail> {
 }
 
 fn shards(alloc: Global, location: ShardingIndexLocation) -> Result<Shards, Fail> {
-    let shape = ChunkShape::new(alloc, &[3, 5])?.unwrap_or(ChunkShape::from_positive(Vec::new(
+    let shape = ChunkShape::new(alloc, &[3, 5])?.unwrap_or(ChunkShape::from_positive(Axes::new(
         alloc,
     )));
     Ok(ShardingCodec::new(shape, BytesCodec::big(), BytesCodec::little(), location))

@@ -2,7 +2,7 @@
 use crate::compared::same;
 use crate::examples::shape;
 use std::alloc::Global;
-use zarr_parts::{ChunkShape, CodecError};
+use zarr_parts::{Axes, ChunkShape, CodecError};
 
 // How many cells a shape of these axes has, where the count fits 64 bits; a fault where it is none.
 fn cells(alloc: Global, axes: &[u64]) -> Result<Option<u64>, CodecError> {
@@ -27,7 +27,7 @@ fn the_axes_are_multiplied(rt: HostRuntime) {
 // Whether the shape of the axes 2 and 3 has them, and is equal to the one that is made of them unchecked.
 fn is_made(alloc: Global) -> Result<bool, CodecError> {
     let some = shape(alloc, &[2, 3])?;
-    let same = ChunkShape::from_positive([2, 3].to_vec(alloc)?);
+    let same = ChunkShape::from_positive(Axes::from_slice(alloc, &[2, 3])?);
     Ok(some == same && some.as_slice() == [2, 3].as_slice())
 }
 

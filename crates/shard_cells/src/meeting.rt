@@ -9,7 +9,7 @@ ghost use Rattle.zarr_parts.specs.CodecError.TheVariants.{OutOfMemory};
 ghost use Rattle.shard_cells.specs.Meetings.{IsMeeting};
 
 use std::alloc::{AllocError, Global};
-use zarr_parts::{ArraySubset, ChunkShape, CodecError, number_along};
+use zarr_parts::{ArraySubset, Axes, ChunkShape, CodecError, number_along};
 
 /// The cells that a box and a subchunk both have, seen from the subchunk's start and from the box's.
 #[derive(Drop)]
@@ -29,9 +29,9 @@ struct Span {
 // What a box and a subchunk both have along each axis.
 #[derive(Drop)]
 struct Spans {
-    in_sub: Vec<u64>,
-    in_box: Vec<u64>,
-    lengths: Vec<u64>,
+    in_sub: Axes,
+    in_box: Axes,
+    lengths: Axes,
 }
 
 // What a range of a box and one of a subchunk both have.
@@ -70,9 +70,9 @@ fn spans_of(
     ensures in_box { let other = grid_box grid.now sub.now number in let both = overlap_of (record { start = start.now; shape = len.now }) other in
         IfOk result (λ spans. record { start = spans.in_box.items; shape = spans.lengths.items } ≡ relative_box both start.now) }
 {
-    let mut in_sub = Vec::with_capacity(alloc, sub.len())?;
-    let mut in_box = Vec::with_capacity(alloc, sub.len())?;
-    let mut lengths = Vec::with_capacity(alloc, sub.len())?;
+    let mut in_sub = Axes::new(alloc);
+    let mut in_box = Axes::new(alloc);
+    let mut lengths = Axes::new(alloc);
     for axis in 0..sub.len() {
         let origin = number_along(number, grid, axis) * sub[axis];
         let span = span_of(start[axis], len[axis], origin, sub[axis]);
@@ -118,11 +118,11 @@ pub fn meeting_of(
         grid.as_slice(),
         sub.as_slice(),
     )?;
-    let same_lengths = Vec::from_slice(alloc, &lengths)?;
-    let Some(in_sub) = ArraySubset::new_with_start_shape(in_sub, same_lengths) else {
+    let same_lengths = Axes::from_slice(alloc, &lengths)?;
+    let Some(in_sub) = ArraySubset::new_with_axes(in_sub, same_lengths) else {
         unreachable!()
     };
-    let Some(in_box) = ArraySubset::new_with_start_shape(in_box, lengths) else {
+    let Some(in_box) = ArraySubset::new_with_axes(in_box, lengths) else {
         unreachable!()
     };
     Ok(Meeting { in_sub, in_box })

@@ -12,7 +12,7 @@ use codec_metadata::PluginCreateError;
 use serde_json::Value;
 use shard_format::ShardingIndexLocation;
 use std::alloc::Global;
-use zarr_parts::ChunkShape;
+use zarr_parts::{Axes, ChunkShape};
 
 // What stands under a key that must be there.
 fn required<'a>(alloc: Global, object: &'a Value, key: &str) -> Result<&'a Value, PluginCreateError>
@@ -65,7 +65,7 @@ pub fn shape_under(
         return Err(PluginCreateError::bad_field(alloc, key));
     };
     match axes(alloc, list)? {
-        Some(axes) => Ok(ChunkShape::from_positive(axes)),
+        Some(axes) => Ok(ChunkShape::from_positive(Axes::from_vec(axes))),
         None => Err(PluginCreateError::bad_field(alloc, key)),
     }
 }

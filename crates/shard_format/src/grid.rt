@@ -1,14 +1,14 @@
 // The grid of subchunks that a shard is cut into.
-ghost use Rattle.std.specs.Prelude.{IsTrue, ◌↔◌, ◌≡◌, ◌<◌, ◌^◌, ◌*◌, IfOk, IfErr, OnOk, SomeIff, MatchOption, length};
+ghost use Rattle.std.specs.Prelude.{IsTrue, ◌↔◌, ◌≡◌, ◌<◌, ◌^◌, IfOk, IfErr, OnOk, SomeIff, MatchOption, length};
 ghost use Rattle.zarr_parts.specs.Order.{RefusedBy};
-ghost use Rattle.zarr_parts.specs.Numbering.{AllPositive, count_of, zip_with};
+ghost use Rattle.zarr_parts.specs.Numbering.{AllPositive, count_of};
 ghost use Rattle.zarr_parts.specs.Boxes.{IsBox};
 ghost use Rattle.zarr_parts.specs.Grid.{Divides, grid_of, grid_box};
 ghost use Rattle.shard_format.specs.Index.{index_shape};
 ghost use Rattle.shard_format.specs.Grids.{GridTests, SubsetTests, EndsFit, IsCut, ConcurrencyTests};
 
 use std::alloc::{AllocError, Global};
-use zarr_parts::{ArraySubset, ChunkShape, CodecError, unravel_index};
+use zarr_parts::{ArraySubset, Axes, ChunkShape, CodecError, number_along};
 
 /// How many subchunks a shard has along each axis (Zarr V3 codec `sharding_indexed`, "chunk_shape").
 /// Refused, in this order, as `IncompatibleDimensionality` where the numbers of axes differ and as
@@ -27,7 +27,7 @@ pub fn calculate_chunks_per_shard(
 }
 
 // The quotients of a shard's axes by the subchunk's.
-fn quotients(alloc: Global, shape: &[u64], sub: &[u64]) -> Result<Vec<u64>, CodecError>
+fn quotients(alloc: Global, shape: &[u64], sub: &[u64]) -> Result<Axes, CodecError>
     requires shape { AllPositive shape.now }
     requires sub { AllPositive sub.now }
     ensures grid { IfOk result (λ grid. grid.items ≡ grid_of shape.now sub.now) }
@@ -38,7 +38,7 @@ fn quotients(alloc: Global, shape: &[u64], sub: &[u64]) -> Result<Vec<u64>, Code
     if shape.len() != sub.len() {
         return Err(CodecError::IncompatibleDimensionality);
     }
-    let mut axes = Vec::with_capacity(alloc, shape.len())?;
+    let mut axes = Axes::new(alloc);
     for i in 0..shape.len() {
         if shape[i] % sub[i] != 0 {
             return Err(CodecError::InvalidSubchunkShape);
@@ -102,23 +102,28 @@ pub fn sharding_index_shape(
 ) -> Result<ChunkShape, AllocError>
     ensures { IfOk result (λ shape. shape ≡ index_shape chunks_per_shard.now) }
 {
-    let grid = chunks_per_shard.as_slice();
-    let mut axes = Vec::with_capacity(alloc, grid.len() + 1)?;
-    axes.extend_from_slice(grid)?;
+    let mut axes = Axes::from_slice(alloc, chunks_per_shard.as_slice())?;
     axes.push(2)?;
     Ok(ChunkShape::from_positive(axes))
 }
 
 // The first cell of a subchunk along each axis. `None` where an end of its box passes `u64::MAX`.
-fn first_cell(alloc: Global, point: &[u64], sub: &[u64]) -> Result<Option<Vec<u64>>, AllocError>
-    requires { length point.now ≡ length sub.now }
+fn first_cell(
+    alloc: Global,
+    number: u64,
+    grid: &[u64],
+    sub: &[u64],
+) -> Result<Option<Axes>, AllocError>
+    requires axes { length grid.now ≡ length sub.now }
+    requires below { number < count_of grid.now }
     ensures { IfOk result (λ found. MatchOption found
-        (¬ (IsBox (zip_with ◌*◌ point.now sub.now) sub.now))
-        (λ start. start.items ≡ zip_with ◌*◌ point.now sub.now)) }
+        (¬ (IsBox (grid_box grid.now sub.now number).start sub.now))
+        (λ start. start.items ≡ (grid_box grid.now sub.now number).start)) }
 {
-    let mut start = Vec::with_capacity(alloc, sub.len())?;
+    let mut start = Axes::new(alloc);
     for axis in 0..sub.len() {
-        let Some(first) = point[axis].checked_mul(sub[axis]) else {
+        let point = number_along(number, grid, axis);
+        let Some(first) = point.checked_mul(sub[axis]) else {
             return Ok(None);
         };
         start.push(first)?;
@@ -142,17 +147,17 @@ pub fn subchunk_subset(
     if grid.as_slice().len() != sub.as_slice().len() {
         return Err(CodecError::IncompatibleDimensionality);
     }
-    if grid.num_elements().is_none() {
+    let Some(count) = grid.num_elements() else {
         return Err(CodecError::TooLarge);
-    }
-    let Some(point) = unravel_index(alloc, number, grid.as_slice())? else {
+    };
+    if number >= count {
         return Ok(None);
-    };
-    let Some(start) = first_cell(alloc, &point, sub.as_slice())? else {
+    }
+    let Some(start) = first_cell(alloc, number, grid.as_slice(), sub.as_slice())? else {
         return Err(CodecError::TooLarge);
     };
-    let shape = sub.as_slice().to_vec(alloc)?;
-    match ArraySubset::new_with_start_shape(start, shape) {
+    let shape = Axes::from_slice(alloc, sub.as_slice())?;
+    match ArraySubset::new_with_axes(start, shape) {
         Some(subset) => Ok(Some(subset)),
         None => Err(CodecError::TooLarge),
     }

@@ -1,43 +1,55 @@
 // Subchunks laid end to end in the data part of a shard.
-ghost use Rattle.std.specs.Prelude.{◌≡◌, ◌<◌, ◌^◌, IfOk, IfErr, IfSome, length, drop};
+ghost use Rattle.std.specs.Prelude.{◌≡◌, ◌<◌, ◌^◌, IfOk, IfErr, IfSome, length};
 ghost use Rattle.zarr_parts.specs.Numbering.{count_of};
 ghost use Rattle.zarr_parts.specs.Grid.{Divides, grid_of, subchunk};
 ghost use Rattle.zarr_parts.specs.Types.{size_of, HasElements};
 ghost use Rattle.zarr_parts.specs.CodecError.TheVariants.{OutOfMemory};
 ghost use Rattle.shard_format.specs.Laying.{placed_slot, whole_shard};
+ghost use Rattle.shard_layout.specs.Rows.{FollowBy};
 
 use shard_format::{ShardingIndexLocation, Slot, subchunk_subset};
 use std::alloc::Global;
 use zarr_boxes::subchunks_follow;
 use zarr_parts::{ArrayBytes, ChunkShape, CodecError, DataType};
 
+/// How many elements each subchunk has, where the subchunks of a shape follow one another in it. Takes no memory.
+pub fn elements_in_row(shape: &ChunkShape, sub: &ChunkShape) -> Option<u64>
+    ensures { IfSome result (FollowBy shape.now sub.now) }
+{
+    if !subchunks_follow(shape.as_slice(), sub.as_slice()) {
+        return None;
+    }
+    sub.num_elements()
+}
+
 // A subchunk of an array in which subchunks follow one another, lent where its elements have one size.
 fn lent_subchunk<'a>(
     array: &'a ArrayBytes,
     number: u64,
+    places: u64,
     _shape: &ChunkShape,
-    sub: &ChunkShape,
+    _sub: &ChunkShape,
 ) -> Option<ArrayBytes<'a>>
     requires counted { length array.now.elements ≡ count_of _shape.now }
     requires fits { count_of _shape.now < 2 ^ 64 }
     requires some { 0 < count_of _shape.now }
-    requires divides { Divides sub.now _shape.now }
-    requires axes { 0 < length _shape.now }
-    requires follow { drop 1 _shape.now ≡ drop 1 sub.now }
-    requires below { number < count_of (grid_of _shape.now sub.now) }
+    requires divides { Divides _sub.now _shape.now }
+    requires follow { FollowBy _shape.now _sub.now places }
+    requires below { number < count_of (grid_of _shape.now _sub.now) }
     ensures kind { IfSome result (λ part. part.kind ≡ array.now.kind) }
-    ensures elements { IfSome result (λ part. part.elements ≡ subchunk _shape.now sub.now array.now.elements number) }
+    ensures elements { IfSome result (λ part. part.elements ≡ subchunk _shape.now _sub.now array.now.elements number) }
 {
-    let places = sub.num_elements()?;
     let part = array.lent_range((number * places) as usize, places as usize)?;
     Some(part)
 }
 
-/// A subchunk of an array: lent where subchunks follow one another in it and its elements have one size, and else copied.
+/// A subchunk of an array: lent where subchunks follow one another in it, as `elements_in_row` tells, and its elements have one
+/// size, and else copied. Refused only as out of memory.
 pub fn gather_subchunk<'a>(
     alloc: Global,
     array: &'a ArrayBytes,
     number: u64,
+    in_row: Option<u64>,
     shape: &ChunkShape,
     grid: &ChunkShape,
     sub: &ChunkShape,
@@ -51,13 +63,14 @@ pub fn gather_subchunk<'a>(
     requires divides { Divides sub.now shape.now }
     requires grid { grid.now ≡ grid_of shape.now sub.now }
     requires below { number < count_of grid.now }
+    requires in_row { IfSome in_row (FollowBy shape.now sub.now) }
     ensures refused { IfErr result (λ e. e ≡ OutOfMemory) }
     ensures kind { IfOk result (λ part. part.kind ≡ size_of data_type.now) }
     ensures elements { IfOk result (λ part. part.elements ≡ subchunk shape.now sub.now array.now.elements number) }
 {
     let axes = shape.as_slice();
-    if subchunks_follow(axes, sub.as_slice()) {
-        if let Some(part) = lent_subchunk(array, number, shape, sub) {
+    if let Some(places) = in_row {
+        if let Some(part) = lent_subchunk(array, number, places, shape, sub) {
             return Ok(part);
         }
     }

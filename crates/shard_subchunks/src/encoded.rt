@@ -12,7 +12,7 @@ ghost use Rattle.shard_subchunks.specs.Inner.{subchunk_geo, inner_meaning};
 use crate::subchunks::Subchunks;
 use codec_laws::ArrayToBytesCodecTraits;
 use shard_format::Slot;
-use shard_layout::{LaidOut, gather_subchunk};
+use shard_layout::{LaidOut, elements_in_row, gather_subchunk};
 use std::alloc::Global;
 use zarr_parts::{ArrayBytes, ChunkShape, CodecError};
 
@@ -106,8 +106,18 @@ impl<I: ArrayToBytesCodecTraits> Subchunks<'_, I> {
     {
         let mut bytes: Vec<u8> = Vec::new(alloc);
         let mut slots = Vec::with_capacity(alloc, subchunks as usize)?;
+        let in_row = elements_in_row(shape, self.shape);
         for k in 0..subchunks {
-            let part = gather_subchunk(alloc, array, k, shape, grid, self.shape, self.data_type)?;
+            let part = gather_subchunk(
+                alloc,
+                array,
+                k,
+                in_row,
+                shape,
+                grid,
+                self.shape,
+                self.data_type,
+            )?;
             let slot = self.store_behind(alloc, &part, &mut bytes)?;
             slots.push(slot)?;
         }

@@ -14,7 +14,7 @@ ghost use Rattle.shard_workers.specs.Storing.{CanStore, AreStored};
 use crate::gate::Gate;
 use crate::numbered::{by_number, in_order};
 use codec_laws::ArrayToBytesCodecTraits;
-use shard_steps::{LaidOut, Stored, Subchunks, gather_subchunk, placed};
+use shard_steps::{LaidOut, Stored, Subchunks, elements_in_row, gather_subchunk, placed};
 use std::alloc::Global;
 use std::thread::Threads;
 use zarr_parts::{ArrayBytes, ChunkShape, CodecError};
@@ -40,6 +40,7 @@ fn stored_by_number<I: ArrayToBytesCodecTraits>(
         alloc,
         array,
         number,
+        elements_in_row(shape, subchunks.shape),
         shape,
         grid,
         subchunks.shape,

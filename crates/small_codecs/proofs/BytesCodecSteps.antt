@@ -4,6 +4,7 @@ use Rattle.std.proofs.Math.Nat.{div-eq_of_eq-mul_left}
 use Rattle.std.proofs.lemmas.List.{length-map, length-reverse}
 use Rattle.std.proofs.lemmas.List.Elements.{All-head, All-tail, All-map}
 use Rattle.codec_laws.specs.Refusals.{AreTooLong}
+use Rattle.codec_laws.specs.Encodings.{IsPlain}
 use Rattle.codec_laws.specs.Reads.{cells_at}
 use Rattle.codec_laws.proofs.ReadLemmas.{elements_at, sized_too_long}
 use Rattle.zarr_boxes.proofs.SelectionLemmas.{numbers_below}
@@ -20,7 +21,7 @@ use Rattle.zarr_boxes.proofs.NumberingLaws.{count_positive}
 use Rattle.zarr_boxes.proofs.PieceLaws.{map-map, map_range_same, length-pieces, All-pieces, piece_written, piece_kept}
 use Rattle.zarr_parts.proofs.ArrayLaws.{concat-fixed_array, fixed_array-concat, whole_from_length, All-fixed_array, whole-concat, length-piece}
 use Rattle.small_codecs.specs.declared.bytes_codec.Endianness.{Endianness}
-use Rattle.small_codecs.specs.BytesCodec.{is_reversed, swapped, KnowsOrder, SwapsAs, element_size, IsMeasured, bytes_of, bytes_cells}
+use Rattle.small_codecs.specs.BytesCodec.{is_reversed, swapped, KnowsOrder, SwapsAs, element_size, IsMeasured, bytes_of, bytes_cells, bytes_meaning}
 use Rattle.small_codecs.specs.BytesCodecLaws.{All-swapped, elements_sized, bytes_cells-whole}
 
 -- what the tests find
@@ -179,3 +180,27 @@ asked_past endianness g size count total reversed many b points m long inside co
     let asked_counted : length asked ≡ many = length-map numbers (λ i. get_or elements i []) ∙ (length-map points (λ point. number_of point g.shape) ∙ sym counted) in
     sized_too_long (cells_at (bytes_cells endianness g b) g.shape points) asked n (elements_at _ elements g.shape points there elements_counted inside) asked_sized
     (rw (asked_counted, ← m.size_is) (omega (arith, past)))
+
+-- elements that are stored as in memory
+pub plain : (endianness : Option Endianness) (g : Geo) (size count total : ℕ) (reversed : Bool) → IsMeasured endianness g size count total reversed → reversed ≡ false
+    → IsPlain g (bytes_meaning endianness g) total
+plain endianness g size count total reversed m kept =
+    let n = element_size g in
+    let fill = m.serves.fill_fits in
+    let codec_swaps = swapped (is_reversed endianness g.data_type) in
+    let swaps = rw kept at m.swaps in
+    record {
+      serves = m.serves;
+      fixed = m.serves.supported.fixed ∙ ap Fixed (sym fill);
+      some = rw fill m.serves.supported.positive;
+      size_is = rw fill m.total_is;
+      cells = λ b long.
+          let len : length b ≡ count_of g.shape * n = long ∙ m.total_is in
+          let stored = pieces n (count_of g.shape) b in
+          let sized : All (λ e. length e ≡ n) stored = All-pieces n (count_of g.shape) b (omega (arith, len)) in
+          rw fill (bytes_cells-whole endianness g b len ∙ (sym (map-map Some codec_swaps stored)
+          ∙ ap (map Some) (sym (swaps_same endianness g.data_type false stored swaps sized) ∙ map_swapped-false stored)));
+      written = λ a is.
+          let sized = elements_sized endianness g a m.serves is in
+          ap concat (sym (map_swapped-false a) ∙ swaps_same endianness g.data_type false a swaps sized);
+    }

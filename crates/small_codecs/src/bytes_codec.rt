@@ -329,6 +329,21 @@ impl ArrayToBytesCodecTraits for BytesCodec {
         Ok(())
     }
 
+    /// The bytes of all elements, where they are stored as in memory.
+    fn plain_size(
+        &self,
+        shape: &ChunkShape,
+        data_type: &DataType,
+        fill_value: &FillValue,
+    ) -> Option<u64> {
+        match self.measured(shape, data_type, fill_value) {
+            Ok(Measure {
+                total, reversed, ..
+            }) if !reversed => Some(total),
+            _ => None,
+        }
+    }
+
     /// One worker. Never refused.
     fn recommended_concurrency(
         &self,

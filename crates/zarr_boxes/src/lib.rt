@@ -1,6 +1,7 @@
 // Shapes, numbering, boxes, what is asked of an array, and the grid of subchunks.
 #![tactic(auto)]
 
+mod axes;
 mod grid;
 mod indexer;
 mod numbering;
@@ -10,6 +11,7 @@ mod selection;
 mod shape;
 mod subset;
 
+pub use axes::Axes;
 pub use grid::{Located, locate, subchunks_follow};
 pub use indexer::{Coordinates, Indexer};
 pub use numbering::{count, number_along, ravel_indices, unravel_index};

@@ -2,6 +2,7 @@
 ghost use Rattle.std.specs.Prelude.{◌≡◌, ◌^◌, ◌<◌, SomeIff, IfOk};
 ghost use Rattle.zarr_boxes.specs.Numbering.{count_of, AllPositive};
 
+use crate::axes::Axes;
 use crate::numbering::count;
 use std::alloc::{AllocError, Global};
 use std::marker::Model;
@@ -9,18 +10,20 @@ use std::marker::Model;
 /// A shape whose axes are all at least 1: of a shard, of a subchunk, or of the grid of subchunks.
 #[derive(Debug, Drop)]
 pub struct ChunkShape {
-    axes: Vec<u64>,
+    axes: Axes,
+    // their product, if it fits
+    count: Option<u64>,
 }
 
 impl Model for ChunkShape {
-    ghost use Rattle.std.specs.Prelude.{ℕ, List};
-    ghost use Rattle.zarr_boxes.specs.Numbering.{AllPositive};
+    ghost use Rattle.std.specs.Prelude.{ℕ, ◌^◌, ◌<◌, List, SomeIff};
+    ghost use Rattle.zarr_boxes.specs.Numbering.{AllPositive, count_of};
 
     ghost Value = { List ℕ };
 
     ghost view = { λ shape. shape.axes.items };
 
-    ghost invariant = { λ shape. AllPositive shape.axes.items };
+    ghost invariant = { λ shape. AllPositive shape.axes.items × SomeIff shape.count (count_of shape.axes.items < 2 ^ 64) (count_of shape.axes.items) };
 }
 
 impl PartialEq for ChunkShape {
@@ -52,17 +55,17 @@ impl ChunkShape {
         if !axes.iter().all(|axis| *axis > 0) {
             return Ok(None);
         }
-        Ok(Some(ChunkShape {
-            axes: axes.to_vec(alloc)?,
-        }))
+        let axes = Axes::from_slice(alloc, axes)?;
+        Ok(Some(ChunkShape::from_positive(axes)))
     }
 
     /// The shape with these axes, which are known to be positive.
-    pub fn from_positive(axes: Vec<u64>) -> Self
+    pub fn from_positive(axes: Axes) -> Self
         requires { AllPositive axes.items }
         ensures { result ≡ axes.items }
     {
-        ChunkShape { axes }
+        let count = count(&axes);
+        ChunkShape { axes, count }
     }
 
     /// The axes.
@@ -78,7 +81,7 @@ impl ChunkShape {
         ensures value { SomeIff result (count_of self.now < 2 ^ 64) (count_of self.now) }
         ensures positive { AllPositive self.now }
     {
-        count(&self.axes)
+        self.count
     }
 
     /// An equal shape. Refused only as out of memory.
@@ -86,7 +89,8 @@ impl ChunkShape {
         ensures { IfOk result (λ copy. copy ≡ self.now) }
     {
         Ok(ChunkShape {
-            axes: self.axes.as_slice().to_vec(alloc)?,
+            axes: Axes::from_slice(alloc, &self.axes)?,
+            count: self.count,
         })
     }
 }

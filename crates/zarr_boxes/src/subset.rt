@@ -9,6 +9,7 @@ ghost use Rattle.zarr_boxes.specs.BoxRefusals.{BoxTests};
 mod overlap;
 mod touched;
 
+use crate::axes::Axes;
 use crate::numbering::count;
 use std::alloc::{AllocError, Global};
 use std::marker::Model;
@@ -18,8 +19,8 @@ use zarr_words::CodecError;
 /// A box of coordinates: a start and a length along each axis, whose sum fits 64 bits.
 #[derive(Debug, Drop)]
 pub struct ArraySubset {
-    start: Vec<u64>,
-    shape: Vec<u64>,
+    start: Axes,
+    shape: Axes,
 }
 
 impl Model for ArraySubset {
@@ -70,14 +71,26 @@ fn is_box(start: &[u64], shape: &[u64]) -> bool
     true
 }
 
+// Where a box ends along each axis.
+fn ends(alloc: Global, start: &[u64], shape: &[u64]) -> Result<Vec<u64>, AllocError>
+    requires { IsBox start.now shape.now }
+    ensures { IfOk result (λ end. end.items ≡ end_of (record { start = start.now; shape = shape.now })) }
+{
+    let mut end = Vec::new(alloc);
+    for axis in 0..start.len() {
+        end.push(start[axis] + shape[axis])?;
+    }
+    Ok(end)
+}
+
 impl ArraySubset {
     /// The box of one range of coordinates along each axis. `None` where a start passes its end; refused only as
     /// out of memory.
     pub fn new_with_ranges(alloc: Global, ranges: &[Range<u64>]) -> Result<Option<Self>, AllocError>
         ensures { IfOk result (λ made. SomeIff made (All (λ range. range.start ≤ range.end) ranges.now) (region_of_ranges ranges.now)) }
     {
-        let mut start = Vec::new(alloc);
-        let mut shape = Vec::new(alloc);
+        let mut start = Axes::new(alloc);
+        let mut shape = Axes::new(alloc);
         for range in ranges {
             let Some(len) = range.end.checked_sub(range.start) else {
                 return Ok(None);
@@ -103,6 +116,13 @@ impl ArraySubset {
     pub fn new_with_start_shape(start: Vec<u64>, shape: Vec<u64>) -> Option<Self>
         ensures { SomeIff result (IsBox start.items shape.items) (record { start = start.items; shape = shape.items }) }
     {
+        ArraySubset::new_with_axes(Axes::from_vec(start), Axes::from_vec(shape))
+    }
+
+    /// As `new_with_start_shape`, where few axes take no memory of their own.
+    pub fn new_with_axes(start: Axes, shape: Axes) -> Option<Self>
+        ensures { SomeIff result (IsBox start.items shape.items) (record { start = start.items; shape = shape.items }) }
+    {
         if is_box(&start, &shape) {
             Some(ArraySubset { start, shape })
         } else {
@@ -114,7 +134,8 @@ impl ArraySubset {
     pub fn new_with_shape(alloc: Global, shape: Vec<u64>) -> Result<Self, AllocError>
         ensures { IfOk result (λ made. made ≡ record { start = replicate (length shape.items) 0; shape = shape.items }) }
     {
-        let start = vec![in alloc; 0; shape.len()]?;
+        let start = Axes::from_elem(alloc, 0, shape.len())?;
+        let shape = Axes::from_vec(shape);
         Ok(ArraySubset { start, shape })
     }
 
@@ -138,11 +159,7 @@ impl ArraySubset {
     pub fn end_exc(&self, alloc: Global) -> Result<Vec<u64>, AllocError>
         ensures { IfOk result (λ end. end.items ≡ end_of self.now) }
     {
-        let mut end = Vec::new(alloc);
-        for axis in 0..self.start.len() {
-            end.push(self.start[axis] + self.shape[axis])?;
-        }
-        Ok(end)
+        ends(alloc, &self.start, &self.shape)
     }
 
     /// How many points the box has: the product of its shape, 1 for no axes. `None` past `u64::MAX`.
@@ -158,8 +175,8 @@ impl ArraySubset {
         ensures { IfOk result (λ copy. copy ≡ self.now) }
     {
         Ok(ArraySubset {
-            start: self.start.as_slice().to_vec(alloc)?,
-            shape: self.shape.as_slice().to_vec(alloc)?,
+            start: Axes::from_slice(alloc, &self.start)?,
+            shape: Axes::from_slice(alloc, &self.shape)?,
         })
     }
 }

@@ -5,7 +5,7 @@ mod laws;
 
 pub use laws::{box_law, grid_law, numbering_law, overlap_law};
 pub use zarr_boxes::{
-    ArraySubset, ChunkShape, ContiguousRuns, Coordinates, Indexer, Located, check_selection,
+    ArraySubset, Axes, ChunkShape, ContiguousRuns, Coordinates, Indexer, Located, check_selection,
     locate, number_along, number_asked, point_numbers, ravel_indices, unravel_index,
 };
 pub use zarr_elements::{

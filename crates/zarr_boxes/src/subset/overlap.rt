@@ -8,6 +8,7 @@ ghost use Rattle.zarr_boxes.specs.Overlaps.{overlap_of, relative_box, OriginTest
 ghost use Rattle.zarr_words.specs.declared.error.CodecError.TheVariants.{IncompatibleDimensionality};
 
 use super::ArraySubset;
+use crate::axes::Axes;
 use std::alloc::{AllocError, Global};
 use zarr_words::CodecError;
 
@@ -18,15 +19,15 @@ fn overlap_axes(
     shape: &[u64],
     other_start: &[u64],
     other_shape: &[u64],
-) -> Result<(Vec<u64>, Vec<u64>), AllocError>
+) -> Result<(Axes, Axes), AllocError>
     requires well_formed { IsBox start.now shape.now }
     requires other_well_formed { IsBox other_start.now other_shape.now }
     requires same_axes { length start.now ≡ length other_start.now }
     ensures { IfOk result (λ made. record { start = made.0.items; shape = made.1.items }
         ≡ overlap_of (record { start = start.now; shape = shape.now }) (record { start = other_start.now; shape = other_shape.now })) }
 {
-    let mut starts = Vec::new(alloc);
-    let mut lengths = Vec::new(alloc);
+    let mut starts = Axes::new(alloc);
+    let mut lengths = Axes::new(alloc);
     for axis in 0..start.len() {
         let first = start[axis].max(other_start[axis]);
         let end = (start[axis] + shape[axis]).min(other_start[axis] + other_shape[axis]);
@@ -37,13 +38,13 @@ fn overlap_axes(
 }
 
 // A start counted from an origin, if it lies below it on no axis.
-fn start_from(alloc: Global, start: &[u64], origin: &[u64]) -> Result<Option<Vec<u64>>, AllocError>
+fn start_from(alloc: Global, start: &[u64], origin: &[u64]) -> Result<Option<Axes>, AllocError>
     requires { length start.now ≡ length origin.now }
     ensures { IfOk result (λ moved. MatchOption moved
         (¬ AllZip ◌≤◌ origin.now start.now)
         (λ moved. AllZip ◌≤◌ origin.now start.now × (moved.items ≡ zip_with ◌-◌ start.now origin.now))) }
 {
-    let mut moved = Vec::new(alloc);
+    let mut moved = Axes::new(alloc);
     for axis in 0..start.len() {
         let Some(from_origin) = start[axis].checked_sub(origin[axis]) else {
             return Ok(None);
@@ -89,7 +90,7 @@ impl ArraySubset {
         let Some(start) = start_from(alloc, &self.start, origin)? else {
             return Err(CodecError::OutOfBounds);
         };
-        let shape = self.shape.as_slice().to_vec(alloc)?;
+        let shape = Axes::from_slice(alloc, &self.shape)?;
         Ok(ArraySubset { start, shape })
     }
 }

@@ -6,6 +6,7 @@ ghost use Rattle.zarr_boxes.specs.Grid.{Divides, grid_of};
 ghost use Rattle.zarr_boxes.specs.Touched.{AreTouched, IsTouchedBox};
 
 use super::{ArraySubset, points_in};
+use crate::axes::Axes;
 use crate::selection::box_numbers;
 use crate::shape::ChunkShape;
 use std::alloc::{AllocError, Global};
@@ -30,14 +31,14 @@ fn touched_box(
     start: &[u64],
     len: &[u64],
     sub: &[u64],
-) -> Result<(Vec<u64>, Vec<u64>), AllocError>
+) -> Result<(Axes, Axes), AllocError>
     requires well_formed { IsBox start.now len.now }
     requires sub { AllPositive sub.now }
     requires axes { length start.now ≡ length sub.now }
     ensures { IfOk result (λ made. IsTouchedBox (record { start = start.now; shape = len.now }) sub.now (record { start = made.0.items; shape = made.1.items })) }
 {
-    let mut starts = Vec::with_capacity(alloc, start.len())?;
-    let mut lengths = Vec::with_capacity(alloc, start.len())?;
+    let mut starts = Axes::new(alloc);
+    let mut lengths = Axes::new(alloc);
     for axis in 0..start.len() {
         starts.push(start[axis] / sub[axis])?;
         lengths.push(touched_along(start[axis], len[axis], sub[axis]))?;
@@ -46,12 +47,12 @@ fn touched_box(
 }
 
 // The quotients of a shape's axes by the subchunk's.
-fn quotients(alloc: Global, shape: &[u64], sub: &[u64]) -> Result<Vec<u64>, AllocError>
+fn quotients(alloc: Global, shape: &[u64], sub: &[u64]) -> Result<Axes, AllocError>
     requires sub { AllPositive sub.now }
     requires axes { length shape.now ≡ length sub.now }
     ensures { IfOk result (λ grid. grid.items ≡ grid_of shape.now sub.now) }
 {
-    let mut grid = Vec::with_capacity(alloc, shape.len())?;
+    let mut grid = Axes::new(alloc);
     for axis in 0..shape.len() {
         grid.push(shape[axis] / sub[axis])?;
     }

@@ -17,7 +17,7 @@ returns-in_default-clause-refused c =
 
 pub loop-axis-preserved : goal.loop-axis-preserved
 loop-axis-preserved c =
-    let pushed = c.in_ok-push.ensures.items in
+    let pushed = c.in_ok-push.ensures.ok in
     record {
       rounded = zip_with_more rounded_up c.args.shape.now c.args.shard.now c.loop-axis.axis _ _ _ _ c.if-shape-shard.false (omega arith) refl refl
           c.loop-axis.invariant.rounded (rw c.in-Some.ensures.1 at pushed);

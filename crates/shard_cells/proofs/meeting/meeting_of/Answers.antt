@@ -33,19 +33,19 @@ unreachable-requires c =
     let m = spans_meet c.args.shape.now c.args.sub.now c.args.number c.args.subset.now c.as_slice-axes.ensures.positive c.requires.fits c.requires.divides
     (rw c.requires.grid at c.requires.below) c.start.ensures.well_formed c.requires.inside c.requires.touches _ _ _ _ _ _
     c.start.ensures.value c.shape.ensures.value (c.as_slice.ensures.value ∙ c.requires.grid) c.as_slice-2.ensures.value c.in_ok-in_sub.ensures.in_sub c.in_ok-in_sub.ensures.in_box in
-    c.in_default.ensures (rw (c.in_ok-same_lengths.ensures.items ∙ c.deref.ensures.value) m.sub_well_formed)
+    c.in_default.ensures (rw (c.in_ok-same_lengths.ensures.ok ∙ c.deref.ensures) m.sub_well_formed)
 
-pub unreachable-requires-in_default-new_with_start_shape : goal.unreachable-requires-in_default-new_with_start_shape
-unreachable-requires-in_default-new_with_start_shape c =
+pub unreachable-requires-in_default-new_with_axes : goal.unreachable-requires-in_default-new_with_axes
+unreachable-requires-in_default-new_with_axes c =
     let m = spans_meet c.args.shape.now c.args.sub.now c.args.number c.args.subset.now c.as_slice-axes.ensures.positive c.requires.fits c.requires.divides
     (rw c.requires.grid at c.requires.below) c.start.ensures.well_formed c.requires.inside c.requires.touches _ _ _ _ _ _
     c.start.ensures.value c.shape.ensures.value (c.as_slice.ensures.value ∙ c.requires.grid) c.as_slice-2.ensures.value c.in_ok-in_sub.ensures.in_sub c.in_ok-in_sub.ensures.in_box in
-    c.in_default-new_with_start_shape.ensures m.box_well_formed
+    c.in_default-new_with_axes.ensures m.box_well_formed
 
 pub returns-clause-meets : goal.returns-clause-meets
 returns-clause-meets c =
     let m = spans_meet c.args.shape.now c.args.sub.now c.args.number c.args.subset.now c.as_slice-axes.ensures.positive c.requires.fits c.requires.divides
     (rw c.requires.grid at c.requires.below) c.start.ensures.well_formed c.requires.inside c.requires.touches _ _ _ _ _ _
     c.start.ensures.value c.shape.ensures.value (c.as_slice.ensures.value ∙ c.requires.grid) c.as_slice-2.ensures.value c.in_ok-in_sub.ensures.in_sub c.in_ok-in_sub.ensures.in_box in
-    let same = c.in_ok-same_lengths.ensures.items ∙ c.deref.ensures.value in
-    rw (c.in-Some.ensures.1, c.in-Some-new_with_start_shape.ensures.1, same) m
+    let same = c.in_ok-same_lengths.ensures.ok ∙ c.deref.ensures in
+    rw (c.in-Some.ensures.1, c.in-Some-new_with_axes.ensures.1, same) m

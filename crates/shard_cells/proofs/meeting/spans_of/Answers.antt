@@ -24,7 +24,7 @@ span_of-span-requires-clause-part_fits c =
 
 pub loop-axis-preserved : goal.loop-axis-preserved
 loop-axis-preserved c =
-    rw (c.in_ok-push.ensures.items, c.in_ok-push-2.ensures.items, c.in_ok-push-3.ensures.items)
+    rw (c.in_ok-push.ensures.ok, c.in_ok-push-2.ensures.ok, c.in_ok-push-3.ensures.ok)
     (spans_more c.args.start.now c.args.len.now (point_of c.args.number c.args.grid.now) c.args.sub.now c.loop-axis.axis c.number_along.result _ _ _ _ _ _ c.number_along.ensures
     c.span_of-span.ensures.in_sub c.span_of-span.ensures.in_box c.span_of-span.ensures.len c.loop-axis.invariant)
 

@@ -1,13 +1,18 @@
-use Rattle.std.proofs.Common.{◌*◌, arith}
+use Rattle.std.proofs.Common.{◌≡◌, ◌*◌, ◌∙◌, length, arith}
 use Rattle.std.proofs.lemmas.Grind.{common_steps}
+use Rattle.zarr_boxes.specs.Numbering.{point_of}
+use Rattle.zarr_boxes.proofs.NumberingLaws.{length-point_of}
 use Rattle.shard_format.proofs.BoxLemmas.{zip_with-from_each, product_fits}
 use Rattle.shard_format.proofs.grid.first_cell.Goals as goal
 
 pub returns-in_default : goal.returns-in_default
 returns-in_default c = λ box.
-    let fits = product_fits c.args.point.now c.args.sub.now c.loop-axis.axis c.requires (omega arith) box in
-    grind (arith, common_steps)
+    let point = point_of c.args.number c.args.grid.now in
+    let axes : length point ≡ length c.args.sub.now = length-point_of c.args.number c.args.grid.now ∙ c.requires.axes in
+    c.in_default.ensures (rw c.number_along-point.ensures (product_fits point c.args.sub.now c.loop-axis.axis axes (omega arith) box))
 
 pub returns : goal.returns
 returns c =
-    zip_with-from_each ◌*◌ c.args.point.now c.args.sub.now _ c.requires (omega (arith, c.requires, c.loop-axis.invariant.counted)) (λ k below. c.loop-axis.invariant.product k (omega (arith, c.requires)))
+    let point = point_of c.args.number c.args.grid.now in
+    let axes : length point ≡ length c.args.sub.now = length-point_of c.args.number c.args.grid.now ∙ c.requires.axes in
+    zip_with-from_each ◌*◌ point c.args.sub.now _ axes (omega (arith, axes, c.loop-axis.invariant.counted)) (λ k below. c.loop-axis.invariant.product k (omega (arith, axes)))

@@ -7,30 +7,30 @@ use Rattle.zarr_parts.specs.Arrays.{Array, element_of}
 use Rattle.zarr_boxes.proofs.GridLaws.{count-grid}
 use Rattle.zarr_boxes.proofs.FollowLaws.{subchunk_follows}
 use Rattle.shard_layout.proofs.laying.lent_subchunk.Goals as goal
-use Rattle.shard_layout.proofs.laying.lent_subchunk.Goals.{In_ok-places}
+use Rattle.shard_layout.proofs.laying.lent_subchunk.Goals.{Start}
 
 -- the subchunk ends within the array
-within : (c : In_ok-places) → c.args.number * c.in_ok-places.places + c.in_ok-places.places ≤ count_of c.args._shape.now
+within : (c : Start) → c.args.number * c.args.places + c.args.places ≤ count_of c.args._shape.now
 within c =
-    let sub = c.args.sub.now in
+    let sub = c.args._sub.now in
     let shape = c.args._shape.now in
     let fits = row_fits c.args.number (count_of sub) (count_of (grid_of shape sub)) (count_of sub) c.requires.below (omega arith) in
-    rw c.in_ok-places.ensures.value.1 (omega (arith, fits, count-grid shape sub c.requires.divides))
+    rw c.requires.follow.places_are (omega (arith, fits, count-grid shape sub c.requires.divides))
 
 pub overflow_mul-number : goal.overflow_mul-number
-overflow_mul-number c = omega (arith, within (goal.at.overflow_mul-number c).In_ok-places, c.requires.fits)
+overflow_mul-number c = omega (arith, within (goal.at.overflow_mul-number c).Start, c.requires.fits)
 
 pub lent_range-requires : goal.lent_range-requires
-lent_range-requires c = omega (arith, within (goal.at.lent_range-requires c).In_ok-places, c.requires.counted)
+lent_range-requires c = omega (arith, within (goal.at.lent_range-requires c).Start, c.requires.counted)
 
 pub returns-clause-elements : goal.returns-clause-elements
 returns-clause-elements c =
     let array = c.args.array.now in
-    let sub = c.args.sub.now in
+    let sub = c.args._sub.now in
     let shape = c.args._shape.now in
     let k = c.args.number in
     let taken : ℕ → ℕ → _ = λ (from many : ℕ). map (element_of array) (range_with_len from many) in
-    let is = c.in_ok-places.ensures.value.1 in
+    let is = c.requires.follow.places_are in
     ap (λ (a : Array). a.elements) c.in_ok-part.ensures.some
     ∙ (ap (λ (n : ℕ). taken (k * n) n) is
-    ∙ sym (subchunk_follows shape sub array.elements k c.requires.divides c.requires.follow c.requires.axes c.requires.some))
+    ∙ sym (subchunk_follows shape sub array.elements k c.requires.divides c.requires.follow.follow c.requires.follow.axes c.requires.some))

@@ -8,5 +8,5 @@ invariant_of-result c =
     let box : Region = record { start = c.self.inside.start.items; shape = c.self.inside.shape.items } in
     let other : Region = record { start = c.other.inside.start.items; shape = c.other.inside.shape.items } in
     let alike : HaveSameAxes box other = record { well_formed = c.self.invariant; other_well_formed = c.other.invariant; same_axes = omega arith } in
-    let made = rw (c.deref.ensures.value, c.deref-2.ensures.value, c.deref-3.ensures.value, c.deref-4.ensures.value) at c.in_ok-start.ensures in
+    let made = rw (c.deref.ensures, c.deref-2.ensures, c.deref-3.ensures, c.deref-4.ensures) at c.in_ok-start.ensures in
     subst (λ (b : Region). IsBox b.start b.shape) (sym made) (overlap_is_box box other alike)

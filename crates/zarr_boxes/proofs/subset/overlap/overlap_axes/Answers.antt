@@ -24,7 +24,7 @@ loop-axis-preserved c =
     let other : Region = record { start = c.args.other_start.now; shape = c.args.other_shape.now } in
     let alike : HaveSameAxes box other = record { well_formed = c.requires.well_formed; other_well_formed = c.requires.other_well_formed; same_axes = c.requires.same_axes } in
     overlap_more box other c.loop-axis.axis _ _ _ _ _ _ _ _ _ _ _ alike (omega arith) refl refl refl refl c.max-first.ensures c.min-end.ensures c.saturating_sub.ensures
-    c.loop-axis.invariant c.in_ok-push.ensures.items c.in_ok-push-2.ensures.items
+    c.loop-axis.invariant c.in_ok-push.ensures.ok c.in_ok-push-2.ensures.ok
 
 pub returns : goal.returns
 returns c =

@@ -8,7 +8,7 @@ pub loop-axis-preserved : goal.loop-axis-preserved
 loop-axis-preserved c =
     let start = c.args.start.now in
     let origin = c.args.origin.now in
-    let more = rw c.in-Some.ensures.1 at c.in_ok-push.ensures.items in
+    let more = rw c.in-Some.ensures.1 at c.in_ok-push.ensures.ok in
     (zip_with_more ◌-◌ start origin c.loop-axis.axis _ _ _ _ c.requires (omega arith) refl refl c.loop-axis.invariant.0 more, below_more _ _ c.loop-axis.invariant.1 c.in-Some.ensures.0)
 
 pub returns : goal.returns

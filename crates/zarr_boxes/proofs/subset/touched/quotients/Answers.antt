@@ -6,7 +6,7 @@ use Rattle.zarr_boxes.proofs.subset.touched.quotients.Goals as goal
 
 pub loop-axis-preserved : goal.loop-axis-preserved
 loop-axis-preserved c =
-    zip_with_more ◌/◌ c.args.shape.now c.args.sub.now c.loop-axis.axis _ _ _ _ c.requires.axes (omega arith) refl refl c.loop-axis.invariant c.in_ok-push.ensures.items
+    zip_with_more ◌/◌ c.args.shape.now c.args.sub.now c.loop-axis.axis _ _ _ _ c.requires.axes (omega arith) refl refl c.loop-axis.invariant c.in_ok-push.ensures.ok
 
 pub returns : goal.returns
 returns c =

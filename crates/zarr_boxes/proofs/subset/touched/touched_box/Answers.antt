@@ -16,7 +16,7 @@ bounds-len-axis c =
 pub loop-axis-preserved : goal.loop-axis-preserved
 loop-axis-preserved c =
     touched_more (record { start = c.args.start.now; shape = c.args.len.now }) c.args.sub.now c.loop-axis.axis _ _ _ _ _ _
-    c.loop-axis.invariant c.in_ok-push.ensures.items c.in_ok-push-2.ensures.items refl c.touched_along.ensures.none c.touched_along.ensures.ends
+    c.loop-axis.invariant c.in_ok-push.ensures.ok c.in_ok-push-2.ensures.ok refl c.touched_along.ensures.none c.touched_along.ensures.ends
 
 pub returns : goal.returns
 returns c = touched_whole (record { start = c.args.start.now; shape = c.args.len.now }) c.args.sub.now c.loop-axis.axis _ _ (omega arith) c.loop-axis.invariant

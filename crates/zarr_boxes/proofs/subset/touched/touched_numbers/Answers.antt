@@ -22,7 +22,7 @@ invariant_of-touched c =
 pub points_in-requires : goal.points_in-requires
 points_in-requires c =
     let a = c.args in
-    rw (c.deref.ensures.value, c.in_ok-grid.ensures)
+    rw (c.deref.ensures, c.in_ok-grid.ensures)
     (touched_served a.shape.now a.sub.now (record { start = a.start.now; shape = a.len.now }) (record { start = c.in_ok-start.start.items; shape = c.in_ok-start.shape.items })
     c.in_ok-start.ensures c.requires.sub c.requires.divides c.requires.well_formed c.requires.inside c.requires.shape c.requires.fits)
 
@@ -35,20 +35,20 @@ invariant_of-touched-2 c =
 pub box_numbers-requires : goal.box_numbers-requires
 box_numbers-requires c =
     let a = c.args in
-    rw (c.deref-2.ensures.value, c.in_ok-grid.ensures)
+    rw (c.deref-2.ensures, c.in_ok-grid.ensures)
     (touched_served a.shape.now a.sub.now (record { start = a.start.now; shape = a.len.now }) (record { start = c.in_ok-start.start.items; shape = c.in_ok-start.shape.items })
     c.in_ok-start.ensures c.requires.sub c.requires.divides c.requires.well_formed c.requires.inside c.requires.shape c.requires.fits)
 
 pub returns-clause-touched : goal.returns-clause-touched
 returns-clause-touched c =
     let a = c.args in
-    let numbers = rw (c.deref-2.ensures.value, c.in_ok-grid.ensures) at c.in_ok-numbers.ensures in
+    let numbers = rw (c.deref-2.ensures, c.in_ok-grid.ensures) at c.in_ok-numbers.ensures in
     are_touched a.shape.now a.sub.now (record { start = a.start.now; shape = a.len.now }) (record { start = c.in_ok-start.start.items; shape = c.in_ok-start.shape.items })
     c.in_ok-start.ensures c.requires.sub c.requires.divides c.requires.well_formed c.requires.inside c.in_ok-numbers.numbers.items numbers
 
 pub returns-clause-below : goal.returns-clause-below
 returns-clause-below c =
     let a = c.args in
-    let numbers = rw (c.deref-2.ensures.value, c.in_ok-grid.ensures) at c.in_ok-numbers.ensures in
+    let numbers = rw (c.deref-2.ensures, c.in_ok-grid.ensures) at c.in_ok-numbers.ensures in
     touched_below a.shape.now a.sub.now (record { start = a.start.now; shape = a.len.now }) (record { start = c.in_ok-start.start.items; shape = c.in_ok-start.shape.items })
     c.in_ok-start.ensures c.requires.sub c.requires.divides c.requires.well_formed c.requires.inside c.in_ok-numbers.numbers.items numbers

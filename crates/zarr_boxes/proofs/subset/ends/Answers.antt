@@ -1,0 +1,20 @@
+use Rattle.std.proofs.Common.{◌+◌, ◌^◌, ◌<◌, ◌∙◌, arith, refl}
+use Rattle.std.proofs.lemmas.List.{take_all}
+use Rattle.std.proofs.lemmas.List.Elements.{length_all_zip}
+use Rattle.zarr_boxes.specs.Numbering.{zip_with}
+use Rattle.zarr_boxes.proofs.BoxLaws.{length-zip_with, zip_with_more}
+use Rattle.zarr_boxes.proofs.subset.ends.Goals as goal
+
+pub loop-axis-preserved : goal.loop-axis-preserved
+loop-axis-preserved c =
+    let start = c.args.start.now in
+    let shape = c.args.shape.now in
+    let same = length_all_zip (λ first len. first + len < 2 ^ 64) start shape c.requires in
+    zip_with_more ◌+◌ start shape c.loop-axis.axis _ _ _ _ same (omega arith) refl refl c.loop-axis.invariant c.in_ok-push.ensures.items
+
+pub returns : goal.returns
+returns c =
+    let start = c.args.start.now in
+    let shape = c.args.shape.now in
+    let same = length_all_zip (λ first len. first + len < 2 ^ 64) start shape c.requires in
+    c.loop-axis.invariant ∙ take_all c.loop-axis.axis (zip_with ◌+◌ start shape) (omega (arith, length-zip_with ◌+◌ start shape same))
