@@ -3,7 +3,7 @@ use crate::compared::{same, same_at};
 use crate::examples::{Asked, asked_for, checked, decoded, done, encoded, fixed, told};
 use std::alloc::Global;
 use std::borrow::CowSlice;
-use zarr_codecs::{BytesCodec, BytesRepresentation, FunctionalCodec};
+use zarr_codecs::{ArrayToBytesCodecTraits, BytesCodec, BytesRepresentation, FunctionalCodec};
 use zarr_parts::{ArrayBytes, CodecError, DataType};
 
 // The numbers of 16 bits of these axes.
@@ -198,6 +198,37 @@ fn encodings_have_one_length(rt: HostRuntime) {
         told_of_sixteen(rt.alloc()),
         Ok(BytesRepresentation::FixedSize(32)),
     );
+}
+
+// The size of the encoding of an array of two elements of this size, where it is the elements as they are in memory.
+fn plain_pair(
+    alloc: Global,
+    codec: BytesCodec,
+    data_type: DataType,
+    none: &[u8],
+) -> Result<Option<u64>, CodecError> {
+    let asked = asked_for(alloc, &[2], data_type, none)?;
+    Ok(codec.plain_size(&asked.axes, &asked.data_type, &asked.none))
+}
+
+// Elements are plain where they have no byte order, or that of memory; arrays that are not served never are.
+#[test]
+fn elements_in_the_order_of_memory_are_plain(rt: HostRuntime) {
+    let (little, big, unordered) =
+        (BytesCodec::little(), BytesCodec::big(), BytesCodec::new(None));
+    let rows: [(BytesCodec, DataType, &[u8], Option<u64>); 7] = [
+        (little, DataType::UInt16, &[0, 0], Some(4)),
+        (big, DataType::UInt16, &[0, 0], None),
+        (big, DataType::UInt8, &[0], Some(2)),
+        (big, DataType::Raw(3), &[0, 0, 0], Some(6)),
+        (unordered, DataType::UInt8, &[7], Some(2)),
+        (unordered, DataType::UInt16, &[0, 0], None),
+        (little, DataType::UInt16, &[0], None),
+    ];
+    for (codec, data_type, none, size) in rows {
+        let found = plain_pair(rt.alloc(), codec, data_type, none);
+        same_at(&rt, (data_type, codec), found, Ok(size));
+    }
 }
 
 // Equal elements have one encoding, in each byte order.

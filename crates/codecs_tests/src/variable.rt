@@ -3,7 +3,9 @@ use crate::compared::{same, same_at};
 use crate::examples::{Asked, asked_for, decoded, done, encoded, fixed, read_range_of, told};
 use std::alloc::Global;
 use std::borrow::CowSlice;
-use zarr_codecs::{BytesRepresentation, FunctionalCodec, Interval, VlenCodec};
+use zarr_codecs::{
+    ArrayToBytesCodecTraits, BytesRepresentation, FunctionalCodec, Interval, VlenCodec,
+};
 use zarr_parts::{ArrayBytes, CodecError, DataType};
 
 // The text of the elements "a" and "".
@@ -183,6 +185,12 @@ fn a_text_is_read_whole(rt: HostRuntime) {
     }
 }
 
+// The size of the encoding of two elements, where it is the elements as they are in memory.
+fn plain_pair(alloc: Global) -> Result<Option<u64>, CodecError> {
+    let pair = pair_of(alloc, DataType::Bytes)?;
+    Ok(VlenCodec.plain_size(&pair.axes, &pair.data_type, &pair.none))
+}
+
 fn told_of_two(alloc: Global) -> Result<BytesRepresentation, CodecError> {
     let pair = pair_of(alloc, DataType::Bytes)?;
     told(alloc, &VlenCodec, &pair)
@@ -191,6 +199,7 @@ fn told_of_two(alloc: Global) -> Result<BytesRepresentation, CodecError> {
 #[test]
 fn a_text_may_have_any_length(rt: HostRuntime) {
     assert!(rt; VlenCodec.is_functional());
+    same(&rt, plain_pair(rt.alloc()), Ok(None));
     same(
         &rt,
         told_of_two(rt.alloc()),

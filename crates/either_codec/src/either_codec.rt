@@ -61,6 +61,40 @@ impl<A: ArrayToBytesCodecTraits, B: ArrayToBytesCodecTraits> ArrayToBytesCodecTr
         }
     }
 
+    /// As `encode_onto` of the codec that it holds.
+    fn encode_onto(
+        &self,
+        alloc: Global,
+        bytes: &ArrayBytes,
+        shape: &ChunkShape,
+        data_type: &DataType,
+        fill_value: &FillValue,
+        encoded: &mut Vec<u8>,
+        options: &CodecOptions,
+    ) -> Result<(), CodecError> {
+        match self {
+            EitherCodec::First(codec) => {
+                codec.encode_onto(alloc, bytes, shape, data_type, fill_value, encoded, options)
+            }
+            EitherCodec::Second(codec) => {
+                codec.encode_onto(alloc, bytes, shape, data_type, fill_value, encoded, options)
+            }
+        }
+    }
+
+    /// As `plain_size` of the codec that it holds.
+    fn plain_size(
+        &self,
+        shape: &ChunkShape,
+        data_type: &DataType,
+        fill_value: &FillValue,
+    ) -> Option<u64> {
+        match self {
+            EitherCodec::First(codec) => codec.plain_size(shape, data_type, fill_value),
+            EitherCodec::Second(codec) => codec.plain_size(shape, data_type, fill_value),
+        }
+    }
+
     /// As `decode` of the codec that it holds.
     fn decode<'a>(
         &self,
