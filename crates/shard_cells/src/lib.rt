@@ -16,5 +16,5 @@ pub use gathering::{check_lengths, gathered};
 pub use grouping::{Grouping, Places, Standing, grouped};
 pub use laying::room_for;
 pub use meeting::{Meeting, meeting_of};
-pub use sorted::{AskedCell, list_places, put_cells, run_length, sorted_cells};
+pub use sorted::{AskedCell, list_places, located, put_cells, run_length, sorted_cells};
 pub use update::check_update;

@@ -23,8 +23,8 @@ pub struct AskedCell {
     pub rank: usize,
 }
 
-// Where the cell with a row-major number lies, told from the last axis to the first.
-fn located(number: u64, shape: &[u64], sub: &[u64]) -> Located
+/// Where the cell with a row-major number lies, told from the last axis to the first. Takes no memory.
+pub fn located(number: u64, shape: &[u64], sub: &[u64]) -> Located
     requires inside { number < count_of shape.now }
     requires fits { count_of shape.now < 2 ^ 64 }
     requires sub { AllPositive sub.now }

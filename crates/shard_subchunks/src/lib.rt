@@ -7,6 +7,7 @@ mod cells;
 mod decoded;
 mod encoded;
 mod listed;
+mod plain;
 mod read;
 mod subchunks;
 

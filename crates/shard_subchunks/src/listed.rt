@@ -74,6 +74,45 @@ impl<I: ArrayToBytesCodecTraits> Subchunks<'_, I> {
         Ok(bytes)
     }
 
+    // The bytes of the cells with these row-major numbers, each at its rank: straight from the shard where it can be, and else
+    // subchunk by subchunk.
+    fn listed_bytes<H: BytesPartialDecoderTraits>(
+        &self,
+        alloc: Global,
+        handle: &mut H,
+        outer: Interval,
+        index: &ShardIndex,
+        numbers: &[u64],
+        shape: &ChunkShape,
+    ) -> Result<Vec<u8>, CodecError>
+        requires room { outer.offset + outer.size < 2 ^ 64 }
+        requires inside { IsTrue (H.state handle.old).tells → HasInterval outer (H.state handle.old).contents }
+        requires serves { (inner_meaning I.meaning self.now).serves }
+        requires len { index.now.len ≡ outer.size }
+        requires index { length index.now.numbers.items ≡ 2 * count_of (grid_of shape.now self.now.shape.now) }
+        requires numbers { All (λ number. number < count_of shape.now) numbers.now }
+        requires fits { count_of shape.now < 2 ^ 64 }
+        requires divides { Divides self.now.shape.now shape.now }
+        requires fixed { size_of self.now.data_type.now ≡ Fixed (length self.now.fill_value.now) }
+        requires whole { length numbers.now * length self.now.fill_value.now < 2 ^ 64 }
+        ensures read { IsRead (H.state handle.old) (H.state handle.new) }
+        ensures counted { IfOk result (λ bytes. length bytes.items ≡ length numbers.now * length self.now.fill_value.now) }
+        ensures cells { let inner = inner_meaning I.meaning self.now in let bytes = interval_part outer (H.state handle.old).contents in
+            IfOk result (λ read. IsTrue (H.state handle.old).tells
+            → map (indexed_cell inner.cells shape.now self.now.shape.now self.now.fill_value.now bytes index.now.numbers.items) numbers.now
+            ≡ map Some (pieces (length self.now.fill_value.now) (length numbers.now) read.items)) }
+        ensures fault { IfErr result (IsCounted (H.state handle.old) (H.state handle.new)) }
+        ensures refused { let inner = inner_meaning I.meaning self.now in let bytes = interval_part outer (H.state handle.old).contents in
+            IfErr result (RefusedBy (ObjectTests (H.state handle.old) (H.state handle.new) (
+            ReadByTests inner shape.now self.now.shape.now self.now.fill_value.now bytes index.now.numbers.items numbers.now))) }
+    {
+        if let Some(bytes) = self.read_plain(alloc, handle, outer, index, numbers, shape)? {
+            return Ok(bytes);
+        }
+        let asked = sorted_cells(alloc, numbers, shape.as_slice(), self.shape.as_slice())?;
+        self.sorted_bytes(alloc, handle, outer, index, &asked, numbers, shape)
+    }
+
     /// The cells with these row-major numbers, in their order, of a shard that stands in an interval of an object and has this
     /// index; their elements have one size, and a number can say how many bytes they have together. Refused as the lowest
     /// subchunk in which cells are asked is (`BadIndexEntry` with its number, `Damaged`, `TooLarge`); or as `Fault`, where the
@@ -111,8 +150,7 @@ impl<I: ArrayToBytesCodecTraits> Subchunks<'_, I> {
             ReadByTests inner shape.now self.now.shape.now self.now.fill_value.now bytes index.now.numbers.items numbers.now))) }
     {
         let fill = self.fill_value.as_ne_bytes();
-        let asked = sorted_cells(alloc, numbers, shape.as_slice(), self.shape.as_slice())?;
-        let bytes = self.sorted_bytes(alloc, handle, outer, index, &asked, numbers, shape)?;
+        let bytes = self.listed_bytes(alloc, handle, outer, index, numbers, shape)?;
         match ArrayBytes::new_flen(CowSlice::Owned(bytes), fill.len()) {
             Some(array) => Ok(array),
             None => unreachable!(),

@@ -1,0 +1,56 @@
+-- Elements that are stored one after the other, as they are in memory, and the refusals of a read behind an earlier one.
+use Rattle.std.proofs.Common.{◌≡◌, ◌∙◌, ℕ, ◌+◌, ◌-◌, ◌*◌, ◌<◌, ◌≤◌, List, [], ◌∷◌, ◌++◌, Option, Some, None, map, length, take, drop, get_or, ap, sym, add-one, inl, inr, arith}
+use Rattle.std.proofs.Math.Seq.{take-suc}
+use Rattle.std.proofs.lemmas.List.{drop-take, drop-drop, take-take, get_or-map, map-append, length-take, length-drop}
+use Rattle.zarr_parts.specs.Pieces.{piece, pieces}
+use Rattle.zarr_parts.specs.Words.{CellsOf, Refusals}
+use Rattle.zarr_parts.specs.Order.{RefusedBy}
+use Rattle.zarr_parts.specs.CodecError.{CodecError}
+use Rattle.object_handles.specs.Handles.{HandleState, IsRead}
+use Rattle.object_handles.specs.Objects.{ObjectTests}
+use Rattle.zarr_parts.proofs.PieceLaws.{length-pieces, piece_of-pieces, pieces_more}
+
+-- a piece of a slice of a list
+pub piece_of_slice : (n offset size place : ℕ) (bytes : List ℕ) → place * n + n ≤ size → piece n (take size (drop offset bytes)) place ≡ take n (drop (offset + place * n) bytes)
+piece_of_slice n offset size place bytes fits =
+    let rest = size - place * n in
+    let whole : size ≡ place * n + rest = omega arith in
+    ap (λ k. take n (drop (place * n) (take k (drop offset bytes)))) whole
+    ∙ (ap (take n) (drop-take (place * n) rest (drop offset bytes))
+    ∙ (take-take n rest (drop (place * n) (drop offset bytes)) (omega arith)
+    ∙ ap (take n) (drop-drop (place * n) offset bytes)))
+
+-- the cell at a place of a slice whose bytes are the elements
+pub cell_of_slice : (n offset size place many : ℕ) (bytes : List ℕ) (cells : CellsOf) → offset + size ≤ length bytes → place * n + n ≤ size → place < many
+    → ((b : List ℕ) → length b ≡ size → cells b ≡ map Some (pieces n many b))
+    → get_or (cells (take size (drop offset bytes))) place None ≡ Some (take n (drop (offset + place * n) bytes))
+cell_of_slice n offset size place many bytes cells inside fits lt plain =
+    let slice = take size (drop offset bytes) in
+    let long : length slice ≡ size = rw (length-take size (drop offset bytes), length-drop offset bytes) (omega arith) in
+    let some : List ℕ → Option (List ℕ) = λ x. Some x in
+    ap (λ (xs : List (Option (List ℕ))). get_or xs place None) (plain slice long)
+    ∙ (get_or-map some (pieces n many slice) place [] None (omega (arith, length-pieces n many slice))
+    ∙ ap some (piece_of-pieces n many slice place lt ∙ piece_of_slice n offset size place bytes fits))
+
+-- the element of one number more
+pub element_more : (n i : ℕ) (f : ℕ → Option (List ℕ)) (numbers before element after : List ℕ) → i < length numbers → length before ≡ i * n → length element ≡ n
+    → map f (take i numbers) ≡ map Some (pieces n i before) → f (get_or numbers i 0) ≡ Some element → after ≡ before ++ element
+    → map f (take (i + 1) numbers) ≡ map Some (pieces n (i + 1) after)
+element_more n i f numbers before element after lt whole long are here is =
+    let some : List ℕ → Option (List ℕ) = λ x. Some x in
+    let next : take (i + 1) numbers ≡ take i numbers ++ get_or numbers i 0 ∷ [] = rw add-one (take-suc numbers i 0 lt) in
+    ap (map f) next
+    ∙ (map-append f (take i numbers) (get_or numbers i 0 ∷ [])
+    ∙ (ap (λ (xs : List (Option (List ℕ))). xs ++ f (get_or numbers i 0) ∷ []) are
+    ∙ (ap (λ (x : Option (List ℕ)). map some (pieces n i before) ++ x ∷ []) here
+    ∙ (sym (map-append some (pieces n i before) (element ∷ []))
+    ∙ (ap (map some) (sym (pieces_more n i before element whole long))
+    ∙ ap (λ xs. map some (pieces n (i + 1) xs)) (sym is))))))
+
+-- a refusal after an earlier read
+pub refused_after : (old mid new : HandleState) (tests : Refusals) (e : CodecError) → IsRead old mid → RefusedBy (ObjectTests mid new tests) e → RefusedBy (ObjectTests old new tests) e
+refused_after old mid new tests e read (inl memory) = inl memory
+refused_after old mid new tests e read (inr h) = inr (λ t. elim (h (rw read.tells_same t)) [
+  | inl fault ↦ inl (fault.0, omega (arith, fault.1, read.faults_kept))
+  | inr refused ↦ inr refused
+])

@@ -1,0 +1,13 @@
+-- The elements of the numbers that were passed stand one after the other.
+use Rattle.std.proofs.Common.{◌≡◌, ◌*◌, Some, map, length, take}
+use Rattle.zarr_parts.specs.Pieces.{pieces}
+use Rattle.shard_format.specs.Cells.{indexed_cell}
+use Rattle.shard_subchunks.specs.Inner.{inner_meaning}
+use Rattle.shard_subchunks.proofs.subchunks.Subchunks.plain_cells.Given as goal
+
+abbrev pub invariant-loop-i : goal.invariant-loop-i
+invariant-loop-i g l = let s = l.self in let inner = inner_meaning g.I.ArrayToBytesCodecTraits.meaning s in record {
+  whole : length l.read.items ≡ l.i * length s.fill_value.now;
+  are : map (indexed_cell inner.cells l.shape s.shape.now s.fill_value.now l.bytes l.index.numbers.items) (take l.i l.numbers)
+      ≡ map Some (pieces (length s.fill_value.now) l.i l.read.items);
+}
