@@ -1,2 +1,3 @@
+pub mod PlainRowLemmas
 pub mod TargetLemmas
 pub mod PlainLemmas

@@ -1,2 +1,3 @@
 pub mod Inner
+pub mod PlainRows
 pub mod Reads

@@ -104,9 +104,12 @@ impl<I: ArrayToBytesCodecTraits> Subchunks<'_, I> {
             IfErr result (RefusedBy (StoreTests inner self.now.fill_value.now
             (subchunk shape.now self.now.shape.now array.now.elements) (count_of grid.now) done)) }
     {
+        let in_row = elements_in_row(shape, self.shape);
+        if let Some(laid) = self.lay_out_rows(alloc, array, in_row, shape, subchunks)? {
+            return Ok(laid);
+        }
         let mut bytes: Vec<u8> = Vec::new(alloc);
         let mut slots = Vec::with_capacity(alloc, subchunks as usize)?;
-        let in_row = elements_in_row(shape, self.shape);
         for k in 0..subchunks {
             let part = gather_subchunk(
                 alloc,

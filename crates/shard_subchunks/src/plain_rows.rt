@@ -1,0 +1,121 @@
+// Subchunks that are rows of an array's bytes, laid end to end where the inner codec stores elements as they are in memory.
+ghost use Rattle.std.specs.Prelude.{◌≡◌, ◌<◌, ◌^◌, IfOk, IfSome, IsTrue, ◌↔◌, length};
+ghost use Rattle.zarr_parts.specs.Numbering.{count_of};
+ghost use Rattle.zarr_parts.specs.Grid.{Divides, grid_of};
+ghost use Rattle.zarr_parts.specs.Geo.{geo, IsArrayOf};
+ghost use Rattle.zarr_parts.specs.Arrays.{IsWhole, fixed_array};
+ghost use Rattle.shard_format.specs.Encoding.{IsAllFill};
+ghost use Rattle.shard_format.specs.Laying.{IsLaidOut};
+ghost use Rattle.shard_layout.specs.Rows.{FollowBy};
+ghost use Rattle.shard_subchunks.specs.Inner.{subchunk_geo, inner_meaning};
+ghost use Rattle.shard_subchunks.specs.PlainRows.{ArePlainRows};
+
+use crate::subchunks::Subchunks;
+use codec_laws::ArrayToBytesCodecTraits;
+use shard_format::Slot;
+use shard_layout::LaidOut;
+use std::alloc::{AllocError, Global};
+use std::borrow::CowSlice;
+use zarr_parts::{ArrayBytes, ChunkShape, FillValue};
+
+// Whether each element that a row's bytes are is the fill value. The first byte tells it of most rows that aren't.
+fn is_blank(row: &[u8], fill_value: &FillValue) -> bool
+    requires whole { IsWhole (length fill_value.now) row.now }
+    requires some { 0 < length row.now }
+    ensures { IsTrue result ↔ IsAllFill fill_value.now (fixed_array (length fill_value.now) row.now).elements }
+{
+    let fill = fill_value.as_ne_bytes();
+    if row[0] != fill[0] {
+        return false;
+    }
+    if row.len() == fill.len() {
+        return row == fill;
+    }
+    match ArrayBytes::new_flen(CowSlice::Borrowed(row), fill.len()) {
+        Some(elements) => elements.is_fill_value(fill_value),
+        None => unreachable!(),
+    }
+}
+
+impl<I: ArrayToBytesCodecTraits> Subchunks<'_, I> {
+    // The rows that aren't all fill, one after the other; neighbours are copied together. Refused only as out of memory.
+    fn lay_out_bytes(
+        &self,
+        alloc: Global,
+        bytes: &[u8],
+        size: usize,
+        rows: usize,
+        _array: &ArrayBytes,
+        _shape: &ChunkShape,
+    ) -> Result<LaidOut, AllocError>
+        requires rows { let inner = inner_meaning I.meaning self.now in
+            ArePlainRows inner.written self.now.fill_value.now _shape.now self.now.shape.now _array.now.elements bytes.now size rows }
+        ensures laid { let inner = inner_meaning I.meaning self.now in
+            IfOk result (λ laid. IsLaidOut inner.written self.now.fill_value.now _shape.now self.now.shape.now _array.now.elements
+            laid.bytes.items laid.slots.items rows) }
+    {
+        let mut slices: Vec<u8> = Vec::new(alloc);
+        let mut slots = Vec::with_capacity(alloc, rows)?;
+        let mut copied = 0;
+        for k in 0..rows {
+            let first = k * size;
+            if !is_blank(&bytes[first..first + size], self.fill_value) {
+                slots.push(Slot::InRange {
+                    offset: (slices.len() + (first - copied)) as u64,
+                    size: size as u64,
+                })?;
+                continue;
+            }
+            slices.extend_from_slice(&bytes[copied..first])?;
+            copied = first + size;
+            slots.push(Slot::Absent)?;
+        }
+        slices.extend_from_slice(&bytes[copied..])?;
+        Ok(LaidOut {
+            bytes: slices,
+            slots,
+        })
+    }
+
+    /// The subchunks laid out as `lay_out` does, where they follow one another in the array, as `elements_in_row` tells, and the
+    /// inner codec stores their elements as they are in memory. Else `None`. Refused only as out of memory.
+    pub fn lay_out_rows(
+        &self,
+        alloc: Global,
+        array: &ArrayBytes,
+        in_row: Option<u64>,
+        shape: &ChunkShape,
+        subchunks: u64,
+    ) -> Result<Option<LaidOut>, AllocError>
+        requires array { IsArrayOf (geo shape.now self.now.data_type.now self.now.fill_value.now) array.now.elements }
+        requires divides { Divides self.now.shape.now shape.now }
+        requires subchunks { subchunks ≡ count_of (grid_of shape.now self.now.shape.now) }
+        requires in_row { IfSome in_row (FollowBy shape.now self.now.shape.now) }
+        ensures laid { let inner = inner_meaning I.meaning self.now in
+            IfOk result (λ rows. IfSome rows (λ laid. IsLaidOut inner.written self.now.fill_value.now shape.now self.now.shape.now
+            array.now.elements laid.bytes.items laid.slots.items subchunks)) }
+    {
+        let _axes = shape.as_slice();
+        let Some(_places) = in_row else {
+            return Ok(None);
+        };
+        let Some(size) = self
+            .codec
+            .plain_size(self.shape, self.data_type, self.fill_value)
+        else {
+            return Ok(None);
+        };
+        let Some(bytes) = array.fixed_bytes() else {
+            return Ok(None);
+        };
+        let laid = self.lay_out_bytes(
+            alloc,
+            bytes,
+            size as usize,
+            subchunks as usize,
+            array,
+            shape,
+        )?;
+        Ok(Some(laid))
+    }
+}
