@@ -4,6 +4,7 @@ pub mod PieceLaws
 pub mod RunLaws
 pub mod RowLaws
 pub mod RowSetLaws
+pub mod SetLaws
 pub mod MissLaws
 pub mod GridLaws
 pub mod FollowLaws

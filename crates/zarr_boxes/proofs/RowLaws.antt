@@ -6,8 +6,8 @@ use Rattle.std.proofs.Math.Nat.{div-eq_of_eq-mul_left}
 use Rattle.std.specs.List.{AllZip}
 use Rattle.zarr_boxes.specs.Numbering.{count_of, number_of, point_of, zip_with}
 use Rattle.zarr_boxes.specs.Boxes.{Region, LiesIn, number_in}
-use Rattle.zarr_boxes.specs.Runs.{IsRunLength, IsRowSet, AreRows, IsRunning, IsStepping, row_place, AreBoxRows}
-use Rattle.zarr_boxes.proofs.NumberingLaws.{rest_positive, both_positive, count_of-drop}
+use Rattle.zarr_boxes.specs.Runs.{IsRunLength, IsRowSet, AreRows, IsRunning, IsStepping, AreBoxRows}
+use Rattle.zarr_boxes.proofs.NumberingLaws.{rest_positive, both_positive, le_product, count_of-drop}
 use Rattle.zarr_boxes.proofs.BoxLaws.{count_split}
 use Rattle.zarr_boxes.proofs.RunLaws.{blocks, whole_blocks, run_follows}
 
@@ -180,22 +180,24 @@ below_by_factor k rows run lt = elim (cases_lt k rows) [
 
 -- a box that has no points has no rows
 pub no_rows : (box : Region) (shape : List ℕ) → count_of box.shape ≡ 0 → AreBoxRows box shape 1 1 1 0
-no_rows box shape none = record { some = omega arith; some_rows = omega arith; all = omega arith; fits = omega arith; each = λ q j lt. absurd (omega arith) }
+no_rows box shape none = record { some = omega arith; some_rows = omega arith; all = omega arith; fits = omega arith; set_fits = omega arith; each = λ q j lt. absurd (omega arith) }
 
 -- the rows of a box whose runs are whole row sets
-pub rows_of_box : (box : Region) (shape : List ℕ) (run rows stride many sets : ℕ) → length box.start ≡ length box.shape → LiesIn box shape → count_of box.shape < 2 ^ 64
+pub rows_of_box : (box : Region) (shape : List ℕ) (run rows stride many sets : ℕ) → length box.start ≡ length box.shape → LiesIn box shape → 0 < count_of box.shape → count_of box.shape < 2 ^ 64
     → IsRunLength box.shape shape run → 0 < run → many * run ≡ count_of box.shape → AreRows (λ i. number_in box shape (i * run)) rows stride many → sets ≡ many / rows
     → AreBoxRows box shape run rows stride sets
-rows_of_box box shape run rows stride many sets same inside fits long some all are is =
+rows_of_box box shape run rows stride many sets same inside points fits long some all are is =
     let whole : sets ≡ are.whole.0 = is ∙ div-eq_of_eq-mul_left are.some are.whole.1 in
     let many_is : many ≡ sets * rows = omega (arith, rw (← whole) at are.whole.1) in
+    let split : sets * (rows * run) ≡ (sets * rows) * run = omega arith in
+    let whole_box : sets * (rows * run) ≡ count_of box.shape = split ∙ (ap (λ m. m * run) (sym many_is) ∙ all) in
+    let positive = both_positive sets (rows * run) (omega (arith, whole_box, points)) in
     record {
       some = some;
       some_rows = are.some;
-      all =
-          let split : sets * (rows * run) ≡ (sets * rows) * run = omega arith in
-          split ∙ (ap (λ m. m * run) (sym many_is) ∙ all);
+      all = whole_box;
       fits = fits;
+      set_fits = omega (arith, whole_box, le_product sets (rows * run) (rows * run) positive.0 (omega arith));
       each = λ q j lq lj.
           let k = j / run in
           let r = j % run in

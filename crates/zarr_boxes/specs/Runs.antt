@@ -52,8 +52,30 @@ pub record AreBoxRows (box : Region) (shape : List ℕ) (run rows stride sets : 
   pub some_rows : 0 < rows
   pub all : sets * (rows * run) ≡ count_of box.shape
   pub fits : count_of box.shape < 2 ^ 64
+  pub set_fits : rows * run < 2 ^ 64
   pub each : (q j : ℕ) → q < sets → j < rows * run
       → number_in box shape (q * (rows * run) + j) ≡ row_place (number_in box shape (q * (rows * run))) stride run j
+
+-- a walk over sets of a box's elements in an array: how many elements each has, how many sets there are, and how many it has passed
+pub record SetWalk : Type 0 where
+  pub box : Region
+  pub around : List ℕ
+  pub each : ℕ
+  pub sets : ℕ
+  pub passed : ℕ
+
+-- so many sets of as many elements are those of a box that lies in a shape
+pub record AreSets (box : Region) (shape : List ℕ) (each sets : ℕ) : Type 0 where
+  pub served : IsServed box shape
+  pub whole : sets * each ≡ count_of box.shape
+  pub some : 0 < each
+  pub fits : count_of box.shape < 2 ^ 64
+
+-- where a walk over sets stands that isn't at its end: at the place of the next, from which on the others are found by steps
+pub record IsAtSet (place : ℕ → ℕ) (group stride passed turn sets here : ℕ) : Type 0 where
+  pub inside : passed ≤ sets
+  pub at : passed < sets → here ≡ place passed
+  pub steps : passed < sets → IsStepping place group stride (passed + 1) turn sets here
 
 -- the runs of a box that are still to come
 abbrev pub runs_from : Region → List ℕ → ℕ → ℕ → ℕ → List (ℕ × ℕ)

@@ -8,6 +8,7 @@ mod numbering;
 mod rows;
 mod runs;
 mod selection;
+mod sets;
 mod shape;
 mod subset;
 
@@ -18,5 +19,6 @@ pub use numbering::{count, number_along, ravel_indices, unravel_index};
 pub use rows::BoxRows;
 pub use runs::ContiguousRuns;
 pub use selection::{check_selection, number_asked, point_numbers};
+pub use sets::SetStarts;
 pub use shape::ChunkShape;
 pub use subset::{ArraySubset, check_box, points_in};

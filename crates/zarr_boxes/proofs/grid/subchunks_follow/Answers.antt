@@ -1,4 +1,4 @@
-use Rattle.std.proofs.Common.{◌≡◌, ◌-◌, ◌∙◌, length, drop, sym, arith}
+use Rattle.std.proofs.Common.{◌-◌, ◌∙◌, length, drop, sym, arith}
 use Rattle.std.proofs.lemmas.List.{take_all, length-drop}
 use Rattle.zarr_boxes.proofs.grid.subchunks_follow.Goals as goal
 

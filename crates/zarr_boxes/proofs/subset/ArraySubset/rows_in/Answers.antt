@@ -2,7 +2,7 @@ use Rattle.std.proofs.Common.{◌≡◌, ◌+◌, ◌*◌, ◌/◌, ◌<◌, ◌
 use Rattle.std.proofs.lemmas.List.Elements.{length_all_zip}
 use Rattle.zarr_boxes.specs.Numbering.{count_of}
 use Rattle.zarr_boxes.specs.Boxes.{number_in}
-use Rattle.zarr_boxes.specs.Runs.{IsRunLength, IsRowSet, AreRows}
+use Rattle.zarr_boxes.specs.Runs.{IsRunLength, AreRows}
 use Rattle.zarr_boxes.proofs.BoxLaws.{lies_in_length}
 use Rattle.zarr_boxes.proofs.PieceLaws.{number_in_below}
 use Rattle.zarr_boxes.proofs.RunLaws.{run_divides}
@@ -60,4 +60,4 @@ returns-clause-rows c =
     let runs = c.row_set-run.result in
     let k = known (goal.at.returns-clause-rows c).After-row_set-run in
     let many = c.points_in-total.result / runs.run in
-    rows_of_box c.args.self.now c.args.shape.now runs.run runs.rows runs.stride many (many / runs.rows) k.same c.requires.0 (omega (arith, c.points_in-total.ensures.value)) k.long k.some k.all k.rows refl
+    rows_of_box c.args.self.now c.args.shape.now runs.run runs.rows runs.stride many (many / runs.rows) k.same c.requires.0 (omega (arith, c.points_in-total.ensures.value)) (omega (arith, c.points_in-total.ensures.value)) k.long k.some k.all k.rows refl
