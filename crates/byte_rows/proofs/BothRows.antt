@@ -5,7 +5,7 @@ use Rattle.std.proofs.Math.Nat.{mod-lt, lt_of_mul-lt-mul_right, eq_of_mul-eq-mul
 use Rattle.zarr_boxes.specs.Numbering.{count_of}
 use Rattle.zarr_boxes.specs.Boxes.{Region, number_in}
 use Rattle.zarr_boxes.specs.Runs.{AreBoxRows}
-use Rattle.zarr_boxes.proofs.NumberingLaws.{positive_product}
+use Rattle.zarr_boxes.proofs.NumberingLaws.{positive_product, le_product}
 use Rattle.zarr_boxes.proofs.RowSetLaws.{row_at, end_to_end}
 
 -- as many sets of as many rows of as many elements
@@ -54,6 +54,7 @@ finer box shape run rows stride sets are fine_run fine_rows fine_sets m some som
       some_rows = some_rows;
       all = all;
       fits = are.fits;
+      set_fits = omega (arith, whole, le_product m size size many (omega arith), le_product rows run run are.some_rows (omega arith), are.set_fits);
       each = λ q j lq lj.
           let r = q / m in
           let s = q % m in

@@ -104,14 +104,16 @@ pub fn copy_box(
         (λ k. piece size update.now (number_in from.now other.now k)) (piece size output.new) }
 {
     let set = both_rows(into, shape, from, other);
+    let each = set.rows * set.run;
+    let mut starts = into.set_starts(shape, each, set.sets);
+    let mut others = from.set_starts(other, each, set.sets);
     for q in 0..set.sets {
-        let done = q * (set.rows * set.run);
         let to = Rows {
-            first: into.number_at(done, shape) as usize,
+            first: starts.next_start() as usize,
             stride: set.into as usize,
         };
         let taken = Rows {
-            first: from.number_at(done, other) as usize,
+            first: others.next_start() as usize,
             stride: set.from as usize,
         };
         copy_rows(

@@ -85,10 +85,12 @@ pub fn scatter(output: &mut [u8], size: usize, subset: &ArraySubset, shape: &[u6
     ensures { IsUpdated (count_of subset.now.shape) (number_in subset.now shape.now) (piece size output.old) (piece size update.now) (piece size output.new) }
 {
     let set = subset.rows_in(shape);
+    let each = set.rows * set.run;
+    let mut starts = subset.set_starts(shape, each, set.sets);
     for q in 0..set.sets {
-        let done = q * (set.rows * set.run);
+        let done = q * each;
         let to = Rows {
-            first: subset.number_at(done, shape) as usize,
+            first: starts.next_start() as usize,
             stride: set.stride as usize,
         };
         let from = Rows {
@@ -116,14 +118,16 @@ fn gather_into(part: &mut [u8], bytes: &[u8], size: usize, subset: &ArraySubset,
     ensures { (k : ℕ) → k < count_of subset.now.shape → piece size part.new k ≡ piece size bytes.now (number_in subset.now shape.now k) }
 {
     let set = subset.rows_in(shape);
+    let each = set.rows * set.run;
+    let mut starts = subset.set_starts(shape, each, set.sets);
     for q in 0..set.sets {
-        let done = q * (set.rows * set.run);
+        let done = q * each;
         let to = Rows {
             first: done as usize,
             stride: set.run as usize,
         };
         let from = Rows {
-            first: subset.number_at(done, shape) as usize,
+            first: starts.next_start() as usize,
             stride: set.stride as usize,
         };
         copy_rows(

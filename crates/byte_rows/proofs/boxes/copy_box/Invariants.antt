@@ -8,4 +8,6 @@ invariant-loop-q l = record {
   whole : length l.output ≡ length l.initial.output;
   so_far : IsUpdated (l.q * (l.set.rows * l.set.run)) (number_in l.into l.shape) (piece l.size l.initial.output)
       (λ k. piece l.size l.update (number_in l.from l.other k)) (piece l.size l.output);
+  walk : l.starts ≡ record { box = l.into; around = l.shape; each = l.set.rows * l.set.run; sets = l.set.sets; passed = l.q };
+  other_walk : l.others ≡ record { box = l.from; around = l.other; each = l.set.rows * l.set.run; sets = l.set.sets; passed = l.q };
 }

@@ -7,7 +7,7 @@ use Rattle.zarr_boxes.specs.Pieces.{piece}
 use Rattle.zarr_boxes.specs.Runs.{row_place}
 use Rattle.zarr_boxes.proofs.RowSetLaws.{SetWithin, set_within, end_to_end}
 use Rattle.byte_rows.proofs.rows.gather_into.Goals as goal
-use Rattle.byte_rows.proofs.rows.gather_into.Goals.{After-rows_in-set}
+use Rattle.byte_rows.proofs.rows.gather_into.Goals.{After-rows_in-set, After-next_start}
 
 -- what is known of a set of the box's rows
 within : (c : After-rows_in-set) (q : ℕ) → q < c.rows_in-set.result.sets → SetWithin c.args.subset.now c.args.shape.now c.rows_in-set.result.run c.rows_in-set.result.rows c.rows_in-set.result.stride q
@@ -15,14 +15,19 @@ within c q lt =
     let set = c.rows_in-set.result in
     set_within c.args.subset.now c.args.shape.now set.run set.rows set.stride set.sets q c.rows_in-set.ensures.well_formed c.requires.served.0 c.rows_in-set.ensures.rows lt
 
-pub overflow_mul-done-in-loop-q : goal.overflow_mul-done-in-loop-q
-overflow_mul-done-in-loop-q c =
-    omega (arith, (within (goal.at.overflow_mul-done-in-loop-q c).After-rows_in-set c.loop-q.q (omega arith)).most, c.rows_in-set.ensures.rows.fits)
+pub overflow_mul-each : goal.overflow_mul-each
+overflow_mul-each c = omega (arith, c.rows_in-set.ensures.rows.set_fits)
 
-pub number_at-requires-clause-below : goal.number_at-requires-clause-below
-number_at-requires-clause-below c =
-    let w = within (goal.at.number_at-requires-clause-below c).After-rows_in-set c.loop-q.q (omega arith) in
-    omega (arith, w.most, w.some)
+pub overflow_mul-done : goal.overflow_mul-done
+overflow_mul-done c =
+    omega (arith, (within (goal.at.overflow_mul-done c).After-rows_in-set c.loop-q.q (omega arith)).most, c.rows_in-set.ensures.rows.fits)
+
+pub next_start-requires : goal.next_start-requires
+next_start-requires c = rw c.loop-q.invariant.walk (omega arith)
+
+-- where a set begins
+start_is : (c : After-next_start) → c.next_start.result ≡ number_in c.args.subset.now c.args.shape.now (c.loop-q.q * (c.rows_in-set.result.rows * c.rows_in-set.result.run))
+start_is c = rw c.loop-q.invariant.walk at c.next_start.ensures.value
 
 pub copy_rows-requires-clause-inside : goal.copy_rows-requires-clause-inside
 copy_rows-requires-clause-inside c = λ k lt.
@@ -35,9 +40,9 @@ pub copy_rows-requires-clause-inside_update : goal.copy_rows-requires-clause-ins
 copy_rows-requires-clause-inside_update c = λ k lt.
     let w = within (goal.at.copy_rows-requires-clause-inside_update c).After-rows_in-set c.loop-q.q (omega arith) in
     let set = c.rows_in-set.result in
-    let first = c.number_at.ensures.value in
-    let end : c.number_at.result + k * set.stride + set.run ≤ count_of c.args.shape.now = omega (arith, w.within k lt, first) in
-    omega (arith, mul-le (c.number_at.result + k * set.stride + set.run) c.args.size (count_of c.args.shape.now) c.args.size end (omega arith), c.requires.whole)
+    let first = (start_is (goal.at.copy_rows-requires-clause-inside_update c).After-next_start) in
+    let end : c.next_start.result + k * set.stride + set.run ≤ count_of c.args.shape.now = omega (arith, w.within k lt, first) in
+    omega (arith, mul-le (c.next_start.result + k * set.stride + set.run) c.args.size (count_of c.args.shape.now) c.args.size end (omega arith), c.requires.whole)
 
 pub copy_rows-requires-clause-apart : goal.copy_rows-requires-clause-apart
 copy_rows-requires-clause-apart c = λ i j li lj e.
@@ -60,6 +65,7 @@ loop-q-preserved c =
     let taken : ℕ → _ = piece c.args.size c.args.bytes.now in
     record {
       whole = omega (arith, known.whole);
+      walk = rw known.walk at c.next_start.ensures.one_more;
       so_far = λ k small. elim (cases_lt k done) [
         | inl below ↦ wrote.outside k (λ j lj e. let at = end_to_end done set.run j in absurd (omega (arith, at, e))) ∙ known.so_far k below
         | inr past ↦
@@ -67,8 +73,8 @@ loop-q-preserved c =
             let lj : j < many = omega (arith, small) in
             let at : done + j ≡ k = omega arith in
             let here : row_place done set.run set.run j ≡ k = end_to_end done set.run j ∙ at in
-            let there : row_place c.number_at.result set.stride set.run j ≡ number_in box shape k =
-            ap (λ n. row_place n set.stride set.run j) c.number_at.ensures.value ∙ (sym (c.rows_in-set.ensures.rows.each q j lt lj) ∙ ap (number_in box shape) at) in
+            let there : row_place c.next_start.result set.stride set.run j ≡ number_in box shape k =
+            ap (λ n. row_place n set.stride set.run j) (start_is (goal.at.loop-q-preserved c).After-next_start) ∙ (sym (c.rows_in-set.ensures.rows.each q j lt lj) ∙ ap (number_in box shape) at) in
             ap newer (sym here) ∙ (wrote.inside j lj ∙ ap taken there)
       ];
     }
