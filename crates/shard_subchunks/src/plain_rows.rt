@@ -1,5 +1,5 @@
 // Subchunks that are rows of an array's bytes, laid end to end where the inner codec stores elements as they are in memory.
-ghost use Rattle.std.specs.Prelude.{◌≡◌, ◌<◌, ◌^◌, IfOk, IfSome, IsTrue, ◌↔◌, length};
+ghost use Rattle.std.specs.Prelude.{◌≡◌, ◌<◌, IfOk, IfSome, IsTrue, ◌↔◌, length};
 ghost use Rattle.zarr_parts.specs.Numbering.{count_of};
 ghost use Rattle.zarr_parts.specs.Grid.{Divides, grid_of};
 ghost use Rattle.zarr_parts.specs.Geo.{geo, IsArrayOf};
@@ -79,7 +79,7 @@ impl<I: ArrayToBytesCodecTraits> Subchunks<'_, I> {
 
     /// The subchunks laid out as `lay_out` does, where they follow one another in the array, as `elements_in_row` tells, and the
     /// inner codec stores their elements as they are in memory. Else `None`. Refused only as out of memory.
-    pub fn lay_out_rows(
+    pub(crate) fn lay_out_rows(
         &self,
         alloc: Global,
         array: &ArrayBytes,
