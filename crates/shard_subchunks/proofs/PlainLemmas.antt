@@ -2,23 +2,26 @@
 use Rattle.std.proofs.Common.{◌≡◌, ◌∙◌, ℕ, ◌+◌, ◌-◌, ◌*◌, ◌<◌, ◌≤◌, List, [], ◌∷◌, ◌++◌, Option, Some, None, map, length, take, drop, get_or, ap, sym, add-one, inl, inr, arith}
 use Rattle.std.proofs.Math.Seq.{take-suc}
 use Rattle.std.proofs.lemmas.List.{drop-take, drop-drop, take-take, get_or-map, map-append, length-take, length-drop}
-use Rattle.zarr_parts.specs.Pieces.{piece, pieces}
+use Rattle.zarr_parts.specs.Pieces.{pieces}
 use Rattle.zarr_parts.specs.Words.{CellsOf, Refusals}
 use Rattle.zarr_parts.specs.Order.{RefusedBy}
 use Rattle.zarr_parts.specs.CodecError.{CodecError}
-use Rattle.object_handles.specs.Handles.{HandleState, IsRead}
-use Rattle.object_handles.specs.Objects.{ObjectTests}
+use Rattle.object_handles.specs.declared.bytes.Interval.{Interval}
+use Rattle.object_handles.specs.declared.bytes.ByteRange.TheVariants.{FromStart}
+use Rattle.object_handles.specs.Handles.{HandleState, IsRead, IsPart}
+use Rattle.object_handles.specs.Objects.{interval_part, HasInterval, ObjectTests}
+use Rattle.codec_laws.proofs.ReadLemmas.{length-interval_part}
 use Rattle.zarr_parts.proofs.PieceLaws.{length-pieces, piece_of-pieces, pieces_more}
 
--- a piece of a slice of a list
-pub piece_of_slice : (n offset size place : ℕ) (bytes : List ℕ) → place * n + n ≤ size → piece n (take size (drop offset bytes)) place ≡ take n (drop (offset + place * n) bytes)
-piece_of_slice n offset size place bytes fits =
-    let rest = size - place * n in
-    let whole : size ≡ place * n + rest = omega arith in
-    ap (λ k. take n (drop (place * n) (take k (drop offset bytes)))) whole
-    ∙ (ap (take n) (drop-take (place * n) rest (drop offset bytes))
-    ∙ (take-take n rest (drop (place * n) (drop offset bytes)) (omega arith)
-    ∙ ap (take n) (drop-drop (place * n) offset bytes)))
+-- a part of a slice of a list
+pub part_of_slice : (n offset size k : ℕ) (bytes : List ℕ) → k + n ≤ size → take n (drop k (take size (drop offset bytes))) ≡ take n (drop (offset + k) bytes)
+part_of_slice n offset size k bytes fits =
+    let rest = size - k in
+    let whole : size ≡ k + rest = omega arith in
+    ap (λ m. take n (drop k (take m (drop offset bytes)))) whole
+    ∙ (ap (take n) (drop-take k rest (drop offset bytes))
+    ∙ (take-take n rest (drop k (drop offset bytes)) (omega arith)
+    ∙ ap (take n) (drop-drop k offset bytes)))
 
 -- the cell at a place of a slice whose bytes are the elements
 pub cell_of_slice : (n offset size place many : ℕ) (bytes : List ℕ) (cells : CellsOf) → offset + size ≤ length bytes → place * n + n ≤ size → place < many
@@ -30,7 +33,19 @@ cell_of_slice n offset size place many bytes cells inside fits lt plain =
     let some : List ℕ → Option (List ℕ) = λ x. Some x in
     ap (λ (xs : List (Option (List ℕ))). get_or xs place None) (plain slice long)
     ∙ (get_or-map some (pieces n many slice) place [] None (omega (arith, length-pieces n many slice))
-    ∙ ap some (piece_of-pieces n many slice place lt ∙ piece_of_slice n offset size place bytes fits))
+    ∙ ap some (piece_of-pieces n many slice place lt ∙ part_of_slice n offset size (place * n) bytes fits))
+
+-- the cell at a place of a slice, in an interval of an object, of which its bytes were read
+pub cell_read : (outer : Interval) (n offset size place many : ℕ) (contents : Option (List ℕ)) (element : List ℕ) (cells : CellsOf) → HasInterval outer contents → offset + size ≤ outer.size
+    → place * n + n ≤ size → place < many → ((b : List ℕ) → length b ≡ size → cells b ≡ map Some (pieces n many b))
+    → IsPart (FromStart (outer.offset + (offset + place * n)) (Some n)) contents (Some element)
+    → get_or (cells (take size (drop offset (interval_part outer contents)))) place None ≡ Some element
+cell_read outer n offset size place many None element cells has inside fits lt plain told = absurd has
+cell_read outer n offset size place many (Some bytes) element cells has inside fits lt plain told =
+    let some : List ℕ → Option (List ℕ) = λ x. Some x in
+    let whole = length-interval_part outer (Some bytes) has in
+    cell_of_slice n offset size place many (interval_part outer (Some bytes)) cells (omega (arith, whole, inside)) fits lt plain
+    ∙ (ap some (part_of_slice n outer.offset outer.size (offset + place * n) bytes (omega arith)) ∙ sym told.1)
 
 -- the element of one number more
 pub element_more : (n i : ℕ) (f : ℕ → Option (List ℕ)) (numbers before element after : List ℕ) → i < length numbers → length before ≡ i * n → length element ≡ n

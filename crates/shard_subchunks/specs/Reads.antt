@@ -1,8 +1,9 @@
--- Reads of a part of a subchunk to where its cells lie among others.
-use Rattle.std.specs.Prelude.{ℕ, List, [], Option, length}
+-- Reads of a part of a subchunk to where its cells lie among others, and of one cell behind others.
+use Rattle.std.specs.Prelude.{◌≡◌, ◌++◌, ℕ, List, [], Option, Some, IsTrue, length}
 use Rattle.zarr_parts.specs.Words.{Bytes, CellsOf}
 use Rattle.zarr_parts.specs.Pieces.{IsUpdated}
 use Rattle.zarr_parts.specs.Arrays.{Array}
+use Rattle.object_handles.specs.Handles.{HandleState}
 use Rattle.shard_format.specs.Decoding.{element_at}
 use Rattle.shard_format.specs.Reading.{IsReadAt}
 use Rattle.shard_format.specs.declared.slot.Slot.{Slot}
@@ -15,3 +16,10 @@ pub record IsReadInto (inner_cells : CellsOf) (b : Bytes) (slot : Slot) (places 
   pub part : Option Array
   pub read : IsReadAt inner_cells b slot places part
   pub written : IsUpdated (places_there (length places) part) place old (element_at [] part) new
+
+-- behind the old bytes, which stay, stands an element of so many bytes; of an object that the handle tells it is this cell
+pub record IsAppended (size : ℕ) (state : HandleState) (cell : Option (List ℕ)) (old new : List ℕ) : Type 0 where
+  pub element : List ℕ
+  pub long : length element ≡ size
+  pub there : IsTrue state.tells → cell ≡ Some element
+  pub behind : new ≡ old ++ element

@@ -1,8 +1,7 @@
-// The listed cells of a shard in memory, read straight from it where the inner codec stores the elements as they are in memory.
-ghost use Rattle.std.specs.Prelude.{◌≡◌, ◌+◌, ◌*◌, ◌^◌, ◌<◌, ◌≤◌, ℕ, List, Some, IsTrue, IfOk, IfErr, IfSome, map, length};
+// The listed cells of a shard in memory, each read alone where the inner codec stores the elements as they are in memory.
+ghost use Rattle.std.specs.Prelude.{◌≡◌, ◌+◌, ◌*◌, ◌^◌, ◌<◌, ◌≤◌, Some, IsTrue, IfOk, IfErr, IfSome, map, length};
 ghost use Rattle.std.specs.List.{All};
-ghost use Rattle.zarr_parts.specs.Words.{CellsOf};
-ghost use Rattle.zarr_parts.specs.Order.{RefusedBy};
+ghost use Rattle.zarr_parts.specs.Order.{done, RefusedBy};
 ghost use Rattle.zarr_parts.specs.Numbering.{count_of};
 ghost use Rattle.zarr_parts.specs.Pieces.{pieces};
 ghost use Rattle.zarr_parts.specs.Grid.{Divides, grid_of};
@@ -13,88 +12,116 @@ ghost use Rattle.shard_format.specs.Cells.{cell_in, indexed_cell};
 ghost use Rattle.shard_format.specs.Decoding.{FitsSlot};
 ghost use Rattle.shard_format.specs.Reading.{ReadByTests};
 ghost use Rattle.shard_subchunks.specs.Inner.{subchunk_geo, inner_meaning};
+ghost use Rattle.shard_subchunks.specs.Reads.{IsAppended};
 
 use crate::subchunks::Subchunks;
 use codec_laws::ArrayToBytesCodecTraits;
 use object_handles::{ByteRange, BytesPartialDecoderTraits, Interval, read_range};
 use shard_cells::located;
 use shard_format::{ShardIndex, Slot};
-use std::alloc::{AllocError, Global};
+use std::alloc::Global;
 use zarr_parts::{ChunkShape, CodecError, Located};
 
-// The stored element at a place of the subchunk that a slot names: the fill value where it is absent. `None` where the pair is
-// bad or the slice has another size than the elements of a subchunk have together.
-fn plain_element<'a>(
-    fill: &'a [u8],
-    bytes: &'a [u8],
-    slot: Slot,
-    place: u64,
-    size: u64,
-) -> Option<&'a [u8]>
-    requires fits { FitsSlot (length bytes.now) slot }
-    requires inside { place * length fill.now + length fill.now ≤ size }
-    ensures long { IfSome result (λ element. length element.now ≡ length fill.now) }
-    ensures cell { (cells : CellsOf) (many : ℕ) → size ≡ many * length fill.now → place < many
-        → ((b : List ℕ) → length b ≡ size → cells b ≡ map Some (pieces (length fill.now) many b))
-        → IfSome result (λ element. cell_in cells fill.now bytes.now slot place ≡ Some element.now) }
-{
-    match slot {
-        Slot::Absent => Some(fill),
-        Slot::InRange {
-            offset,
-            size: stored,
-        } if stored == size => {
-            let from = offset as usize + place as usize * fill.len();
-            Some(&bytes[from..from + fill.len()])
-        }
-        _ => None,
-    }
-}
-
 impl<I: ArrayToBytesCodecTraits> Subchunks<'_, I> {
-    // The bytes of the cells with these row-major numbers, one after the other, of a shard that these bytes are; the elements of
-    // each subchunk are stored in so many bytes. `None` where a pair of the index is bad or a slice has another size.
-    fn plain_cells(
+    // Puts the stored element at a place of the subchunk that a slot names behind bytes that are there: the fill value where it is
+    // absent. `false`, with the bytes left, where the pair is bad, the slice has another size than the elements of a subchunk have
+    // together, or there is no object. Refused as `Fault`, where the handle failed, or `OutOfMemory`.
+    fn append_element<H: BytesPartialDecoderTraits>(
         &self,
         alloc: Global,
-        bytes: &[u8],
+        handle: &mut H,
+        outer: Interval,
+        slot: Slot,
+        place: u64,
+        size: u64,
+        read: &mut Vec<u8>,
+    ) -> Result<bool, CodecError>
+        requires room { outer.offset + outer.size < 2 ^ 64 }
+        requires inside { IsTrue (H.state handle.old).tells → HasInterval outer (H.state handle.old).contents }
+        requires plain { IsPlain (subchunk_geo self.now) (inner_meaning I.meaning self.now) size }
+        requires fits { FitsSlot outer.size slot }
+        requires place { place < count_of self.now.shape.now }
+        requires within { place * length self.now.fill_value.now + length self.now.fill_value.now ≤ size }
+        ensures read { IsRead (H.state handle.old) (H.state handle.new) }
+        ensures element { let bytes = interval_part outer (H.state handle.old).contents in
+            IfOk result (λ put. IsTrue put → IsAppended (length self.now.fill_value.now) (H.state handle.old)
+            (cell_in (inner_meaning I.meaning self.now).cells self.now.fill_value.now bytes slot place) read.old.items read.new.items) }
+        ensures fault { IfErr result (IsCounted (H.state handle.old) (H.state handle.new)) }
+        ensures refused { IfErr result (RefusedBy (ObjectTests (H.state handle.old) (H.state handle.new) done)) }
+    {
+        let fill = self.fill_value.as_ne_bytes();
+        match slot {
+            Slot::Absent => {
+                read.extend_from_slice(fill)?;
+                Ok(true)
+            }
+            Slot::InRange {
+                offset,
+                size: stored,
+            } if stored == size => {
+                let len = fill.len() as u64;
+                let from = outer.offset + (offset + place * len);
+                let mut room = Vec::new(alloc);
+                let range = ByteRange::FromStart(from, Some(len));
+                let Some(element) = read_range(handle, &mut room, alloc, range)? else {
+                    return Ok(false);
+                };
+                read.extend_from_slice(element)?;
+                Ok(true)
+            }
+            _ => Ok(false),
+        }
+    }
+
+    // The bytes of the cells with these row-major numbers, one after the other, of a shard that stands in an interval of an
+    // object; the elements of each subchunk are stored in so many bytes. `None` where `append_element` puts nothing. Refused as
+    // `Fault`, where the handle failed, or `OutOfMemory`.
+    fn plain_cells<H: BytesPartialDecoderTraits>(
+        &self,
+        alloc: Global,
+        handle: &mut H,
+        outer: Interval,
         index: &ShardIndex,
         numbers: &[u64],
         shape: &ChunkShape,
         size: u64,
-    ) -> Result<Option<Vec<u8>>, AllocError>
+    ) -> Result<Option<Vec<u8>>, CodecError>
+        requires room { outer.offset + outer.size < 2 ^ 64 }
+        requires inside { IsTrue (H.state handle.old).tells → HasInterval outer (H.state handle.old).contents }
         requires plain { IsPlain (subchunk_geo self.now) (inner_meaning I.meaning self.now) size }
-        requires len { index.now.len ≡ length bytes.now }
+        requires len { index.now.len ≡ outer.size }
         requires index { length index.now.numbers.items ≡ 2 * count_of (grid_of shape.now self.now.shape.now) }
         requires numbers { All (λ number. number < count_of shape.now) numbers.now }
         requires fits { count_of shape.now < 2 ^ 64 }
         requires divides { Divides self.now.shape.now shape.now }
         requires whole { length numbers.now * length self.now.fill_value.now < 2 ^ 64 }
+        ensures read { IsRead (H.state handle.old) (H.state handle.new) }
         ensures counted { IfOk result (λ found. IfSome found (λ read.
             length read.items ≡ length numbers.now * length self.now.fill_value.now)) }
-        ensures cells { let inner = inner_meaning I.meaning self.now in
-            IfOk result (λ found. IfSome found (λ read.
-            map (indexed_cell inner.cells shape.now self.now.shape.now self.now.fill_value.now bytes.now index.now.numbers.items) numbers.now
+        ensures cells { let inner = inner_meaning I.meaning self.now in let bytes = interval_part outer (H.state handle.old).contents in
+            IfOk result (λ found. IfSome found (λ read. IsTrue (H.state handle.old).tells
+            → map (indexed_cell inner.cells shape.now self.now.shape.now self.now.fill_value.now bytes index.now.numbers.items) numbers.now
             ≡ map Some (pieces (length self.now.fill_value.now) (length numbers.now) read.items))) }
+        ensures fault { IfErr result (IsCounted (H.state handle.old) (H.state handle.new)) }
+        ensures refused { IfErr result (RefusedBy (ObjectTests (H.state handle.old) (H.state handle.new) done)) }
     {
-        let fill = self.fill_value.as_ne_bytes();
+        let count = numbers.len() * self.fill_value.as_ne_bytes().len();
         let cells = shape.as_slice();
         let sub = self.shape.as_slice();
-        let mut read = Vec::with_capacity(alloc, numbers.len() * fill.len())?;
+        let mut read = Vec::with_capacity(alloc, count)?;
         for i in 0..numbers.len() {
             let Located { subchunk, place } = located(numbers[i], cells, sub);
             let slot = index.slot(subchunk as usize);
-            let Some(element) = plain_element(fill, bytes, slot, place, size) else {
+            if !self.append_element(alloc, handle, outer, slot, place, size, &mut read)? {
                 return Ok(None);
-            };
-            read.extend_from_slice(element)?;
+            }
         }
         Ok(Some(read))
     }
 
     // The bytes of the cells with these row-major numbers, one after the other, of a shard that stands in an interval of an
     // object which the handle holds in memory, where the inner codec stores the elements as they are in memory. `None` where
-    // this is not so, or where a subchunk is stored in other bytes than its elements have. Refused as `Fault`, where the handle
+    // this is not so, or where a subchunk is stored in other bytes than its elements have. Asks for those elements alone. Refused as `Fault`, where the handle
     // failed, or `OutOfMemory`.
     pub(crate) fn read_plain<H: BytesPartialDecoderTraits>(
         &self,
@@ -134,12 +161,6 @@ impl<I: ArrayToBytesCodecTraits> Subchunks<'_, I> {
         if (handle.size_held() as u64) < outer.size {
             return Ok(None);
         }
-        let mut room = Vec::new(alloc);
-        let range = ByteRange::FromStart(outer.offset, Some(outer.size));
-        let Some(bytes) = read_range(handle, &mut room, alloc, range)? else {
-            return Ok(None);
-        };
-        let read = self.plain_cells(alloc, bytes, index, numbers, shape, size)?;
-        Ok(read)
+        self.plain_cells(alloc, handle, outer, index, numbers, shape, size)
     }
 }

@@ -1,9 +1,12 @@
-use Rattle.std.proofs.Common.{◌≡◌, ◌∙◌, ◌<◌, ◌++◌, Some, get_or, length, ap, arith}
+use Rattle.std.proofs.Common.{◌≡◌, ◌∙◌, ◌<◌, IsTrue, Some, get_or, length, ap, sym, rules, arith}
 use Rattle.std.proofs.lemmas.List.{length-append}
 use Rattle.std.proofs.lemmas.Nat.{row_fits}
 use Rattle.zarr_parts.specs.Numbering.{count_of}
 use Rattle.zarr_parts.specs.Grid.{subchunk_number, place_number}
 use Rattle.zarr_parts.proofs.GridLaws.{subchunk_number-below, place_number-below}
+use Rattle.object_handles.specs.Objects.{interval_part}
+use Rattle.codec_laws.proofs.ReadLemmas.{length-interval_part}
+use Rattle.shard_cells.proofs.ReadGroupLemmas.{read_then}
 use Rattle.shard_format.specs.Cells.{indexed_cell}
 use Rattle.shard_subchunks.specs.Inner.{inner_meaning}
 use Rattle.shard_subchunks.proofs.PlainLemmas.{element_more}
@@ -19,8 +22,17 @@ slot-slot-requires g c =
     let below = subchunk_number-below shape sub c.requires.divides i (c.requires.numbers c.loop-i.i 0 c.loop-i-test.true) in
     omega (arith, is, below, c.requires.index)
 
-pub plain_element-requires-clause-inside : goal.plain_element-requires-clause-inside
-plain_element-requires-clause-inside g c =
+pub append_element-requires-clause-place : goal.append_element-requires-clause-place
+append_element-requires-clause-place g c =
+    let a = c.args in
+    let shape = a.shape.now in
+    let sub = a.self.now.shape.now in
+    let i = get_or a.numbers.now c.loop-i.i 0 in
+    let is : c.located-subchunk.result.place ≡ place_number shape sub i = rw (c.as_slice-cells.ensures.value, c.as_slice-sub.ensures.value) at c.located-subchunk.ensures.place in
+    rw is (place_number-below shape sub c.requires.divides i (c.requires.numbers c.loop-i.i 0 c.loop-i-test.true))
+
+pub append_element-requires-clause-within : goal.append_element-requires-clause-within
+append_element-requires-clause-within g c =
     let a = c.args in
     let shape = a.shape.now in
     let sub = a.self.now.shape.now in
@@ -29,33 +41,36 @@ plain_element-requires-clause-inside g c =
     let is : c.located-subchunk.result.place ≡ place_number shape sub i = rw (c.as_slice-cells.ensures.value, c.as_slice-sub.ensures.value) at c.located-subchunk.ensures.place in
     let below = place_number-below shape sub c.requires.divides i (c.requires.numbers c.loop-i.i 0 c.loop-i-test.true) in
     let fits = row_fits (place_number shape sub i) n (count_of sub) n below (omega arith) in
-    rw (c.as_ne_bytes-fill.ensures, is) (omega (arith, fits, c.requires.plain.size_is))
+    rw is (omega (arith, fits, c.requires.plain.size_is))
 
 pub loop-i-preserved : goal.loop-i-preserved
 loop-i-preserved g c =
     let a = c.args in
     let s = a.self.now in
+    let h = g.H.BytesPartialDecoderTraits in
     let inner = inner_meaning g.I.ArrayToBytesCodecTraits.meaning s in
     let shape = a.shape.now in
     let sub = s.shape.now in
     let fill = s.fill_value.now in
     let n = length fill in
+    let contents = (h.state a.handle.now).contents in
+    let bytes = interval_part a.outer contents in
+    let f = indexed_cell inner.cells shape sub fill bytes a.index.now.numbers.items in
     let i = get_or a.numbers.now c.loop-i.i 0 in
     let lt : c.loop-i.i < length a.numbers.now = c.loop-i-test.true in
-    let inside = c.requires.numbers c.loop-i.i 0 lt in
+    let inv = c.loop-i.invariant in
     let subchunk : c.located-subchunk.result.subchunk ≡ subchunk_number shape sub i = rw (c.as_slice-cells.ensures.value, c.as_slice-sub.ensures.value) at c.located-subchunk.ensures.subchunk in
     let place : c.located-subchunk.result.place ≡ place_number shape sub i = rw (c.as_slice-cells.ensures.value, c.as_slice-sub.ensures.value) at c.located-subchunk.ensures.place in
-    let below : c.located-subchunk.result.place < count_of sub = rw place (place_number-below shape sub c.requires.divides i inside) in
-    let fill_is = c.as_ne_bytes-fill.ensures in
-    let cell = (rw fill_is at c.in-Some.ensures.cell) inner.cells (count_of sub) c.requires.plain.size_is below c.requires.plain.cells in
-    let here : indexed_cell inner.cells shape sub fill a.bytes.now a.index.now.numbers.items i ≡ Some c.in-Some.element.now =
-    rw (c.slot-slot.ensures.slot, c.requires.len, subchunk, place) at cell in
-    let long : length c.in-Some.element.now ≡ n = rw fill_is at c.in-Some.ensures.long in
+    let true_is : IsTrue c.in_ok-append_element.field-0 = search rules in
+    let put = c.in_ok-append_element.ensures.element true_is in
     let old = c.loop-i.read.items in
-    let new = c.extend_from_slice.new.self.items in
-    let behind : new ≡ old ++ c.in-Some.element.now = c.in_ok-extend_from_slice.ensures.items in
+    let new = c.append_element.new.read.items in
     record {
-      whole = ap length behind ∙ omega (arith, length-append old c.in-Some.element.now, c.loop-i.invariant.whole, long);
-      are = element_more n c.loop-i.i (indexed_cell inner.cells shape sub fill a.bytes.now a.index.now.numbers.items) a.numbers.now old c.in-Some.element.now new
-          lt c.loop-i.invariant.whole long c.loop-i.invariant.are here behind;
+      handle_read = read_then (h.state a.handle.now) (h.state c.loop-i.handle) (h.state c.append_element.new.handle) inv.handle_read c.in_ok-append_element.ensures.read;
+      whole = ap length put.behind ∙ omega (arith, length-append old put.element, inv.whole, put.long);
+      are = λ t.
+          let long = length-interval_part a.outer contents (c.requires.inside t) in
+          let there = put.there (rw inv.handle_read.tells_same t) in
+          let here : f i ≡ Some put.element = rw (inv.handle_read.contents_same, c.slot-slot.ensures.slot, c.requires.len ∙ sym long, subchunk, place) at there in
+          element_more n c.loop-i.i f a.numbers.now old put.element new lt inv.whole put.long (inv.are t) here put.behind;
     }
