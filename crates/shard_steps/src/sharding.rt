@@ -87,7 +87,7 @@ impl<I: ArrayToBytesCodecTraits, X: ArrayToBytesCodecTraits> ArrayToBytesCodecTr
         self.encode_planned(alloc, bytes, &asked, &plan, options)
     }
 
-    /// Decodes every subchunk, and gathers them.
+    /// Decodes every subchunk, and gathers them; or takes them straight from the bytes where their elements stand in these.
     fn decode<'a>(
         &self,
         alloc: Global,
@@ -111,6 +111,10 @@ impl<I: ArrayToBytesCodecTraits, X: ArrayToBytesCodecTraits> ArrayToBytesCodecTr
             fill_value,
             options,
         };
+        let rows = inner.decode_rows(alloc, bytes, &index, shape, plan.cells)?;
+        if let Some(straight) = rows {
+            return Ok(straight);
+        }
         let subchunks = inner.decode(alloc, bytes, &index)?;
         let array = gathered(
             alloc,

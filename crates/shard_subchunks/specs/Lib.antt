@@ -1,3 +1,4 @@
 pub mod Inner
 pub mod PlainRows
 pub mod Reads
+pub mod DecodedRows

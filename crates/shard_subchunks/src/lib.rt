@@ -8,6 +8,7 @@ mod decoded;
 mod encoded;
 mod listed;
 mod plain;
+mod plain_decoded;
 mod plain_rows;
 mod read;
 mod subchunks;

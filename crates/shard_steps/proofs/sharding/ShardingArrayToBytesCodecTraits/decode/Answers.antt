@@ -6,6 +6,7 @@ use Rattle.shard_format.specs.Serves.{sub_geo, layout, fixed_size}
 use Rattle.shard_format.proofs.DecodingLemmas.{IsArrayOf-gathered, cells-gathered}
 use Rattle.shard_format.proofs.LengthLemmas.{lengths_last}
 use Rattle.shard_format.proofs.RefusalLemmas.{lawful, index_first, subchunks_next}
+use Rattle.shard_subchunks.specs.DecodedRows.{AreGathered}
 use Rattle.codec_laws.specs.RefusalLaws.{passed_on}
 use Rattle.shard_steps.proofs.sharding.ShardingArrayToBytesCodecTraits.decode.Goals as goal
 
@@ -127,3 +128,32 @@ returns-in_err-array-clause-refused g c =
     serves.divides (rw (plan.index.size, plan.grid) at c.in_ok-index.ensures.numbers) (omega (arith, many, counted)) (λ k below. found k (omega (arith, many, counted)))
     _ e plan.places (rw (c.deref.ensures.value, c.as_ne_bytes.ensures) at c.in_err-array.ensures.refused) in
     passed_on _ e _ c.from_residual-in_err-array.ensures.1 (elim tests [ inl memory ↦ inl memory | inr refused ↦ inr (inr (serves, refused)) ])
+
+pub returns-in-Some-clause-array : goal.returns-in-Some-clause-array
+returns-in-Some-clause-array g c =
+    let s = c.args.self.now in
+    let asked = geo c.args.shape.now c.args.data_type.now c.args.fill_value.now in
+    let inner_cells = (g.I.ArrayToBytesCodecTraits.meaning s.inner.now (sub_geo s.subchunk_shape.now asked)).cells in
+    let index_cells = (g.X.ArrayToBytesCodecTraits.meaning s.index_codec.codec.now (index_geo (grid_of c.args.shape.now s.subchunk_shape.now))).cells in
+    let size = fixed_size ((g.X.ArrayToBytesCodecTraits.meaning s.index_codec.codec.now (index_geo (grid_of c.args.shape.now s.subchunk_shape.now))).representation) in
+    let plan = c.in_ok-plan.ensures.plan in
+    let serves = c.in_ok-plan.ensures.serves in
+    let straight : AreGathered inner_cells asked s.subchunk_shape.now c.args.bytes.now c.in_ok-index.index.numbers.items c.in-Some.straight.elements = rw c.in-Some.is at c.in_ok-rows.ensures.gathered in (
+      rw c.in-Some.is at c.in_ok-rows.ensures.kind,
+      IsArrayOf-gathered inner_cells index_cells s.subchunk_shape.now s.index_codec.location s.order size asked c.args.bytes.now
+          c.in_ok-index.index.numbers.items straight.subchunks c.in-Some.straight.elements serves.divides straight.decoded straight.elements_are serves.fill_fits,
+    )
+
+pub returns-in-Some-clause-cells : goal.returns-in-Some-clause-cells
+returns-in-Some-clause-cells g c =
+    let s = c.args.self.now in
+    let asked = geo c.args.shape.now c.args.data_type.now c.args.fill_value.now in
+    let inner_cells = (g.I.ArrayToBytesCodecTraits.meaning s.inner.now (sub_geo s.subchunk_shape.now asked)).cells in
+    let index_cells = (g.X.ArrayToBytesCodecTraits.meaning s.index_codec.codec.now (index_geo (grid_of c.args.shape.now s.subchunk_shape.now))).cells in
+    let size = fixed_size ((g.X.ArrayToBytesCodecTraits.meaning s.index_codec.codec.now (index_geo (grid_of c.args.shape.now s.subchunk_shape.now))).representation) in
+    let plan = c.in_ok-plan.ensures.plan in
+    let serves = c.in_ok-plan.ensures.serves in
+    let straight : AreGathered inner_cells asked s.subchunk_shape.now c.args.bytes.now c.in_ok-index.index.numbers.items c.in-Some.straight.elements = rw c.in-Some.is at c.in_ok-rows.ensures.gathered in
+    cells-gathered inner_cells index_cells s.subchunk_shape.now s.index_codec.location s.order size asked c.args.bytes.now
+    c.in_ok-index.index.numbers.items straight.subchunks c.in-Some.straight.elements serves.divides straight.decoded straight.elements_are
+    (rw (plan.index.size, plan.grid) at c.in_ok-index.ensures.numbers)
