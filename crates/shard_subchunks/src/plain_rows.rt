@@ -1,5 +1,5 @@
 // Subchunks that are rows of an array's bytes, laid end to end where the inner codec stores elements as they are in memory.
-ghost use Rattle.std.specs.Prelude.{◌≡◌, ◌<◌, IfOk, IfSome, IsTrue, ◌↔◌, length};
+ghost use Rattle.std.specs.Prelude.{◌≡◌, ◌<◌, ◌++◌, OnOk, IfOk, IfSome, IsTrue, ◌↔◌, length};
 ghost use Rattle.zarr_parts.specs.Numbering.{count_of};
 ghost use Rattle.zarr_parts.specs.Grid.{Divides, grid_of};
 ghost use Rattle.zarr_parts.specs.Geo.{geo, IsArrayOf};
@@ -37,6 +37,16 @@ fn is_blank(row: &[u8], fill_value: &FillValue) -> bool
     }
 }
 
+// Puts a run of rows behind others; one of none takes no call.
+fn push_rows(slices: &mut Vec<u8>, run: &[u8]) -> Result<(), AllocError>
+    ensures { OnOk result (slices.new.items ≡ slices.old.items ++ run.now) }
+{
+    if run.len() == 0 {
+        return Ok(());
+    }
+    slices.extend_from_slice(run)
+}
+
 impl<I: ArrayToBytesCodecTraits> Subchunks<'_, I> {
     // The rows that aren't all fill, one after the other; neighbours are copied together. Refused only as out of memory.
     fn lay_out_bytes(
@@ -66,7 +76,7 @@ impl<I: ArrayToBytesCodecTraits> Subchunks<'_, I> {
                 })?;
                 continue;
             }
-            slices.extend_from_slice(&bytes[copied..first])?;
+            push_rows(&mut slices, &bytes[copied..first])?;
             copied = first + size;
             slots.push(Slot::Absent)?;
         }

@@ -21,9 +21,9 @@ loop-k-preserved g c =
     let l = c.loop-k in
     let cut : (l.k * a.size + a.size) - l.k * a.size ≡ a.size = omega arith in
     row_blank (inner_meaning g.I.ArrayToBytesCodecTraits.meaning s).written s.fill_value.now a._shape.now s.shape.now a._array.now.elements a.bytes.now a.size a.rows c.requires.rows
-    l.slices.items c.extend_from_slice.new.self.items l.slots.items c.push-in-loop-k.new.self.items l.copied l.k c.loop-k-test.true l.invariant
+    l.slices.items c.push_rows.new.slices.items l.slots.items c.push-in-loop-k.new.self.items l.copied l.k c.loop-k-test.true l.invariant
     ((rw cut at c.if-not-is_blank.ensures).0 refl)
-    c.in_ok-extend_from_slice.ensures.items
+    c.in_ok-push_rows.ensures
     c.in_ok-push-2.ensures.items
 
 pub returns : goal.returns
@@ -34,5 +34,5 @@ returns g c =
     let end : l.k ≡ a.rows = omega arith in
     record {
       laid = all_rows (inner_meaning g.I.ArrayToBytesCodecTraits.meaning s).written s.fill_value.now a._shape.now s.shape.now a._array.now.elements a.bytes.now a.size a.rows c.requires.rows
-          l.slices.items c.extend_from_slice-2.new.self.items l.slots.items l.copied (rw end at l.invariant) c.in_ok-extend_from_slice-2.ensures.items;
+          l.slices.items c.extend_from_slice.new.self.items l.slots.items l.copied (rw end at l.invariant) c.in_ok-extend_from_slice.ensures.items;
     }
