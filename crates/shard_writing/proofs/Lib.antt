@@ -13,3 +13,5 @@ pub mod HeldLemmas
 pub mod PartLemmas
 pub mod OverlayLemmas
 pub mod InPlaceLemmas
+pub mod BehindLemmas
+pub mod PlainLemmas

@@ -22,20 +22,36 @@ use Rattle.shard_format.specs.declared.slot.Slot.TheVariants.{Bad}
 use Rattle.shard_format.specs.EncodeTests.{RefusesToStore, StoreTests, HasPart, RefusesIndex}
 use Rattle.shard_format.proofs.LayingLemmas.{sum_same, encoding_laid, length_laid}
 use Rattle.shard_writing.specs.Writing.{AreNewCells, cells_in, AreLaid, ArePlaced, place_behind, length_behind, HasNewLength, RefusesToPut}
-use Rattle.shard_writing.specs.WriteTests.{HasOldCells, OldTests, SomeNewCells, SomeLength, WriteTests}
+use Rattle.shard_writing.specs.WriteTests.{HasOldCells, OldTests, NewTests, SomeNewCells, SomeLength, WriteTests}
 use Rattle.zarr_parts.proofs.GridLaws.{over_first}
 use Rattle.shard_writing.proofs.AnewLemmas.{anew_of_absent, absent_of_anew}
 use Rattle.shard_writing.proofs.ChangedLemmas.{comes_earlier}
 
-module _ (inner index : Meaning) (l : Layout) (sub_g : Geo) (box : Region) (update : Elements) (bytes numbers touched : List ℕ) (elements : ℕ → Elements)
+module _ (inner : Meaning) (l : Layout) (sub_g : Geo) (box : Region) (update : Elements) (bytes numbers touched : List ℕ) (elements : ℕ → Elements)
     (are : AreTouched l.shape l.sub box touched) (below : (j : ℕ) → j < length touched → get_or touched j 0 < count_of (grid_of l.shape l.sub)) where
   -- one of the old cells
   pub old_first : (first new : HandleState) (e : CodecError) → RefusedBy (ObjectTests first new (OldTests inner l.shape l.sub l.fill box bytes numbers done)) e
-      → RefusedBy (ObjectTests first new (WriteTests inner index l sub_g box update bytes numbers)) e
+      → RefusedBy (ObjectTests first new (OldTests inner l.shape l.sub l.fill box bytes numbers (NewTests inner l sub_g box update bytes numbers done))) e
   old_first first new e h =
       elim h [
         | inl memory ↦ inl memory
         | inr tests ↦ inr (λ t. elim (tests t) [ inl fault ↦ inl fault | inr old ↦ inr (elim old [ inl one ↦ inl one | inr nothing ↦ absurd nothing.1 ]) ])
+      ]
+
+  -- the tests of the old cells and of the new ones come first
+  pub cells_first : (index : Meaning) (first new : HandleState) (e : CodecError)
+      → RefusedBy (ObjectTests first new (OldTests inner l.shape l.sub l.fill box bytes numbers (NewTests inner l sub_g box update bytes numbers done))) e
+      → RefusedBy (ObjectTests first new (WriteTests inner index l sub_g box update bytes numbers)) e
+  cells_first index first new e h =
+      elim h [
+        | inl memory ↦ inl memory
+        | inr tests ↦ inr (λ t. elim (tests t) [
+          | inl fault ↦ inl fault
+          | inr cells ↦ inr (elim cells [
+            | inl old ↦ inl old
+            | inr news ↦ inr (news.0, elim news.1 [ inl one ↦ inl one | inr nothing ↦ absurd nothing.1 ])
+          ])
+        ])
       ]
 
   module _ (passed : (k : ℕ) → k < count_of (grid_of l.shape l.sub) → HasOldCells inner l.shape l.sub box bytes numbers k)
@@ -44,7 +60,8 @@ module _ (inner index : Meaning) (l : Layout) (sub_g : Geo) (box : Region) (upda
     some_cells P j lt h = record { elements = elements j; cells = cells j lt; holds = h }
 
     -- one of the new ones
-    pub new_tests : (e : CodecError) → StoreTests inner l.fill elements (length touched) done e → WriteTests inner index l sub_g box update bytes numbers e
+    pub new_tests : (e : CodecError) → StoreTests inner l.fill elements (length touched) done e
+        → OldTests inner l.shape l.sub l.fill box bytes numbers (NewTests inner l sub_g box update bytes numbers done) e
     new_tests e tests =
         elim tests [
           | inr nothing ↦ absurd nothing.1
@@ -109,9 +126,9 @@ module _ (inner index : Meaning) (l : Layout) (sub_g : Geo) (box : Region) (upda
           ]
 
       -- the length, or the index
-      pub last_tests : (e : CodecError) → RefusesToPut l.location l.index_size touched numbers (length bytes) (length slices) (RefusesIndex index (count_of (grid_of l.shape l.sub))) e
+      pub last_tests : (index : Meaning) (e : CodecError) → RefusesToPut l.location l.index_size touched numbers (length bytes) (length slices) (RefusesIndex index (count_of (grid_of l.shape l.sub))) e
           → WriteTests inner index l sub_g box update bytes numbers e
-      last_tests e h =
+      last_tests index e h =
           inr (
             passed,
             inr (

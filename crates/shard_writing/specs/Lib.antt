@@ -1,3 +1,4 @@
 pub mod Writing
 pub mod WriteTests
+pub mod Slices
 pub mod Changes

@@ -27,7 +27,7 @@ use std::alloc::Global;
 use zarr_parts::{ArrayBytes, ArraySubset, ChunkShape, CodecError};
 
 // Whether a part of a subchunk is all of it.
-fn is_whole(part: &ArraySubset, sub: &ChunkShape) -> bool
+pub fn is_whole(part: &ArraySubset, sub: &ChunkShape) -> bool
     ensures whole { IsTrue result ↔ (part.now.shape ≡ sub.now) }
     ensures well_formed { IsBox part.now.start part.now.shape }
     ensures positive { AllPositive sub.now }

@@ -1,6 +1,7 @@
 // A write into a stored shard, step by step: nothing here knows the sharding codec.
 #![tactic(auto)]
 
+mod behind;
 mod cells;
 mod change;
 mod changed;
@@ -9,9 +10,11 @@ mod numbers;
 mod old;
 mod overlay;
 mod place;
+mod plain;
 mod prepare;
 mod put;
 mod settle;
+mod slices;
 mod writing;
 
 pub use change::{Change, Prepared};

@@ -16,7 +16,6 @@ ghost use Rattle.shard_writing.specs.WriteTests.{WriteTests};
 ghost use Rattle.shard_writing.specs.Changes.{object_after};
 
 use crate::change::Prepared;
-use crate::encoded::laid_out;
 use crate::writing::Writing;
 use codec_laws::ArrayToBytesCodecTraits;
 use object_handles::BytesPartialDecoderTraits;
@@ -74,10 +73,9 @@ impl<I: ArrayToBytesCodecTraits, X: ArrayToBytesCodecTraits> Writing<'_, I, X> {
             (bytes_of (H.state handle.old).contents) numbers.now))) }
     {
         let touched = subset.touched_subchunks(alloc, self.shape, self.subchunks.shape)?;
-        let arrays = self.changed(
+        let laid = self.new_slices(
             alloc, handle, places, len, numbers, &touched, subset, update,
         )?;
-        let laid = laid_out(&self.subchunks, alloc, &arrays)?;
         let prepared = self.settle(alloc, len, numbers, &touched, laid)?;
         Ok(prepared)
     }

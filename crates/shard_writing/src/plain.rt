@@ -1,0 +1,211 @@
+// New subchunks of a codec that stores elements as they are in memory: each one's old bytes go to where the new ones are to stand,
+// and the update is written over them there.
+ghost use Rattle.std.specs.Prelude.{◌≡◌, ◌*◌, ◌+◌, ◌^◌, ◌<◌, ℕ, IsTrue, IfOk, IfErr, IfSome, All, length};
+ghost use Rattle.zarr_parts.specs.Order.{done, RefusedBy};
+ghost use Rattle.zarr_parts.specs.Numbering.{AllPositive, count_of};
+ghost use Rattle.zarr_parts.specs.Boxes.{IsBox, LiesIn};
+ghost use Rattle.zarr_parts.specs.Pieces.{pieces};
+ghost use Rattle.zarr_parts.specs.Grid.{Divides, grid_of};
+ghost use Rattle.zarr_parts.specs.Touched.{Touches, AreTouched};
+ghost use Rattle.zarr_parts.specs.Types.{size_of, FitsKind};
+ghost use Rattle.object_handles.specs.Handles.{IsRead, IsCounted};
+ghost use Rattle.object_handles.specs.Objects.{ObjectTests};
+ghost use Rattle.object_handles.specs.Writes.{bytes_of};
+ghost use Rattle.codec_laws.specs.Encodings.{IsPlain};
+ghost use Rattle.shard_format.specs.Index.{slot_at};
+ghost use Rattle.shard_subchunks.specs.Inner.{subchunk_geo, inner_meaning};
+ghost use Rattle.shard_writing.specs.Writing.{HasSlice};
+ghost use Rattle.shard_writing.specs.WriteTests.{HasOldCells};
+ghost use Rattle.shard_writing.specs.Slices.{IsPutBehind, AreOldCells, IsNewBehind, AreNewSlices};
+
+use crate::behind::{overlay_behind, slice_behind, slot_behind, zeros_behind};
+use crate::cells::is_whole;
+use crate::place::slot_in;
+use crate::writing::Writing;
+use codec_laws::ArrayToBytesCodecTraits;
+use object_handles::BytesPartialDecoderTraits;
+use shard_cells::meeting_of;
+use shard_format::Slot;
+use shard_layout::LaidOut;
+use shard_subchunks::Subchunks;
+use std::alloc::Global;
+use zarr_elements::repeated;
+use zarr_parts::{ArrayBytes, ArraySubset, CodecError};
+
+// Puts the old bytes of the subchunk that a slot names behind the slices: fill values where it is absent. `false` where it isn't
+// stored in as many bytes as a subchunk has. Refused as `Fault`, where the handle failed, or `OutOfMemory`.
+fn old_behind<I: ArrayToBytesCodecTraits, H: BytesPartialDecoderTraits>(
+    subchunks: &Subchunks<'_, I>,
+    alloc: Global,
+    handle: &mut H,
+    slot: Slot,
+    size: u64,
+    slices: &mut Vec<u8>,
+) -> Result<bool, CodecError>
+    requires plain { IsPlain (subchunk_geo subchunks.now) (inner_meaning I.meaning subchunks.now) size }
+    requires there { IsTrue (H.state handle.old).tells → HasSlice (H.state handle.old).contents slot }
+    ensures read { IsRead (H.state handle.old) (H.state handle.new) }
+    ensures behind { let s = subchunks.now in let inner = inner_meaning I.meaning s in let fill = s.fill_value.now in let places = count_of s.shape.now in
+        IfOk result (λ there. IsTrue there → IsPutBehind slices.old.items slices.new.items size (λ part. IsTrue (H.state handle.old).tells
+        → AreOldCells inner.cells fill (bytes_of (H.state handle.old).contents) slot places (pieces (length fill) places part))) }
+    ensures fault { IfErr result (IsCounted (H.state handle.old) (H.state handle.new)) }
+    ensures refused { IfErr result (RefusedBy (ObjectTests (H.state handle.old) (H.state handle.new) done)) }
+{
+    match slot {
+        Slot::Absent => {
+            let fill = subchunks.fill_value.as_ne_bytes();
+            let blank = repeated(alloc, size as usize / fill.len(), fill)?;
+            slices.extend_from_slice(&blank)?;
+            Ok(true)
+        }
+        Slot::InRange {
+            offset,
+            size: stored,
+        } => {
+            if stored != size {
+                return Ok(false);
+            }
+            let there = slice_behind(alloc, handle, offset, size, slices)?;
+            Ok(there)
+        }
+        Slot::Bad => Ok(false),
+    }
+}
+
+// Puts what a subchunk's new bytes are written over behind the slices: anything where they have all of it, and else its old bytes.
+fn before_behind<I: ArrayToBytesCodecTraits, H: BytesPartialDecoderTraits>(
+    subchunks: &Subchunks<'_, I>,
+    alloc: Global,
+    handle: &mut H,
+    whole: bool,
+    slot: Slot,
+    size: u64,
+    slices: &mut Vec<u8>,
+) -> Result<bool, CodecError>
+    requires plain { IsPlain (subchunk_geo subchunks.now) (inner_meaning I.meaning subchunks.now) size }
+    requires there { IsTrue (H.state handle.old).tells → HasSlice (H.state handle.old).contents slot }
+    ensures read { IsRead (H.state handle.old) (H.state handle.new) }
+    ensures behind { let s = subchunks.now in let inner = inner_meaning I.meaning s in let fill = s.fill_value.now in let places = count_of s.shape.now in
+        IfOk result (λ there. IsTrue there → IsPutBehind slices.old.items slices.new.items size (λ part. IsTrue (H.state handle.old).tells → ¬ (IsTrue whole)
+        → AreOldCells inner.cells fill (bytes_of (H.state handle.old).contents) slot places (pieces (length fill) places part))) }
+    ensures fault { IfErr result (IsCounted (H.state handle.old) (H.state handle.new)) }
+    ensures refused { IfErr result (RefusedBy (ObjectTests (H.state handle.old) (H.state handle.new) done)) }
+{
+    if whole {
+        zeros_behind(slices, size as usize)?;
+        return Ok(true);
+    }
+    let there = old_behind(subchunks, alloc, handle, slot, size, slices)?;
+    Ok(there)
+}
+
+impl<I: ArrayToBytesCodecTraits, X> Writing<'_, I, X> {
+    // Puts a subchunk that a box touches behind the slices with its new cells, where it isn't all fill, and tells where it stands.
+    // `None` where it isn't stored in as many bytes as a subchunk has. Refused as `Fault`, where the handle failed, or
+    // `OutOfMemory`.
+    fn new_behind<H: BytesPartialDecoderTraits>(
+        &self,
+        alloc: Global,
+        handle: &mut H,
+        number: u64,
+        slot: Slot,
+        subset: &ArraySubset,
+        update: &ArrayBytes,
+        size: u64,
+        slices: &mut Vec<u8>,
+    ) -> Result<Option<Slot>, CodecError>
+        requires positive { AllPositive self.now.shape.now }
+        requires well_formed { IsBox subset.now.start subset.now.shape }
+        requires fits { count_of self.now.shape.now < 2 ^ 64 }
+        requires divides { Divides self.now.subchunks.shape.now self.now.shape.now }
+        requires grid { self.now.plan.now.grid ≡ grid_of self.now.shape.now self.now.subchunks.shape.now }
+        requires inside { LiesIn subset.now self.now.shape.now }
+        requires below { number < count_of self.now.plan.now.grid }
+        requires touches { Touches self.now.shape.now self.now.subchunks.shape.now subset.now number }
+        requires plain { IsPlain (subchunk_geo self.now.subchunks) (inner_meaning I.meaning self.now.subchunks) size }
+        requires kind { update.now.kind ≡ size_of self.now.subchunks.data_type.now }
+        requires fitting { All (FitsKind (size_of self.now.subchunks.data_type.now)) update.now.elements }
+        requires all { length update.now.elements ≡ count_of subset.now.shape }
+        requires there { IsTrue (H.state handle.old).tells → HasSlice (H.state handle.old).contents slot }
+        ensures read { IsRead (H.state handle.old) (H.state handle.new) }
+        ensures laid { let s = self.now.subchunks in let inner = inner_meaning I.meaning s in let state = H.state handle.old in
+            IfOk result (λ o. IfSome o (λ new. IsNewBehind inner self.now.shape.now (subchunk_geo s) subset.now update.now.elements state.tells (bytes_of state.contents) slot number
+            slices.old.items slices.new.items new)) }
+        ensures fault { IfErr result (IsCounted (H.state handle.old) (H.state handle.new)) }
+        ensures refused { IfErr result (RefusedBy (ObjectTests (H.state handle.old) (H.state handle.new) done)) }
+    {
+        let grid = &self.plan.grid;
+        let sub = self.subchunks.shape;
+        let meeting = meeting_of(alloc, number, subset, grid, self.shape, sub)?;
+        let from = slices.len();
+        let whole = is_whole(&meeting.in_sub, sub);
+        let there = before_behind(&self.subchunks, alloc, handle, whole, slot, size, slices)?;
+        if there {
+            let fill = self.subchunks.fill_value;
+            let len = fill.as_ne_bytes().len();
+            let axes = subset.shape();
+            overlay_behind(slices, from, len, &meeting, sub.as_slice(), update, axes);
+            let new = slot_behind(slices, from, len, fill);
+            return Ok(Some(new));
+        }
+        Ok(None)
+    }
+
+    // The touched subchunks with their new cells, one after the other, where the codec stores elements as they are in memory.
+    // `None` where it doesn't, or where an old one isn't stored in as many bytes as a subchunk has. Refused as `Fault`, where the
+    // handle failed, or `OutOfMemory`.
+    pub fn laid_plainly<H: BytesPartialDecoderTraits>(
+        &self,
+        alloc: Global,
+        handle: &mut H,
+        len: u64,
+        numbers: &[u64],
+        touched: &[u64],
+        subset: &ArraySubset,
+        update: &ArrayBytes,
+    ) -> Result<Option<LaidOut>, CodecError>
+        requires positive { AllPositive self.now.shape.now }
+        requires well_formed { IsBox subset.now.start subset.now.shape }
+        requires fits { count_of self.now.shape.now < 2 ^ 64 }
+        requires divides { Divides self.now.subchunks.shape.now self.now.shape.now }
+        requires grid { self.now.plan.now.grid ≡ grid_of self.now.shape.now self.now.subchunks.shape.now }
+        requires inside { LiesIn subset.now self.now.shape.now }
+        requires touched { AreTouched self.now.shape.now self.now.subchunks.shape.now subset.now touched.now }
+        requires below { All (λ k. k < count_of self.now.plan.now.grid) touched.now }
+        requires counted { length numbers.now ≡ 2 * count_of self.now.plan.now.grid }
+        requires kind { update.now.kind ≡ size_of self.now.subchunks.data_type.now }
+        requires fitting { All (FitsKind (size_of self.now.subchunks.data_type.now)) update.now.elements }
+        requires all { length update.now.elements ≡ count_of subset.now.shape }
+        requires len { IsTrue (H.state handle.old).tells → length (bytes_of (H.state handle.old).contents) ≡ len }
+        requires there { IsTrue (H.state handle.old).tells → (k : ℕ) → k < count_of self.now.plan.now.grid → HasSlice (H.state handle.old).contents (slot_at len numbers.now k) }
+        ensures read { IsRead (H.state handle.old) (H.state handle.new) }
+        ensures laid { let s = self.now.subchunks in let inner = inner_meaning I.meaning s in let state = H.state handle.old in
+            IfOk result (λ o. IfSome o (λ laid. AreNewSlices inner self.now.shape.now (subchunk_geo s) subset.now update.now.elements state.tells (bytes_of state.contents) numbers.now touched.now
+            laid.bytes.items laid.slots.items (length touched.now))) }
+        ensures passed { let s = self.now.subchunks in let inner = inner_meaning I.meaning s in let bytes = bytes_of (H.state handle.old).contents in
+            IfOk result (λ o. IfSome o (λ laid. IsTrue (H.state handle.old).tells → (k : ℕ) → k < count_of self.now.plan.now.grid
+            → HasOldCells inner self.now.shape.now s.shape.now subset.now bytes numbers.now k)) }
+        ensures fault { IfErr result (IsCounted (H.state handle.old) (H.state handle.new)) }
+        ensures refused { IfErr result (RefusedBy (ObjectTests (H.state handle.old) (H.state handle.new) done)) }
+    {
+        let s = &self.subchunks;
+        let Some(size) = s.codec.plain_size(s.shape, s.data_type, s.fill_value) else {
+            return Ok(None);
+        };
+        let total = (size as usize).saturating_mul(touched.len());
+        let mut bytes: Vec<u8> = Vec::with_capacity(alloc, total)?;
+        let mut slots = Vec::with_capacity(alloc, touched.len())?;
+        for j in 0..touched.len() {
+            let number = touched[j];
+            let slot = slot_in(len, numbers, number as usize);
+            let Some(new) = self.new_behind(
+                alloc, handle, number, slot, subset, update, size, &mut bytes,
+            )?
+            else {
+                return Ok(None);
+            };
+            slots.push(new)?;
+        }
+        Ok(Some(LaidOut { bytes, slots }))
+    }
+}
