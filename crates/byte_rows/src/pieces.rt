@@ -28,14 +28,22 @@ fn write_piece(bytes: &mut [u8], size: usize, i: usize, with: &[u8])
     bytes[from..from + size].copy_from_slice(with);
 }
 
-// Writes bytes over as many others, of a number that is known when it is compiled.
+// Writes bytes over as many others, of a number that is known when it is compiled. They go by a value of their own, which lies
+// apart from the others, so that nothing tests whether the two overlap.
 #[inline(always)]
 fn copy_exactly<const N: usize>(to: &mut [u8], from: &[u8])
     requires taken { length from.now ≡ N }
     requires whole { length to.old ≡ N }
     ensures { to.new ≡ from.now }
 {
-    to[..N].copy_from_slice(&from[..N]);
+    let Some(first) = from.first_chunk::<N>() else {
+        unreachable!()
+    };
+    let first = *first;
+    let Some(front) = to.first_chunk_mut::<N>() else {
+        unreachable!()
+    };
+    *front = first;
 }
 
 // Writes bytes over as many others, of which there are so many at least, and at most twice as many: the first so many, and the
@@ -48,8 +56,8 @@ fn copy_ends<const M: usize>(to: &mut [u8], from: &[u8])
     ensures { to.new ≡ from.now }
 {
     let rest = from.len() - M;
-    to[..M].copy_from_slice(&from[..M]);
-    to[rest..rest + M].copy_from_slice(&from[rest..rest + M]);
+    copy_exactly::<M>(&mut to[..M], &from[..M]);
+    copy_exactly::<M>(&mut to[rest..rest + M], &from[rest..rest + M]);
 }
 
 // Writes bytes over as many others. The first number, where it isn't 0, is how many they are, known when it is compiled; the
