@@ -49,7 +49,8 @@ pub record AreRowsOfShard (fill : Bytes) (shape sub : List ℕ) (b : Bytes) (num
       bytes ≡ concat (map (element_in chunks fill shape sub) (range_with_len 0 (count_of shape)))
 
 -- the elements of a shard are those of its subchunks, each as the slot that names it says
-pub record AreGathered (inner_cells : CellsOf) (g : Geo) (sub : List ℕ) (b : Bytes) (numbers : List ℕ) (elements : List Bytes) : Type 0 where
+pub record AreGathered (inner_cells : CellsOf) (g : Geo) (sub : List ℕ) (b : Bytes)
+    (numbers : List ℕ) (elements : List Bytes) : Type 0 where
   pub subchunks : List (Option Array)
   pub decoded : (k : ℕ) → k < count_of (grid_of g.shape sub)
       → IsDecoded inner_cells (sub_geo sub g) b (slot_at (length b) numbers k) (slice_index_or subchunks k None)

@@ -25,8 +25,8 @@ pub record AreOldCells (inner_cells : CellsOf) (fill bytes : List ℕ) (slot : S
 
 -- what is to be stored of the new cells of subchunk k stands behind the old slices, and the new slot says where; `old` is its slot in
 -- the shard before, of which something is said where the handle tells its bytes
-pub record IsNewBehind (inner : Meaning) (shape : List ℕ) (sub_g : Geo) (box : Region) (update : Elements) (tells : Bool) (bytes : List ℕ) (old : Slot)
-    (k : ℕ) (before after : Bytes) (slot : Slot) : Type 0 where
+pub record IsNewBehind (inner : Meaning) (shape : List ℕ) (sub_g : Geo) (box : Region) (update : Elements) (tells : Bool)
+    (bytes : List ℕ) (old : Slot) (k : ℕ) (before after : Bytes) (slot : Slot) : Type 0 where
   pub elements : Elements
   pub array : IsArrayOf sub_g elements
   pub cells : IsTrue tells → AreNewCells shape sub_g box update (cell_in inner.cells sub_g.fill bytes old) k elements
@@ -34,8 +34,8 @@ pub record IsNewBehind (inner : Meaning) (shape : List ℕ) (sub_g : Geo) (box :
   pub stored : IsStoredBehind inner.written sub_g.fill elements before after slot
 
 -- the first n of the touched subchunks stand with their new cells, one after the other
-pub record AreNewSlices (inner : Meaning) (shape : List ℕ) (sub_g : Geo) (box : Region) (update : Elements) (tells : Bool) (bytes numbers touched : List ℕ)
-    (slices : Bytes) (slots : List Slot) (n : ℕ) : Type 0 where
+pub record AreNewSlices (inner : Meaning) (shape : List ℕ) (sub_g : Geo) (box : Region) (update : Elements) (tells : Bool)
+    (bytes numbers touched : List ℕ) (slices : Bytes) (slots : List Slot) (n : ℕ) : Type 0 where
   pub news : List Elements
   pub counted : length news ≡ n
   pub arrays : (j : ℕ) → j < n → IsArrayOf sub_g (slice_index_or news j [])
