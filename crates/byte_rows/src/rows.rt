@@ -64,13 +64,19 @@ pub(crate) fn copy_rows(
 {
     let bytes = run.saturating_mul(size);
     match bytes {
+        1 => copy_rows_of::<1, 0>(output, size, to, update, from, rows, run),
+        2 => copy_rows_of::<2, 0>(output, size, to, update, from, rows, run),
+        4 => copy_rows_of::<4, 0>(output, size, to, update, from, rows, run),
         8 => copy_rows_of::<8, 0>(output, size, to, update, from, rows, run),
         16 => copy_rows_of::<16, 0>(output, size, to, update, from, rows, run),
         32 => copy_rows_of::<32, 0>(output, size, to, update, from, rows, run),
         64 => copy_rows_of::<64, 0>(output, size, to, update, from, rows, run),
-        4..=7 => copy_rows_of::<0, 4>(output, size, to, update, from, rows, run),
+        3 => copy_rows_of::<0, 2>(output, size, to, update, from, rows, run),
+        5..=7 => copy_rows_of::<0, 4>(output, size, to, update, from, rows, run),
         9..=15 => copy_rows_of::<0, 8>(output, size, to, update, from, rows, run),
         17..=31 => copy_rows_of::<0, 16>(output, size, to, update, from, rows, run),
+        33..=63 => copy_rows_of::<0, 32>(output, size, to, update, from, rows, run),
+        65..=128 => copy_rows_of::<0, 64>(output, size, to, update, from, rows, run),
         _ => copy_rows_of::<0, 0>(output, size, to, update, from, rows, run),
     }
 }
