@@ -115,6 +115,27 @@ impl<A: ArrayToBytesCodecTraits, B: ArrayToBytesCodecTraits> ArrayToBytesCodecTr
         }
     }
 
+    /// As `decode_into` of the codec that it holds.
+    fn decode_into(
+        &self,
+        alloc: Global,
+        bytes: &[u8],
+        shape: &ChunkShape,
+        data_type: &DataType,
+        fill_value: &FillValue,
+        target: &mut FixedTarget,
+        options: &CodecOptions,
+    ) -> Result<(), CodecError> {
+        match self {
+            EitherCodec::First(codec) => {
+                codec.decode_into(alloc, bytes, shape, data_type, fill_value, target, options)
+            }
+            EitherCodec::Second(codec) => {
+                codec.decode_into(alloc, bytes, shape, data_type, fill_value, target, options)
+            }
+        }
+    }
+
     /// As `compact` of the codec that it holds.
     fn compact(
         &self,

@@ -9,3 +9,4 @@ pub mod BoxReadLemmas
 pub mod LocatingLemmas
 pub mod SortingLemmas
 pub mod SortedReads
+pub mod PlacingLemmas

@@ -3,3 +3,4 @@ pub mod Sorting
 pub mod Gathering
 pub mod Updates
 pub mod Meetings
+pub mod Placings

@@ -7,6 +7,7 @@ mod gathering;
 mod grouping;
 mod laying;
 mod meeting;
+mod placing;
 mod sorted;
 mod update;
 
@@ -16,5 +17,6 @@ pub use gathering::{check_lengths, gathered};
 pub use grouping::{Grouping, Places, Standing, grouped};
 pub use laying::room_for;
 pub use meeting::{Meeting, meeting_of};
+pub use placing::placed_subset;
 pub use sorted::{AskedCell, list_places, located, put_cells, run_length, sorted_cells};
 pub use update::check_update;

@@ -3,6 +3,7 @@
 
 mod compact;
 mod encode;
+mod plain;
 mod plan;
 mod read;
 mod sharding;

@@ -11,15 +11,19 @@ ghost use Rattle.shard_format.specs.Grids.{IsCut, ConcurrencyTests};
 ghost use Rattle.shard_format.specs.Compacting.{IsCompact};
 ghost use Rattle.shard_steps.specs.Meanings.{layout_in, inner_of, index_of, meaning_of};
 
-use codec_laws::{ArrayToBytesCodecTraits, BytesRepresentation, RecommendedConcurrency};
+use codec_laws::{
+    ArrayToBytesCodecTraits, BytesRepresentation, RecommendedConcurrency, check_target,
+};
 use object_handles::{BytesPartialDecoderTraits, Interval};
 use shard_cells::{check_asked, gathered};
 use shard_format::{Asked, SubchunkWriteOrder, count_subchunks};
 use shard_index::IndexCodec;
-use shard_layout::{compact_size, present_slots};
+use shard_layout::{compact_size, elements_in_row, present_slots};
 use shard_subchunks::Subchunks;
 use std::alloc::Global;
-use zarr_parts::{ArrayBytes, ChunkShape, CodecError, CodecOptions, DataType, FillValue, Indexer};
+use zarr_parts::{
+    ArrayBytes, ChunkShape, CodecError, CodecOptions, DataType, FillValue, FixedTarget, Indexer,
+};
 
 /// How shards are made (Zarr V3 codec `sharding_indexed`): the shape of a subchunk and the codec that encodes it, the codec that
 /// encodes the index and where it puts it, and in which order subchunks are written.
@@ -87,7 +91,8 @@ impl<I: ArrayToBytesCodecTraits, X: ArrayToBytesCodecTraits> ArrayToBytesCodecTr
         self.encode_planned(alloc, bytes, &asked, &plan, options)
     }
 
-    /// Decodes every subchunk, and gathers them; or takes them straight from the bytes where their elements stand in these.
+    /// Decodes every subchunk: straight from the bytes where subchunks follow one another and their elements stand in these; where
+    /// elements have one size and subchunks do not follow one another, each to where it lies; else it gathers them.
     fn decode<'a>(
         &self,
         alloc: Global,
@@ -115,6 +120,10 @@ impl<I: ArrayToBytesCodecTraits, X: ArrayToBytesCodecTraits> ArrayToBytesCodecTr
         if let Some(straight) = rows {
             return Ok(straight);
         }
+        if inner.has_room(plan.cells) && elements_in_row(shape, self.subchunk_shape).is_none() {
+            let whole = inner.decode_whole(alloc, bytes, &index, shape, plan.cells)?;
+            return Ok(whole);
+        }
         let subchunks = inner.decode(alloc, bytes, &index)?;
         let array = gathered(
             alloc,
@@ -126,6 +135,32 @@ impl<I: ArrayToBytesCodecTraits, X: ArrayToBytesCodecTraits> ArrayToBytesCodecTr
             fill_value.as_ne_bytes(),
         )?;
         Ok(array)
+    }
+
+    /// Where the inner codec stores elements as they are in memory, each slice is copied to where it lies in the target; else all is
+    /// decoded and copied then.
+    fn decode_into(
+        &self,
+        alloc: Global,
+        bytes: &[u8],
+        shape: &ChunkShape,
+        data_type: &DataType,
+        fill_value: &FillValue,
+        target: &mut FixedTarget,
+        options: &CodecOptions,
+    ) -> Result<(), CodecError> {
+        let asked = Asked {
+            shape,
+            data_type,
+            fill_value,
+        };
+        let plan = self.prepared(alloc, &asked)?;
+        check_target(target, shape.num_elements(), data_type)?;
+        if self.copied_into(alloc, bytes, &asked, &plan, target, options)? {
+            return Ok(());
+        }
+        let array = self.decode(alloc, bytes, shape, data_type, fill_value, options)?;
+        target.copy_from(&array)
     }
 
     /// The index and the present slices, ascending and without gaps, or nothing where that has as many bytes.

@@ -2,3 +2,5 @@ pub mod PlainRowLemmas
 pub mod TargetLemmas
 pub mod PlainLemmas
 pub mod DecodedRowLemmas
+pub mod WholeLemmas
+pub mod PutLemmas

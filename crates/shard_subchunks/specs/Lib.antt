@@ -2,3 +2,4 @@ pub mod Inner
 pub mod PlainRows
 pub mod Reads
 pub mod DecodedRows
+pub mod Writes

@@ -24,8 +24,8 @@ use zarr_parts::{
 };
 
 impl<I: ArrayToBytesCodecTraits> Subchunks<'_, I> {
-    // Whether the elements have one size, and a number can say how many bytes so many have together.
-    fn has_room(&self, count: u64) -> bool
+    /// Whether the elements have one size, and a number can say how many bytes so many have together.
+    pub fn has_room(&self, count: u64) -> bool
         requires fill { FitsKind (size_of self.now.data_type.now) self.now.fill_value.now }
         ensures fixed { IsTrue result → size_of self.now.data_type.now ≡ Fixed (length self.now.fill_value.now) }
         ensures fits { IsTrue result → count * length self.now.fill_value.now < 2 ^ 64 }

@@ -10,8 +10,10 @@ mod listed;
 mod plain;
 mod plain_decoded;
 mod plain_rows;
+mod plain_target;
 mod read;
 mod subchunks;
+mod whole;
 
 pub use encoded::Stored;
 pub use subchunks::Subchunks;

@@ -17,7 +17,8 @@ use object_handles::{BytesPartialDecoderTraits, Interval};
 use shard_format::{ShardingIndexLocation, SubchunkWriteOrder, subchunk_subset};
 use std::alloc::Global;
 use zarr_parts::{
-    ArrayBytes, ArraySubset, ChunkShape, CodecError, CodecOptions, DataType, FillValue, Indexer,
+    ArrayBytes, ArraySubset, ChunkShape, CodecError, CodecOptions, DataType, FillValue,
+    FixedTarget, Indexer,
 };
 
 /// The codec `sharding_indexed` (Zarr V3): cuts an array into equal subchunks, encodes each that is not wholly the
@@ -175,6 +176,23 @@ impl<I: ArrayToBytesCodecTraits, X: ArrayToBytesCodecTraits> ArrayToBytesCodecTr
         options: &CodecOptions,
     ) -> Result<ArrayBytes<'a>, CodecError> {
         lent!(self).decode(alloc, bytes, shape, data_type, fill_value, options)
+    }
+
+    /// Decodes a shard into a target, where its elements go to the target's subset, in row-major order. Where the inner codec stores
+    /// elements as they are in memory they are copied there straight. A refusal leaves the target. Refused as `check` refuses,
+    /// then as `WrongElementKind` (a type of another element size or of none), `InvalidNumberOfElements` (another number of
+    /// elements in the target's subset), then as `decode`.
+    fn decode_into(
+        &self,
+        alloc: Global,
+        bytes: &[u8],
+        shape: &ChunkShape,
+        data_type: &DataType,
+        fill_value: &FillValue,
+        target: &mut FixedTarget,
+        options: &CodecOptions,
+    ) -> Result<(), CodecError> {
+        lent!(self).decode_into(alloc, bytes, shape, data_type, fill_value, target, options)
     }
 
     /// The index and the present slices in ascending subchunk number without gaps, each copied for itself; `None` exactly

@@ -35,6 +35,16 @@ pub record IsWritten (old new : FixedTarget) (element : ℕ → Bytes) : Type 0 
   pub elements : IsUpdated (count_of old.subset.now.shape) (number_in old.subset.now old.shape.now)
       (piece old.element_size old.bytes.now) element (piece old.element_size new.bytes.now)
 
+-- a box of a target's array was overwritten by elements in row-major order of this box; all other elements of the same lent bytes stay
+pub record IsPartWritten (old new : FixedTarget) (place : Region) (element : ℕ → Bytes) : Type 0 where
+  pub reference : new.bytes.ghost_name ≡ old.bytes.ghost_name
+  pub element_size : new.element_size ≡ old.element_size
+  pub shape : new.shape.now ≡ old.shape.now
+  pub subset : new.subset.now ≡ old.subset.now
+  pub length : length new.bytes.now ≡ length old.bytes.now
+  pub elements : IsUpdated (count_of place.shape) (number_in place old.shape.now)
+      (piece old.element_size old.bytes.now) element (piece old.element_size new.bytes.now)
+
 -- the tests of elements that are to be written into a target's box
 abbrev pub TargetTests : DataTypeSize → ℕ → FixedTarget → Refusals → Refusals
 TargetTests kind count target later =

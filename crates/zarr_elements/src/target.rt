@@ -62,7 +62,7 @@ fn elements_of_size<'a>(
 }
 
 impl<'a> FixedTarget<'a> {
-    ghost use Rattle.zarr_elements.specs.Targets.{target_bytes, target_element_size, target_shape, target_box, IsWritten, TargetTests};
+    ghost use Rattle.zarr_elements.specs.Targets.{target_bytes, target_element_size, target_shape, target_box, IsWritten, IsPartWritten, TargetTests};
 
     /// Whether so many bytes are an array of a shape with elements of a size that isn't 0, in which the subset lies.
     /// Takes no memory.
@@ -202,5 +202,24 @@ impl<'a> FixedTarget<'a> {
             subset,
             shape,
         );
+    }
+
+    /// Writes elements that come one after the other at the points of a box of the target's array, in row-major order of this
+    /// box. Takes no memory.
+    pub fn copy_part(&mut self, place: &ArraySubset, elements: &[u8])
+        requires served { IsServed place.now (target_shape self.old) }
+        requires whole { length elements.now ≡ count_of place.now.shape * target_element_size self.old }
+        ensures { IsPartWritten self.old self.new place.now (piece (target_element_size self.old) elements.now) }
+    {
+        scatter(self.bytes, self.element_size, place, self.shape, elements);
+    }
+
+    /// Writes one element at each point of a box of the target's array. Takes no memory.
+    pub fn fill_part(&mut self, place: &ArraySubset, element: &[u8])
+        requires served { IsServed place.now (target_shape self.old) }
+        requires whole { length element.now ≡ target_element_size self.old }
+        ensures { IsPartWritten self.old self.new place.now (λ k. element.now) }
+    {
+        fill_box(self.bytes, self.element_size, place, self.shape, element);
     }
 }

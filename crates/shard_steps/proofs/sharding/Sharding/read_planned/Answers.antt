@@ -4,7 +4,7 @@ use Rattle.zarr_parts.specs.Grid.{grid_of}
 use Rattle.object_handles.specs.Objects.{interval_part}
 use Rattle.shard_format.specs.Index.{index_geo}
 use Rattle.shard_format.specs.Serves.{sub_geo, layout}
-use Rattle.shard_format.specs.ReadTests.{numbers_of, AnswerTests}
+use Rattle.shard_format.specs.ReadTests.{numbers_of}
 use Rattle.codec_laws.specs.RefusalLaws.{passed_on}
 use Rattle.shard_format.proofs.ReadLemmas.{asked_cells, cells_refused}
 use Rattle.shard_cells.proofs.ReadGroupLemmas.{read_then}

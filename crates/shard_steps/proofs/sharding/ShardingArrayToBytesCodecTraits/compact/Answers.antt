@@ -1,15 +1,14 @@
-use Rattle.std.proofs.Common.{◌≡◌, ◌≢◌, ◌<◌, ◌+◌, ◌*◌, ◌/◌, ◌^◌, ◌∙◌, ap, sym, Some, length, arith}
+use Rattle.std.proofs.Common.{◌≡◌, ◌<◌, ◌+◌, ◌*◌, ◌/◌, ◌^◌, ◌∙◌, sym, Some, length, arith}
 use Rattle.zarr_parts.specs.Geo.{geo}
 use Rattle.zarr_parts.specs.Grid.{grid_of}
 use Rattle.zarr_parts.specs.Numbering.{count_of}
 use Rattle.shard_format.specs.Index.{index_geo, numbers_in_index}
-use Rattle.shard_format.specs.Serves.{sub_geo, layout, fixed_size}
+use Rattle.shard_format.specs.Serves.{sub_geo, layout}
 use Rattle.zarr_parts.specs.Order.{RefusedBy}
 use Rattle.shard_format.specs.Compacting.{CompactTests}
 use Rattle.shard_format.specs.Laying.{taken}
 use Rattle.shard_format.specs.Packing.{AreSlots}
 use Rattle.codec_laws.specs.RefusalLaws.{passed_on}
-use Rattle.shard_format.proofs.EncodeRefusals.{refused_as}
 use Rattle.shard_format.proofs.PackingLemmas.{good_slots, size_present, compact_shard, compacted_shard}
 use Rattle.shard_format.proofs.CompactRefusals.{index_next, pairs_next, size_next, rewrite_next, may_refuse_compact}
 use Rattle.shard_steps.proofs.sharding.ShardingArrayToBytesCodecTraits.compact.Goals as goal

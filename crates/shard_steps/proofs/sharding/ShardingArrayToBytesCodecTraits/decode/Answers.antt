@@ -8,6 +8,7 @@ use Rattle.shard_format.proofs.LengthLemmas.{lengths_last}
 use Rattle.shard_format.proofs.RefusalLemmas.{lawful, index_first, subchunks_next}
 use Rattle.shard_subchunks.specs.DecodedRows.{AreGathered}
 use Rattle.codec_laws.specs.RefusalLaws.{passed_on}
+use Rattle.shard_subchunks.proofs.WholeLemmas.{cells_whole}
 use Rattle.shard_steps.proofs.sharding.ShardingArrayToBytesCodecTraits.decode.Goals as goal
 
 pub returns-in_err-index-clause-lawful : goal.returns-in_err-index-clause-lawful
@@ -55,6 +56,48 @@ returns-in_err-subchunks-clause-refused g c =
     (rw (plan.index.size, plan.grid) at c.in_ok-index.ensures.numbers) (omega (arith, counted)) (c.in_err-subchunks.ensures.refused) in
     let serves = c.in_ok-plan.ensures.serves in
     passed_on _ e _ c.from_residual-in_err-subchunks.ensures.1 (elim tests [ inl memory ↦ inl memory | inr refused ↦ inr (inr (serves, refused)) ])
+
+pub returns-in_err-whole-clause-lawful : goal.returns-in_err-whole-clause-lawful
+returns-in_err-whole-clause-lawful g c =
+    let s = c.args.self.now in
+    let asked = geo c.args.shape.now c.args.data_type.now c.args.fill_value.now in
+    let index_g = index_geo (grid_of c.args.shape.now s.subchunk_shape.now) in
+    let inner = g.I.ArrayToBytesCodecTraits.meaning s.inner.now (sub_geo s.subchunk_shape.now asked) in
+    let index = g.X.ArrayToBytesCodecTraits.meaning s.index_codec.codec.now index_g in
+    let plan = c.in_ok-plan.ensures.plan in
+    let e = c.in_err-whole.field-0.0 in
+    let counted = rw plan.grid at c.in_ok-index.ensures.counted in
+    let tests = subchunks_next inner index (layout s.subchunk_shape.now s.index_codec.location s.order index.representation asked) c.args.bytes.now c.in_ok-index.index.numbers.items _ e
+    (rw (plan.index.size, plan.grid) at c.in_ok-index.ensures.numbers) (omega (arith, counted)) (c.in_err-whole.ensures.refused) in
+    passed_on _ e _ c.from_residual-in_err-whole.ensures.1 (λ serves. lawful inner index s.subchunk_shape.now s.index_codec.location s.order asked c.args.bytes.now e
+    serves (rw plan.subchunks at plan.some) plan.places
+    ((g.met.I.ArrayToBytesCodecTraits.lawful s.inner.now _).cells_counted) ((g.met.X.ArrayToBytesCodecTraits.lawful s.index_codec.codec.now _).cells_counted) ((g.met.X.ArrayToBytesCodecTraits.lawful s.index_codec.codec.now _).cells_fitting) tests)
+
+pub returns-in_err-whole-clause-refused : goal.returns-in_err-whole-clause-refused
+returns-in_err-whole-clause-refused g c =
+    let s = c.args.self.now in
+    let asked = geo c.args.shape.now c.args.data_type.now c.args.fill_value.now in
+    let index_g = index_geo (grid_of c.args.shape.now s.subchunk_shape.now) in
+    let inner = g.I.ArrayToBytesCodecTraits.meaning s.inner.now (sub_geo s.subchunk_shape.now asked) in
+    let index = g.X.ArrayToBytesCodecTraits.meaning s.index_codec.codec.now index_g in
+    let plan = c.in_ok-plan.ensures.plan in
+    let e = c.in_err-whole.field-0.0 in
+    let counted = rw plan.grid at c.in_ok-index.ensures.counted in
+    let tests = subchunks_next inner index (layout s.subchunk_shape.now s.index_codec.location s.order index.representation asked) c.args.bytes.now c.in_ok-index.index.numbers.items _ e
+    (rw (plan.index.size, plan.grid) at c.in_ok-index.ensures.numbers) (omega (arith, counted)) (c.in_err-whole.ensures.refused) in
+    let serves = c.in_ok-plan.ensures.serves in
+    passed_on _ e _ c.from_residual-in_err-whole.ensures.1 (elim tests [ inl memory ↦ inl memory | inr refused ↦ inr (inr (serves, refused)) ])
+
+pub returns-then-is_none-clause-cells : goal.returns-then-is_none-clause-cells
+returns-then-is_none-clause-cells g c =
+    let s = c.args.self.now in
+    let asked = geo c.args.shape.now c.args.data_type.now c.args.fill_value.now in
+    let inner_cells = (g.I.ArrayToBytesCodecTraits.meaning s.inner.now (sub_geo s.subchunk_shape.now asked)).cells in
+    let index_cells = (g.X.ArrayToBytesCodecTraits.meaning s.index_codec.codec.now (index_geo (grid_of c.args.shape.now s.subchunk_shape.now))).cells in
+    let size = fixed_size ((g.X.ArrayToBytesCodecTraits.meaning s.index_codec.codec.now (index_geo (grid_of c.args.shape.now s.subchunk_shape.now))).representation) in
+    let plan = c.in_ok-plan.ensures.plan in
+    cells_whole inner_cells index_cells s.subchunk_shape.now s.index_codec.location s.order size asked c.args.bytes.now
+    c.in_ok-index.index.numbers.items c.in_ok-whole.whole.elements (rw (plan.index.size, plan.grid) at c.in_ok-index.ensures.numbers) (rw plan.cells at c.in_ok-whole.ensures.cells)
 
 pub returns-clause-array : goal.returns-clause-array
 returns-clause-array g c =

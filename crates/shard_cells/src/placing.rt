@@ -1,0 +1,54 @@
+// Where a subchunk lies of an array that is itself a box of another array.
+ghost use Rattle.std.specs.Prelude.{◌≡◌, ◌+◌, ◌^◌, ◌<◌, IfOk, IfErr};
+ghost use Rattle.zarr_parts.specs.Numbering.{count_of, zip_with};
+ghost use Rattle.zarr_parts.specs.Boxes.{IsBox};
+ghost use Rattle.zarr_parts.specs.Grid.{Divides, grid_of, grid_box};
+ghost use Rattle.zarr_parts.specs.CodecError.TheVariants.{OutOfMemory};
+ghost use Rattle.shard_cells.specs.Placings.{placed_box};
+
+use shard_format::subchunk_subset;
+use std::alloc::{AllocError, Global};
+use zarr_parts::{ArraySubset, Axes, ChunkShape, CodecError};
+
+// The starts of a box, counted from an origin's own origin.
+fn moved(alloc: Global, start: &[u64], origin: &[u64]) -> Result<Axes, AllocError>
+    requires { IsBox origin.now start.now }
+    ensures { IfOk result (λ axes. axes.items ≡ zip_with ◌+◌ origin.now start.now) }
+{
+    let mut axes = Axes::new(alloc);
+    for axis in 0..origin.len() {
+        axes.push(origin[axis] + start[axis])?;
+    }
+    Ok(axes)
+}
+
+/// The box of a subchunk of a shape, where this is the shape of a box of another array: the subchunk's box there. Refused only
+/// as out of memory.
+pub fn placed_subset(
+    alloc: Global,
+    number: u64,
+    shape: &ChunkShape,
+    grid: &ChunkShape,
+    sub: &ChunkShape,
+    within: &ArraySubset,
+) -> Result<ArraySubset, CodecError>
+    requires fits { count_of shape.now < 2 ^ 64 }
+    requires divides { Divides sub.now shape.now }
+    requires grid { grid.now ≡ grid_of shape.now sub.now }
+    requires below { number < count_of grid.now }
+    requires same { within.now.shape ≡ shape.now }
+    ensures placed { IfOk result (λ placed. placed ≡ placed_box within.now (grid_box grid.now sub.now number)) }
+    ensures refused { IfErr result (λ e. e ≡ OutOfMemory) }
+{
+    let _axes = shape.as_slice();
+    let _lengths = within.shape();
+    let Some(part) = subchunk_subset(alloc, number, grid, sub)? else {
+        unreachable!()
+    };
+    let start = moved(alloc, part.start(), within.start())?;
+    let lengths = Axes::from_slice(alloc, part.shape())?;
+    match ArraySubset::new_with_axes(start, lengths) {
+        Some(placed) => Ok(placed),
+        None => unreachable!(),
+    }
+}

@@ -1,0 +1,149 @@
+// A whole shard whose inner codec stores elements as they are in memory, copied slice by slice to where each lies in a target.
+ghost use Rattle.std.specs.Prelude.{◌≡◌, ◌+◌, ◌*◌, ◌/◌, ◌^◌, ◌<◌, ℕ, Some, IsTrue, IfOk, IfErr, OnErr, map, length, slice_index_or};
+ghost use Rattle.std.specs.List.{range_with_len};
+ghost use Rattle.zarr_parts.specs.Numbering.{count_of};
+ghost use Rattle.zarr_parts.specs.Boxes.{IsServed};
+ghost use Rattle.zarr_parts.specs.Grid.{Divides, grid_of, grid_box};
+ghost use Rattle.zarr_parts.specs.Targets.{target_element_size, target_shape, target_box};
+ghost use Rattle.zarr_parts.specs.CodecError.TheVariants.{OutOfMemory};
+ghost use Rattle.codec_laws.specs.Encodings.{IsPlain};
+ghost use Rattle.codec_laws.specs.Reads.{IsDecodedInto};
+ghost use Rattle.shard_format.specs.Index.{slot_at};
+ghost use Rattle.shard_format.specs.Cells.{indexed_cell};
+ghost use Rattle.shard_format.specs.Decoding.{FitsSlot};
+ghost use Rattle.shard_cells.specs.Placings.{placed_box, no_box};
+ghost use Rattle.shard_subchunks.specs.Inner.{subchunk_geo, inner_meaning};
+ghost use Rattle.shard_subchunks.specs.Writes.{IsPlainSlot, IsSlotPut};
+
+use crate::subchunks::Subchunks;
+use codec_laws::ArrayToBytesCodecTraits;
+use shard_cells::placed_subset;
+use shard_format::{ShardIndex, Slot, calculate_chunks_per_shard};
+use std::alloc::Global;
+use zarr_parts::{ArraySubset, ChunkShape, CodecError, FixedTarget};
+
+// Whether a box has as many coordinates along each axis as a shape.
+fn same_axes(lengths: &[u64], shape: &[u64]) -> bool
+    ensures { IsTrue result → lengths.now ≡ shape.now }
+{
+    lengths == shape
+}
+
+// Whether a subchunk is absent, or its slice has so many bytes.
+fn is_plain(slot: Slot, size: u64) -> bool
+    ensures { IsTrue result → IsPlainSlot size slot }
+{
+    match slot {
+        Slot::Absent => true,
+        Slot::InRange {
+            offset: _,
+            size: len,
+        } => len == size,
+        Slot::Bad => false,
+    }
+}
+
+// Whether each subchunk is absent, or its slice has so many bytes.
+fn are_plain(index: &ShardIndex, size: u64) -> bool
+    ensures { IsTrue result → (k : ℕ) → k < length index.now.numbers.items / 2 → IsPlainSlot size (slot_at index.now.len index.now.numbers.items k) }
+{
+    for k in 0..index.subchunks() {
+        if !is_plain(index.slot(k), size) {
+            return false;
+        }
+    }
+    true
+}
+
+// The box of each subchunk of a shape, which is that of a box of another array, in this array. Refused only as out of memory.
+fn placed_subsets(
+    alloc: Global,
+    count: usize,
+    shape: &ChunkShape,
+    grid: &ChunkShape,
+    sub: &ChunkShape,
+    within: &ArraySubset,
+) -> Result<Vec<ArraySubset>, CodecError>
+    requires count { count ≡ count_of grid.now }
+    requires fits { count_of shape.now < 2 ^ 64 }
+    requires divides { Divides sub.now shape.now }
+    requires grid { grid.now ≡ grid_of shape.now sub.now }
+    requires same { within.now.shape ≡ shape.now }
+    ensures counted { IfOk result (λ boxes. length boxes.items ≡ count) }
+    ensures each { IfOk result (λ boxes. (k : ℕ) → k < count → slice_index_or boxes.items k no_box ≡ placed_box within.now (grid_box grid.now sub.now k)) }
+    ensures refused { IfErr result (λ e. e ≡ OutOfMemory) }
+{
+    let mut boxes = Vec::with_capacity(alloc, count)?;
+    for k in 0..count {
+        let placed = placed_subset(alloc, k as u64, shape, grid, sub, within)?;
+        boxes.push(placed)?;
+    }
+    Ok(boxes)
+}
+
+impl<I: ArrayToBytesCodecTraits> Subchunks<'_, I> {
+    // Copies the slice that a slot names, or fill values where there is none, to a box of a target's array.
+    fn put_slot(
+        &self,
+        bytes: &[u8],
+        slot: Slot,
+        _size: u64,
+        place: &ArraySubset,
+        target: &mut FixedTarget,
+    )
+        requires fits { FitsSlot (length bytes.now) slot }
+        requires plain { IsPlain (subchunk_geo self.now) (inner_meaning I.meaning self.now) _size }
+        requires slot { IsPlainSlot _size slot }
+        requires element { target_element_size target.old ≡ length self.now.fill_value.now }
+        requires served { IsServed place.now (target_shape target.old) }
+        requires counted { place.now.shape ≡ self.now.shape.now }
+        ensures { let inner = inner_meaning I.meaning self.now in
+            IsSlotPut inner.cells self.now.fill_value.now bytes.now slot (count_of self.now.shape.now) place.now target.old target.new }
+    {
+        match slot {
+            Slot::InRange { offset, size } => {
+                let rest = &bytes[offset as usize..];
+                target.copy_part(place, &rest[..size as usize]);
+            }
+            Slot::Absent => target.fill_part(place, self.fill_value.as_ne_bytes()),
+            Slot::Bad => unreachable!(),
+        }
+    }
+
+    /// Copies a whole shard into a target, where the inner codec stores each subchunk as so many bytes that are its elements, the
+    /// target's subset has the shard's shape, and each subchunk is absent or has a slice of so many bytes. False where it is not
+    /// so; the target is then as it was. Refused only as out of memory, which leaves the target.
+    pub fn put_plain(
+        &self,
+        alloc: Global,
+        bytes: &[u8],
+        index: &ShardIndex,
+        size: u64,
+        shape: &ChunkShape,
+        target: &mut FixedTarget,
+    ) -> Result<bool, CodecError>
+        requires plain { IsPlain (subchunk_geo self.now) (inner_meaning I.meaning self.now) size }
+        requires len { index.now.len ≡ length bytes.now }
+        requires index { length index.now.numbers.items ≡ 2 * count_of (grid_of shape.now self.now.shape.now) }
+        requires element { target_element_size target.old ≡ length self.now.fill_value.now }
+        requires fits { count_of shape.now < 2 ^ 64 }
+        requires divides { Divides self.now.shape.now shape.now }
+        ensures put { let inner = inner_meaning I.meaning self.now in
+            IfOk result (λ done. IsTrue done → IsDecodedInto target.old target.new
+            (map (indexed_cell inner.cells shape.now self.now.shape.now self.now.fill_value.now bytes.now index.now.numbers.items) (range_with_len 0 (count_of shape.now)))) }
+        ensures kept { IfOk result (λ done. (¬ (IsTrue done)) → target.new ≡ target.old) }
+        ensures left { OnErr result (target.new ≡ target.old) }
+        ensures refused { IfErr result (λ e. e ≡ OutOfMemory) }
+    {
+        if !same_axes(target.subset().shape(), shape.as_slice()) || !are_plain(index, size) {
+            return Ok(false);
+        }
+        let grid = calculate_chunks_per_shard(alloc, shape, self.shape)?;
+        let count = index.subchunks();
+        let boxes = placed_subsets(alloc, count, shape, &grid, self.shape, target.subset())?;
+        for k in 0..count {
+            self.put_slot(bytes, index.slot(k), size, &boxes[k], target);
+        }
+        Ok(true)
+    }
+}
