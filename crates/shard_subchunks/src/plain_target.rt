@@ -13,7 +13,7 @@ ghost use Rattle.shard_format.specs.Cells.{indexed_cell};
 ghost use Rattle.shard_format.specs.Decoding.{FitsSlot};
 ghost use Rattle.shard_cells.specs.Placings.{placed_box, no_box};
 ghost use Rattle.shard_subchunks.specs.Inner.{subchunk_geo, inner_meaning};
-ghost use Rattle.shard_subchunks.specs.Writes.{IsPlainSlot, IsSlotPut};
+ghost use Rattle.shard_subchunks.specs.Writes.{IsOfSize, IsSlotPut};
 
 use crate::subchunks::Subchunks;
 use codec_laws::ArrayToBytesCodecTraits;
@@ -31,7 +31,7 @@ fn same_axes(lengths: &[u64], shape: &[u64]) -> bool
 
 // Whether a subchunk is absent, or its slice has so many bytes.
 fn is_plain(slot: Slot, size: u64) -> bool
-    ensures { IsTrue result → IsPlainSlot size slot }
+    ensures { IsTrue result → IsOfSize size slot }
 {
     match slot {
         Slot::Absent => true,
@@ -45,7 +45,7 @@ fn is_plain(slot: Slot, size: u64) -> bool
 
 // Whether each subchunk is absent, or its slice has so many bytes.
 fn are_plain(index: &ShardIndex, size: u64) -> bool
-    ensures { IsTrue result → (k : ℕ) → k < length index.now.numbers.items / 2 → IsPlainSlot size (slot_at index.now.len index.now.numbers.items k) }
+    ensures { IsTrue result → (k : ℕ) → k < length index.now.numbers.items / 2 → IsOfSize size (slot_at index.now.len index.now.numbers.items k) }
 {
     for k in 0..index.subchunks() {
         if !is_plain(index.slot(k), size) {
@@ -93,7 +93,7 @@ impl<I: ArrayToBytesCodecTraits> Subchunks<'_, I> {
     )
         requires fits { FitsSlot (length bytes.now) slot }
         requires plain { IsPlain (subchunk_geo self.now) (inner_meaning I.meaning self.now) _size }
-        requires slot { IsPlainSlot _size slot }
+        requires slot { IsOfSize _size slot }
         requires element { target_element_size target.old ≡ length self.now.fill_value.now }
         requires served { IsServed place.now (target_shape target.old) }
         requires counted { place.now.shape ≡ self.now.shape.now }
