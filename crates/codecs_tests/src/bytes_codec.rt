@@ -214,8 +214,11 @@ fn plain_pair(
 // Elements are plain where they have no byte order, or that of memory; arrays that are not served never are.
 #[test]
 fn elements_in_the_order_of_memory_are_plain(rt: HostRuntime) {
-    let (little, big, unordered) =
-        (BytesCodec::little(), BytesCodec::big(), BytesCodec::new(None));
+    let (little, big, unordered) = (
+        BytesCodec::little(),
+        BytesCodec::big(),
+        BytesCodec::new(None),
+    );
     let rows: [(BytesCodec, DataType, &[u8], Option<u64>); 7] = [
         (little, DataType::UInt16, &[0, 0], Some(4)),
         (big, DataType::UInt16, &[0, 0], None),

@@ -337,9 +337,13 @@ impl ArrayToBytesCodecTraits for BytesCodec {
         fill_value: &FillValue,
     ) -> Option<u64> {
         match self.measured(shape, data_type, fill_value) {
-            Ok(Measure {
-                total, reversed, ..
-            }) if !reversed => Some(total),
+            Ok(
+                Measure {
+                    total,
+                    reversed,
+                    ..
+                },
+            ) if !reversed => Some(total),
             _ => None,
         }
     }
