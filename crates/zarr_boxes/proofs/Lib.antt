@@ -1,3 +1,4 @@
+mod AxesLemmas
 pub mod NumberingLaws
 pub mod BoxLaws
 pub mod PieceLaws

@@ -1,3 +1,4 @@
+pub mod Axes
 pub mod Numbering
 pub mod Boxes
 pub mod Overlaps

@@ -37,7 +37,7 @@ impl PartialEq for ChunkShape {
 
     /// Whether both shapes have the same axes.
     fn eq(&self, other: &Self) -> bool {
-        self.axes == other.axes
+        self.axes.as_slice() == other.axes.as_slice()
     }
 }
 

@@ -33,7 +33,7 @@ unreachable-requires c =
     let m = spans_meet c.args.shape.now c.args.sub.now c.args.number c.args.subset.now c.as_slice-axes.ensures.positive c.requires.fits c.requires.divides
     (rw c.requires.grid at c.requires.below) c.start.ensures.well_formed c.requires.inside c.requires.touches _ _ _ _ _ _
     c.start.ensures.value c.shape.ensures.value (c.as_slice.ensures.value ∙ c.requires.grid) c.as_slice-2.ensures.value c.in_ok-in_sub.ensures.in_sub c.in_ok-in_sub.ensures.in_box in
-    c.in_default.ensures (rw (c.in_ok-same_lengths.ensures.ok ∙ c.deref.ensures) m.sub_well_formed)
+    c.in_default.ensures (rw (c.in_ok-same_lengths.ensures ∙ c.deref.ensures) m.sub_well_formed)
 
 pub unreachable-requires-in_default-new_with_axes : goal.unreachable-requires-in_default-new_with_axes
 unreachable-requires-in_default-new_with_axes c =
@@ -47,5 +47,5 @@ returns-clause-meets c =
     let m = spans_meet c.args.shape.now c.args.sub.now c.args.number c.args.subset.now c.as_slice-axes.ensures.positive c.requires.fits c.requires.divides
     (rw c.requires.grid at c.requires.below) c.start.ensures.well_formed c.requires.inside c.requires.touches _ _ _ _ _ _
     c.start.ensures.value c.shape.ensures.value (c.as_slice.ensures.value ∙ c.requires.grid) c.as_slice-2.ensures.value c.in_ok-in_sub.ensures.in_sub c.in_ok-in_sub.ensures.in_box in
-    let same = c.in_ok-same_lengths.ensures.ok ∙ c.deref.ensures in
+    let same = c.in_ok-same_lengths.ensures ∙ c.deref.ensures in
     rw (c.in-Some.ensures.1, c.in-Some-new_with_axes.ensures.1, same) m

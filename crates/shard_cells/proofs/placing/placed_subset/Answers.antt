@@ -34,6 +34,6 @@ unreachable-requires-in-None c =
     let k = c.args.number in
     let found = rw (c.in-Some.is, c.requires.grid) at c.in_ok-part.ensures.subset in
     let below = rw c.requires.grid at c.requires.below in
-    c.in-None.ensures (rw (c.in_ok-start.ensures, c.start-2.ensures.value, c.start.ensures.value, c.in_ok-lengths.ensures.ok, c.shape.ensures.value, found.1)
+    c.in-None.ensures (rw (c.in_ok-start.ensures, c.start-2.ensures.value, c.start.ensures.value, c.in_ok-lengths.ensures, c.shape.ensures.value, found.1)
     (placed-is_box c.args.within.now.start _ sub shape (subchunk_box-axes shape sub k c.requires.divides below) (subchunk_box-lies_in shape sub k c.requires.divides below)
     (rw c.requires.same at c.shape-lengths.ensures.well_formed)))

@@ -5,5 +5,5 @@ use Rattle.zarr_boxes.proofs.subset.ArraySubset.new_with_shape.Goals as goal
 pub invariant_of-result : goal.invariant_of-result
 invariant_of-result c =
     let long : c.len.result ≡ length c.args.shape.items = omega (arith, c.len.ensures) in
-    let zeros = c.in_ok-start.ensures.items_if_clones_equal (λ y e. e) ∙ ap (λ n. replicate {A = ℕ} n 0) long in
-    rw c.from_vec-shape.ensures.items (is_box_from_zero c.in_ok-start.start.items c.args.shape.items zeros (λ k lt. omega arith))
+    let zeros = c.in_ok-start.ensures ∙ ap (λ n. replicate {A = ℕ} n 0) long in
+    rw c.from_vec-shape.ensures (is_box_from_zero c.in_ok-start.start.items c.args.shape.items zeros (λ k lt. omega arith))
