@@ -2,7 +2,7 @@
 use crate::compared::same;
 use crate::examples::shape;
 use std::alloc::Global;
-use zarr_parts::{Axes, ChunkShape, CodecError};
+use zarr_parts::{ArraySubset, Axes, ChunkShape, CodecError};
 
 // How many cells a shape of these axes has, where the count fits 64 bits; a fault where it is none.
 fn cells(alloc: Global, axes: &[u64]) -> Result<Option<u64>, CodecError> {
@@ -12,8 +12,9 @@ fn cells(alloc: Global, axes: &[u64]) -> Result<Option<u64>, CodecError> {
 // No axis is zero, and the others are multiplied.
 #[test]
 fn the_axes_are_multiplied(rt: HostRuntime) {
-    let rows: [(&[u64], Result<Option<u64>, CodecError>); 5] = [
+    let rows: [(&[u64], Result<Option<u64>, CodecError>); 6] = [
         (&[4, 0], Err(CodecError::Fault)),
+        (&[2, 3, 4, 5, 6], Ok(Some(720))),
         (&[], Ok(Some(1))),
         (&[2, 3], Ok(Some(6))),
         (&[4, 4], Ok(Some(16))),
@@ -48,4 +49,38 @@ fn is_copied(alloc: Global, axes: &[u64]) -> Result<bool, CodecError> {
 fn a_copy_is_equal(rt: HostRuntime) {
     same(&rt, is_copied(rt.alloc(), &[2, 3]), Ok(true));
     same(&rt, is_copied(rt.alloc(), &[3, 2]), Ok(false));
+}
+
+// Whether axes that are added one by one are those.
+fn are_added(alloc: Global, axes: &[u64]) -> Result<bool, CodecError> {
+    let mut added = Axes::new(alloc);
+    for axis in axes {
+        added.push(*axis)?;
+    }
+    Ok(added.len() == axes.len() && added.as_slice() == axes)
+}
+
+// Few axes and many are held in their order.
+#[test]
+fn axes_are_added(rt: HostRuntime) {
+    let rows: [&[u64]; 4] = [&[], &[9, 8, 7, 6], &[9, 8, 7, 6, 5], &[9, 8, 7, 6, 5, 4]];
+    for axes in rows {
+        same(&rt, are_added(rt.alloc(), axes), Ok(true));
+    }
+}
+
+// Whether the box of all coordinates of a shape begins at zero on each axis.
+fn begins_at_zero(alloc: Global, axes: &[u64]) -> Result<bool, CodecError> {
+    let all = ArraySubset::new_with_shape(alloc, Vec::from_slice(alloc, axes)?)?;
+    let zeros = Axes::from_elem(alloc, 0, axes.len())?;
+    Ok(all.start() == zeros.as_slice() && all.shape() == axes)
+}
+
+// A box has as many axes as its shape, few or many.
+#[test]
+fn a_whole_box_begins_at_zero(rt: HostRuntime) {
+    let rows: [&[u64]; 2] = [&[2, 3], &[2, 3, 4, 5, 6]];
+    for axes in rows {
+        same(&rt, begins_at_zero(rt.alloc(), axes), Ok(true));
+    }
 }

@@ -45,7 +45,8 @@ impl PartialEq for ArraySubset {
 
     /// Whether both boxes have the same start and the same shape.
     fn eq(&self, other: &Self) -> bool {
-        self.start.as_slice() == other.start.as_slice() && self.shape.as_slice() == other.shape.as_slice()
+        self.start.as_slice() == other.start.as_slice()
+            && self.shape.as_slice() == other.shape.as_slice()
     }
 }
 
