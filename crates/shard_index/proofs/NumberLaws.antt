@@ -1,6 +1,6 @@
 -- Numbers of eight bytes each, laid end to end.
-use Rattle.std.proofs.Common.{◌≡◌, ℕ, zero, suc, ◌+◌, ◌*◌, ◌/◌, ◌<◌, List, [], ◌∷◌, ◌++◌, length, map, take, drop, refl, sym, ap, ◌∙◌, arith}
-use Rattle.std.specs.List.{All, concat}
+use Rattle.std.proofs.Common.{◌≡◌, ℕ, ◌/◌, ◌<◌, List, [], ◌∷◌, ◌++◌, length, map, drop, refl, ap, ◌∙◌}
+use Rattle.std.specs.List.{All, concat, flat_map}
 use Rattle.std.specs.Simd.{first_chunks}
 use Rattle.std.proofs.lemmas.List.{take_at, drop_at}
 use Rattle.std.proofs.lemmas.List.Elements.{All-map, All-head, All-rest, All-from_get_or}
@@ -26,3 +26,8 @@ chunks_of n xs bytes some h is =
 pub numbers_sized : (numbers : List ℕ) → All (λ e. length e ≡ 8) (map element_of_number numbers)
 numbers_sized numbers =
     All-map (λ (e : List ℕ). length e ≡ 8) element_of_number numbers (All-from_get_or (λ n. length (element_of_number n) ≡ 8) numbers 0 (λ k lt. refl))
+
+-- lists laid end to end
+pub joined : (xs : List (List ℕ)) → flat_map {X = List ℕ} (λ x. x) xs ≡ concat xs
+joined [] = refl
+joined (x ∷ xs) = ap (λ ys. x ++ ys) (joined xs)

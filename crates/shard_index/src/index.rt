@@ -12,7 +12,7 @@ ghost use Rattle.shard_format.specs.Laying.{EndsBelow, IsIndexOf};
 ghost use Rattle.shard_format.specs.declared.slot.Slot.TheVariants.{Bad};
 ghost use Rattle.shard_index.specs.Indexes.{index_meaning, IsIndexPlan};
 
-use crate::numbers::{array_of_numbers, numbers_of_array, numbers_of_slots};
+use crate::numbers::{array_of_chunks, chunks_of_numbers, numbers_of_array, numbers_of_slots};
 use crate::place::{index_bytes, start_of_data, start_of_index};
 use codec_laws::{ArrayToBytesCodecTraits, BytesRepresentation};
 use object_handles::{ByteRange, BytesPartialDecoderTraits, Interval, read_range};
@@ -195,7 +195,8 @@ impl<X: ArrayToBytesCodecTraits> IndexCodec<'_, X> {
         ensures refused { let index = index_meaning X.meaning self.now.codec.now plan.now.grid in
             IfErr result (RefusedBy (RefusesIndex index (count_of plan.now.grid))) }
     {
-        let array = array_of_numbers(alloc, numbers)?;
+        let chunks = chunks_of_numbers(alloc, numbers)?;
+        let array = array_of_chunks(&chunks);
         let data_type = DataType::UInt64;
         let index = self.codec.encode(alloc, &array, &plan.shape, &data_type, &plan.fill, options)?;
         Ok(index)

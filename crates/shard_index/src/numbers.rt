@@ -1,6 +1,6 @@
 // The numbers of an index: from the elements of an array and back, and from slots.
 ghost use Rattle.std.specs.Prelude.{◌≡◌, ◌<◌, ◌*◌, ◌/◌, ◌^◌, ℕ, IfOk, IfErr, map, length, slice_index_or};
-ghost use Rattle.std.specs.List.{All, flat_map};
+ghost use Rattle.std.specs.List.{All};
 ghost use Rattle.std.specs.Simd.{first_chunks};
 ghost use Rattle.zarr_parts.specs.DataTypeSize.TheVariants.{Fixed};
 ghost use Rattle.zarr_parts.specs.CodecError.TheVariants.{OutOfMemory};
@@ -67,29 +67,24 @@ pub(crate) fn numbers_of_slots(
     Ok(numbers)
 }
 
-// The bytes of these numbers, one after the other.
-fn bytes_of_numbers(alloc: Global, numbers: &[u64]) -> Result<Vec<u8>, AllocError>
-    ensures { IfOk result (λ bytes. bytes.items ≡ flat_map element_of_number numbers.now) }
+// The bytes of these numbers, eight of each.
+pub(crate) fn chunks_of_numbers(alloc: Global, numbers: &[u64]) -> Result<Vec<[u8; 8]>, AllocError>
+    ensures { IfOk result (λ chunks. chunks.items ≡ map element_of_number numbers.now) }
 {
-    let mut bytes = Vec::with_capacity(alloc, numbers.len().saturating_mul(8))?;
+    let mut chunks = Vec::with_capacity(alloc, numbers.len())?;
     for number in numbers {
-        bytes.extend_from_slice(&number.to_le_bytes())?;
+        chunks.push(number.to_le_bytes())?;
     }
-    Ok(bytes)
+    Ok(chunks)
 }
 
-// The array of these numbers.
-pub(crate) fn array_of_numbers(
-    alloc: Global,
-    numbers: &[u64],
-) -> Result<ArrayBytes<'static>, CodecError>
-    ensures refused { IfErr result (λ e. e ≡ OutOfMemory) }
-    ensures kind { IfOk result (λ array. array.kind ≡ Fixed 8) }
-    ensures elements { IfOk result (λ array. array.elements ≡ map element_of_number numbers.now) }
+// The array whose elements these are.
+pub(crate) fn array_of_chunks(chunks: &[[u8; 8]]) -> ArrayBytes<'_>
+    ensures kind { result.kind ≡ Fixed 8 }
+    ensures elements { result.elements ≡ chunks.now }
 {
-    let bytes = bytes_of_numbers(alloc, numbers)?;
-    match ArrayBytes::new_flen(CowSlice::Owned(bytes), 8) {
-        Some(array) => Ok(array),
+    match ArrayBytes::new_flen(CowSlice::Borrowed(chunks.as_flattened()), 8) {
+        Some(array) => array,
         None => unreachable!(),
     }
 }

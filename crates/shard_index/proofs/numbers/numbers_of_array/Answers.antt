@@ -1,5 +1,4 @@
-use Rattle.std.proofs.Common.{◌≡◌, ◌/◌, ◌∙◌, ap, arith, length, map}
-use Rattle.std.specs.Simd.{first_chunks}
+use Rattle.std.proofs.Common.{◌∙◌, ap, arith, map}
 use Rattle.shard_format.specs.Index.{number_of_element}
 use Rattle.shard_index.proofs.NumberLaws.{chunks_of}
 use Rattle.shard_index.proofs.numbers.numbers_of_array.Goals as goal

@@ -1,5 +1,4 @@
 use Rattle.std.proofs.Common.{◌∙◌, ◌*◌, ℕ, ap}
-use Rattle.codec_laws.specs.RefusalLaws.{passed_on}
 use Rattle.shard_index.proofs.index.IndexCodec.encode.Goals as goal
 
 pub encode_numbers-requires-clause-counted : goal.encode_numbers-requires-clause-counted
