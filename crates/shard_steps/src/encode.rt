@@ -1,8 +1,11 @@
 // From the elements of an array to the bytes of a shard.
-ghost use Rattle.std.specs.Prelude.{◌≡◌, IfOk, IfErr, OnOk};
+ghost use Rattle.std.specs.Prelude.{◌≡◌, ◌≤◌, ◌+◌, ◌++◌, IfErr, OnOk, OnErr, length, take, drop, replicate};
 ghost use Rattle.zarr_parts.specs.Order.{RefusedBy};
 ghost use Rattle.zarr_parts.specs.Geo.{IsArrayOf};
 ghost use Rattle.zarr_parts.specs.Types.{size_of};
+ghost use Rattle.zarr_parts.specs.CodecError.TheVariants.{OutOfMemory};
+ghost use Rattle.shard_format.specs.Index.{data_start};
+ghost use Rattle.shard_format.specs.Laying.{whole_shard};
 ghost use Rattle.shard_index.specs.Indexes.{index_meaning};
 ghost use Rattle.shard_steps.specs.Meanings.{meaning_of};
 ghost use Rattle.shard_steps.specs.Plans.{asked_geo, IsPlan};
@@ -10,16 +13,58 @@ ghost use Rattle.shard_steps.specs.Plans.{asked_geo, IsPlan};
 use crate::plan::Plan;
 use crate::sharding::Sharding;
 use codec_laws::ArrayToBytesCodecTraits;
-use shard_format::Asked;
-use shard_layout::joined_shard;
+use shard_format::{Asked, ShardingIndexLocation};
 use shard_subchunks::Subchunks;
-use std::alloc::Global;
+use std::alloc::{AllocError, Global};
 use zarr_parts::{ArrayBytes, CodecError, CodecOptions};
 
+// Puts zeros behind bytes that are there where the index of a shard, of this size, stands in front of the data part. A refusal
+// leaves the bytes. Refused only as out of memory.
+fn make_room(
+    bytes: &mut Vec<u8>,
+    location: ShardingIndexLocation,
+    size: u64,
+) -> Result<(), CodecError>
+    ensures behind { OnOk result (bytes.new.items ≡ bytes.old.items ++ replicate (data_start location size) 0) }
+    ensures kept { OnErr result (bytes.new.items ≡ bytes.old.items) }
+    ensures refused { IfErr result (λ e. e ≡ OutOfMemory) }
+{
+    if location == ShardingIndexLocation::End {
+        return Ok(());
+    }
+    let Some(end) = bytes.len().checked_add(size as usize) else {
+        return Err(CodecError::OutOfMemory);
+    };
+    bytes.resize(end, 0)?;
+    Ok(())
+}
+
+// Puts the index of a shard, which begins at `start`, into its room in front of the data part, or behind this.
+fn put_index(
+    bytes: &mut Vec<u8>,
+    start: usize,
+    location: ShardingIndexLocation,
+    index: &[u8],
+) -> Result<(), AllocError>
+    requires room { start + data_start location (length index.now) ≤ length bytes.old.items }
+    ensures stay { take start bytes.new.items ≡ take start bytes.old.items }
+    ensures whole { let slices = drop (start + data_start location (length index.now)) bytes.old.items in
+        OnOk result (drop start bytes.new.items ≡ whole_shard location index.now slices) }
+{
+    match location {
+        ShardingIndexLocation::Start => {
+            bytes[start..start + index.len()].copy_from_slice(index);
+            Ok(())
+        }
+        ShardingIndexLocation::End => bytes.extend_from_slice(index),
+    }
+}
+
 impl<I: ArrayToBytesCodecTraits, X: ArrayToBytesCodecTraits> Sharding<'_, I, X> {
-    /// The shard of an array that is served. Refused, in this order, as `WrongElementKind`, `InvalidNumberOfElements`, as the
-    /// inner codec refuses the lowest refused subchunk, as `TooLarge` where the shard would reach `usize::MAX` bytes, and as the
-    /// index codec refuses; or as `OutOfMemory`.
+    /// Puts the shard of an array that is served behind bytes that are there, which stay; where it is refused, a part of it may
+    /// stand there. Refused, in this order, as `WrongElementKind`, `InvalidNumberOfElements`, as the inner codec refuses the lowest
+    /// refused subchunk, as `TooLarge` where the shard would reach `usize::MAX` bytes, and as the index codec refuses; or as
+    /// `OutOfMemory`.
     pub(crate) fn encode_planned(
         &self,
         alloc: Global,
@@ -27,13 +72,15 @@ impl<I: ArrayToBytesCodecTraits, X: ArrayToBytesCodecTraits> Sharding<'_, I, X> 
         asked: &Asked,
         plan: &Plan,
         options: &CodecOptions,
-    ) -> Result<Vec<u8>, CodecError>
+        shard: &mut Vec<u8>,
+    ) -> Result<(), CodecError>
         requires serves { (meaning_of I.meaning X.meaning self.now (asked_geo asked.now)).serves }
         requires plan { IsPlan (index_meaning X.meaning self.now.index_codec.codec.now) asked.now.shape.now self.now.subchunk_shape.now plan.now }
         ensures array { let g = asked_geo asked.now in
             OnOk result ((array.now.kind ≡ size_of asked.now.data_type.now) × IsArrayOf g array.now.elements) }
+        ensures stay { take (length shard.old.items) shard.new.items ≡ shard.old.items }
         ensures written { let g = asked_geo asked.now in
-            IfOk result (λ shard. (meaning_of I.meaning X.meaning self.now g).written array.now.elements shard.items) }
+            OnOk result ((meaning_of I.meaning X.meaning self.now g).written array.now.elements (drop (length shard.old.items) shard.new.items)) }
         ensures refused { let g = asked_geo asked.now in
             IfErr result (RefusedBy ((meaning_of I.meaning X.meaning self.now g).encode_tests array.now)) }
     {
@@ -50,15 +97,25 @@ impl<I: ArrayToBytesCodecTraits, X: ArrayToBytesCodecTraits> Sharding<'_, I, X> 
             fill_value: asked.fill_value,
             options,
         };
-        let laid = subchunks.lay_out(alloc, array, asked.shape, &plan.index.grid, plan.subchunks)?;
-        let len = laid.bytes.len() as u64;
+        let start = shard.len();
+        make_room(shard, self.index_codec.location, plan.index.size)?;
+        let from = shard.len();
+        let slots = subchunks.lay_out_behind(
+            alloc,
+            array,
+            asked.shape,
+            &plan.index.grid,
+            plan.subchunks,
+            shard,
+        )?;
+        let len = (shard.len() - from) as u64;
         if plan.index.size >= u64::MAX - len {
             return Err(CodecError::TooLarge);
         }
         let index = self
             .index_codec
-            .encode(alloc, &laid.slots, &plan.index, options)?;
-        let shard = joined_shard(self.index_codec.location, index, laid.bytes)?;
-        Ok(shard)
+            .encode(alloc, &slots, &plan.index, options)?;
+        put_index(shard, start, self.index_codec.location, &index)?;
+        Ok(())
     }
 }

@@ -88,7 +88,35 @@ impl<I: ArrayToBytesCodecTraits, X: ArrayToBytesCodecTraits> ArrayToBytesCodecTr
             fill_value,
         };
         let plan = self.prepared(alloc, &asked)?;
-        self.encode_planned(alloc, bytes, &asked, &plan, options)
+        let mut shard = Vec::new(alloc);
+        self.encode_planned(alloc, bytes, &asked, &plan, options, &mut shard)?;
+        Ok(shard)
+    }
+
+    /// Encodes as `encode` does, behind the bytes that are there, with no copy between. Where it is refused, what was put there is
+    /// cut off.
+    fn encode_onto(
+        &self,
+        alloc: Global,
+        bytes: &ArrayBytes,
+        shape: &ChunkShape,
+        data_type: &DataType,
+        fill_value: &FillValue,
+        encoded: &mut Vec<u8>,
+        options: &CodecOptions,
+    ) -> Result<(), CodecError> {
+        let asked = Asked {
+            shape,
+            data_type,
+            fill_value,
+        };
+        let plan = self.prepared(alloc, &asked)?;
+        let len = encoded.len();
+        let answer = self.encode_planned(alloc, bytes, &asked, &plan, options, encoded);
+        if answer.is_err() {
+            encoded.truncate(len);
+        }
+        answer
     }
 
     /// Decodes every subchunk: straight from the bytes where subchunks follow one another and their elements stand in these; where

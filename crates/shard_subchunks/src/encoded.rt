@@ -1,5 +1,5 @@
 // Subchunks of an array, encoded and laid end to end.
-ghost use Rattle.std.specs.Prelude.{◌≡◌, ◌<◌, ◌^◌, IfOk, IfErr, OnErr, length};
+ghost use Rattle.std.specs.Prelude.{◌≡◌, ◌<◌, ◌^◌, IfOk, IfErr, OnErr, IfSome, length, take, drop};
 ghost use Rattle.zarr_parts.specs.Order.{done, RefusedBy};
 ghost use Rattle.zarr_parts.specs.Numbering.{count_of};
 ghost use Rattle.zarr_parts.specs.Grid.{Divides, grid_of, subchunk};
@@ -7,12 +7,13 @@ ghost use Rattle.zarr_parts.specs.Geo.{geo, IsArrayOf};
 ghost use Rattle.zarr_parts.specs.Types.{size_of, HasElements};
 ghost use Rattle.shard_format.specs.Laying.{IsStored, IsStoredBehind, IsLaidOut};
 ghost use Rattle.shard_format.specs.EncodeTests.{RefusesToStore, StoreTests};
+ghost use Rattle.shard_layout.specs.Rows.{FollowBy};
 ghost use Rattle.shard_subchunks.specs.Inner.{subchunk_geo, inner_meaning};
 
 use crate::subchunks::Subchunks;
 use codec_laws::ArrayToBytesCodecTraits;
 use shard_format::Slot;
-use shard_layout::{LaidOut, elements_in_row, gather_subchunk};
+use shard_layout::{LaidOut, elements_in_row, gather_subchunk, placed};
 use std::alloc::Global;
 use zarr_parts::{ArrayBytes, ChunkShape, CodecError};
 
@@ -78,8 +79,94 @@ impl<I: ArrayToBytesCodecTraits> Subchunks<'_, I> {
         })
     }
 
-    /// Each subchunk of an array that isn't all fill encoded, one after the other in ascending order. The lowest that the
-    /// inner codec refuses gives the refusal: `CannotEncode`, `TooLarge`; or `OutOfMemory`.
+    // Each subchunk of an array that isn't all fill encoded behind bytes that are there, which stay. Where one is refused, those
+    // before it may stand there.
+    fn lay_out_each(
+        &self,
+        alloc: Global,
+        array: &ArrayBytes,
+        in_row: Option<u64>,
+        shape: &ChunkShape,
+        grid: &ChunkShape,
+        subchunks: u64,
+        bytes: &mut Vec<u8>,
+    ) -> Result<Vec<Slot>, CodecError>
+        requires serves { (inner_meaning I.meaning self.now).serves }
+        requires supported { HasElements self.now.data_type.now }
+        requires kind { array.now.kind ≡ size_of self.now.data_type.now }
+        requires array { IsArrayOf (geo shape.now self.now.data_type.now self.now.fill_value.now) array.now.elements }
+        requires fits { count_of shape.now < 2 ^ 64 }
+        requires axes { length shape.now ≡ length self.now.shape.now }
+        requires divides { Divides self.now.shape.now shape.now }
+        requires grid { grid.now ≡ grid_of shape.now self.now.shape.now }
+        requires subchunks { subchunks ≡ count_of grid.now }
+        requires in_row { IfSome in_row (FollowBy shape.now self.now.shape.now) }
+        ensures stay { take (length bytes.old.items) bytes.new.items ≡ bytes.old.items }
+        ensures laid { let inner = inner_meaning I.meaning self.now in
+            IfOk result (λ slots. IsLaidOut inner.written self.now.fill_value.now shape.now self.now.shape.now array.now.elements
+            (drop (length bytes.old.items) bytes.new.items) slots.items (count_of grid.now)) }
+        ensures refused { let inner = inner_meaning I.meaning self.now in
+            IfErr result (RefusedBy (StoreTests inner self.now.fill_value.now
+            (subchunk shape.now self.now.shape.now array.now.elements) (count_of grid.now) done)) }
+    {
+        let start = bytes.len();
+        let mut slots = Vec::with_capacity(alloc, subchunks as usize)?;
+        for k in 0..subchunks {
+            let part = gather_subchunk(
+                alloc,
+                array,
+                k,
+                in_row,
+                shape,
+                grid,
+                self.shape,
+                self.data_type,
+            )?;
+            let from = bytes.len();
+            let slot = self.store_behind(alloc, &part, bytes)?;
+            let (offset, size) = (from - start, bytes.len() - from);
+            slots.push(placed(slot != Slot::Absent, offset as u64, size as u64))?;
+        }
+        Ok(slots)
+    }
+
+    /// Each subchunk of an array that isn't all fill encoded, one after the other in ascending order, behind bytes that are there,
+    /// which stay; the slots are counted from their end. The lowest that the inner codec refuses gives the refusal, and those
+    /// before it may stand there: `CannotEncode`, `TooLarge`; or `OutOfMemory`.
+    pub fn lay_out_behind(
+        &self,
+        alloc: Global,
+        array: &ArrayBytes,
+        shape: &ChunkShape,
+        grid: &ChunkShape,
+        subchunks: u64,
+        bytes: &mut Vec<u8>,
+    ) -> Result<Vec<Slot>, CodecError>
+        requires serves { (inner_meaning I.meaning self.now).serves }
+        requires supported { HasElements self.now.data_type.now }
+        requires kind { array.now.kind ≡ size_of self.now.data_type.now }
+        requires array { IsArrayOf (geo shape.now self.now.data_type.now self.now.fill_value.now) array.now.elements }
+        requires fits { count_of shape.now < 2 ^ 64 }
+        requires axes { length shape.now ≡ length self.now.shape.now }
+        requires divides { Divides self.now.shape.now shape.now }
+        requires grid { grid.now ≡ grid_of shape.now self.now.shape.now }
+        requires subchunks { subchunks ≡ count_of grid.now }
+        ensures stay { take (length bytes.old.items) bytes.new.items ≡ bytes.old.items }
+        ensures laid { let inner = inner_meaning I.meaning self.now in
+            IfOk result (λ slots. IsLaidOut inner.written self.now.fill_value.now shape.now self.now.shape.now array.now.elements
+            (drop (length bytes.old.items) bytes.new.items) slots.items (count_of grid.now)) }
+        ensures refused { let inner = inner_meaning I.meaning self.now in
+            IfErr result (RefusedBy (StoreTests inner self.now.fill_value.now
+            (subchunk shape.now self.now.shape.now array.now.elements) (count_of grid.now) done)) }
+    {
+        let in_row = elements_in_row(shape, self.shape);
+        if let Some(slots) = self.lay_out_rows(alloc, array, in_row, shape, subchunks, bytes)? {
+            return Ok(slots);
+        }
+        self.lay_out_each(alloc, array, in_row, shape, grid, subchunks, bytes)
+    }
+
+    /// The data part alone, laid out as `lay_out_behind` does.
     pub fn lay_out(
         &self,
         alloc: Global,
@@ -104,26 +191,8 @@ impl<I: ArrayToBytesCodecTraits> Subchunks<'_, I> {
             IfErr result (RefusedBy (StoreTests inner self.now.fill_value.now
             (subchunk shape.now self.now.shape.now array.now.elements) (count_of grid.now) done)) }
     {
-        let in_row = elements_in_row(shape, self.shape);
-        if let Some(laid) = self.lay_out_rows(alloc, array, in_row, shape, subchunks)? {
-            return Ok(laid);
-        }
         let mut bytes: Vec<u8> = Vec::new(alloc);
-        let mut slots = Vec::with_capacity(alloc, subchunks as usize)?;
-        for k in 0..subchunks {
-            let part = gather_subchunk(
-                alloc,
-                array,
-                k,
-                in_row,
-                shape,
-                grid,
-                self.shape,
-                self.data_type,
-            )?;
-            let slot = self.store_behind(alloc, &part, &mut bytes)?;
-            slots.push(slot)?;
-        }
+        let slots = self.lay_out_behind(alloc, array, shape, grid, subchunks, &mut bytes)?;
         Ok(LaidOut { bytes, slots })
     }
 }

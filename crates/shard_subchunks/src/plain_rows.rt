@@ -1,5 +1,5 @@
 // Subchunks that are rows of an array's bytes, laid end to end where the inner codec stores elements as they are in memory.
-ghost use Rattle.std.specs.Prelude.{◌≡◌, ◌<◌, ◌++◌, OnOk, IfOk, IfSome, IsTrue, ◌↔◌, length};
+ghost use Rattle.std.specs.Prelude.{◌≡◌, ◌<◌, ◌++◌, OnOk, OnErr, IfOk, IfSome, IfNone, IsTrue, ◌↔◌, length, take, drop};
 ghost use Rattle.zarr_parts.specs.Numbering.{count_of};
 ghost use Rattle.zarr_parts.specs.Grid.{Divides, grid_of};
 ghost use Rattle.zarr_parts.specs.Geo.{geo, IsArrayOf};
@@ -13,7 +13,6 @@ ghost use Rattle.shard_subchunks.specs.PlainRows.{ArePlainRows};
 use crate::subchunks::Subchunks;
 use codec_laws::ArrayToBytesCodecTraits;
 use shard_format::Slot;
-use shard_layout::LaidOut;
 use std::alloc::{AllocError, Global};
 use std::borrow::CowSlice;
 use zarr_parts::{ArrayBytes, ChunkShape, FillValue};
@@ -37,9 +36,10 @@ fn is_blank(row: &[u8], fill_value: &FillValue) -> bool
     }
 }
 
-// Puts a run of rows behind others; one of none takes no call.
+// Puts a run of rows behind others; one of none takes no call. A refusal leaves them.
 fn push_rows(slices: &mut Vec<u8>, run: &[u8]) -> Result<(), AllocError>
-    ensures { OnOk result (slices.new.items ≡ slices.old.items ++ run.now) }
+    ensures behind { OnOk result (slices.new.items ≡ slices.old.items ++ run.now) }
+    ensures kept { OnErr result (slices.new.items ≡ slices.old.items) }
 {
     if run.len() == 0 {
         return Ok(());
@@ -48,7 +48,8 @@ fn push_rows(slices: &mut Vec<u8>, run: &[u8]) -> Result<(), AllocError>
 }
 
 impl<I: ArrayToBytesCodecTraits> Subchunks<'_, I> {
-    // The rows that aren't all fill, one after the other; neighbours are copied together. Refused only as out of memory.
+    // The rows that aren't all fill, one after the other behind the slices that are there, which stay; neighbours are copied
+    // together. Refused only as out of memory, and then some rows may stand there.
     fn lay_out_bytes(
         &self,
         alloc: Global,
@@ -57,38 +58,38 @@ impl<I: ArrayToBytesCodecTraits> Subchunks<'_, I> {
         rows: usize,
         _array: &ArrayBytes,
         _shape: &ChunkShape,
-    ) -> Result<LaidOut, AllocError>
+        slices: &mut Vec<u8>,
+    ) -> Result<Vec<Slot>, AllocError>
         requires rows { let inner = inner_meaning I.meaning self.now in
             ArePlainRows inner.written self.now.fill_value.now _shape.now self.now.shape.now _array.now.elements bytes.now size rows }
+        ensures stay { take (length slices.old.items) slices.new.items ≡ slices.old.items }
         ensures laid { let inner = inner_meaning I.meaning self.now in
-            IfOk result (λ laid. IsLaidOut inner.written self.now.fill_value.now _shape.now self.now.shape.now _array.now.elements
-            laid.bytes.items laid.slots.items rows) }
+            IfOk result (λ slots. IsLaidOut inner.written self.now.fill_value.now _shape.now self.now.shape.now _array.now.elements
+            (drop (length slices.old.items) slices.new.items) slots.items rows) }
     {
-        let mut slices: Vec<u8> = Vec::new(alloc);
+        let start = slices.len();
         let mut slots = Vec::with_capacity(alloc, rows)?;
         let mut copied = 0;
         for k in 0..rows {
             let first = k * size;
             if !is_blank(&bytes[first..first + size], self.fill_value) {
                 slots.push(Slot::InRange {
-                    offset: (slices.len() + (first - copied)) as u64,
+                    offset: (slices.len() - start + (first - copied)) as u64,
                     size: size as u64,
                 })?;
                 continue;
             }
-            push_rows(&mut slices, &bytes[copied..first])?;
+            push_rows(slices, &bytes[copied..first])?;
             copied = first + size;
             slots.push(Slot::Absent)?;
         }
         slices.extend_from_slice(&bytes[copied..])?;
-        Ok(LaidOut {
-            bytes: slices,
-            slots,
-        })
+        Ok(slots)
     }
 
-    /// The subchunks laid out as `lay_out` does, where they follow one another in the array, as `elements_in_row` tells, and the
-    /// inner codec stores their elements as they are in memory. Else `None`. Refused only as out of memory.
+    /// The subchunks laid out as `lay_out_behind` does, where they follow one another in the array, as `elements_in_row` tells, and
+    /// the inner codec stores their elements as they are in memory. Else `None`, and nothing is put there. Refused only as out of
+    /// memory.
     pub(crate) fn lay_out_rows(
         &self,
         alloc: Global,
@@ -96,14 +97,17 @@ impl<I: ArrayToBytesCodecTraits> Subchunks<'_, I> {
         in_row: Option<u64>,
         shape: &ChunkShape,
         subchunks: u64,
-    ) -> Result<Option<LaidOut>, AllocError>
+        slices: &mut Vec<u8>,
+    ) -> Result<Option<Vec<Slot>>, AllocError>
         requires array { IsArrayOf (geo shape.now self.now.data_type.now self.now.fill_value.now) array.now.elements }
         requires divides { Divides self.now.shape.now shape.now }
         requires subchunks { subchunks ≡ count_of (grid_of shape.now self.now.shape.now) }
         requires in_row { IfSome in_row (FollowBy shape.now self.now.shape.now) }
+        ensures stay { take (length slices.old.items) slices.new.items ≡ slices.old.items }
+        ensures none { IfOk result (λ rows. IfNone rows (slices.new.items ≡ slices.old.items)) }
         ensures laid { let inner = inner_meaning I.meaning self.now in
-            IfOk result (λ rows. IfSome rows (λ laid. IsLaidOut inner.written self.now.fill_value.now shape.now self.now.shape.now
-            array.now.elements laid.bytes.items laid.slots.items subchunks)) }
+            IfOk result (λ rows. IfSome rows (λ slots. IsLaidOut inner.written self.now.fill_value.now shape.now self.now.shape.now
+            array.now.elements (drop (length slices.old.items) slices.new.items) slots.items subchunks)) }
     {
         let _axes = shape.as_slice();
         let Some(_places) = in_row else {
@@ -118,14 +122,15 @@ impl<I: ArrayToBytesCodecTraits> Subchunks<'_, I> {
         let Some(bytes) = array.fixed_bytes() else {
             return Ok(None);
         };
-        let laid = self.lay_out_bytes(
+        let slots = self.lay_out_bytes(
             alloc,
             bytes,
             size as usize,
             subchunks as usize,
             array,
             shape,
+            slices,
         )?;
-        Ok(Some(laid))
+        Ok(Some(slots))
     }
 }

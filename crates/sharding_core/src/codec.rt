@@ -163,6 +163,21 @@ impl<I: ArrayToBytesCodecTraits, X: ArrayToBytesCodecTraits> ArrayToBytesCodecTr
         lent!(self).encode(alloc, bytes, shape, data_type, fill_value, options)
     }
 
+    /// Encodes as `encode` does, behind bytes that are there, which stay: a nested shard so stands at once where it belongs. A
+    /// refusal leaves them. Refused as `encode`.
+    fn encode_onto(
+        &self,
+        alloc: Global,
+        bytes: &ArrayBytes,
+        shape: &ChunkShape,
+        data_type: &DataType,
+        fill_value: &FillValue,
+        encoded: &mut Vec<u8>,
+        options: &CodecOptions,
+    ) -> Result<(), CodecError> {
+        lent!(self).encode_onto(alloc, bytes, shape, data_type, fill_value, encoded, options)
+    }
+
     /// Refused as `check` refuses, then as `ShardTooShort`, as `Damaged` where the index does not decode, as the lowest
     /// refused subchunk is (`BadIndexEntry` with its number, `Damaged`, `TooLarge`), and as `TooLarge` where the lengths of
     /// the cells pass `usize::MAX`; or as `OutOfMemory`.
