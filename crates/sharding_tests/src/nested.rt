@@ -1,13 +1,14 @@
 // Shards whose subchunks are shards.
 use crate::compared::{same, same_at};
 use crate::shards::{
-    ABSENT, Plain, around, decoded, encoded, plain, read, said, shard_of, subset_of,
+    ABSENT, Plain, around, array_of, cells_of, decoded, encoded, plain, read, said, shard_of,
+    subset_of,
 };
 use std::alloc::Global;
 use std::ops::Range;
 use std::test::Fail;
-use zarr_codecs::{BytesCodec, MemoryHandle};
-use zarr_parts::CodecError;
+use zarr_codecs::{ArrayToBytesCodecTraits, BytesCodec, MemoryHandle};
+use zarr_parts::{CodecError, CodecOptions, DataType};
 use zarrs_sharding::{ShardingCodec, ShardingIndexLocation};
 
 // Four cells in two shards of two subchunks each.
@@ -87,6 +88,92 @@ fn is_encoded_so(alloc: Global) -> Result<bool, CodecError> {
 #[test]
 fn nested_shards_are_encoded(rt: HostRuntime) {
     same(&rt, is_encoded_so(rt.alloc()), Ok(true));
+}
+
+// The same with all indices in front of the data parts, or all behind them.
+fn nested_at(
+    alloc: Global,
+    location: ShardingIndexLocation,
+) -> Result<ShardingCodec<Plain, BytesCodec>, CodecError> {
+    let inner = plain(alloc, &[1], location)?;
+    around(alloc, &[2], inner, location)
+}
+
+// A shard of these slices and their index.
+fn shard_at(
+    alloc: Global,
+    location: ShardingIndexLocation,
+    slices: &[u8],
+    index: &[u64],
+) -> Result<Vec<u8>, CodecError> {
+    if location == ShardingIndexLocation::End {
+        return shard_of(alloc, slices, index);
+    }
+    let mut shard = shard_of(alloc, &[], index)?;
+    shard.extend_from_slice(slices)?;
+    Ok(shard)
+}
+
+// The shard of 1, 0, 2, 3, of which both inner shards are stored, whose data parts begin at this place.
+fn both_stored(
+    alloc: Global,
+    location: ShardingIndexLocation,
+    [place, behind_one, behind_first]: [u64; 3],
+) -> Result<Vec<u8>, CodecError> {
+    let mut inner = shard_at(alloc, location, &[1], &[place, 1, ABSENT, ABSENT])?;
+    let second = shard_at(alloc, location, &[2, 3], &[place, 1, behind_one, 1])?;
+    inner.extend_from_slice(&second)?;
+    shard_at(alloc, location, &inner, &[place, 33, behind_first, 34])
+}
+
+// The encoding of elements behind the bytes 5, 6, and what is answered.
+fn put_behind(
+    alloc: Global,
+    location: ShardingIndexLocation,
+    elements: &[u8],
+) -> Result<(Vec<u8>, Result<(), CodecError>), CodecError> {
+    let codec = nested_at(alloc, location)?;
+    let cells = cells_of(alloc, &[4])?;
+    let mut bytes = [5, 6].to_vec(alloc)?;
+    let answer = codec.encode_onto(
+        alloc,
+        &array_of(alloc, elements)?,
+        &cells.shape,
+        &DataType::UInt8,
+        &cells.fill,
+        &mut bytes,
+        &CodecOptions::default(),
+    );
+    Ok((bytes, answer))
+}
+
+const LOCATIONS: [(ShardingIndexLocation, [u64; 3]); 2] = [
+    (ShardingIndexLocation::Start, [32, 33, 65]),
+    (ShardingIndexLocation::End, [0, 1, 33]),
+];
+
+// Inner shards stand one behind the other, and each index counts from where its own shard begins.
+#[test]
+fn inner_shards_stand_behind_one_another(rt: HostRuntime) -> Result<(), Fail> {
+    for (location, places) in LOCATIONS {
+        let want = both_stored(rt.alloc(), location, places)?;
+        let object = encoded(rt.alloc(), &nested_at(rt.alloc(), location)?, &[4], &[1, 0, 2, 3])?;
+        same(&rt, object.as_slice(), want.as_slice());
+        let (bytes, answer) = put_behind(rt.alloc(), location, &[1, 0, 2, 3])?;
+        same(&rt, answer, Ok(()));
+        same(&rt, bytes.get(..2), Some([5u8, 6].as_slice()));
+        same(&rt, bytes.get(2..), Some(want.as_slice()));
+    }
+    Ok(())
+}
+
+// Where an array is refused, the bytes stay.
+#[test]
+fn a_refused_shard_is_not_put_behind_bytes(rt: HostRuntime) -> Result<(), Fail> {
+    let (bytes, answer) = put_behind(rt.alloc(), ShardingIndexLocation::Start, &[1, 0, 2])?;
+    same(&rt, answer, Err(CodecError::InvalidNumberOfElements));
+    same(&rt, bytes.as_slice(), [5u8, 6].as_slice());
+    Ok(())
 }
 
 // The codec of eight cells in shards in shards in a shard.

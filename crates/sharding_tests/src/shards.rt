@@ -64,7 +64,7 @@ pub(crate) fn plain(
     around(alloc, sub, BytesCodec::little(), location)
 }
 
-fn array_of(alloc: Global, bytes: &[u8]) -> Result<ArrayBytes<'static>, CodecError> {
+pub(crate) fn array_of(alloc: Global, bytes: &[u8]) -> Result<ArrayBytes<'static>, CodecError> {
     let copy = bytes.to_vec(alloc)?;
     ArrayBytes::new_flen(CowSlice::Owned(copy), 1).ok_or(CodecError::WrongElementKind)
 }
