@@ -1,3 +1,4 @@
+pub mod BehindLemmas
 pub mod PlainRowLemmas
 pub mod TargetLemmas
 pub mod PlainLemmas

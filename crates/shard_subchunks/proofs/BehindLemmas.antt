@@ -1,0 +1,43 @@
+-- Slices laid out behind bytes that are there.
+use Rattle.std.proofs.Common.{◌≡◌, ℕ, ◌+◌, ◌-◌, ◌≤◌, Bool, List, [], ◌∷◌, ◌++◌, length, take, drop, sym, ap, ◌∙◌, arith, length-drop, length-take}
+use Rattle.std.proofs.lemmas.List.{take_all, drop_all, take-take, take-append-le, drop-append-le}
+use Rattle.zarr_parts.specs.Grid.{subchunk}
+use Rattle.shard_format.specs.Laying.{IsStored, placed_slot, IsLaidOut}
+use Rattle.shard_format.specs.declared.slot.Slot.{Slot}
+use Rattle.shard_format.proofs.LayingLemmas.{one_more_laid}
+
+-- bytes stay where they are
+pub stay_themselves : (old : List ℕ) → take (length old) old ≡ old
+stay_themselves old = take_all (length old) old (omega arith)
+
+-- and nothing stands behind them yet
+pub nothing_behind : (old : List ℕ) → drop (length old) old ≡ []
+nothing_behind old = drop_all (length old) old (omega arith)
+
+pub old_within : (old bytes : List ℕ) → take (length old) bytes ≡ old → length old ≤ length bytes
+old_within old bytes stay = omega (arith, ap length stay, length-take (length old) bytes)
+
+-- what stays, stays where all that stands there does
+pub stay_through : (old bytes all : List ℕ) → take (length old) bytes ≡ old → take (length bytes) all ≡ bytes → take (length old) all ≡ old
+stay_through old bytes all stay more =
+    sym (take-take (length old) (length bytes) all (old_within old bytes stay)) ∙ ap (take (length old)) more ∙ stay
+
+-- more bytes behind them
+pub stay_before : (old bytes more all : List ℕ) → take (length old) bytes ≡ old → all ≡ bytes ++ more → take (length old) all ≡ old
+stay_before old bytes more all stay is =
+    ap (take (length old)) is ∙ take-append-le (length old) bytes more (old_within old bytes stay) ∙ stay
+
+pub more_behind : (old bytes more all : List ℕ) → take (length old) bytes ≡ old → all ≡ bytes ++ more → drop (length old) all ≡ drop (length old) bytes ++ more
+more_behind old bytes more all stay is =
+    ap (drop (length old)) is ∙ drop-append-le (length old) bytes more (old_within old bytes stay)
+
+-- one subchunk more is laid out behind them
+pub one_more_behind : (inner_written : List (List ℕ) → List ℕ → Type 0) (fill shape sub : List ℕ) (a : List (List ℕ)) (old bytes more all : List ℕ) (slots grown : List Slot) (k : ℕ) (present : Bool)
+    → take (length old) bytes ≡ old
+    → IsLaidOut inner_written fill shape sub a (drop (length old) bytes) slots k
+    → IsStored inner_written fill (subchunk shape sub a k) present more
+    → all ≡ bytes ++ more → grown ≡ slots ++ placed_slot present (length bytes - length old) (length more) ∷ []
+    → IsLaidOut inner_written fill shape sub a (drop (length old) all) grown (k + 1)
+one_more_behind inner_written fill shape sub a old bytes more all slots grown k present stay laid stored is grows =
+    one_more_laid inner_written fill shape sub a (drop (length old) bytes) more (drop (length old) all) slots grown k present
+    laid stored (more_behind old bytes more all stay is) (rw (length-drop (length old) bytes) grows)

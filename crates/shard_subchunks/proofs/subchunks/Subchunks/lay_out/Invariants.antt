@@ -1,8 +1,0 @@
--- The subchunks so far stand one after the other.
-use Rattle.shard_subchunks.specs.Inner.{subchunk_geo}
-use Rattle.shard_format.specs.Laying.{IsLaidOut}
-use Rattle.shard_subchunks.proofs.subchunks.Subchunks.lay_out.Given as goal
-
-abbrev pub invariant-loop-k : goal.invariant-loop-k
-invariant-loop-k g l =
-    IsLaidOut (g.I.ArrayToBytesCodecTraits.meaning l.self.codec.now (subchunk_geo l.self)).written l.self.fill_value.now l.shape l.self.shape.now l.array.elements l.bytes.items l.slots.items l.k
