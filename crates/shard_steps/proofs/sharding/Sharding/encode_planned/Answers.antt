@@ -1,26 +1,32 @@
-use Rattle.std.proofs.Common.{◌≡◌, ◌<◌, ◌+◌, arith, rules, length, inr}
+use Rattle.std.proofs.Common.{◌≡◌, ◌<◌, ◌+◌, arith, rules, length, drop, length-drop, sym, ◌∙◌, inr}
 use Rattle.zarr_parts.specs.Numbering.{count_of}
 use Rattle.zarr_parts.specs.Grid.{grid_of}
-use Rattle.shard_steps.specs.Plans.{asked_geo}
 use Rattle.zarr_parts.specs.Types.{size_of}
+use Rattle.codec_laws.specs.RefusalLaws.{passed_on}
 use Rattle.shard_format.specs.Index.{absent_number, index_geo, data_start}
 use Rattle.shard_format.specs.Laying.{IsIndexOf}
 use Rattle.shard_format.specs.Serves.{sub_geo, fixed_size, layout}
-use Rattle.codec_laws.specs.RefusalLaws.{passed_on}
 use Rattle.shard_format.proofs.EncodingLemmas.{encoded_shard}
 use Rattle.shard_format.proofs.EncodeRefusals.{store_next, total_next, index_next, index_length}
+use Rattle.shard_subchunks.proofs.BehindLemmas.{old_within}
+use Rattle.shard_steps.specs.Plans.{asked_geo}
+use Rattle.shard_steps.proofs.RoomLemmas.{stay_in_front, room_of_index}
 use Rattle.shard_steps.proofs.sharding.Sharding.encode_planned.Goals as goal
 
-pub returns-in_err-laid-clause-refused : goal.returns-in_err-laid-clause-refused
-returns-in_err-laid-clause-refused g c =
+pub returns-in_err-slots-clause-stay : goal.returns-in_err-slots-clause-stay
+returns-in_err-slots-clause-stay g c =
+    stay_in_front c.args.shard.now.items c.make_room.new.bytes.items _ c.lay_out_behind.new.bytes.items c.in_ok-make_room.ensures.behind c.lay_out_behind.ensures.stay
+
+pub returns-in_err-slots-clause-refused : goal.returns-in_err-slots-clause-refused
+returns-in_err-slots-clause-refused g c =
     let s = c.args.self.now in
     let asked = asked_geo c.args.asked.now in
     let inner = g.I.ArrayToBytesCodecTraits.meaning s.inner.now (sub_geo s.subchunk_shape.now asked) in
     let index = g.X.ArrayToBytesCodecTraits.meaning s.index_codec.codec.now (index_geo (grid_of asked.shape s.subchunk_shape.now)) in
     let kind : c.args.array.now.kind ≡ size_of c.args.asked.now.data_type.now = search rules in
     let counted : length c.args.array.now.elements ≡ count_of c.args.asked.now.shape.now = omega (arith, c.requires.plan.cells) in
-    let e = c.in_err-laid.field-0.0 in
-    passed_on _ e _ c.from_residual.ensures.1 (store_next inner index (layout s.subchunk_shape.now s.index_codec.location s.order index.representation asked) (size_of c.args.asked.now.data_type.now) c.args.array.now e kind counted (rw c.requires.plan.grid at c.in_err-laid.ensures.refused))
+    let e = c.in_err-slots.field-0.0 in
+    passed_on _ e _ c.from_residual-in_err-slots.ensures.1 (store_next inner index (layout s.subchunk_shape.now s.index_codec.location s.order index.representation asked) (size_of c.args.asked.now.data_type.now) c.args.array.now e kind counted (rw c.requires.plan.grid at c.in_err-slots.ensures.refused))
 
 pub returns-then-plan-len-clause-refused : goal.returns-then-plan-len-clause-refused
 returns-then-plan-len-clause-refused g c =
@@ -30,10 +36,16 @@ returns-then-plan-len-clause-refused g c =
     let index = g.X.ArrayToBytesCodecTraits.meaning s.index_codec.codec.now (index_geo (grid_of asked.shape s.subchunk_shape.now)) in
     let kind : c.args.array.now.kind ≡ size_of c.args.asked.now.data_type.now = search rules in
     let counted : length c.args.array.now.elements ≡ count_of c.args.asked.now.shape.now = omega (arith, c.requires.plan.cells) in
-    let laid = rw c.requires.plan.grid at c.in_ok-laid.ensures.laid in
-    let room = rw c.requires.plan.grid at c.requires.plan.index.size in
-    inr (total_next inner index (layout s.subchunk_shape.now s.index_codec.location s.order index.representation asked) (size_of c.args.asked.now.data_type.now) c.args.array.now c.in_ok-laid.laid.bytes.items c.in_ok-laid.laid.slots.items laid kind counted
-    (omega (arith, c.if-plan-len.true, c.len-len.ensures, c.in_ok-laid.laid.bytes.ok.0, room)))
+    let laid = rw c.requires.plan.grid at c.in_ok-slots.ensures.laid in
+    let size = rw c.requires.plan.grid at c.requires.plan.index.size in
+    let room = c.make_room.new.bytes in
+    let all = c.lay_out_behind.new.bytes in
+    inr (total_next inner index (layout s.subchunk_shape.now s.index_codec.location s.order index.representation asked) (size_of c.args.asked.now.data_type.now) c.args.array.now (drop (length room.items) all.items) c.in_ok-slots.slots.items laid kind counted
+    (omega (arith, c.if-plan-len.true, c.len-2.ensures, all.ok.0, c.len-from.ensures, room.ok.0, length-drop (length room.items) all.items, size)))
+
+pub returns-in_err-index-clause-stay : goal.returns-in_err-index-clause-stay
+returns-in_err-index-clause-stay g c =
+    stay_in_front c.args.shard.now.items c.make_room.new.bytes.items _ c.lay_out_behind.new.bytes.items c.in_ok-make_room.ensures.behind c.lay_out_behind.ensures.stay
 
 pub returns-in_err-index-clause-refused : goal.returns-in_err-index-clause-refused
 returns-in_err-index-clause-refused g c =
@@ -43,13 +55,46 @@ returns-in_err-index-clause-refused g c =
     let index = g.X.ArrayToBytesCodecTraits.meaning s.index_codec.codec.now (index_geo (grid_of asked.shape s.subchunk_shape.now)) in
     let kind : c.args.array.now.kind ≡ size_of c.args.asked.now.data_type.now = search rules in
     let counted : length c.args.array.now.elements ≡ count_of c.args.asked.now.shape.now = omega (arith, c.requires.plan.cells) in
-    let laid = rw c.requires.plan.grid at c.in_ok-laid.ensures.laid in
-    let room = rw c.requires.plan.grid at c.requires.plan.index.size in
+    let laid = rw c.requires.plan.grid at c.in_ok-slots.ensures.laid in
+    let size = rw c.requires.plan.grid at c.requires.plan.index.size in
+    let room = c.make_room.new.bytes in
+    let all = c.lay_out_behind.new.bytes in
     let e = c.in_err-index.field-0.0 in
     passed_on _ e _ c.from_residual-in_err-index.ensures.1
-    (index_next inner index (layout s.subchunk_shape.now s.index_codec.location s.order index.representation asked) (size_of c.args.asked.now.data_type.now) c.args.array.now c.in_ok-laid.laid.bytes.items c.in_ok-laid.laid.slots.items laid e kind counted
-    (omega (arith, c.if-plan-len.false, c.len-len.ensures, c.in_ok-laid.laid.bytes.ok.0, room))
+    (index_next inner index (layout s.subchunk_shape.now s.index_codec.location s.order index.representation asked) (size_of c.args.asked.now.data_type.now) c.args.array.now (drop (length room.items) all.items) c.in_ok-slots.slots.items laid e kind counted
+    (omega (arith, c.if-plan-len.false, c.len-2.ensures, all.ok.0, c.len-from.ensures, room.ok.0, length-drop (length room.items) all.items, size))
     (rw c.requires.plan.grid at c.in_err-index.ensures.refused))
+
+pub put_index-requires : goal.put_index-requires
+put_index-requires g c =
+    let s = c.args.self.now in
+    let outer = g.X.ArrayToBytesCodecTraits in
+    let grid = grid_of c.args.asked.now.shape.now s.subchunk_shape.now in
+    let representation = (outer.meaning s.index_codec.codec.now (index_geo grid)).representation in
+    let served = c.requires.serves.index_served in
+    let laid = rw c.requires.plan.grid at c.in_ok-slots.ensures.laid in
+    let size = rw c.requires.plan.grid at c.requires.plan.index.size in
+    let index : IsIndexOf (outer.meaning s.index_codec.codec.now (index_geo grid)).written (data_start s.index_codec.location (fixed_size representation)) c.in_ok-slots.slots.items c.in_ok-index.index.items =
+    rw (c.deref.ensures.value, c.requires.plan.index.size, c.requires.plan.grid) at c.in_ok-index.ensures.index in
+    let sized = index_length (outer.meaning s.index_codec.codec.now (index_geo grid)).written representation grid (data_start s.index_codec.location (fixed_size representation)) c.in_ok-slots.slots.items c.in_ok-index.index.items
+    laid.counted served.fixed (λ x y array written. (g.met.X.ArrayToBytesCodecTraits.lawful s.index_codec.codec.now (index_geo grid)).bounded x y served.served array written) index in
+    let old = c.args.shard.now in
+    let room = c.make_room.new.bytes.items in
+    let all = c.lay_out_behind.new.bytes.items in
+    let fits = room_of_index s.index_codec.location c.args.plan.now.index.size old.items room c.in_ok-index.index.items c.in_ok-make_room.ensures.behind (sized ∙ sym size) in
+    record { room = rw c.deref-2.ensures.value (omega (arith, c.len-start.ensures, old.ok.0, fits, old_within room all c.lay_out_behind.ensures.stay)) }
+
+pub returns-in_err-put_index-clause-stay : goal.returns-in_err-put_index-clause-stay
+returns-in_err-put_index-clause-stay g c =
+    let start : c.len-start.result ≡ length c.args.shard.now.items = omega (arith, c.len-start.ensures, c.args.shard.now.ok.0) in
+    (rw start at c.put_index.ensures.stay)
+    ∙ stay_in_front c.args.shard.now.items c.make_room.new.bytes.items _ c.lay_out_behind.new.bytes.items c.in_ok-make_room.ensures.behind c.lay_out_behind.ensures.stay
+
+pub returns-clause-stay : goal.returns-clause-stay
+returns-clause-stay g c =
+    let start : c.len-start.result ≡ length c.args.shard.now.items = omega (arith, c.len-start.ensures, c.args.shard.now.ok.0) in
+    (rw start at c.put_index.ensures.stay)
+    ∙ stay_in_front c.args.shard.now.items c.make_room.new.bytes.items _ c.lay_out_behind.new.bytes.items c.in_ok-make_room.ensures.behind c.lay_out_behind.ensures.stay
 
 pub returns-clause-written : goal.returns-clause-written
 returns-clause-written g c =
@@ -60,15 +105,21 @@ returns-clause-written g c =
     let grid = grid_of c.args.asked.now.shape.now s.subchunk_shape.now in
     let representation = (outer.meaning s.index_codec.codec.now (index_geo grid)).representation in
     let served = c.requires.serves.index_served in
-    let bytes = c.in_ok-laid.laid.bytes.items in
-    let slots = c.in_ok-laid.laid.slots.items in
-    let room = rw c.requires.plan.grid at c.requires.plan.index.size in
+    let old = c.args.shard.now in
+    let room = c.make_room.new.bytes in
+    let all = c.lay_out_behind.new.bytes in
+    let bytes = drop (length room.items) all.items in
+    let slots = c.in_ok-slots.slots.items in
+    let size = rw c.requires.plan.grid at c.requires.plan.index.size in
     let small : fixed_size representation + length bytes < absent_number =
-    omega (arith, c.if-plan-len.false, c.len-len.ensures, c.in_ok-laid.laid.bytes.ok.0, room) in
-    let laid = rw c.requires.plan.grid at c.in_ok-laid.ensures.laid in
+    omega (arith, c.if-plan-len.false, c.len-2.ensures, all.ok.0, c.len-from.ensures, room.ok.0, length-drop (length room.items) all.items, size) in
+    let laid = rw c.requires.plan.grid at c.in_ok-slots.ensures.laid in
     let index : IsIndexOf (outer.meaning s.index_codec.codec.now (index_geo grid)).written (data_start s.index_codec.location (fixed_size representation)) slots c.in_ok-index.index.items =
     rw (c.deref.ensures.value, c.requires.plan.index.size, c.requires.plan.grid) at c.in_ok-index.ensures.index in
     let sized = index_length (outer.meaning s.index_codec.codec.now (index_geo grid)).written representation grid (data_start s.index_codec.location (fixed_size representation)) slots c.in_ok-index.index.items
     laid.counted served.fixed (λ x y array written. (g.met.X.ArrayToBytesCodecTraits.lawful s.index_codec.codec.now (index_geo grid)).bounded x y served.served array written) index in
+    let start : c.len-start.result ≡ length old.items = omega (arith, c.len-start.ensures, old.ok.0) in
+    let fits = room_of_index s.index_codec.location c.args.plan.now.index.size old.items room.items c.in_ok-index.index.items c.in_ok-make_room.ensures.behind (sized ∙ sym size) in
     encoded_shard (inner.meaning s.inner.now (sub_geo s.subchunk_shape.now asked)).written (outer.meaning s.index_codec.codec.now (index_geo grid)).written s.subchunk_shape.now s.index_codec.location s.order (fixed_size representation) asked
-    c.args.array.now.elements bytes c.in_ok-index.index.items c.in_ok-shard.shard.items slots laid index sized small c.in_ok-shard.ensures.bytes
+    c.args.array.now.elements bytes c.in_ok-index.index.items (drop (length old.items) c.put_index.new.bytes.items) slots laid index sized small
+    (rw (c.deref-2.ensures.value, start, fits) at c.in_ok-put_index.ensures.whole)
