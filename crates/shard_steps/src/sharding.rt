@@ -82,19 +82,15 @@ impl<I: ArrayToBytesCodecTraits, X: ArrayToBytesCodecTraits> ArrayToBytesCodecTr
         fill_value: &FillValue,
         options: &CodecOptions,
     ) -> Result<Vec<u8>, CodecError> {
-        let asked = Asked {
-            shape,
-            data_type,
-            fill_value,
-        };
-        let plan = self.prepared(alloc, &asked)?;
         let mut shard = Vec::new(alloc);
-        self.encode_planned(alloc, bytes, &asked, &plan, options, &mut shard)?;
+        self.encode_onto(
+            alloc, bytes, shape, data_type, fill_value, &mut shard, options,
+        )?;
         Ok(shard)
     }
 
-    /// Encodes as `encode` does, behind the bytes that are there, with no copy between. Where it is refused, what was put there is
-    /// cut off.
+    /// Stores the subchunks behind the bytes that are there, with no copy between. Where it is refused, what was put there is cut
+    /// off.
     fn encode_onto(
         &self,
         alloc: Global,
