@@ -1,114 +1,111 @@
 // The present slices of a shard, copied together.
-ghost use Rattle.std.specs.Prelude.{◌≡◌, ◌<◌, ◌^◌, ◌+◌, ◌*◌, ◌/◌, ℕ, IfOk, IfErr, SomeIff, length, slice_index_or};
-ghost use Rattle.zarr_parts.specs.Order.{Each, done, RefusedBy};
-ghost use Rattle.zarr_parts.specs.CodecError.TheVariants.{OutOfMemory, BadIndexEntry};
+ghost use Rattle.std.specs.Prelude.{◌≡◌, ◌≢◌, ◌<◌, ◌^◌, ◌+◌, ◌*◌, ◌/◌, ◌++◌, ℕ, IfOk, IfErr, OnOk, length, slice_index};
+ghost use Rattle.zarr_parts.specs.Order.{◌or◌then◌, Each, done};
+ghost use Rattle.zarr_parts.specs.CodecError.TheVariants.{OutOfMemory, TooLarge, BadIndexEntry};
 ghost use Rattle.shard_format.specs.Index.{slot_at};
 ghost use Rattle.shard_format.specs.Encoding.{slot_size};
-ghost use Rattle.shard_format.specs.Laying.{taken};
-ghost use Rattle.shard_format.specs.Compacting.{IsGood};
-ghost use Rattle.shard_format.specs.Packing.{LiesInShard, AreSlots, slice_of, moved_slot, IsPacked};
-ghost use Rattle.shard_format.specs.declared.slot.Slot.TheVariants.{Bad};
+ghost use Rattle.shard_format.specs.Laying.{taken, offset_number, size_number};
+ghost use Rattle.shard_format.specs.Compacting.{IsGood, present_size};
+ghost use Rattle.shard_format.specs.Packing.{slice_of, moved_slot};
+ghost use Rattle.shard_layout.specs.Repacking.{slots_of, IsRepacked};
 
-use crate::laying::LaidOut;
-use shard_format::{ShardIndex, Slot};
-use std::alloc::Global;
+use byte_rows::push_front;
+use shard_format::{ShardIndex, Slot, slot_of};
+use std::alloc::{AllocError, Global};
 use zarr_parts::CodecError;
 
-// What the pair of a subchunk says, if the pair isn't bad.
-fn good_slot(index: &ShardIndex, subchunk: usize) -> Result<Slot, CodecError>
+// The bytes of a subchunk's slice, if its pair isn't bad.
+fn good_size(index: &ShardIndex, subchunk: usize) -> Result<u64, CodecError>
     requires { 2 * subchunk + 1 < length index.now.numbers.items }
-    ensures slot { IfOk result (λ slot. slot ≡ slot_at index.now.len index.now.numbers.items subchunk) }
-    ensures inside { IfOk result (LiesInShard index.now.len) }
+    ensures size { IfOk result (λ size. size ≡ slot_size (slot_at index.now.len index.now.numbers.items subchunk)) }
+    ensures good { OnOk result (IsGood (slot_at index.now.len index.now.numbers.items subchunk)) }
     ensures refused { IfErr result (λ e. (¬ (IsGood (slot_at index.now.len index.now.numbers.items subchunk))) × (e ≡ BadIndexEntry subchunk)) }
 {
     match index.slot(subchunk) {
+        Slot::Absent => Ok(0),
+        Slot::InRange { size, .. } => Ok(size),
         Slot::Bad => Err(CodecError::BadIndexEntry {
             number: subchunk as u64,
         }),
-        slot => Ok(slot),
     }
 }
 
-/// The slots of an index. The lowest bad pair is refused.
-pub fn present_slots(alloc: Global, index: &ShardIndex) -> Result<Vec<Slot>, CodecError>
-    ensures slots { IfOk result (λ slots. AreSlots index.now.len index.now.numbers.items slots.items (length index.now.numbers.items / 2)) }
-    ensures refused { IfErr result (RefusedBy (Each (length index.now.numbers.items / 2)
-        (λ k. IsGood (slot_at index.now.len index.now.numbers.items k)) (λ k. BadIndexEntry k) done)) }
-{
-    let mut slots = Vec::with_capacity(alloc, index.subchunks())?;
-    for k in 0..index.subchunks() {
-        let slot = good_slot(index, k)?;
-        slots.push(slot)?;
-    }
-    Ok(slots)
-}
-
-// The bytes of a slot's slice.
-fn size_of(slot: Slot) -> u64
-    ensures { result ≡ slot_size slot }
-{
-    match slot {
-        Slot::InRange { size, .. } => size,
-        _ => 0,
-    }
-}
-
-/// The size of an index and of the slices of these slots, where a shard can have as many bytes.
-pub fn compact_size(slots: &[Slot], index_size: u64) -> Option<u64>
-    ensures { SomeIff result (index_size + taken slots.now (length slots.now) + 1 < 2 ^ 64) (index_size + taken slots.now (length slots.now)) }
+/// The size of an index and of the slices that its pairs name. Refused, in this order, as `BadIndexEntry` for the lowest bad pair,
+/// and as `TooLarge` where no shard can have as many bytes.
+pub fn compact_size(index: &ShardIndex, index_size: u64) -> Result<u64, CodecError>
+    ensures size { let count = length index.now.numbers.items / 2 in
+        IfOk result (λ total. total ≡ index_size + present_size (slot_at index.now.len index.now.numbers.items) count) }
+    ensures small { IfOk result (λ total. total + 1 < 2 ^ 64) }
+    ensures good { let count = length index.now.numbers.items / 2 in
+        OnOk result ((k : ℕ) → k < count → IsGood (slot_at index.now.len index.now.numbers.items k)) }
+    ensures refused { let count = length index.now.numbers.items / 2 in let slot = slot_at index.now.len index.now.numbers.items in
+        IfErr result (Each count (λ k. IsGood (slot k)) (λ k. BadIndexEntry k) (index_size + present_size slot count + 1 < 2 ^ 64 or TooLarge then done)) }
 {
     let mut total = index_size;
-    for k in 0..slots.len() {
-        total = total.checked_add(size_of(slots[k]))?;
+    for k in 0..index.subchunks() {
+        let size = good_size(index, k)?;
+        total = total.saturating_add(size);
     }
-    if total < u64::MAX { Some(total) } else { None }
+    if total < u64::MAX {
+        Ok(total)
+    } else {
+        Err(CodecError::TooLarge)
+    }
 }
 
-// The bytes that a slot names.
-fn slice_of(bytes: &[u8], slot: Slot) -> &[u8]
-    requires { LiesInShard (length bytes.now) slot }
-    ensures { result.now ≡ slice_of bytes.now slot }
+// Copies a subchunk's slice behind others, and writes where it stands now into its pair.
+#[inline(always)]
+fn move_slice(
+    bytes: &[u8],
+    numbers: &mut [u64],
+    subchunk: usize,
+    start: u64,
+    slices: &mut Vec<u8>,
+) -> Result<(), AllocError>
+    requires inside { 2 * subchunk + 1 < length numbers.old }
+    requires good { IsGood (slot_at (length bytes.now) numbers.old subchunk) }
+    requires small { start + length slices.old.items < 2 ^ 64 }
+    ensures copied { OnOk result (slices.new.items ≡ slices.old.items ++ slice_of bytes.now (slot_at (length bytes.now) numbers.old subchunk)) }
+    ensures offset { OnOk result (slice_index numbers.new (2 * subchunk)
+        ≡ offset_number start (moved_slot (slot_at (length bytes.now) numbers.old subchunk) (length slices.old.items))) }
+    ensures size { OnOk result (slice_index numbers.new (2 * subchunk + 1)
+        ≡ size_number (moved_slot (slot_at (length bytes.now) numbers.old subchunk) (length slices.old.items))) }
+    ensures others { (j : ℕ) → j ≢ 2 * subchunk → slice_index numbers.new j ≡ slice_index numbers.old j }
 {
+    let place = start + slices.len() as u64;
+    let slot = slot_of(
+        bytes.len() as u64,
+        numbers[2 * subchunk],
+        numbers[2 * subchunk + 1],
+    );
     match slot {
         Slot::InRange { offset, size } => {
-            let rest = &bytes[offset as usize..];
-            &rest[..size as usize]
+            push_front(slices, &bytes[offset as usize..], size as usize)?;
+            numbers[2 * subchunk] = place;
+            Ok(())
         }
-        _ => &[],
+        Slot::Absent => Ok(()),
+        Slot::Bad => unreachable!(),
     }
 }
 
-// The slot of the same slice at another place.
-fn moved(slot: Slot, offset: u64) -> Slot
-    ensures { result ≡ moved_slot slot offset }
-{
-    match slot {
-        Slot::InRange { offset: _, size } => Slot::InRange { offset, size },
-        other => other,
-    }
-}
-
-/// The slices of these slots, one after the other in a vector with this room.
+/// The slices that the pairs of an index name, one after the other in a vector with this room. The pairs then say where the slices
+/// stand, in a shard whose data part begins at `start`.
 pub fn packed(
     alloc: Global,
     bytes: &[u8],
-    slots: &[Slot],
+    numbers: &mut [u64],
+    start: u64,
     room: usize,
-) -> Result<LaidOut, CodecError>
-    requires { (k : ℕ) → k < length slots.now → LiesInShard (length bytes.now) (slice_index_or slots.now k Bad) }
-    ensures packed { IfOk result (λ laid. IsPacked bytes.now slots.now laid.bytes.items laid.slots.items (length slots.now)) }
+) -> Result<Vec<u8>, CodecError>
+    requires good { (k : ℕ) → k < length numbers.old / 2 → IsGood (slot_at (length bytes.now) numbers.old k) }
+    requires small { start + taken (slots_of (length bytes.now) numbers.old) (length numbers.old / 2) < 2 ^ 64 }
+    ensures packed { IfOk result (λ slices. IsRepacked start bytes.now numbers.old slices.items numbers.new (length numbers.old / 2)) }
     ensures refused { IfErr result (λ e. e ≡ OutOfMemory) }
 {
     let mut slices = Vec::with_capacity(alloc, room)?;
-    let mut places = Vec::with_capacity(alloc, slots.len())?;
-    for k in 0..slots.len() {
-        let place = moved(slots[k], slices.len() as u64);
-        let slice = slice_of(bytes, slots[k]);
-        slices.extend_from_slice(slice)?;
-        places.push(place)?;
+    for k in 0..numbers.len() / 2 {
+        move_slice(bytes, numbers, k, start, &mut slices)?;
     }
-    Ok(LaidOut {
-        bytes: slices,
-        slots: places,
-    })
+    Ok(slices)
 }

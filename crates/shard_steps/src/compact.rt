@@ -1,47 +1,60 @@
 // A shard without what is not needed.
-ghost use Rattle.std.specs.Prelude.{◌≡◌, ◌<◌, ◌^◌, ◌+◌, ◌*◌, ℕ, IfOk, IfErr, length, slice_index_or};
+ghost use Rattle.std.specs.Prelude.{◌≡◌, ◌<◌, ◌^◌, ◌+◌, ◌*◌, ℕ, IfOk, IfErr, length};
 ghost use Rattle.zarr_parts.specs.Order.{RefusedBy};
 ghost use Rattle.zarr_parts.specs.Numbering.{count_of};
-ghost use Rattle.shard_format.specs.Index.{index_geo};
-ghost use Rattle.shard_format.specs.Laying.{taken};
-ghost use Rattle.shard_format.specs.Packing.{LiesInShard, IsRewritten};
+ghost use Rattle.shard_format.specs.Index.{index_geo, data_start, slot_at};
+ghost use Rattle.shard_format.specs.Compacting.{IsGood, present_size};
+ghost use Rattle.shard_format.specs.Packing.{IsRewritten};
 ghost use Rattle.shard_format.specs.EncodeTests.{RefusesIndex};
-ghost use Rattle.shard_format.specs.declared.slot.Slot.TheVariants.{Bad};
+ghost use Rattle.shard_layout.specs.Repacking.{slots_of};
 ghost use Rattle.shard_index.specs.Indexes.{index_meaning, IsIndexPlan};
 
 use crate::sharding::Sharding;
 use codec_laws::ArrayToBytesCodecTraits;
-use shard_format::Slot;
+use shard_format::ShardingIndexLocation;
 use shard_index::IndexPlan;
 use shard_layout::{joined_shard, packed};
 use std::alloc::Global;
 use zarr_parts::{CodecError, CodecOptions};
 
+// Where the data part begins.
+fn start_of_data(location: ShardingIndexLocation, index_size: u64) -> u64
+    ensures { result ≡ data_start location index_size }
+{
+    match location {
+        ShardingIndexLocation::Start => index_size,
+        ShardingIndexLocation::End => 0,
+    }
+}
+
 impl<I, X: ArrayToBytesCodecTraits> Sharding<'_, I, X> {
-    /// The index and the slices of these slots, which come to `total` bytes, as a shard. Refused as the index codec refuses, or
-    /// as `OutOfMemory`.
+    /// The index of these numbers and the slices that they name, which come to `total` bytes, as a shard. Refused as the index codec
+    /// refuses, or as `OutOfMemory`.
     pub(crate) fn rewritten(
         &self,
         alloc: Global,
         bytes: &[u8],
-        slots: &[Slot],
+        numbers: &mut [u64],
         total: u64,
         plan: &IndexPlan,
         options: &CodecOptions,
     ) -> Result<Vec<u8>, CodecError>
         requires plan { IsIndexPlan (index_meaning X.meaning self.now.index_codec.codec.now) plan.now }
-        requires counted { length slots.now ≡ count_of plan.now.grid }
-        requires inside { (k : ℕ) → k < length slots.now → LiesInShard (length bytes.now) (slice_index_or slots.now k Bad) }
-        requires total { total ≡ plan.now.size + taken slots.now (length slots.now) }
+        requires counted { length numbers.old ≡ 2 * count_of plan.now.grid }
+        requires good { (k : ℕ) → k < count_of plan.now.grid → IsGood (slot_at (length bytes.now) numbers.old k) }
+        requires total { total ≡ plan.now.size + present_size (slot_at (length bytes.now) numbers.old) (count_of plan.now.grid) }
         requires small { total + 1 < 2 ^ 64 }
-        ensures rewritten { let g = index_geo plan.now.grid in
-            IfOk result (λ new. IsRewritten (X.meaning self.now.index_codec.codec.now g).written self.now.index_codec.location plan.now.size bytes.now slots.now new.items) }
+        ensures rewritten { let written = (X.meaning self.now.index_codec.codec.now (index_geo plan.now.grid)).written in
+            IfOk result (λ new. IsRewritten written self.now.index_codec.location plan.now.size bytes.now (slots_of (length bytes.now) numbers.old) new.items) }
         ensures refused { let x = self.now.index_codec.codec.now in let g = index_geo plan.now.grid in
             IfErr result (RefusedBy (RefusesIndex (X.meaning x g) (count_of plan.now.grid))) }
     {
-        let laid = packed(alloc, bytes, slots, total as usize)?;
-        let index = self.index_codec.encode(alloc, &laid.slots, plan, options)?;
-        let shard = joined_shard(self.index_codec.location, index, laid.bytes)?;
+        let start = start_of_data(self.index_codec.location, plan.size);
+        let slices = packed(alloc, bytes, numbers, start, total as usize)?;
+        let index = self
+            .index_codec
+            .encode_numbers(alloc, numbers, plan, options)?;
+        let shard = joined_shard(self.index_codec.location, index, slices)?;
         Ok(shard)
     }
 }

@@ -18,7 +18,7 @@ use object_handles::{BytesPartialDecoderTraits, Interval};
 use shard_cells::{check_asked, gathered};
 use shard_format::{Asked, SubchunkWriteOrder, count_subchunks};
 use shard_index::IndexCodec;
-use shard_layout::{compact_size, elements_in_row, present_slots};
+use shard_layout::{compact_size, elements_in_row};
 use shard_subchunks::Subchunks;
 use std::alloc::Global;
 use zarr_parts::{
@@ -209,16 +209,12 @@ impl<I: ArrayToBytesCodecTraits, X: ArrayToBytesCodecTraits> ArrayToBytesCodecTr
             IfErr result (RefusedBy ((meaning_of I.meaning X.meaning self.now g).compact_tests bytes.now)) }
     {
         let plan = self.planned(alloc, shape, 0)?;
-        let index = self.index_codec.decode(alloc, bytes, &plan.index, options)?;
-        let len = bytes.len() as u64;
-        let slots = present_slots(alloc, &index)?;
-        let Some(total) = compact_size(&slots, plan.index.size) else {
-            return Err(CodecError::TooLarge);
-        };
-        if total == len {
+        let mut index = self.index_codec.decode(alloc, bytes, &plan.index, options)?;
+        let total = compact_size(&index, plan.index.size)?;
+        if total == index.len {
             return Ok(None);
         }
-        let shard = self.rewritten(alloc, bytes, &slots, total, &plan.index, options)?;
+        let shard = self.rewritten(alloc, bytes, &mut index.numbers, total, &plan.index, options)?;
         Ok(Some(shard))
     }
 

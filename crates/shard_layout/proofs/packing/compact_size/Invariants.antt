@@ -1,7 +1,11 @@
--- The size so far.
-use Rattle.std.proofs.Common.{◌≡◌, ◌+◌}
-use Rattle.shard_format.specs.Laying.{taken}
+-- The size so far, and no bad pair.
+use Rattle.std.proofs.Common.{◌≡◌, ◌+◌, ◌-◌, ◌^◌, ◌<◌, ℕ, min}
+use Rattle.shard_format.specs.Index.{slot_at}
+use Rattle.shard_format.specs.Compacting.{IsGood, present_size}
 use Rattle.shard_layout.proofs.packing.compact_size.Given as goal
 
 abbrev pub invariant-loop-k : goal.invariant-loop-k
-invariant-loop-k l = l.total ≡ l.index_size + taken l.slots l.k
+invariant-loop-k l = record {
+  total : l.total ≡ min (l.index_size + present_size (slot_at l.index.len l.index.numbers.items) l.k) (2 ^ 64 - 1);
+  good : (j : ℕ) → j < l.k → IsGood (slot_at l.index.len l.index.numbers.items j);
+}
