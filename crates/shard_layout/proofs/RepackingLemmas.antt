@@ -6,11 +6,13 @@ use Rattle.std.proofs.lemmas.List.{get_or_push}
 use Rattle.std.proofs.lemmas.List.FromFn.{length-map-range_with_len, get_or-map-range_with_len}
 use borrow.Author.Count.{below_more}
 use Rattle.shard_format.specs.Index.{absent_number, slot_of_pair, slot_at}
-use Rattle.shard_format.specs.Laying.{offset_number, size_number, AreNumbersOf}
-use Rattle.shard_format.specs.Compacting.{IsGood}
+use Rattle.shard_format.specs.Encoding.{slot_size}
+use Rattle.shard_format.specs.Laying.{taken, offset_number, size_number, AreNumbersOf}
+use Rattle.shard_format.specs.Compacting.{IsGood, present_size}
 use Rattle.shard_format.specs.Packing.{LiesInShard, AreSlots, slice_of, moved_slot}
 use Rattle.shard_format.specs.declared.slot.Slot.{Slot}
 use Rattle.shard_format.specs.declared.slot.Slot.TheVariants.{Absent, InRange, Bad}
+use Rattle.shard_format.proofs.LayingLemmas.{sum_same}
 use Rattle.shard_format.proofs.PackingLemmas.{one_more_packed}
 use Rattle.shard_layout.specs.Repacking.{slots_of, IsRepacked}
 
@@ -59,6 +61,11 @@ are_slots len numbers n is good = record {
   are = λ k below. slot_in len numbers k (omega (arith, is, below));
   inside = λ k below. rw (slot_in len numbers k (omega (arith, is, below))) (good_inside len numbers k (good k below));
 }
+
+pub taken_present : (len : ℕ) (numbers : List ℕ) (n : ℕ) → n ≡ length numbers / 2 → taken (slots_of len numbers) n ≡ present_size (slot_at len numbers) n
+taken_present len numbers n is =
+    sum_same (λ j. slot_size (get_or (slots_of len numbers) j Bad)) (λ j. slot_size (slot_at len numbers j)) n
+    (λ j below. ap slot_size (slot_in len numbers j (omega (arith, is, below))))
 
 -- the pair that comes next is still as it was
 pub next_slot : (start : ℕ) (old old_numbers bytes numbers : List ℕ) (k : ℕ) → IsRepacked start old old_numbers bytes numbers k

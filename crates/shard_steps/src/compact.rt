@@ -34,26 +34,26 @@ impl<I, X: ArrayToBytesCodecTraits> Sharding<'_, I, X> {
         &self,
         alloc: Global,
         bytes: &[u8],
-        numbers: &mut [u64],
+        mut numbers: Vec<u64>,
         total: u64,
         plan: &IndexPlan,
         options: &CodecOptions,
     ) -> Result<Vec<u8>, CodecError>
         requires plan { IsIndexPlan (index_meaning X.meaning self.now.index_codec.codec.now) plan.now }
-        requires counted { length numbers.old ≡ 2 * count_of plan.now.grid }
-        requires good { (k : ℕ) → k < count_of plan.now.grid → IsGood (slot_at (length bytes.now) numbers.old k) }
-        requires total { total ≡ plan.now.size + present_size (slot_at (length bytes.now) numbers.old) (count_of plan.now.grid) }
+        requires counted { length numbers.items ≡ 2 * count_of plan.now.grid }
+        requires good { (k : ℕ) → k < count_of plan.now.grid → IsGood (slot_at (length bytes.now) numbers.items k) }
+        requires total { total ≡ plan.now.size + present_size (slot_at (length bytes.now) numbers.items) (count_of plan.now.grid) }
         requires small { total + 1 < 2 ^ 64 }
         ensures rewritten { let written = (X.meaning self.now.index_codec.codec.now (index_geo plan.now.grid)).written in
-            IfOk result (λ new. IsRewritten written self.now.index_codec.location plan.now.size bytes.now (slots_of (length bytes.now) numbers.old) new.items) }
+            IfOk result (λ new. IsRewritten written self.now.index_codec.location plan.now.size bytes.now (slots_of (length bytes.now) numbers.items) new.items) }
         ensures refused { let x = self.now.index_codec.codec.now in let g = index_geo plan.now.grid in
             IfErr result (RefusedBy (RefusesIndex (X.meaning x g) (count_of plan.now.grid))) }
     {
         let start = start_of_data(self.index_codec.location, plan.size);
-        let slices = packed(alloc, bytes, numbers, start, total as usize)?;
+        let slices = packed(alloc, bytes, &mut numbers, start, total as usize)?;
         let index = self
             .index_codec
-            .encode_numbers(alloc, numbers, plan, options)?;
+            .encode_numbers(alloc, &numbers, plan, options)?;
         let shard = joined_shard(self.index_codec.location, index, slices)?;
         Ok(shard)
     }

@@ -209,12 +209,13 @@ impl<I: ArrayToBytesCodecTraits, X: ArrayToBytesCodecTraits> ArrayToBytesCodecTr
             IfErr result (RefusedBy ((meaning_of I.meaning X.meaning self.now g).compact_tests bytes.now)) }
     {
         let plan = self.planned(alloc, shape, 0)?;
-        let mut index = self.index_codec.decode(alloc, bytes, &plan.index, options)?;
+        let index = self.index_codec.decode(alloc, bytes, &plan.index, options)?;
+        let len = bytes.len() as u64;
         let total = compact_size(&index, plan.index.size)?;
-        if total == index.len {
+        if total == len {
             return Ok(None);
         }
-        let shard = self.rewritten(alloc, bytes, &mut index.numbers, total, &plan.index, options)?;
+        let shard = self.rewritten(alloc, bytes, index.numbers, total, &plan.index, options)?;
         Ok(Some(shard))
     }
 
