@@ -157,7 +157,12 @@ const LOCATIONS: [(ShardingIndexLocation, [u64; 3]); 2] = [
 fn inner_shards_stand_behind_one_another(rt: HostRuntime) -> Result<(), Fail> {
     for (location, places) in LOCATIONS {
         let want = both_stored(rt.alloc(), location, places)?;
-        let object = encoded(rt.alloc(), &nested_at(rt.alloc(), location)?, &[4], &[1, 0, 2, 3])?;
+        let object = encoded(
+            rt.alloc(),
+            &nested_at(rt.alloc(), location)?,
+            &[4],
+            &[1, 0, 2, 3],
+        )?;
         same(&rt, object.as_slice(), want.as_slice());
         let (bytes, answer) = put_behind(rt.alloc(), location, &[1, 0, 2, 3])?;
         same(&rt, answer, Ok(()));
