@@ -9,3 +9,4 @@ mod place;
 pub use index::{IndexCodec, IndexPlan};
 pub use numbers::pair_of;
 pub use pairs::{check_pairs, without_pairs};
+pub use place::start_of_data;

@@ -16,8 +16,8 @@ pub(crate) fn index_bytes(bytes: &[u8], location: ShardingIndexLocation, size: u
     }
 }
 
-// Where the data part begins.
-pub(crate) fn start_of_data(location: ShardingIndexLocation, index_size: u64) -> u64
+/// Where the data part begins.
+pub fn start_of_data(location: ShardingIndexLocation, index_size: u64) -> u64
     ensures { result ≡ data_start location index_size }
 {
     match location {

@@ -2,7 +2,7 @@
 ghost use Rattle.std.specs.Prelude.{◌≡◌, ◌<◌, ◌^◌, ◌+◌, ◌*◌, ℕ, IfOk, IfErr, length};
 ghost use Rattle.zarr_parts.specs.Order.{RefusedBy};
 ghost use Rattle.zarr_parts.specs.Numbering.{count_of};
-ghost use Rattle.shard_format.specs.Index.{index_geo, data_start, slot_at};
+ghost use Rattle.shard_format.specs.Index.{index_geo, slot_at};
 ghost use Rattle.shard_format.specs.Compacting.{IsGood, present_size};
 ghost use Rattle.shard_format.specs.Packing.{IsRewritten};
 ghost use Rattle.shard_format.specs.EncodeTests.{RefusesIndex};
@@ -11,21 +11,10 @@ ghost use Rattle.shard_index.specs.Indexes.{index_meaning, IsIndexPlan};
 
 use crate::sharding::Sharding;
 use codec_laws::ArrayToBytesCodecTraits;
-use shard_format::ShardingIndexLocation;
-use shard_index::IndexPlan;
+use shard_index::{IndexPlan, start_of_data};
 use shard_layout::{joined_shard, packed};
 use std::alloc::Global;
 use zarr_parts::{CodecError, CodecOptions};
-
-// Where the data part begins.
-fn start_of_data(location: ShardingIndexLocation, index_size: u64) -> u64
-    ensures { result ≡ data_start location index_size }
-{
-    match location {
-        ShardingIndexLocation::Start => index_size,
-        ShardingIndexLocation::End => 0,
-    }
-}
 
 impl<I, X: ArrayToBytesCodecTraits> Sharding<'_, I, X> {
     /// The index of these numbers and the slices that they name, which come to `total` bytes, as a shard. Refused as the index codec
