@@ -11,10 +11,17 @@ use zarr_codecs::{ArrayToBytesCodecTraits, BytesCodec, MemoryHandle};
 use zarr_parts::{CodecError, CodecOptions, DataType};
 use zarrs_sharding::{ShardingCodec, ShardingIndexLocation};
 
-// Four cells in two shards of two subchunks each.
+// Four cells in two shards of two subchunks each, with all indices at this place.
+fn nested_at(
+    alloc: Global,
+    location: ShardingIndexLocation,
+) -> Result<ShardingCodec<Plain, BytesCodec>, CodecError> {
+    let inner = plain(alloc, &[1], location)?;
+    around(alloc, &[2], inner, location)
+}
+
 fn nested(alloc: Global) -> Result<ShardingCodec<Plain, BytesCodec>, CodecError> {
-    let inner = plain(alloc, &[1], ShardingIndexLocation::End)?;
-    around(alloc, &[2], inner, ShardingIndexLocation::End)
+    nested_at(alloc, ShardingIndexLocation::End)
 }
 
 // The shard of 1, 0, 0, 0, of which the first inner shard alone is stored; its indices may name another number of bytes.
@@ -90,15 +97,6 @@ fn nested_shards_are_encoded(rt: HostRuntime) {
     same(&rt, is_encoded_so(rt.alloc()), Ok(true));
 }
 
-// The same with all indices in front of the data parts, or all behind them.
-fn nested_at(
-    alloc: Global,
-    location: ShardingIndexLocation,
-) -> Result<ShardingCodec<Plain, BytesCodec>, CodecError> {
-    let inner = plain(alloc, &[1], location)?;
-    around(alloc, &[2], inner, location)
-}
-
 // A shard of these slices and their index.
 fn shard_at(
     alloc: Global,
@@ -114,7 +112,8 @@ fn shard_at(
     Ok(shard)
 }
 
-// The shard of 1, 0, 2, 3, of which both inner shards are stored, whose data parts begin at this place.
+// The shard of 1, 0, 2, 3, of which both inner shards are stored: where each data part begins, and where what is behind the
+// first cell and behind the first inner shard.
 fn both_stored(
     alloc: Global,
     location: ShardingIndexLocation,
