@@ -1,4 +1,5 @@
-use Rattle.std.proofs.Common.{◌≡◌, drop, length, arith}
+use Rattle.std.proofs.Common.{◌≡◌, ap, drop, length, arith}
+use Rattle.std.proofs.lemmas.List.{length-append}
 use Rattle.object_handles.specs.Writes.{bytes_of}
 use Rattle.shard_subchunks.specs.Inner.{subchunk_geo, inner_meaning}
 use Rattle.shard_writing.proofs.CellLemmas.{served_in_box}
@@ -13,6 +14,12 @@ overlay_behind-requires-clause-box_served g c =
     let meeting = c.in_ok-meeting.meeting in
     rw c.shape-axes.ensures.value
     (served_in_box s.shape.now (subchunk_geo s.subchunks) a.subset.now a.number meeting.in_sub meeting.in_box c.in_ok-meeting.ensures.meets c.requires.well_formed c.requires.inside c.requires.fits)
+
+pub slot_behind-new-requires-clause-from : goal.slot_behind-new-requires-clause-from
+slot_behind-new-requires-clause-from g c =
+    let a = c.args in
+    let put = c.in_ok-there.ensures.behind c.if-there.true in
+    omega (arith, c.len-from.ensures, a.slices.now.ok.0, c.overlay_behind.ensures.long, ap length put.behind, length-append a.slices.now.items put.part)
 
 pub slot_behind-new-requires-clause-whole : goal.slot_behind-new-requires-clause-whole
 slot_behind-new-requires-clause-whole g c =
