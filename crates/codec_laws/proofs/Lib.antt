@@ -1,2 +1,3 @@
 pub mod CodecLaws
 pub mod ReadLemmas
+pub mod OverwriteLemmas

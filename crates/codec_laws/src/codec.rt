@@ -340,6 +340,51 @@ pub trait ArrayToBytesCodecTraits {
         target.copy_from(&read)
     }
 
+    /// Reads the cells that an indexer asks, as `partial_decode_into`, into a target that nobody looks at where it is refused: its
+    /// subset may then have any elements, all others stay. By default a refusal leaves the target. Refused as
+    /// `partial_decode_into`.
+    fn partial_decode_into_fresh<H: BytesPartialDecoderTraits, N: Indexer>(
+        &self,
+        alloc: Global,
+        handle: &mut H,
+        stored: &StoredArray,
+        indexer: &N,
+        target: &mut FixedTarget,
+        options: &CodecOptions,
+    ) -> Result<(), CodecError>
+        ensures serves { OnOk result (meaning self.now (stored_geo stored.now)).serves }
+        ensures read { IsRead (H.state handle.old) (H.state handle.new) }
+        ensures kind { OnOk result (size_of stored.now.data_type.now ≡ Fixed (target_element_size target.old)) }
+        ensures counted { OnOk result (count_of (target_box target.old).shape ≡ length (N.selection indexer.now).points) }
+        ensures selected { OnOk result (IsSelectionOf stored.now.shape.now (N.selection indexer.now)) }
+        ensures answerable { let m = meaning self.now (stored_geo stored.now) in
+            OnOk result (m.answerable (length (N.selection indexer.now).points)) }
+        ensures written { IsOverwritten target.old target.new }
+        ensures cells { let m = meaning self.now (stored_geo stored.now) in
+            OnOk result (IsTrue (H.state handle.old).tells
+            → HasInterval stored.now.interval (H.state handle.old).contents
+            × IsDecodedInto target.old target.new (cells_at (m.cells (interval_part stored.now.interval (H.state handle.old).contents)) stored.now.shape.now (N.selection indexer.now).points)) }
+        ensures fault { IfErr result (IsCounted (H.state handle.old) (H.state handle.new)) }
+        ensures lawful { let m = meaning self.now (stored_geo stored.now) in
+            IfErr result (λ e. m.serves → size_of stored.now.data_type.now ≡ Fixed (target_element_size target.old)
+            → count_of (target_box target.old).shape ≡ length (N.selection indexer.now).points
+            → IsTrue (H.state handle.old).tells → (N.selection indexer.now).axes ≡ length stored.now.shape.now
+            → LiesWithin (N.selection indexer.now).box (N.selection indexer.now).points stored.now.shape.now
+            → HasInterval stored.now.interval (H.state handle.old).contents
+            → MayFault (H.state handle.old) (H.state handle.new) e
+            ⊎ MayRefuseRead (m.cells (interval_part stored.now.interval (H.state handle.old).contents))
+            (cells_at (m.cells (interval_part stored.now.interval (H.state handle.old).contents)) stored.now.shape.now (N.selection indexer.now).points) e) }
+        ensures refused { let m = meaning self.now (stored_geo stored.now) in
+            IfErr result (RefusedBy (
+            m.serves or_as RefusesUnserved m then
+            TargetTests (size_of stored.now.data_type.now) (length (N.selection indexer.now).points) target.old (
+            AskedTests (stored_geo stored.now) (N.selection indexer.now) m.answerable (
+            ObjectTests (H.state handle.old) (H.state handle.new) (
+            IntervalTests stored.now.interval (H.state handle.old).contents (λ b. m.read_tests b (N.selection indexer.now).points)))))) }
+    {
+        self.partial_decode_into(alloc, handle, stored, indexer, target, options)
+    }
+
     // what the codec means for the arrays of a shape, a type and a fill value keeps the laws
     ghost lawful: { (x : Self) (g : Geo) → IsLawful g (meaning x g) };
 

@@ -208,6 +208,26 @@ impl ArrayToBytesCodecTraits for DefaultArrayToBytesCodec {
             }
         }
     }
+
+    /// As `partial_decode_into_fresh` of the codec that it holds.
+    fn partial_decode_into_fresh<H: BytesPartialDecoderTraits, N: Indexer>(
+        &self,
+        alloc: Global,
+        handle: &mut H,
+        stored: &StoredArray,
+        indexer: &N,
+        target: &mut FixedTarget,
+        options: &CodecOptions,
+    ) -> Result<(), CodecError> {
+        match self {
+            DefaultArrayToBytesCodec::Bytes(codec) => {
+                codec.partial_decode_into_fresh(alloc, handle, stored, indexer, target, options)
+            }
+            DefaultArrayToBytesCodec::Vlen(codec) => {
+                codec.partial_decode_into_fresh(alloc, handle, stored, indexer, target, options)
+            }
+        }
+    }
 }
 
 impl FunctionalCodec for DefaultArrayToBytesCodec {

@@ -227,4 +227,24 @@ impl<A: ArrayToBytesCodecTraits, B: ArrayToBytesCodecTraits> ArrayToBytesCodecTr
             }
         }
     }
+
+    /// As `partial_decode_into_fresh` of the codec that it holds.
+    fn partial_decode_into_fresh<H: BytesPartialDecoderTraits, N: Indexer>(
+        &self,
+        alloc: Global,
+        handle: &mut H,
+        stored: &StoredArray,
+        indexer: &N,
+        target: &mut FixedTarget,
+        options: &CodecOptions,
+    ) -> Result<(), CodecError> {
+        match self {
+            EitherCodec::First(codec) => {
+                codec.partial_decode_into_fresh(alloc, handle, stored, indexer, target, options)
+            }
+            EitherCodec::Second(codec) => {
+                codec.partial_decode_into_fresh(alloc, handle, stored, indexer, target, options)
+            }
+        }
+    }
 }

@@ -1,10 +1,11 @@
 -- A box of an array that is itself a box of another array.
-use Rattle.std.proofs.Common.{◌≡◌, ℕ, ◌+◌, ◌*◌, ◌^◌, ◌<◌, ◌≤◌, List, [], ◌∷◌, length, refl, sym, ap, ◌∙◌, arith}
+use Rattle.std.proofs.Common.{◌≡◌, ℕ, ◌+◌, ◌*◌, ◌<◌, ◌≤◌, List, [], ◌∷◌, length, refl, sym, ap, ◌∙◌, arith}
 use Rattle.std.specs.List.{AllZip}
 use Rattle.zarr_parts.specs.Numbering.{count_of, zip_with, number_of, point_of}
-use Rattle.zarr_parts.specs.Boxes.{Region, IsBox, LiesIn, number_in}
+use Rattle.zarr_parts.specs.Boxes.{Region, IsBox, LiesIn, point_in, number_in}
 use Rattle.zarr_parts.specs.Grid.{Divides, grid_of, grid_box, joined, cell_number}
 use Rattle.zarr_boxes.proofs.NumberingLaws.{point_inside, point_of-number_of}
+use Rattle.zarr_boxes.proofs.BoxLaws.{shifted_inside}
 use Rattle.zarr_boxes.proofs.GridLaws.{joined_inside}
 use Rattle.shard_cells.specs.Placings.{placed_box}
 
@@ -67,3 +68,12 @@ placed_number shape sub axes outer k p divides same lk lp =
     let inside = joined_inside ck shape sub cp divides (point_inside k (grid_of shape sub) lk) (point_inside p sub lp) in
     ap (λ c. number_of c axes) (sums_in_order outer.start (zip_with ◌*◌ ck sub) cp)
     ∙ sym (ap (λ s. number_of (zip_with ◌+◌ outer.start (point_of (number_of point shape) s)) axes) same ∙ ap (λ c. number_of (zip_with ◌+◌ outer.start c) axes) (point_of-number_of point shape inside))
+
+-- the points of a box of a box are those of it there
+pub placed_point : (outer inner : Region) (axes : List ℕ) (r : ℕ) → LiesIn inner outer.shape → r < count_of inner.shape
+    → number_in (placed_box outer inner) axes r ≡ number_in outer axes (number_in inner outer.shape r)
+placed_point outer inner axes r lies lt =
+    let point = point_of r inner.shape in
+    let inside = shifted_inside inner.start inner.shape point outer.shape (point_inside r inner.shape lt) lies in
+    ap (λ c. number_of c axes) (sums_in_order outer.start inner.start point)
+    ∙ sym (ap (λ c. number_of (zip_with ◌+◌ outer.start c) axes) (point_of-number_of (point_in inner r) outer.shape inside))

@@ -17,6 +17,6 @@ pub use gathering::{check_lengths, gathered};
 pub use grouping::{Grouping, Places, Standing, grouped};
 pub use laying::room_for;
 pub use meeting::{Meeting, meeting_of};
-pub use placing::placed_subset;
+pub use placing::{placed_part, placed_subset};
 pub use sorted::{AskedCell, list_places, located, put_cells, run_length, sorted_cells};
 pub use update::check_update;

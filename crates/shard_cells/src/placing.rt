@@ -1,7 +1,7 @@
 // Where a subchunk lies of an array that is itself a box of another array.
 ghost use Rattle.std.specs.Prelude.{◌≡◌, ◌+◌, ◌^◌, ◌<◌, IfOk, IfErr};
 ghost use Rattle.zarr_parts.specs.Numbering.{count_of, zip_with};
-ghost use Rattle.zarr_parts.specs.Boxes.{IsBox};
+ghost use Rattle.zarr_parts.specs.Boxes.{IsBox, LiesIn};
 ghost use Rattle.zarr_parts.specs.Grid.{Divides, grid_of, grid_box};
 ghost use Rattle.zarr_parts.specs.CodecError.TheVariants.{OutOfMemory};
 ghost use Rattle.shard_cells.specs.Placings.{placed_box};
@@ -20,6 +20,25 @@ fn moved(alloc: Global, start: &[u64], origin: &[u64]) -> Result<Axes, AllocErro
         axes.push(origin[axis] + start[axis])?;
     }
     Ok(axes)
+}
+
+/// A box of an array that is itself a box of another array, as a box of this one. Refused only as out of memory.
+pub fn placed_part(
+    alloc: Global,
+    within: &ArraySubset,
+    part: &ArraySubset,
+) -> Result<ArraySubset, CodecError>
+    requires { LiesIn part.now within.now.shape }
+    ensures placed { IfOk result (λ placed. placed ≡ placed_box within.now part.now) }
+    ensures refused { IfErr result (λ e. e ≡ OutOfMemory) }
+{
+    let _lengths = within.shape();
+    let start = moved(alloc, part.start(), within.start())?;
+    let lengths = Axes::from_slice(alloc, part.shape())?;
+    match ArraySubset::new_with_axes(start, lengths) {
+        Some(placed) => Ok(placed),
+        None => unreachable!(),
+    }
 }
 
 /// The box of a subchunk of a shape, where this is the shape of a box of another array: the subchunk's box there. Refused only
@@ -41,14 +60,9 @@ pub fn placed_subset(
     ensures refused { IfErr result (λ e. e ≡ OutOfMemory) }
 {
     let _axes = shape.as_slice();
-    let _lengths = within.shape();
     let Some(part) = subchunk_subset(alloc, number, grid, sub)? else {
         unreachable!()
     };
-    let start = moved(alloc, part.start(), within.start())?;
-    let lengths = Axes::from_slice(alloc, part.shape())?;
-    match ArraySubset::new_with_axes(start, lengths) {
-        Some(placed) => Ok(placed),
-        None => unreachable!(),
-    }
+    let placed = placed_part(alloc, within, &part)?;
+    Ok(placed)
 }

@@ -214,6 +214,33 @@ impl<'a> FixedTarget<'a> {
         scatter(self.bytes, self.element_size, place, self.shape, elements);
     }
 
+    /// Writes the elements at the points of a box of bytes, which are an array of a shape with elements of the target's size, at the
+    /// points of a box of the target's array, both in row-major order. Takes no memory.
+    pub fn copy_box_part(
+        &mut self,
+        place: &ArraySubset,
+        elements: &[u8],
+        subset: &ArraySubset,
+        shape: &[u64],
+    )
+        requires served { IsServed place.now (target_shape self.old) }
+        requires whole { length elements.now ≡ count_of shape.now * target_element_size self.old }
+        requires from { IsServed subset.now shape.now }
+        requires counted { count_of subset.now.shape ≡ count_of place.now.shape }
+        ensures { let size = target_element_size self.old in
+            IsPartWritten self.old self.new place.now (λ k. piece size elements.now (number_in subset.now shape.now k)) }
+    {
+        copy_box(
+            self.bytes,
+            self.element_size,
+            place,
+            self.shape,
+            elements,
+            subset,
+            shape,
+        );
+    }
+
     /// Writes one element at each point of a box of the target's array. Takes no memory.
     pub fn fill_part(&mut self, place: &ArraySubset, element: &[u8])
         requires served { IsServed place.now (target_shape self.old) }
