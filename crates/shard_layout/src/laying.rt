@@ -8,9 +8,20 @@ ghost use Rattle.shard_format.specs.Laying.{placed_slot, whole_shard};
 ghost use Rattle.shard_layout.specs.Rows.{FollowBy};
 
 use shard_format::{ShardingIndexLocation, Slot, subchunk_subset};
-use std::alloc::Global;
+use std::alloc::{AllocError, Global};
 use zarr_boxes::subchunks_follow;
 use zarr_parts::{ArrayBytes, ChunkShape, CodecError, DataType};
+
+/// Makes room behind bytes for so many more, and for a sixteenth of those that are there: so they are moved seldom, and few places
+/// stay empty. Refused only as out of memory; that leaves the room as it was.
+pub fn room_behind(bytes: &mut Vec<u8>, more: usize) -> Result<(), AllocError>
+    ensures { bytes.new.items ≡ bytes.old.items }
+{
+    if more <= bytes.capacity() - bytes.len() {
+        return Ok(());
+    }
+    bytes.reserve_exact(more.max(bytes.len() / 16))
+}
 
 /// How many elements each subchunk has, where the subchunks of a shape follow one another in it. Takes no memory.
 pub fn elements_in_row(shape: &ChunkShape, sub: &ChunkShape) -> Option<u64>

@@ -14,6 +14,7 @@ use crate::plan::Plan;
 use crate::sharding::Sharding;
 use codec_laws::ArrayToBytesCodecTraits;
 use shard_format::{Asked, ShardingIndexLocation};
+use shard_layout::room_behind;
 use shard_subchunks::Subchunks;
 use std::alloc::{AllocError, Global};
 use zarr_parts::{ArrayBytes, CodecError, CodecOptions};
@@ -56,7 +57,10 @@ fn put_index(
             bytes[start..start + index.len()].copy_from_slice(index);
             Ok(())
         }
-        ShardingIndexLocation::End => bytes.extend_from_slice(index),
+        ShardingIndexLocation::End => {
+            room_behind(bytes, index.len())?;
+            bytes.extend_from_slice(index)
+        }
     }
 }
 

@@ -13,7 +13,7 @@ ghost use Rattle.shard_subchunks.specs.Inner.{subchunk_geo, inner_meaning};
 use crate::subchunks::Subchunks;
 use codec_laws::ArrayToBytesCodecTraits;
 use shard_format::Slot;
-use shard_layout::{LaidOut, elements_in_row, gather_subchunk, placed};
+use shard_layout::{LaidOut, elements_in_row, gather_subchunk, placed, room_behind};
 use std::alloc::Global;
 use zarr_parts::{ArrayBytes, ChunkShape, CodecError};
 
@@ -111,7 +111,9 @@ impl<I: ArrayToBytesCodecTraits> Subchunks<'_, I> {
     {
         let start = bytes.len();
         let mut slots = Vec::with_capacity(alloc, subchunks as usize)?;
+        let mut longest = 0;
         for k in 0..subchunks {
+            room_behind(bytes, longest)?;
             let part = gather_subchunk(
                 alloc,
                 array,
@@ -125,6 +127,7 @@ impl<I: ArrayToBytesCodecTraits> Subchunks<'_, I> {
             let from = bytes.len();
             let slot = self.store_behind(alloc, &part, bytes)?;
             let (offset, size) = (from - start, bytes.len() - from);
+            longest = longest.max(size);
             slots.push(placed(slot != Slot::Absent, offset as u64, size as u64))?;
         }
         Ok(slots)

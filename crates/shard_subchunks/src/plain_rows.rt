@@ -13,6 +13,7 @@ ghost use Rattle.shard_subchunks.specs.PlainRows.{ArePlainRows};
 use crate::subchunks::Subchunks;
 use codec_laws::ArrayToBytesCodecTraits;
 use shard_format::Slot;
+use shard_layout::room_behind;
 use std::alloc::{AllocError, Global};
 use std::borrow::CowSlice;
 use zarr_parts::{ArrayBytes, ChunkShape, FillValue};
@@ -44,6 +45,7 @@ fn push_rows(slices: &mut Vec<u8>, run: &[u8]) -> Result<(), AllocError>
     if run.len() == 0 {
         return Ok(());
     }
+    room_behind(slices, run.len())?;
     slices.extend_from_slice(run)
 }
 
@@ -83,7 +85,7 @@ impl<I: ArrayToBytesCodecTraits> Subchunks<'_, I> {
             copied = first + size;
             slots.push(Slot::Absent)?;
         }
-        slices.extend_from_slice(&bytes[copied..])?;
+        push_rows(slices, &bytes[copied..])?;
         Ok(slots)
     }
 

@@ -58,8 +58,8 @@ returns g c =
     let s = a.self.now in
     let l = c.loop-k in
     let old = a.slices.now.items in
-    let all = c.extend_from_slice.new.self.items in
-    let rest = c.in_ok-extend_from_slice.ensures.items in
+    let all = c.push_rows-2.new.slices.items in
+    let rest = c.in_ok-push_rows-2.ensures.behind in
     let end : l.k ≡ a.rows = omega arith in
     record {
       stay = stay_before old l.slices.items _ all l.invariant.0 rest;

@@ -33,16 +33,18 @@ loop-k-preserved g c =
     let s = a.self.now in
     let l = c.loop-k in
     let old = a.bytes.now.items in
+    let room = c.room_behind.new.bytes in
     let all = c.store_behind.new.slices in
     let stored = c.in_ok-slot.ensures.stored in
+    let behind = rw c.room_behind.ensures at stored.behind in
     let from : c.len-from.result - c.len-start.result ≡ length l.bytes.items - length old =
-    omega (arith, c.len-from.ensures, l.bytes.ok.0, c.len-start.ensures, a.bytes.now.ok.0) in
+    omega (arith, c.len-from.ensures, room.ok.0, ap length c.room_behind.ensures, c.len-start.ensures, a.bytes.now.ok.0) in
     let size : c.len.result - c.len-from.result ≡ length stored.slice =
-    omega (arith, c.len.ensures, all.ok.0, c.len-from.ensures, l.bytes.ok.0, length-append l.bytes.items stored.slice, ap length stored.behind) in
+    omega (arith, c.len.ensures, all.ok.0, c.len-from.ensures, room.ok.0, length-append room.items stored.slice, ap length stored.behind) in
     let present : c.ne.result ≡ stored.present = search rules in (
-      stay_before old l.bytes.items stored.slice all.items l.invariant.0 stored.behind,
+      stay_before old l.bytes.items stored.slice all.items l.invariant.0 behind,
       one_more_behind (g.I.ArrayToBytesCodecTraits.meaning s.codec.now (subchunk_geo s)).written s.fill_value.now a.shape.now s.shape.now a.array.now.elements
           old l.bytes.items stored.slice all.items l.slots.items c.push.new.self.items l.k stored.present
-          l.invariant.0 l.invariant.1 (rw c.in_ok-part.ensures.elements at stored.stored) stored.behind
+          l.invariant.0 l.invariant.1 (rw c.in_ok-part.ensures.elements at stored.stored) behind
           (rw (c.placed.ensures, present, from, size) at c.in_ok-push.ensures.items),
     )
