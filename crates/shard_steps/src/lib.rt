@@ -6,6 +6,7 @@ mod encode;
 mod plain;
 mod plan;
 mod read;
+mod read_into;
 mod sharding;
 
 pub use plan::Plan;

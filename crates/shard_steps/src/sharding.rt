@@ -12,7 +12,7 @@ ghost use Rattle.shard_format.specs.Compacting.{IsCompact};
 ghost use Rattle.shard_steps.specs.Meanings.{layout_in, inner_of, index_of, meaning_of};
 
 use codec_laws::{
-    ArrayToBytesCodecTraits, BytesRepresentation, RecommendedConcurrency, check_target,
+    ArrayToBytesCodecTraits, BytesRepresentation, RecommendedConcurrency, StoredArray, check_target,
 };
 use object_handles::{BytesPartialDecoderTraits, Interval};
 use shard_cells::{check_asked, gathered};
@@ -252,6 +252,37 @@ impl<I: ArrayToBytesCodecTraits, X: ArrayToBytesCodecTraits> ArrayToBytesCodecTr
             alloc, handle, interval, &asked, &plan, count, indexer, options,
         )?;
         Ok(cells)
+    }
+
+    /// Reads the index, and the asked cells of the subchunks in which there are any, into the target: straight from the slices where
+    /// it can be.
+    fn partial_decode_into_fresh<H: BytesPartialDecoderTraits, N: Indexer>(
+        &self,
+        alloc: Global,
+        handle: &mut H,
+        stored: &StoredArray,
+        indexer: &N,
+        target: &mut FixedTarget,
+        options: &CodecOptions,
+    ) -> Result<(), CodecError> {
+        let asked = Asked {
+            shape: stored.shape,
+            data_type: stored.data_type,
+            fill_value: stored.fill_value,
+        };
+        let plan = self.prepared(alloc, &asked)?;
+        check_target(target, indexer.len(), stored.data_type)?;
+        let _count = check_asked(indexer, stored.shape, stored.data_type)?;
+        self.read_planned_into(
+            alloc,
+            handle,
+            stored.interval,
+            &asked,
+            &plan,
+            indexer,
+            target,
+            options,
+        )
     }
 
     /// As many times the inner codec's bound as there are subchunks, and the index.

@@ -5,3 +5,4 @@ pub mod PlainLemmas
 pub mod DecodedRowLemmas
 pub mod WholeLemmas
 pub mod PutLemmas
+pub mod BoxPutLemmas

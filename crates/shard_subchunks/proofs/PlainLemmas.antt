@@ -2,7 +2,7 @@
 use Rattle.std.proofs.Common.{◌≡◌, ◌∙◌, ℕ, ◌+◌, ◌-◌, ◌*◌, ◌<◌, ◌≤◌, List, [], ◌∷◌, ◌++◌, Option, Some, None, map, length, take, drop, get_or, ap, sym, add-one, inl, inr, arith}
 use Rattle.std.proofs.Math.Seq.{take-suc}
 use Rattle.std.proofs.lemmas.List.{drop-take, drop-drop, take-take, get_or-map, map-append, length-take, length-drop}
-use Rattle.zarr_parts.specs.Pieces.{pieces}
+use Rattle.zarr_parts.specs.Pieces.{piece, pieces}
 use Rattle.zarr_parts.specs.Words.{CellsOf, Refusals}
 use Rattle.zarr_parts.specs.Order.{RefusedBy}
 use Rattle.zarr_parts.specs.CodecError.{CodecError}
@@ -46,6 +46,22 @@ cell_read outer n offset size place many (Some bytes) element cells has inside f
     let whole = length-interval_part outer (Some bytes) has in
     cell_of_slice n offset size place many (interval_part outer (Some bytes)) cells (omega (arith, whole, inside)) fits lt plain
     ∙ (ap some (part_of_slice n outer.offset outer.size (offset + place * n) bytes (omega arith)) ∙ sym told.1)
+
+some_same : (x y : List ℕ) → Some x ≡ Some y → x ≡ y
+some_same x y h = cc
+
+-- the cell at a place of a slice, in an interval of an object, which was read
+pub slice_read : (outer : Interval) (n offset size place many : ℕ) (contents : Option (List ℕ)) (slice : List ℕ) (cells : CellsOf) → HasInterval outer contents → offset + size ≤ outer.size
+    → length slice ≡ size → place < many → ((b : List ℕ) → length b ≡ size → cells b ≡ map Some (pieces n many b))
+    → IsPart (FromStart (outer.offset + offset) (Some size)) contents (Some slice)
+    → get_or (cells (take size (drop offset (interval_part outer contents)))) place None ≡ Some (piece n slice place)
+slice_read outer n offset size place many None slice cells has inside long lt plain told = absurd has
+slice_read outer n offset size place many (Some bytes) slice cells has inside long lt plain told =
+    let some : List ℕ → Option (List ℕ) = λ x. Some x in
+    let same : take size (drop offset (interval_part outer (Some bytes))) ≡ slice = some_same _ _ (ap some (part_of_slice size outer.offset outer.size offset bytes inside) ∙ sym told.1) in
+    ap (λ b. get_or (cells b) place None) same
+    ∙ (ap (λ (xs : List (Option (List ℕ))). get_or xs place None) (plain slice long)
+    ∙ (get_or-map some (pieces n many slice) place [] None (omega (arith, length-pieces n many slice)) ∙ ap some (piece_of-pieces n many slice place lt)))
 
 -- the element of one number more
 pub element_more : (n i : ℕ) (f : ℕ → Option (List ℕ)) (numbers before element after : List ℕ) → i < length numbers → length before ≡ i * n → length element ≡ n

@@ -30,3 +30,11 @@ pub record IsSlotPut (inner_cells : CellsOf) (fill b : Bytes) (slot : Slot) (pla
   pub element : ℕ → Bytes
   pub cells : (p : ℕ) → p < places → cell_in inner_cells fill b slot p ≡ Some (element p)
   pub written : IsPartWritten old new place element
+
+-- cells of the subchunk that a slot names, of places that `from` names, overwrote a box of a target's array in row-major order: `told`
+-- says whether the bytes are known
+pub record IsPartPut (told : Type 0) (inner_cells : CellsOf) (fill b : Bytes) (slot : Slot) (many : ℕ) (from : ℕ → ℕ)
+    (place : Region) (old new : FixedTarget) : Type 0 where
+  pub element : ℕ → Bytes
+  pub cells : told → (r : ℕ) → r < many → cell_in inner_cells fill b slot (from r) ≡ Some (element r)
+  pub written : IsPartWritten old new place element

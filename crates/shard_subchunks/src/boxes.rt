@@ -90,7 +90,7 @@ impl<I: ArrayToBytesCodecTraits> Subchunks<'_, I> {
                 };
                 let element = self.fill_value.as_ne_bytes();
                 let mut target = FixedTarget::over(bytes, element.len(), axes, &meeting.in_box);
-                match self.codec.partial_decode_into(
+                match self.codec.partial_decode_into_fresh(
                     alloc,
                     handle,
                     &stored,

@@ -8,6 +8,7 @@ mod decoded;
 mod encoded;
 mod listed;
 mod plain;
+mod plain_box;
 mod plain_decoded;
 mod plain_rows;
 mod plain_target;

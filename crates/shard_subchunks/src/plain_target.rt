@@ -23,7 +23,7 @@ use std::alloc::Global;
 use zarr_parts::{ArraySubset, ChunkShape, CodecError, FixedTarget};
 
 // Whether a box has as many coordinates along each axis as a shape.
-fn same_axes(lengths: &[u64], shape: &[u64]) -> bool
+pub(crate) fn same_axes(lengths: &[u64], shape: &[u64]) -> bool
     ensures { IsTrue result → lengths.now ≡ shape.now }
 {
     lengths == shape

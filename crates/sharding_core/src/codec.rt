@@ -12,7 +12,9 @@ ghost use Rattle.shard_format.specs.Compacting.{IsCompact};
 ghost use Rattle.shard_format.specs.declared.order.SubchunkWriteOrder.TheVariants.{Unordered};
 ghost use Rattle.sharding_core.specs.Meanings.{layout_in, shard_meaning};
 
-use codec_laws::{ArrayToBytesCodecTraits, BytesRepresentation, RecommendedConcurrency};
+use codec_laws::{
+    ArrayToBytesCodecTraits, BytesRepresentation, RecommendedConcurrency, StoredArray,
+};
 use object_handles::{BytesPartialDecoderTraits, Interval};
 use shard_format::{ShardingIndexLocation, SubchunkWriteOrder, subchunk_subset};
 use std::alloc::Global;
@@ -271,6 +273,20 @@ impl<I: ArrayToBytesCodecTraits, X: ArrayToBytesCodecTraits> ArrayToBytesCodecTr
         lent!(self).partial_decode(
             alloc, handle, interval, shape, data_type, fill_value, indexer, options,
         )
+    }
+
+    /// Reads the index and the asked cells as `partial_decode` into a target that nobody looks at where it is refused. Where the
+    /// inner codec stores elements as they are in memory, the cells of a box go from each slice to the target with no copy between.
+    fn partial_decode_into_fresh<H: BytesPartialDecoderTraits, N: Indexer>(
+        &self,
+        alloc: Global,
+        handle: &mut H,
+        stored: &StoredArray,
+        indexer: &N,
+        target: &mut FixedTarget,
+        options: &CodecOptions,
+    ) -> Result<(), CodecError> {
+        lent!(self).partial_decode_into_fresh(alloc, handle, stored, indexer, target, options)
     }
 
     /// `BoundedSize` of as many times the inner codec's size as there are subchunks, and the index; `UnboundedSize`

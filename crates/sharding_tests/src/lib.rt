@@ -10,6 +10,8 @@ mod counting;
 #[cfg(test)]
 mod decoders;
 #[cfg(test)]
+mod fresh;
+#[cfg(test)]
 mod grids;
 #[cfg(test)]
 mod laws;

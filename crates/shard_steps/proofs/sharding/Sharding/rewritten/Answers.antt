@@ -1,4 +1,4 @@
-use Rattle.std.proofs.Common.{◌≡◌, ◌<◌, ◌≤◌, ◌+◌, ◌*◌, ◌/◌, ◌^◌, ◌++◌, ◌∙◌, ℕ, List, take, drop, refl, sym, ap, length, subst, arith, rules}
+use Rattle.std.proofs.Common.{◌≡◌, ◌<◌, ◌+◌, ◌*◌, ◌/◌, ◌^◌, ◌++◌, ◌∙◌, ℕ, List, take, drop, refl, sym, ap, length, subst, arith}
 use Rattle.std.proofs.Math.Seq.{take-append_seam}
 use Rattle.zarr_parts.specs.Numbering.{count_of}
 use Rattle.shard_format.specs.Index.{absent_number, index_geo, data_start}

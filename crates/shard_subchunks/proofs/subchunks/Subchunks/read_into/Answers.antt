@@ -36,7 +36,7 @@ returns-in-Ok-clause-cells g c = λ tells.
     let reference = found.1.written.reference in
     rw c.in-InRange.is
     (read_through cells (interval_part a.outer contents) (InRange c.in-InRange.offset c.in-InRange.size) places a.meeting.now.in_box a.axes.now (length s.fill_value.now) (size_of s.data_type.now) found.1.elements
-    c.over-target.result c.partial_decode_into.new.target a.bytes.now _ (rw c.as_ne_bytes-element.ensures at c.over-target.ensures.element_size) c.over-target.ensures.shape c.over-target.ensures.subset
+    c.over-target.result c.partial_decode_into_fresh.new.target a.bytes.now _ (rw c.as_ne_bytes-element.ensures at c.over-target.ensures.element_size) c.over-target.ensures.shape c.over-target.ensures.subset
     (search rules) (search rules) counted (rw (numbers_of-points_of box sub) read) found.1.written)
 
 pub returns-in-Err-clause-refused : goal.returns-in-Err-clause-refused
@@ -55,7 +55,7 @@ returns-in-Err-clause-refused g c =
     let kind : size_of s.data_type.now ≡ Fixed target.element_size = c.requires.fixed ∙ ap Fixed (ap length (sym c.as_ne_bytes-element.ensures) ∙ sym c.over-target.ensures.element_size) in
     let counted : count_of target.subset.now.shape ≡ length (points_of box) = ap (λ (r : Region). count_of r.shape) c.over-target.ensures.subset ∙ (sym c.requires.same ∙ sym (length-points_of box)) in
     let old = h.state a.handle.now in
-    let new = h.state c.partial_decode_into.new.handle in
+    let new = h.state c.partial_decode_into_fresh.new.handle in
     let interval : Interval = record { offset = a.outer.offset + c.in-InRange.offset; size = c.in-InRange.size } in
     let tests : Refusals = AskedTests sub_g asked m.answerable (ObjectTests old new (IntervalTests interval old.contents (λ b. m.read_tests b asked.points))) in
     let refused = fitting_target m.serves (RefusesUnserved m) (size_of s.data_type.now) (length asked.points) target tests c.in-Err.error kind counted c.in-Err.ensures.refused in

@@ -1,0 +1,128 @@
+use Rattle.std.proofs.Common.{◌∙◌, IsTrue, inl, inr, refl, rules, arith}
+use Rattle.std.proofs.lemmas.Result.{on_ok_weaker}
+use Rattle.zarr_parts.specs.Arrays.{element_of}
+use Rattle.zarr_parts.specs.Grid.{grid_of}
+use Rattle.object_handles.specs.Objects.{interval_part}
+use Rattle.codec_laws.specs.RefusalLaws.{passed_on}
+use Rattle.codec_laws.proofs.OverwriteLemmas.{untouched, written_or_kept, written_after}
+use Rattle.shard_format.specs.Index.{index_geo}
+use Rattle.shard_format.specs.Serves.{sub_geo, layout}
+use Rattle.shard_format.specs.ReadTests.{numbers_of}
+use Rattle.shard_format.proofs.ReadLemmas.{asked_cells, cells_refused}
+use Rattle.shard_cells.proofs.ReadGroupLemmas.{read_then}
+use Rattle.shard_steps.specs.Plans.{asked_geo}
+use Rattle.shard_steps.proofs.sharding.Sharding.read_planned_into.Goals as goal
+
+pub returns-in_err-check_interval-clause-written : goal.returns-in_err-check_interval-clause-written
+returns-in_err-check_interval-clause-written g c = untouched c.args.target.now
+
+pub returns-in_err-index-clause-written : goal.returns-in_err-index-clause-written
+returns-in_err-index-clause-written g c = untouched c.args.target.now
+
+pub returns-in_err-index-clause-refused : goal.returns-in_err-index-clause-refused
+returns-in_err-index-clause-refused g c =
+    let before = c.check_interval.ensures.read in
+    let plan = c.requires.plan in
+    let e = c.in_err-index.field-0.0 in
+    let refused = rw (plan.index.size, plan.grid, before.contents_same) at c.in_err-index.ensures.refused in
+    passed_on _ e _ c.from_residual-in_err-index.ensures.1
+    (elim refused [
+      | inl memory ↦ inl memory
+      | inr tests ↦ inr (λ t. elim (tests (rw before.tells_same t)) [
+        | inl fault ↦ inl (fault.0, omega (arith, fault.1, before.faults_kept))
+        | inr index ↦ inr (inr (
+          c.in_ok-check_interval.ensures.inside t,
+          elim index [
+            | inl short ↦ inl short
+            | inr long ↦ inr (long.0, elim long.1 [ inl damaged ↦ inl damaged | inr none ↦ absurd none.1 ])
+          ],
+        ))
+      ])
+    ])
+
+pub returns-then-branch-clause-cells : goal.returns-then-branch-clause-cells
+returns-then-branch-clause-cells g c = λ t.
+    let a = c.args in
+    let s = a.self.now in
+    let asked = asked_geo a.asked.now in
+    let h = g.H.BytesPartialDecoderTraits in
+    let sub_g = sub_geo s.subchunk_shape.now asked in
+    let index_g = index_geo (grid_of a.asked.now.shape.now s.subchunk_shape.now) in
+    let l = layout s.subchunk_shape.now s.index_codec.location s.order (g.X.ArrayToBytesCodecTraits.meaning s.index_codec.codec.now index_g).representation asked in
+    let points = (g.N.Indexer.selection a.indexer.now).points in
+    let bytes = interval_part a.interval (h.state a.handle.now).contents in
+    let before = c.check_interval.ensures.read in
+    let then = c.read.ensures.read in
+    let plan = c.requires.plan in
+    let told = rw (plan.index.size, plan.grid, before.contents_same) at (c.in_ok-index.ensures.numbers (rw before.tells_same t)) in
+    let contents = then.contents_same ∙ before.contents_same in
+    let true_is : IsTrue c.in_ok-put_asked.field-0 = search rules in
+    let put = rw contents at (c.in_ok-put_asked.ensures.put true_is (rw (then.tells_same ∙ before.tells_same) t)) in (
+      c.in_ok-check_interval.ensures.inside t,
+      record {
+        elements = put.elements;
+        there = asked_cells (g.I.ArrayToBytesCodecTraits.meaning s.inner.now sub_g) (g.X.ArrayToBytesCodecTraits.meaning s.index_codec.codec.now index_g) l bytes c.in_ok-index.index.numbers.items points told c.requires.points ∙ put.there;
+        written = put.written;
+      },
+    )
+
+pub returns-in_err-array-clause-refused : goal.returns-in_err-array-clause-refused
+returns-in_err-array-clause-refused g c =
+    let a = c.args in
+    let s = a.self.now in
+    let asked = asked_geo a.asked.now in
+    let inner = g.I.ArrayToBytesCodecTraits in
+    let outer = g.X.ArrayToBytesCodecTraits in
+    let h = g.H.BytesPartialDecoderTraits in
+    let sub_g = sub_geo s.subchunk_shape.now asked in
+    let index_g = index_geo (grid_of a.asked.now.shape.now s.subchunk_shape.now) in
+    let l = layout s.subchunk_shape.now s.index_codec.location s.order (outer.meaning s.index_codec.codec.now index_g).representation asked in
+    let points = (g.N.Indexer.selection a.indexer.now).points in
+    let before = c.check_interval.ensures.read in
+    let then = c.read.ensures.read in
+    let tried = c.put_asked.ensures.read in
+    let plan = c.requires.plan in
+    let e = c.in_err-array.field-0.0 in
+    let refused = rw (tried.contents_same, then.contents_same, before.contents_same) at c.in_err-array.ensures.refused in
+    passed_on _ e _ c.from_residual-in_err-array.ensures.1
+    (cells_refused (h.state a.handle.now) (h.state c.put_asked.new.handle) (h.state c.read_asked.new.handle) a.interval (inner.meaning s.inner.now sub_g) (outer.meaning s.index_codec.codec.now index_g) l
+    c.in_ok-index.index.numbers.items (numbers_of a.asked.now.shape.now points) points e
+    (read_then _ _ _ (read_then _ _ _ before then) tried) c.in_ok-check_interval.ensures.inside
+    (λ t. rw (plan.index.size, plan.grid, before.contents_same) at (c.in_ok-index.ensures.numbers (rw before.tells_same t))) c.requires.points refl refused)
+
+pub returns-clause-cells : goal.returns-clause-cells
+returns-clause-cells g c =
+    let a = c.args in
+    let s = a.self.now in
+    let asked = asked_geo a.asked.now in
+    let h = g.H.BytesPartialDecoderTraits in
+    let sub_g = sub_geo s.subchunk_shape.now asked in
+    let index_g = index_geo (grid_of a.asked.now.shape.now s.subchunk_shape.now) in
+    let l = layout s.subchunk_shape.now s.index_codec.location s.order (g.X.ArrayToBytesCodecTraits.meaning s.index_codec.codec.now index_g).representation asked in
+    let points = (g.N.Indexer.selection a.indexer.now).points in
+    let bytes = interval_part a.interval (h.state a.handle.now).contents in
+    let before = c.check_interval.ensures.read in
+    let then = c.read.ensures.read in
+    let tried = c.put_asked.ensures.read in
+    let plan = c.requires.plan in
+    let contents = tried.contents_same ∙ (then.contents_same ∙ before.contents_same) in
+    let array = c.in_ok-array.array in
+    on_ok_weaker c.copy_from.result
+    (λ wrote t.
+    let told = rw (plan.index.size, plan.grid, before.contents_same) at (c.in_ok-index.ensures.numbers (rw before.tells_same t)) in
+    let read = rw contents at (c.in_ok-array.ensures.cells (rw (tried.tells_same ∙ (then.tells_same ∙ before.tells_same)) t)) in (
+      c.in_ok-check_interval.ensures.inside t,
+      record {
+        elements = array.elements;
+        there = asked_cells (g.I.ArrayToBytesCodecTraits.meaning s.inner.now sub_g) (g.X.ArrayToBytesCodecTraits.meaning s.index_codec.codec.now index_g) l bytes c.in_ok-index.index.numbers.items points told c.requires.points ∙ read;
+        written = written_after a.target.now c.put_asked.new.target c.copy_from.new.self (element_of array) c.put_asked.ensures.written wrote;
+      },
+    ))
+    c.copy_from.ensures.written
+
+pub returns-clause-written : goal.returns-clause-written
+returns-clause-written g c =
+    let mid = c.put_asked.new.target in
+    let new = c.copy_from.new.self in
+    let last = written_or_kept c.copy_from.result mid new (on_ok_weaker c.copy_from.result (λ wrote. (c.in_ok-array.array.elements, wrote)) c.copy_from.ensures.written) c.copy_from.ensures.kept in
+    (last.0, written_after c.args.target.now mid new _ c.put_asked.ensures.written last.1)
