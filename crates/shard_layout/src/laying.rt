@@ -12,15 +12,25 @@ use std::alloc::{AllocError, Global};
 use zarr_boxes::subchunks_follow;
 use zarr_parts::{ArrayBytes, ChunkShape, CodecError, DataType};
 
-/// Makes room behind bytes for so many more, and for a sixteenth of those that are there: so they are moved seldom, and few places
-/// stay empty. Refused only as out of memory; that leaves the room as it was.
-pub fn room_behind(bytes: &mut Vec<u8>, more: usize) -> Result<(), AllocError>
+/// Makes room behind the slices of a shard, which begin at `start`, for so many bytes more, where some of the subchunks are laid out
+/// and some are left: as many as are there, but no more than the rest will have if it is like the others, and a sixteenth. So they
+/// are moved seldom, and few places stay empty. Refused only as out of memory; that leaves the room as it was.
+pub fn room_for_next(
+    bytes: &mut Vec<u8>,
+    start: usize,
+    laid: usize,
+    left: usize,
+    more: usize,
+) -> Result<(), AllocError>
     ensures { bytes.new.items ≡ bytes.old.items }
 {
     if more <= bytes.capacity() - bytes.len() {
         return Ok(());
     }
-    bytes.reserve_exact(more.max(bytes.len() / 16))
+    let each = bytes.len().saturating_sub(start) / laid.max(1);
+    let rest = each.saturating_mul(left);
+    let room = rest.saturating_add(rest / 16).min(bytes.len());
+    bytes.reserve_exact(more.max(room))
 }
 
 /// How many elements each subchunk has, where the subchunks of a shape follow one another in it. Takes no memory.

@@ -4,5 +4,5 @@
 mod laying;
 mod packing;
 
-pub use laying::{LaidOut, elements_in_row, gather_subchunk, joined_shard, placed, room_behind};
+pub use laying::{LaidOut, elements_in_row, gather_subchunk, joined_shard, placed, room_for_next};
 pub use packing::{compact_size, packed};

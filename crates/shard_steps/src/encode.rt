@@ -14,7 +14,6 @@ use crate::plan::Plan;
 use crate::sharding::Sharding;
 use codec_laws::ArrayToBytesCodecTraits;
 use shard_format::{Asked, ShardingIndexLocation};
-use shard_layout::room_behind;
 use shard_subchunks::Subchunks;
 use std::alloc::{AllocError, Global};
 use zarr_parts::{ArrayBytes, CodecError, CodecOptions};
@@ -58,7 +57,7 @@ fn put_index(
             Ok(())
         }
         ShardingIndexLocation::End => {
-            room_behind(bytes, index.len())?;
+            bytes.reserve_exact(index.len())?;
             bytes.extend_from_slice(index)
         }
     }

@@ -13,7 +13,7 @@ ghost use Rattle.shard_subchunks.specs.Inner.{subchunk_geo, inner_meaning};
 use crate::subchunks::Subchunks;
 use codec_laws::ArrayToBytesCodecTraits;
 use shard_format::Slot;
-use shard_layout::{LaidOut, elements_in_row, gather_subchunk, placed, room_behind};
+use shard_layout::{LaidOut, elements_in_row, gather_subchunk, placed, room_for_next};
 use std::alloc::Global;
 use zarr_parts::{ArrayBytes, ChunkShape, CodecError};
 
@@ -113,7 +113,7 @@ impl<I: ArrayToBytesCodecTraits> Subchunks<'_, I> {
         let mut slots = Vec::with_capacity(alloc, subchunks as usize)?;
         let mut longest = 0;
         for k in 0..subchunks {
-            room_behind(bytes, longest)?;
+            room_for_next(bytes, start, k as usize, (subchunks - k) as usize, longest)?;
             let part = gather_subchunk(
                 alloc,
                 array,

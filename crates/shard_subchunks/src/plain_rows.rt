@@ -13,7 +13,7 @@ ghost use Rattle.shard_subchunks.specs.PlainRows.{ArePlainRows};
 use crate::subchunks::Subchunks;
 use codec_laws::ArrayToBytesCodecTraits;
 use shard_format::Slot;
-use shard_layout::room_behind;
+use shard_layout::room_for_next;
 use std::alloc::{AllocError, Global};
 use std::borrow::CowSlice;
 use zarr_parts::{ArrayBytes, ChunkShape, FillValue};
@@ -37,15 +37,22 @@ fn is_blank(row: &[u8], fill_value: &FillValue) -> bool
     }
 }
 
-// Puts a run of rows behind others; one of none takes no call. A refusal leaves them.
-fn push_rows(slices: &mut Vec<u8>, run: &[u8]) -> Result<(), AllocError>
+// Puts a run of rows behind the others, which begin at `start`, where some rows are laid out and some are left; one of none takes
+// no call. A refusal leaves them.
+fn push_rows(
+    slices: &mut Vec<u8>,
+    start: usize,
+    laid: usize,
+    left: usize,
+    run: &[u8],
+) -> Result<(), AllocError>
     ensures behind { OnOk result (slices.new.items ≡ slices.old.items ++ run.now) }
     ensures kept { OnErr result (slices.new.items ≡ slices.old.items) }
 {
     if run.len() == 0 {
         return Ok(());
     }
-    room_behind(slices, run.len())?;
+    room_for_next(slices, start, laid, left, run.len())?;
     slices.extend_from_slice(run)
 }
 
@@ -81,11 +88,11 @@ impl<I: ArrayToBytesCodecTraits> Subchunks<'_, I> {
                 })?;
                 continue;
             }
-            push_rows(slices, &bytes[copied..first])?;
+            push_rows(slices, start, k, rows - k, &bytes[copied..first])?;
             copied = first + size;
             slots.push(Slot::Absent)?;
         }
-        push_rows(slices, &bytes[copied..])?;
+        push_rows(slices, start, rows, 0, &bytes[copied..])?;
         Ok(slots)
     }
 

@@ -33,12 +33,12 @@ loop-k-preserved g c =
     let s = a.self.now in
     let l = c.loop-k in
     let old = a.bytes.now.items in
-    let room = c.room_behind.new.bytes in
+    let room = c.room_for_next.new.bytes in
     let all = c.store_behind.new.slices in
     let stored = c.in_ok-slot.ensures.stored in
-    let behind = rw c.room_behind.ensures at stored.behind in
+    let behind = rw c.room_for_next.ensures at stored.behind in
     let from : c.len-from.result - c.len-start.result ≡ length l.bytes.items - length old =
-    omega (arith, c.len-from.ensures, room.ok.0, ap length c.room_behind.ensures, c.len-start.ensures, a.bytes.now.ok.0) in
+    omega (arith, c.len-from.ensures, room.ok.0, ap length c.room_for_next.ensures, c.len-start.ensures, a.bytes.now.ok.0) in
     let size : c.len.result - c.len-from.result ≡ length stored.slice =
     omega (arith, c.len.ensures, all.ok.0, c.len-from.ensures, room.ok.0, length-append room.items stored.slice, ap length stored.behind) in
     let present : c.ne.result ≡ stored.present = search rules in (
