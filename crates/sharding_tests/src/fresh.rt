@@ -1,13 +1,13 @@
 // Boxes of shards whose subchunks are shards, read by a decoder, and into a target that nobody looks at where it is refused.
 use crate::compared::{same, same_at};
-use crate::shards::{Plain, around, cells_of, encoded, plain, read, said, subset_of};
+use crate::shards::{Cells, Plain, around, cells_of, encoded, plain, read, said, subset_of};
 use std::alloc::Global;
 use std::ops::Range;
 use zarr_codecs::{
     ArrayToBytesCodecTraits, BytesCodec, BytesPartialDecoderTraits, FaultingHandle, Interval,
     MemoryHandle, SliceHandle, StoredArray,
 };
-use zarr_parts::{CodecError, CodecOptions, DataType, FixedTarget};
+use zarr_parts::{ArraySubset, CodecError, CodecOptions, DataType, FixedTarget};
 use zarrs_sharding::{ShardingCodec, ShardingIndexLocation};
 
 // Four by four cells in two shards of two subchunks each. The last of these four is all fill.
@@ -44,39 +44,64 @@ fn boxes_of_nested_shards_are_read(rt: HostRuntime) {
     }
 }
 
-// Reads the cells in the middle of a handle's object, which has so many bytes, into a subset of other bytes.
+// What reads of the cells in the middle take.
+#[derive(Drop)]
+struct Middle {
+    codec: ShardingCodec<Plain, BytesCodec>,
+    cells: Cells,
+    asked: ArraySubset,
+}
+
+fn asked_middle(alloc: Global) -> Result<Middle, CodecError> {
+    Ok(Middle {
+        codec: rows_of_shards(alloc)?,
+        cells: cells_of(alloc, &[4, 4])?,
+        asked: subset_of(alloc, &[1..3, 1..3])?,
+    })
+}
+
+// Reads them from a handle's object, which has so many bytes.
 fn read_middle<H: BytesPartialDecoderTraits>(
     alloc: Global,
     handle: &mut H,
     size: usize,
-    axes: &[u64],
-    place: &[Range<u64>],
-    bytes: &mut [u8],
+    middle: &Middle,
+    target: &mut FixedTarget,
 ) -> Result<(), CodecError> {
-    let cells = cells_of(alloc, &[4, 4])?;
     let stored = StoredArray {
         interval: Interval {
             offset: 0,
             size: size as u64,
         },
-        shape: &cells.shape,
+        shape: &middle.cells.shape,
         data_type: &DataType::UInt8,
-        fill_value: &cells.fill,
+        fill_value: &middle.cells.fill,
     };
-    let asked = subset_of(alloc, &[1..3, 1..3])?;
-    let place = subset_of(alloc, place)?;
-    let mut target = FixedTarget::new(bytes, 1, axes, &place).ok_or(CodecError::OutOfBounds)?;
-    rows_of_shards(alloc)?.partial_decode_into_fresh(
+    middle.codec.partial_decode_into_fresh(
         alloc,
         handle,
         &stored,
-        &asked,
-        &mut target,
+        &middle.asked,
+        target,
         &CodecOptions::default(),
     )
 }
 
-// So many nines, into a subset of which these cells were read.
+// Reads them into a subset of other bytes.
+fn read_into<H: BytesPartialDecoderTraits>(
+    alloc: Global,
+    handle: &mut H,
+    size: usize,
+    axes: &[u64],
+    place: &ArraySubset,
+    bytes: &mut [u8],
+) -> Result<(), CodecError> {
+    let mut target = FixedTarget::new(bytes, 1, axes, place).ok_or(CodecError::OutOfBounds)?;
+    let middle = asked_middle(alloc)?;
+    read_middle(alloc, handle, size, &middle, &mut target)
+}
+
+// So many nines, into a subset of which they were read.
 fn middle_in(
     alloc: Global,
     count: usize,
@@ -84,9 +109,10 @@ fn middle_in(
     place: &[Range<u64>],
 ) -> Result<Vec<u8>, CodecError> {
     let object = object_of(alloc)?;
+    let place = subset_of(alloc, place)?;
     let mut bytes = vec![in alloc; 9u8; count]?;
     let mut handle = SliceHandle::new(&object);
-    read_middle(alloc, &mut handle, object.len(), axes, place, &mut bytes)?;
+    read_into(alloc, &mut handle, object.len(), axes, &place, &mut bytes)?;
     Ok(bytes)
 }
 
@@ -118,27 +144,25 @@ fn a_box_is_read_into_a_fresh_target(rt: HostRuntime) {
 fn middle_by(
     alloc: Global,
     fails_at: u64,
-) -> Result<(u64, Result<Vec<u8>, CodecError>), CodecError> {
+    bytes: &mut [u8],
+) -> Result<(u64, Result<(), CodecError>), CodecError> {
     let object = object_of(alloc)?;
     let size = object.len();
+    let place = subset_of(alloc, &[0..2, 0..2])?;
     let mut handle = FaultingHandle::new(Some(object), fails_at);
-    let mut bytes = [9, 9, 9, 9].to_vec(alloc)?;
-    let answer = read_middle(alloc, &mut handle, size, &[2, 2], &[0..2, 0..2], &mut bytes);
-    let read = match answer {
-        Ok(()) => Ok(bytes),
-        Err(error) => Err(error),
-    };
+    let read = read_into(alloc, &mut handle, size, &[2, 2], &place, bytes);
     Ok((handle.faults(), read))
 }
 
-// What a read by such a handle comes to: the cells, or none after a fault.
-fn is_read_or_fault(alloc: Global, fails_at: u64) -> Result<u64, CodecError> {
-    let (faults, read) = middle_by(alloc, fails_at)?;
-    let want = match faults {
-        0 => Ok([6u8, 7, 10, 0].as_slice()),
-        _ => Err(CodecError::Fault),
+// How often a call of such a handle fails. Damaged where a read is accepted beside a fault or with other cells, or refused in another way.
+fn faults_of(alloc: Global, fails_at: u64) -> Result<u64, CodecError> {
+    let mut bytes = [9u8; 4];
+    let (faults, read) = middle_by(alloc, fails_at, &mut bytes)?;
+    let is_right = match read {
+        Ok(()) => faults == 0 && bytes == [6, 7, 10, 0],
+        Err(error) => faults == 1 && error == CodecError::Fault,
     };
-    if said(&read) != want {
+    if !is_right {
         return Err(CodecError::Damaged);
     }
     Ok(faults)
@@ -148,11 +172,11 @@ fn is_read_or_fault(alloc: Global, fails_at: u64) -> Result<u64, CodecError> {
 #[test]
 fn each_fault_refuses_a_read(rt: HostRuntime) {
     for fails_at in 0..5u64 {
-        same_at(&rt, fails_at, is_read_or_fault(rt.alloc(), fails_at), Ok(1));
+        same_at(&rt, fails_at, faults_of(rt.alloc(), fails_at), Ok(1));
     }
     for fails_at in 5..20u64 {
-        let answer = is_read_or_fault(rt.alloc(), fails_at);
+        let answer = faults_of(rt.alloc(), fails_at);
         same_at(&rt, fails_at, answer.is_ok(), true);
     }
-    same(&rt, is_read_or_fault(rt.alloc(), 20), Ok(0));
+    same(&rt, faults_of(rt.alloc(), 20), Ok(0));
 }
