@@ -6,7 +6,7 @@ use Rattle.zarr_parts.specs.Order.{◌or◌then◌, done}
 use Rattle.zarr_parts.specs.Boxes.{Region, LiesIn}
 use Rattle.zarr_parts.specs.Touched.{AreTouched}
 use Rattle.zarr_parts.specs.CodecError.TheVariants.{IncompatibleDimensionality, OutOfBounds}
-use Rattle.shard_cells.specs.Meetings.{IsMeeting}
+use Rattle.box_meetings.specs.Meetings.{IsMeeting}
 use Rattle.array_shards.specs.Shards.{ShardedArray, whole_shards}
 use Rattle.array_shards.specs.declared.parts.ShardPart.{ShardPart}
 

@@ -7,7 +7,7 @@ ghost use Rattle.zarr_parts.specs.Boxes.{LiesIn};
 ghost use Rattle.zarr_parts.specs.Grid.{Divides, grid_of};
 ghost use Rattle.zarr_parts.specs.Touched.{AreTouched};
 ghost use Rattle.zarr_parts.specs.CodecError.TheVariants.{OutOfMemory};
-ghost use Rattle.shard_cells.specs.Meetings.{IsMeeting};
+ghost use Rattle.box_meetings.specs.Meetings.{IsMeeting};
 ghost use Rattle.array_shards.specs.Parts.{ArePartsOf, BoxTests};
 
 use crate::grid::ShardGrid;

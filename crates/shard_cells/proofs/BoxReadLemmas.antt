@@ -26,7 +26,7 @@ use Rattle.shard_format.specs.Reading.{IsReadAt}
 use Rattle.shard_format.specs.declared.slot.Slot.{Slot}
 use Rattle.shard_format.specs.declared.slot.Slot.TheVariants.{Absent, InRange, Bad}
 use Rattle.shard_cells.specs.Gathering.{places_there}
-use Rattle.shard_cells.specs.Meetings.{IsMeeting}
+use Rattle.box_meetings.specs.Meetings.{IsMeeting}
 use Rattle.shard_cells.proofs.GatherLemmas.{cell_of_part}
 use Rattle.shard_cells.proofs.ReadGroupLemmas.{is_empty, unused, there}
 use Rattle.shard_cells.proofs.MetPlaces.{places_met, touched_from_asked, numbers_at, numbers_counted}

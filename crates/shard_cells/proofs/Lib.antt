@@ -3,7 +3,6 @@ pub mod ReadGroupLemmas
 pub mod GatherLemmas
 pub mod RunPlaces
 pub mod LayingLaws
-pub mod MeetingLemmas
 pub mod MetPlaces
 pub mod BoxReadLemmas
 pub mod LocatingLemmas

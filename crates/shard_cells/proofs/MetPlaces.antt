@@ -18,7 +18,7 @@ use Rattle.zarr_boxes.proofs.PieceLaws.{number_in_below}
 use Rattle.zarr_boxes.proofs.TouchedLaws.{number_rising}
 use Rattle.zarr_boxes.proofs.GridLaws.{count-grid, at_least, place_number-below, cell_number-located, subchunk_number-cell_number, place_number-cell_number, subchunk_box-axes, subchunk_box-lies_in, number_in-subchunk_box}
 use Rattle.shard_format.specs.ReadTests.{places_in}
-use Rattle.shard_cells.specs.Meetings.{IsMeeting}
+use Rattle.box_meetings.specs.Meetings.{IsMeeting}
 use Rattle.shard_cells.proofs.GroupingLemmas.{member_from_asked}
 
 -- a list in which each number is below all later ones

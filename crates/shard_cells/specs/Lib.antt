@@ -2,5 +2,4 @@ pub mod Grouping
 pub mod Sorting
 pub mod Gathering
 pub mod Updates
-pub mod Meetings
 pub mod Placings

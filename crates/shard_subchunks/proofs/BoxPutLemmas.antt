@@ -16,7 +16,7 @@ use Rattle.zarr_boxes.proofs.GridLaws.{place_number-below, cell_number-located, 
 use Rattle.codec_laws.specs.Reads.{IsDecodedInto, IsOverwritten}
 use Rattle.shard_format.specs.Index.{slot_at}
 use Rattle.shard_format.specs.Cells.{cell_in, indexed_cell}
-use Rattle.shard_cells.specs.Meetings.{IsMeeting}
+use Rattle.box_meetings.specs.Meetings.{IsMeeting}
 use Rattle.shard_cells.specs.Placings.{placed_box}
 use Rattle.shard_cells.proofs.PlacingLemmas.{placed_point}
 use Rattle.shard_subchunks.specs.Writes.{IsPartPut}

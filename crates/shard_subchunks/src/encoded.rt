@@ -13,7 +13,9 @@ ghost use Rattle.shard_subchunks.specs.Inner.{subchunk_geo, inner_meaning};
 use crate::subchunks::Subchunks;
 use codec_laws::ArrayToBytesCodecTraits;
 use shard_format::Slot;
-use shard_layout::{LaidOut, elements_in_row, gather_subchunk, placed, room_for_next};
+use shard_layout::{
+    LaidOut, elements_in_row, gather_subchunk, placed, room_for_next, store_behind,
+};
 use std::alloc::Global;
 use zarr_parts::{ArrayBytes, ChunkShape, CodecError};
 
@@ -60,11 +62,8 @@ impl<I: ArrayToBytesCodecTraits> Subchunks<'_, I> {
         ensures refused { let inner = inner_meaning I.meaning self.now in
             IfErr result (RefusedBy (RefusesToStore inner.encodable inner.fits self.now.fill_value.now part.now.elements)) }
     {
-        if part.is_fill_value(self.fill_value) {
-            return Ok(Slot::Absent);
-        }
-        let offset = slices.len();
-        self.codec.encode_onto(
+        store_behind(
+            self.codec,
             alloc,
             part,
             self.shape,
@@ -72,11 +71,7 @@ impl<I: ArrayToBytesCodecTraits> Subchunks<'_, I> {
             self.fill_value,
             slices,
             self.options,
-        )?;
-        Ok(Slot::InRange {
-            offset: offset as u64,
-            size: (slices.len() - offset) as u64,
-        })
+        )
     }
 
     // Each subchunk of an array that isn't all fill encoded behind bytes that are there, which stay. Where one is refused, those

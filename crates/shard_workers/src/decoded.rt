@@ -7,8 +7,8 @@ ghost use Rattle.shard_format.specs.Decoding.{IsDecoded};
 ghost use Rattle.shard_steps.specs.Inner.{subchunk_geo, inner_meaning};
 
 use crate::gate::Gate;
-use crate::numbered::{by_number, in_order};
 use codec_laws::ArrayToBytesCodecTraits;
+use numbered_work::{by_number, in_order};
 use shard_format::ShardIndex;
 use shard_steps::Subchunks;
 use std::alloc::Global;

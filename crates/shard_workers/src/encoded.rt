@@ -12,8 +12,8 @@ ghost use Rattle.shard_steps.specs.Inner.{inner_meaning};
 ghost use Rattle.shard_workers.specs.Storing.{CanStore, AreStored};
 
 use crate::gate::Gate;
-use crate::numbered::{by_number, in_order};
 use codec_laws::ArrayToBytesCodecTraits;
+use numbered_work::{by_number, in_order};
 use shard_steps::{LaidOut, Stored, Subchunks, elements_in_row, gather_subchunk, placed};
 use std::alloc::Global;
 use std::thread::Threads;

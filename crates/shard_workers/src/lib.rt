@@ -4,7 +4,6 @@
 mod decoded;
 mod encoded;
 mod gate;
-mod numbered;
 mod whole;
 
 pub use gate::{Gate, NoGate};

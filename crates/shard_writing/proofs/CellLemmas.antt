@@ -17,7 +17,7 @@ use Rattle.zarr_parts.proofs.BoxLaws.{all_zip_from_each, lies_in_length, lies_in
 use Rattle.zarr_parts.proofs.PieceLaws.{number_in_below}
 use Rattle.zarr_parts.proofs.RunLaws.{spanned_number}
 use Rattle.zarr_parts.proofs.MissLaws.{on_or_off, place_of_point, elsewhere_from_off}
-use Rattle.shard_cells.specs.Meetings.{IsMeeting}
+use Rattle.box_meetings.specs.Meetings.{IsMeeting}
 use Rattle.shard_writing.specs.Writing.{IsUncovered, AreNewCells}
 use Rattle.shard_writing.specs.WriteTests.{Straddles}
 use Rattle.shard_writing.proofs.PartLemmas.{counted, element_at, fitting}

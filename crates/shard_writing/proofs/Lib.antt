@@ -1,4 +1,3 @@
-pub mod OldLemmas
 pub mod CellLemmas
 pub mod ChangedLemmas
 pub mod LaidLemmas

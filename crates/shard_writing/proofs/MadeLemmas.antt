@@ -21,7 +21,7 @@ use Rattle.shard_format.specs.declared.slot.Slot.TheVariants.{Absent, InRange, B
 use Rattle.shard_index.specs.DataPart.{LiesBetween}
 use Rattle.shard_writing.specs.Writing.{AreAbsent, AreNewCells, cells_in, IsKept, IsWriteOf, AreLaid, HasPairs, HasPut, IsErased, slot_end, last_end, place_behind, length_behind, KeepsSlices, IsMade, layout_from}
 use Rattle.zarr_parts.proofs.GridLaws.{over_first}
-use Rattle.shard_writing.proofs.PlaceLemmas.{last_end_more}
+use Rattle.shard_updates.proofs.PlaceLemmas.{last_end_more}
 use Rattle.shard_writing.proofs.AnewLemmas.{pair_absent, all_absent, in_list, absent_pair, cleared_absent, anew_of_absent, absent_of_anew}
 use Rattle.shard_writing.proofs.WrittenLemmas.{absent_slot, kept_absent, is_write}
 

@@ -23,7 +23,7 @@ use Rattle.object_handles.specs.Handles.{HandleState, IsRead}
 use Rattle.object_handles.specs.Objects.{ObjectTests}
 use Rattle.codec_laws.specs.Meanings.{Meaning}
 use Rattle.codec_laws.specs.Encodings.{IsPlain}
-use Rattle.shard_cells.specs.Meetings.{IsMeeting}
+use Rattle.box_meetings.specs.Meetings.{IsMeeting}
 use Rattle.shard_format.specs.Cells.{cell_in}
 use Rattle.shard_format.specs.Index.{slot_at, slice_at}
 use Rattle.shard_format.specs.DecodeTests.{HasArray}
@@ -33,7 +33,7 @@ use Rattle.shard_format.specs.declared.slot.Slot.TheVariants.{Absent, InRange}
 use Rattle.shard_writing.specs.Writing.{AreNewCells, AreLaid, cells_in, array_at}
 use Rattle.shard_writing.specs.WriteTests.{Straddles}
 use Rattle.shard_writing.specs.Slices.{IsPutBehind, AreOldCells, IsNewBehind, AreNewSlices}
-use Rattle.shard_writing.proofs.OldLemmas.{has_array}
+use Rattle.shard_updates.proofs.OldLemmas.{has_array}
 use Rattle.shard_writing.proofs.CellLemmas.{axes_of, no_straddle, overlaid_array, overlaid_part}
 use Rattle.shard_writing.proofs.ChangedLemmas.{new_cells_at}
 use Rattle.shard_writing.proofs.LaidLemmas.{one_more}

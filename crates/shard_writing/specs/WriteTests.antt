@@ -1,5 +1,5 @@
 -- Why a write may be refused: the tests of its steps, in their order.
-use Rattle.std.specs.Prelude.{◌≡◌, ◌≤◌, ◌<◌, ◌^◌, ℕ, ◌+◌, ◌*◌, List, length, slice_index}
+use Rattle.std.specs.Prelude.{◌≡◌, ◌≤◌, ◌<◌, ◌^◌, ℕ, ◌+◌, List, length, slice_index}
 use Rattle.std.specs.List.{range_with_len, sum_by}
 use Rattle.zarr_parts.specs.Words.{Bytes, Elements, Refusals}
 use Rattle.zarr_parts.specs.Order.{◌or_as◌then◌, EachAs}
@@ -14,10 +14,9 @@ use Rattle.codec_laws.specs.Meanings.{Meaning}
 use Rattle.shard_format.specs.Index.{slot_at}
 use Rattle.shard_format.specs.Cells.{Layout}
 use Rattle.shard_format.specs.Serves.{IsStoredPart}
-use Rattle.shard_format.specs.DecodeTests.{HasArray, RefusesSubchunk}
+use Rattle.shard_format.specs.DecodeTests.{HasArray}
 use Rattle.shard_format.specs.EncodeTests.{RefusesToStore, HasPart, RefusesIndex}
-use Rattle.shard_format.specs.declared.slot.Slot.{Slot}
-use Rattle.shard_format.specs.declared.slot.Slot.TheVariants.{Absent, InRange, Bad}
+pub use Rattle.shard_updates.specs.OldCells.{RefusesOld}
 use Rattle.shard_writing.specs.Writing.{IsUncovered, AreNewCells, cells_in, ArePlaced}
 
 -- the box touches subchunk k and leaves a cell of it
@@ -26,14 +25,6 @@ pub record Straddles (shape sub : List ℕ) (box : Region) (k : ℕ) : Type 0 wh
   pub place : ℕ
   pub inside : place < count_of sub
   pub uncovered : IsUncovered shape sub box k place
-
--- the old cells of a subchunk may be refused: those of a slice as the inner codec refuses it, and fill values whose lengths are too
--- large together
-abbrev pub RefusesOld : (inner : Meaning) → (places : ℕ) → (fill bytes : List ℕ) → Slot → (k : ℕ) → CodecError → Type 0
-RefusesOld inner places fill bytes Absent k e = (e ≡ TooLarge) × (2 ^ 64 ≤ places * length fill)
-RefusesOld inner places fill bytes (InRange offset size) k e =
-    RefusesSubchunk inner.decode_tests inner.cells bytes (InRange offset size) k e
-RefusesOld inner places fill bytes Bad k e = RefusesSubchunk inner.decode_tests inner.cells bytes Bad k e
 
 -- where the box straddles the edge of subchunk k, its old cells are there
 abbrev pub HasOldCells : (inner : Meaning) → (shape sub : List ℕ) → Region → (bytes numbers : List ℕ) → (k : ℕ) → Type 0

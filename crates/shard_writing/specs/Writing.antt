@@ -1,6 +1,6 @@
 -- A write into a shard: what becomes of the object, of its index and of its cells.
-use Rattle.std.specs.Prelude.{◌≡◌, ◌≢◌, ◌≤◌, ◌<◌, ◌^◌, ◌⊎◌, ⊤, ℕ, ◌+◌, ◌-◌, ◌*◌, ◌/◌, max, List, Option, Some, None, [], length, map}
-use Rattle.std.specs.Prelude.{fold, slice_index, slice_index_or}
+use Rattle.std.specs.Prelude.{◌≡◌, ◌≢◌, ◌≤◌, ◌<◌, ◌^◌, ◌⊎◌, ℕ, ◌+◌, ◌*◌, ◌/◌, max, List, Option, Some, None, [], length, map}
+use Rattle.std.specs.Prelude.{slice_index, slice_index_or}
 use Rattle.std.specs.List.{All, range_with_len, sum_by}
 use Rattle.zarr_parts.specs.Words.{Bytes, Elements, CellList, CellsOf, Written, Refusals}
 use Rattle.zarr_parts.specs.CodecError.{CodecError}
@@ -13,7 +13,6 @@ use Rattle.zarr_parts.specs.Touched.{Touches, AreTouched}
 use Rattle.zarr_parts.specs.Geo.{Geo, IsArrayOf}
 use Rattle.zarr_parts.specs.Arrays.{Array}
 use Rattle.zarr_elements.specs.declared.data_type.DataTypeSize.TheVariants.{Variable}
-use Rattle.object_handles.specs.Objects.{HasInterval}
 use Rattle.object_handles.specs.Writes.{bytes_of}
 use Rattle.codec_laws.specs.Meanings.{Meaning}
 use Rattle.shard_format.specs.Index.{absent_number, slot_at, slice_at, index_part, data_start, data_end, element_of_number}
@@ -22,11 +21,13 @@ use Rattle.shard_format.specs.Encoding.{StandsAt, slot_size, BeginsAt}
 use Rattle.shard_format.specs.Laying.{IsLaid, taken, offset_number, size_number}
 use Rattle.shard_format.specs.Packing.{slice_of}
 use Rattle.shard_index.specs.DataPart.{IsInDataPart}
+pub use Rattle.shard_updates.specs.Places.{slot_end, last_end, place_behind, length_behind, index_behind}
+pub use Rattle.shard_updates.specs.OldCells.{HasSlice, AreCellsOf}
 use Rattle.shard_format.specs.declared.location.ShardingIndexLocation.{ShardingIndexLocation}
 use Rattle.shard_format.specs.declared.location.ShardingIndexLocation.TheVariants.{Start, End}
 use Rattle.shard_format.specs.declared.order.SubchunkWriteOrder.TheVariants.{Unordered}
 use Rattle.shard_format.specs.declared.slot.Slot.{Slot}
-use Rattle.shard_format.specs.declared.slot.Slot.TheVariants.{Absent, InRange, Bad}
+use Rattle.shard_format.specs.declared.slot.Slot.TheVariants.{Absent, Bad}
 
 -- no subchunk is stored: each number is the absent one
 abbrev pub AreAbsent : List ℕ → Type 0
@@ -54,26 +55,6 @@ pub record AreNewCells (shape : List ℕ) (sub_g : Geo) (box : Region) (update :
 -- the cells of subchunk k of an object
 abbrev pub cells_in : CellsOf → (fill bytes numbers : List ℕ) → (k : ℕ) → ℕ → Option Bytes
 cells_in inner_cells fill bytes numbers k = cell_in inner_cells fill bytes (slot_at (length bytes) numbers k)
-
--- where a slot's slice ends, 0 where there is none
-abbrev pub slot_end : Slot → ℕ
-slot_end Absent = 0
-slot_end (InRange offset size) = offset + size
-slot_end Bad = 0
-
--- the greatest end of a slice of a shard of so many bytes, and no less than a number
-abbrev pub last_end : (least len : ℕ) → List ℕ → (subchunks : ℕ) → ℕ
-last_end least len numbers subchunks = fold max least (map (λ k. slot_end (slot_at len numbers k)) (range_with_len 0 subchunks))
-
--- where new slices go behind the old ones: with the index at the end, where it began; else behind the last old slice
-abbrev pub place_behind : ShardingIndexLocation → (index_size len : ℕ) → List ℕ → (subchunks : ℕ) → ℕ
-place_behind Start index_size len numbers subchunks = last_end index_size len numbers subchunks
-place_behind End index_size len numbers subchunks = len - index_size
-
--- how long the object is then
-abbrev pub length_behind : ShardingIndexLocation → (len place total : ℕ) → ℕ
-length_behind Start len place total = max len (place + total)
-length_behind End len place total = len + total
 
 -- the shard starts anew: of the subchunks that the box doesn't touch none is stored
 abbrev pub IsAnew : (shape sub : List ℕ) → Region → (len : ℕ) → List ℕ → Type 0
@@ -163,17 +144,6 @@ pub record AreReadAfter (shape : List ℕ) (box : Region) (update : Elements) (o
       → ((q : ℕ) → q < count_of box.shape → number_in box shape q ≢ number_of (slice_index_or points j []) shape)
       → slice_index_or old (number_of (slice_index_or points j []) shape) None ≡ Some (slice_index_or elements j [])
 
--- a slot's slice lies in an object, which is there
-abbrev pub HasSlice : Option Bytes → Slot → Type 0
-HasSlice contents Absent = ⊤
-HasSlice contents (InRange offset size) = HasInterval (record { offset = offset; size = size }) contents
-HasSlice contents Bad = ⊤
-
--- these are the cells of the subchunk that a slot names
-abbrev pub AreCellsOf : CellsOf → (fill bytes : List ℕ) → Slot → (places : ℕ) → Elements → Type 0
-AreCellsOf inner_cells fill bytes slot places elements =
-    (p : ℕ) → p < places → cell_in inner_cells fill bytes slot p ≡ Some (slice_index_or elements p [])
-
 -- the array at a place of a list
 abbrev pub array_at : List Array → ℕ → Array
 array_at arrays j = slice_index_or arrays j (record { kind = Variable; elements = [] })
@@ -223,11 +193,6 @@ KeepsSlices start place old new = (o n : ℕ) → start ≤ o → o + n ≤ plac
 abbrev pub GoesTo : ShardingIndexLocation → (index_size len place total new_len : ℕ) → Type 0
 GoesTo Start index_size len place total new_len = (index_size ≤ place) × (place ≤ len) × (new_len ≡ max len (place + total))
 GoesTo End index_size len place total new_len = (place + index_size ≡ len) × (new_len ≡ len + total)
-
--- where the index goes then: first, or right behind the new slices
-abbrev pub index_behind : ShardingIndexLocation → (place total : ℕ) → ℕ
-index_behind Start place total = 0
-index_behind End place total = place + total
 
 -- no subchunk is stored any more: the touched pairs are absent as all others, and so are the new slots
 pub record IsErased (touched : List ℕ) (slots : List Slot) (numbers new_numbers : List ℕ) : Type 0 where

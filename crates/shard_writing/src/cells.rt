@@ -16,24 +16,15 @@ ghost use Rattle.shard_subchunks.specs.Inner.{subchunk_geo, inner_meaning};
 ghost use Rattle.shard_writing.specs.Writing.{AreNewCells, HasSlice};
 ghost use Rattle.shard_writing.specs.WriteTests.{Straddles, RefusesOld};
 
-use crate::old::old_cells;
 use crate::overlay::overlaid;
 use crate::writing::Writing;
 use codec_laws::ArrayToBytesCodecTraits;
 use object_handles::BytesPartialDecoderTraits;
 use shard_cells::meeting_of;
 use shard_format::Slot;
+use shard_updates::{is_whole, old_cells};
 use std::alloc::Global;
-use zarr_parts::{ArrayBytes, ArraySubset, ChunkShape, CodecError};
-
-// Whether a part of a subchunk is all of it.
-pub fn is_whole(part: &ArraySubset, sub: &ChunkShape) -> bool
-    ensures whole { IsTrue result ↔ (part.now.shape ≡ sub.now) }
-    ensures well_formed { IsBox part.now.start part.now.shape }
-    ensures positive { AllPositive sub.now }
-{
-    part.shape() == sub.as_slice()
-}
+use zarr_parts::{ArrayBytes, ArraySubset, CodecError};
 
 impl<I: ArrayToBytesCodecTraits, X> Writing<'_, I, X> {
     // The new cells of a subchunk that a box touches: where the box has all of it the update's, and else the old ones, which are

@@ -15,10 +15,10 @@ ghost use Rattle.shard_subchunks.specs.Inner.{subchunk_geo, inner_meaning};
 ghost use Rattle.shard_writing.specs.Writing.{AreNewCells, cells_in, HasSlice, array_at};
 ghost use Rattle.shard_writing.specs.WriteTests.{HasOldCells, OldTests};
 
-use crate::place::slot_in;
 use crate::writing::Writing;
 use codec_laws::ArrayToBytesCodecTraits;
 use object_handles::BytesPartialDecoderTraits;
+use shard_updates::slot_in;
 use std::alloc::Global;
 use zarr_parts::{ArrayBytes, ArraySubset, CodecError};
 

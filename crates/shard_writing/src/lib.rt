@@ -7,9 +7,7 @@ mod change;
 mod changed;
 mod encoded;
 mod numbers;
-mod old;
 mod overlay;
-mod place;
 mod plain;
 mod prepare;
 mod put;
@@ -18,5 +16,5 @@ mod slices;
 mod writing;
 
 pub use change::{Change, Prepared};
-pub use old::old_cells;
+pub use shard_updates::old_cells;
 pub use writing::Writing;

@@ -19,8 +19,6 @@ ghost use Rattle.shard_writing.specs.WriteTests.{HasOldCells};
 ghost use Rattle.shard_writing.specs.Slices.{IsPutBehind, AreOldCells, IsNewBehind, AreNewSlices};
 
 use crate::behind::{overlay_behind, slice_behind, slot_behind, zeros_behind};
-use crate::cells::is_whole;
-use crate::place::slot_in;
 use crate::writing::Writing;
 use codec_laws::ArrayToBytesCodecTraits;
 use object_handles::BytesPartialDecoderTraits;
@@ -28,6 +26,7 @@ use shard_cells::meeting_of;
 use shard_format::Slot;
 use shard_layout::LaidOut;
 use shard_subchunks::Subchunks;
+use shard_updates::{is_whole, slot_in};
 use std::alloc::Global;
 use zarr_elements::repeated;
 use zarr_parts::{ArrayBytes, ArraySubset, CodecError};

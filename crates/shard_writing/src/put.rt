@@ -15,10 +15,10 @@ ghost use Rattle.shard_writing.specs.Changes.{object_after};
 
 use crate::change::{Change, Prepared};
 use crate::numbers::with_pairs;
-use crate::place::{index_place, place_anew};
 use crate::writing::Writing;
 use codec_laws::ArrayToBytesCodecTraits;
 use shard_layout::{LaidOut, joined_shard};
+use shard_updates::{index_place, place_anew};
 use std::alloc::Global;
 use zarr_parts::CodecError;
 

@@ -13,10 +13,10 @@ ghost use Rattle.shard_writing.specs.Changes.{object_after};
 
 use crate::change::{Change, Prepared};
 use crate::numbers::{are_absent, cleared, none_stored};
-use crate::place::{length_behind, place_behind};
 use crate::writing::Writing;
 use codec_laws::ArrayToBytesCodecTraits;
 use shard_layout::LaidOut;
+use shard_updates::{length_behind, place_behind};
 use std::alloc::Global;
 use zarr_parts::CodecError;
 

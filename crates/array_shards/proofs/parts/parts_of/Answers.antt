@@ -1,7 +1,7 @@
 use Rattle.std.proofs.Common.{◌++◌, ◌∷◌, [], ◌∙◌, ap, sym, get_or, map, arith}
 use Rattle.std.proofs.lemmas.List.{take_more, map-append}
 use Rattle.std.proofs.lemmas.List.Elements.{All-push}
-use Rattle.shard_cells.specs.Meetings.{IsMeeting}
+use Rattle.box_meetings.specs.Meetings.{IsMeeting}
 use Rattle.array_shards.proofs.parts.parts_of.Goals as goal
 
 pub loop-j-preserved : goal.loop-j-preserved

@@ -1,7 +1,7 @@
 -- The parts so far.
 use Rattle.std.proofs.Common.{◌≡◌, map, take}
 use Rattle.std.specs.List.{All}
-use Rattle.shard_cells.specs.Meetings.{IsMeeting}
+use Rattle.box_meetings.specs.Meetings.{IsMeeting}
 use Rattle.array_shards.proofs.parts.parts_of.Given as goal
 
 abbrev pub invariant-loop-j : goal.invariant-loop-j

@@ -11,7 +11,7 @@ use Rattle.shard_format.specs.DecodeTests.{RefusesSubchunk}
 use Rattle.shard_format.specs.Decoding.{IsDecoded}
 use Rattle.shard_format.proofs.RefusalLemmas.{one_refused}
 use Rattle.shard_steps.specs.Inner.{subchunk_geo}
-use Rattle.shard_workers.proofs.OrderLemmas.{taken_counted, taken_at, before_at, refused_below, refused_at}
+use Rattle.numbered_work.proofs.OrderLemmas.{taken_counted, taken_at, before_at, refused_below, refused_at}
 use Rattle.shard_workers.proofs.decoded.decode_subchunks.Goals as goal
 
 pub returns-clause-counted : goal.returns-clause-counted

@@ -12,7 +12,7 @@ use Rattle.shard_format.specs.Serves.{IsStoredPart}
 use Rattle.shard_format.specs.EncodeTests.{RefusesToStore}
 use Rattle.shard_steps.specs.Inner.{inner_meaning}
 use Rattle.shard_steps.specs.Stored.{Stored}
-use Rattle.shard_workers.proofs.OrderLemmas.{taken_counted, taken_at, each_before, refused_below, refused_at}
+use Rattle.numbered_work.proofs.OrderLemmas.{taken_counted, taken_at, each_before, refused_below, refused_at}
 use Rattle.shard_workers.proofs.encoded.lay_out_subchunks.Goals as goal
 
 -- what is to be stored is stored
