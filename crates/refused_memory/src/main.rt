@@ -156,17 +156,33 @@ const STEPS: [Step; 3] = [
     (0..2, &[10, 20], [1, 2, 3, 40, 50, 6, 0, 0]),
 ];
 
-// A refused write leaves what the session reads.
+// Whether a session reads these cells.
+fn reads_as(alloc: Global, session: &mut Session, cells: &[u8]) -> Result<bool, CodecError> {
+    let read = read(alloc, session)?;
+    Ok(read.as_slice() == cells)
+}
+
+// A refused write leaves what the session reads, and is made again.
+fn write_again(
+    alloc: Global,
+    session: &mut Session,
+    asked: &ArraySubset,
+    update: &ArrayBytes,
+    before: &[u8],
+) -> Result<(), CodecError> {
+    let options = CodecOptions::default();
+    let answer = session.partial_encode(alloc, asked, update, &options);
+    if answer == Err(CodecError::OutOfMemory) && reads_as(alloc, session, before)? {
+        return session.partial_encode(alloc, asked, update, &options);
+    }
+    answer
+}
+
 fn write(alloc: Global, session: &mut Session, step: &Step) -> Result<(), CodecError> {
     let (cells, numbers, before) = step;
     let asked = range(alloc, cells)?;
     let update = again!(ArrayBytes::from_numbers(alloc, numbers))?;
-    match session.partial_encode(alloc, &asked, &update, &CodecOptions::default()) {
-        Err(CodecError::OutOfMemory) if read(alloc, session)?.as_slice() == before.as_slice() => {
-            session.partial_encode(alloc, &asked, &update, &CodecOptions::default())
-        }
-        answer => answer,
-    }
+    write_again(alloc, session, &asked, &update, before)
 }
 
 fn write_all(alloc: Global, session: &mut Session) -> Result<(), CodecError> {
