@@ -9,7 +9,7 @@ use Rattle.shard_held.specs.Changes.{object_after}
 use Rattle.sharding_core.specs.Sessions.{numbers_held}
 use Rattle.sharding_core.specs.SessionWrites.{WrittenTests}
 use Rattle.shard_held.proofs.PreparedLemmas.{write_open, written_after}
-use Rattle.sharding_core.proofs.SessionLemmas.{meant, session_open}
+use Rattle.sharding_core.proofs.SessionLemmas.{meant, session_open, read_open}
 use Rattle.sharding_core.proofs.WriteLemmas.{update_refused}
 use Rattle.sharding_core.proofs.state.ShardState.partial_encode.Goals as goal
 
@@ -27,6 +27,15 @@ returns-in_err-prepared-clause-refused g c =
     (update_refused s.failed shard.shape shard.data_type (g.N.Indexer.selection c.args.indexer.now) c.in_ok-subset.subset.now update (h.state s.handle) (h.state c.prepare_write.new.handle)
     (λ (box : Region). WrittenTests inner.meaning outer.meaning s.codec.now asked box update.elements (h.state s.handle).contents (numbers_held shard.held s.opened.blank.items))
     e c.if-self.false c.in_ok-subset.ensures.update c.in_ok-subset.ensures.subset c.in_err-prepared.ensures.refused))
+
+pub invariant_of-self : goal.invariant_of-self
+invariant_of-self g c =
+    let s = c.self.inside in
+    read_open (meant g.I.ArrayToBytesCodecTraits.meaning g.X.ArrayToBytesCodecTraits.meaning) g.X.ArrayToBytesCodecTraits.meaning g.H.BytesPartialDecoderTraits.state
+    s.codec.now s.handle c.prepare_write.new.handle s.failed s.opened c.prepare_write.ensures.read c.self.invariant
+
+pub returns-in_err-prepared-clause-in_step : goal.returns-in_err-prepared-clause-in_step
+returns-in_err-prepared-clause-in_step g c = (invariant_of-self g c).in_step
 
 pub invariant_of-self-2 : goal.invariant_of-self-2
 invariant_of-self-2 g c =
