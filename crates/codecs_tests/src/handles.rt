@@ -9,7 +9,7 @@ use zarr_codecs::{ByteRange, BytesPartialDecoderTraits, MemoryHandle, SliceHandl
 use zarr_parts::CodecError;
 
 // Ranges of an object of the bytes 1 to 5, and how each is read.
-const RANGES: [(ByteRange, Result<Option<&[u8]>, CodecError>); 10] = [
+const RANGES: &[(ByteRange, Result<Option<&[u8]>, CodecError>)] = &[
     (ByteRange::FromStart(1, Some(2)), Ok(Some(&[2, 3]))),
     (ByteRange::FromStart(3, None), Ok(Some(&[4, 5]))),
     (ByteRange::FromStart(5, Some(0)), Ok(Some(&[]))),
@@ -31,7 +31,7 @@ const RANGES: [(ByteRange, Result<Option<&[u8]>, CodecError>); 10] = [
 // Reads these ranges.
 fn read_ranges<H: BytesPartialDecoderTraits>(rt: &impl Abort, alloc: Global, handle: &mut H) {
     for (range, want) in RANGES {
-        same_at(rt, range, is_copied(alloc, handle, range, want), true);
+        same_at(rt, range, is_copied(alloc, handle, *range, *want), true);
     }
 }
 

@@ -42,12 +42,22 @@ fn elements(alloc: Global, bytes: &[u8]) -> Result<ArrayBytes<'_>, CodecError> {
     decoded(alloc, &inverted(), &two, bytes)
 }
 
+// Whether an array that owns its bytes is equal to a copy.
+fn is_owned_as(alloc: Global, array: ArrayBytes, copy: &ArrayBytes) -> Result<bool, CodecError> {
+    Ok(array.into_owned(alloc)? == *copy)
+}
+
+// Whether an array is the same once it owns its bytes.
+fn is_owned(alloc: Global, array: ArrayBytes) -> Result<bool, CodecError> {
+    let copy = array.try_clone(alloc)?;
+    is_owned_as(alloc, array, &copy)
+}
+
 // Whether bytes are decoded as the elements 1 and 2, lent or owned; or the refusal.
 fn is_one_two(alloc: Global, bytes: &[u8]) -> Result<bool, CodecError> {
     let array = elements(alloc, bytes)?;
     let same = array == fixed(&[1, 2], 1)?;
-    let copy = array.try_clone(alloc)?;
-    Ok(same && array.into_owned(alloc)? == copy)
+    Ok(is_owned(alloc, array)? && same)
 }
 
 #[test]

@@ -1,9 +1,9 @@
 // Reads of the codec `bytes` into a target, on numbers worked by hand.
 use crate::compared::{same, same_at};
-use crate::examples::{Asked, asked_for, coordinates, handle_over, read_into, subset};
+use crate::examples::{asked_for, coordinates, handle_over, read_into, subset};
 use std::alloc::Global;
 use std::ops::Range;
-use zarr_codecs::{BytesCodec, Interval};
+use zarr_codecs::{BytesCodec, Interval, MemoryHandle};
 use zarr_parts::{CodecError, DataType, FixedTarget, Indexer};
 
 // One byte, and then 1 to 12 as 16-bit numbers, whose first byte is the last significant one.
@@ -16,13 +16,33 @@ const NUMBERS: Interval = Interval {
     size: 24,
 };
 
-// Such numbers, three by four.
-fn twelve(alloc: Global) -> Result<Asked, CodecError> {
-    asked_for(alloc, &[3, 4], DataType::UInt16, &[0, 0])
+// Reads asked numbers of such, three by four, into a target.
+fn read_numbers<N: Indexer>(
+    alloc: Global,
+    codec: &BytesCodec,
+    handle: &mut MemoryHandle,
+    interval: Interval,
+    indexer: &N,
+    target: &mut FixedTarget,
+) -> Result<(), CodecError> {
+    let twelve = asked_for(alloc, &[3, 4], DataType::UInt16, &[0, 0])?;
+    read_into(alloc, codec, &twelve, handle, interval, indexer, target)
 }
 
-// Reads asked numbers into a box of an array of two by four, of which each byte was 77. A fault where a refusal wrote.
-fn answered<N: Indexer>(
+// Reads them of the object.
+fn read_object<N: Indexer>(
+    alloc: Global,
+    codec: &BytesCodec,
+    interval: Interval,
+    indexer: &N,
+    target: &mut FixedTarget,
+) -> Result<(), CodecError> {
+    let mut handle = handle_over(alloc, Some(&OBJECT))?;
+    read_numbers(alloc, codec, &mut handle, interval, indexer, target)
+}
+
+// Reads them into a box of an array of two by four.
+fn read_into_box<N: Indexer>(
     alloc: Global,
     codec: &BytesCodec,
     interval: Interval,
@@ -30,39 +50,29 @@ fn answered<N: Indexer>(
     into: &[Range<u64>],
     output: &mut [u8],
 ) -> Result<(), CodecError> {
-    let asked = twelve(alloc)?;
     let place = subset(alloc, into)?;
     let mut target = FixedTarget::new(output, 2, &[2, 4], &place).ok_or(CodecError::Fault)?;
-    let mut handle = handle_over(alloc, Some(&OBJECT))?;
-    read_into(
-        alloc,
-        codec,
-        &asked,
-        &mut handle,
-        interval,
-        indexer,
-        &mut target,
-    )
+    read_object(alloc, codec, interval, indexer, &mut target)
 }
 
-// Whether these bytes stand there then.
+// Whether these bytes stand there then, of which each was 77.
 fn are_read<N: Indexer>(
     alloc: Global,
     codec: &BytesCodec,
     indexer: &N,
     into: &[Range<u64>],
-    want: &[u8],
+    want: &[u8; 16],
 ) -> Result<bool, CodecError> {
-    let mut output = Vec::from_elem(alloc, 77, 16)?;
-    answered(alloc, codec, NUMBERS, indexer, into, &mut output)?;
-    Ok(output.as_slice() == want)
+    let mut output = [77; 16];
+    read_into_box(alloc, codec, NUMBERS, indexer, into, &mut output)?;
+    Ok(output == *want)
 }
 
 fn box_is_read(
     alloc: Global,
     asked: &[Range<u64>],
     into: &[Range<u64>],
-    want: &[u8],
+    want: &[u8; 16],
 ) -> Result<bool, CodecError> {
     let asked = subset(alloc, asked)?;
     are_read(alloc, &BytesCodec::little(), &asked, into, want)
@@ -126,17 +136,10 @@ fn refused(
     many: u64,
 ) -> Result<(), CodecError> {
     let asked = subset(alloc, asked)?;
-    let mut output = Vec::from_elem(alloc, 77, 16)?;
-    let little = BytesCodec::little();
-    let answer = answered(
-        alloc,
-        &little,
-        interval,
-        &asked,
-        &[0..1, 0..many],
-        &mut output,
-    );
-    if output.as_slice() == [77; 16].as_slice() {
+    let mut output = [77; 16];
+    let (little, row) = (BytesCodec::little(), [0..1, 0..many]);
+    let answer = read_into_box(alloc, &little, interval, &asked, &row, &mut output);
+    if output == [77; 16] {
         answer
     } else {
         Err(CodecError::Fault)

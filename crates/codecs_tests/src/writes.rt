@@ -34,7 +34,7 @@ fn is_written_over(
 const FOUR: Option<&[u8]> = Some(&[1, 2, 3, 4]);
 
 // What is written into an object, and the bytes that it has then.
-const WRITTEN: [(Option<&[u8]>, Pieces, &[u8]); 10] = [
+const WRITTEN: &[(Option<&[u8]>, Pieces, &[u8])] = &[
     (FOUR, &[(1, &[8, 9])], &[1, 8, 9, 4]),
     (
         FOUR,
@@ -55,7 +55,7 @@ const WRITTEN: [(Option<&[u8]>, Pieces, &[u8]); 10] = [
 #[test]
 fn pieces_are_written_in_their_order(rt: HostRuntime) {
     for (object, pieces, want) in WRITTEN {
-        let found = is_written_over(rt.alloc(), object, pieces, want);
+        let found = is_written_over(rt.alloc(), *object, pieces, want);
         same_at(&rt, pieces, found, Ok(true));
     }
 }
