@@ -4,13 +4,20 @@ use crate::examples::{is_box, subset};
 use std::alloc::Global;
 use std::ops::Range;
 use std::test::Fail;
-use zarr_parts::{CodecError, overlap_law};
+use zarr_parts::{ArraySubset, CodecError, overlap_law};
 
-// Whether the box of the coordinates 0 to 2 and 2 to 4 meets another in a third.
+// Where the box of the coordinates 0 to 2 and 2 to 4 meets another.
+fn met(alloc: Global, other: &ArraySubset) -> Result<ArraySubset, CodecError> {
+    subset(alloc, &[0..2, 2..4])?.overlap(alloc, other)
+}
+
+// Whether the two meet in a third.
+fn meets_in(alloc: Global, other: &ArraySubset, both: &[Range<u64>]) -> Result<bool, CodecError> {
+    is_box(alloc, &met(alloc, other)?, both)
+}
+
 fn is_met(alloc: Global, other: &[Range<u64>], both: &[Range<u64>]) -> Result<bool, CodecError> {
-    let one = subset(alloc, &[0..2, 2..4])?;
-    let other = subset(alloc, other)?;
-    is_box(alloc, &one.overlap(alloc, &other)?, both)
+    meets_in(alloc, &subset(alloc, other)?, both)
 }
 
 // Two boxes of as many axes meet in a box, which may be empty.
@@ -32,10 +39,14 @@ fn two_boxes_meet(rt: HostRuntime) {
     }
 }
 
-// Whether a column, counted from an origin, is the box of these ranges.
+// A column, counted from an origin.
+fn relative(alloc: Global, origin: &[u64]) -> Result<ArraySubset, CodecError> {
+    subset(alloc, &[1..3, 0..1])?.relative_to(alloc, origin)
+}
+
+// Whether it is the box of these ranges.
 fn is_relative(alloc: Global, origin: &[u64], ranges: &[Range<u64>]) -> Result<bool, CodecError> {
-    let column = subset(alloc, &[1..3, 0..1])?;
-    is_box(alloc, &column.relative_to(alloc, origin)?, ranges)
+    is_box(alloc, &relative(alloc, origin)?, ranges)
 }
 
 // A box is counted from an origin of as many axes, none of them past its start.

@@ -4,20 +4,27 @@ use crate::examples::subset;
 use std::alloc::Global;
 use std::ops::Range;
 use std::test::Fail;
-use zarr_parts::CodecError;
+use zarr_parts::{ArraySubset, CodecError};
 
 // The runs of a box, each as its first number and its length.
+fn runs_in(
+    alloc: Global,
+    cells: &ArraySubset,
+    shape: &[u64],
+) -> Result<Vec<(u64, u64)>, CodecError> {
+    let mut found = Vec::new(alloc);
+    for run in cells.contiguous_runs(shape)? {
+        found.push(run)?;
+    }
+    Ok(found)
+}
+
 fn runs_of(
     alloc: Global,
     ranges: &[Range<u64>],
     shape: &[u64],
 ) -> Result<Vec<(u64, u64)>, CodecError> {
-    let subset = subset(alloc, ranges)?;
-    let mut found = Vec::new(alloc);
-    for run in subset.contiguous_runs(shape)? {
-        found.push(run)?;
-    }
-    Ok(found)
+    runs_in(alloc, &subset(alloc, ranges)?, shape)
 }
 
 // A run goes on as long as the box spans the later axes; an empty box has no run.

@@ -3,19 +3,27 @@ use crate::compared::same;
 use crate::examples::{listed, shape, subset};
 use std::alloc::Global;
 use std::ops::Range;
-use zarr_parts::{CodecError, Indexer, check_selection, point_numbers};
+use zarr_parts::{ChunkShape, CodecError, Indexer, check_selection, point_numbers};
 
 // Whether the coordinates that are asked of a shape have these numbers in it.
+fn are_numbers_in<N: Indexer>(
+    alloc: Global,
+    indexer: &N,
+    shape: &ChunkShape,
+    want: &[u64],
+) -> Result<bool, CodecError> {
+    let _cells = shape.num_elements().ok_or(CodecError::TooLarge)?;
+    let count = check_selection(indexer, shape)?;
+    Ok(point_numbers(alloc, indexer, count, shape)?.as_slice() == want)
+}
+
 fn are_numbers<N: Indexer>(
     alloc: Global,
     indexer: &N,
     axes: &[u64],
     want: &[u64],
 ) -> Result<bool, CodecError> {
-    let shape = shape(alloc, axes)?;
-    let _cells = shape.num_elements().ok_or(CodecError::TooLarge)?;
-    let count = check_selection(indexer, &shape)?;
-    Ok(point_numbers(alloc, indexer, count, &shape)?.as_slice() == want)
+    are_numbers_in(alloc, indexer, &shape(alloc, axes)?, want)
 }
 
 fn is_numbered(alloc: Global) -> Result<bool, CodecError> {

@@ -25,11 +25,16 @@ fn the_axes_are_multiplied(rt: HostRuntime) {
     }
 }
 
+// Whether a shape is equal to the one of these axes.
+fn is_shape(alloc: Global, found: &ChunkShape, axes: &[u64]) -> Result<bool, CodecError> {
+    let made = shape(alloc, axes)?;
+    Ok(*found == made && made.as_slice() == axes)
+}
+
 // Whether the shape of the axes 2 and 3 has them, and is equal to the one that is made of them unchecked.
 fn is_made(alloc: Global) -> Result<bool, CodecError> {
-    let some = shape(alloc, &[2, 3])?;
-    let same = ChunkShape::from_positive(Axes::from_slice(alloc, &[2, 3])?);
-    Ok(some == same && some.as_slice() == [2, 3].as_slice())
+    let unchecked = ChunkShape::from_positive(Axes::from_slice(alloc, &[2, 3])?);
+    is_shape(alloc, &unchecked, &[2, 3])
 }
 
 // A shape has the axes that it is made of.
@@ -41,7 +46,7 @@ fn a_shape_has_its_axes(rt: HostRuntime) {
 // Whether a copy of the shape of the axes 2 and 3 is equal to the shape of these axes.
 fn is_copied(alloc: Global, axes: &[u64]) -> Result<bool, CodecError> {
     let copy = shape(alloc, &[2, 3])?.try_clone(alloc)?;
-    Ok(copy == shape(alloc, axes)?)
+    is_shape(alloc, &copy, axes)
 }
 
 // A copy is equal, and a shape of the same axes in another order is not.
@@ -69,11 +74,16 @@ fn axes_are_added(rt: HostRuntime) {
     }
 }
 
-// Whether the box of all coordinates of a shape begins at zero on each axis.
+// Whether a box has this shape and begins at zero on each axis.
+fn is_whole(alloc: Global, found: &ArraySubset, axes: &[u64]) -> Result<bool, CodecError> {
+    let zeros = Axes::from_elem(alloc, 0, axes.len())?;
+    Ok(found.start() == zeros.as_slice() && found.shape() == axes)
+}
+
+// Whether the box of all coordinates of a shape does.
 fn begins_at_zero(alloc: Global, axes: &[u64]) -> Result<bool, CodecError> {
     let all = ArraySubset::new_with_shape(alloc, Vec::from_slice(alloc, axes)?)?;
-    let zeros = Axes::from_elem(alloc, 0, axes.len())?;
-    Ok(all.start() == zeros.as_slice() && all.shape() == axes)
+    is_whole(alloc, &all, axes)
 }
 
 // A box has as many axes as its shape, few or many.

@@ -5,11 +5,6 @@ use std::alloc::Global;
 use std::ops::Range;
 use zarr_parts::{ArraySubset, CodecError, FixedTarget};
 
-// So many bytes, each 77.
-fn bytes_of(alloc: Global, len: usize) -> Result<Vec<u8>, CodecError> {
-    Ok(Vec::from_elem(alloc, 77, len)?)
-}
-
 // A target over a box of 3 rows of 3 elements.
 fn target_of<'a>(
     bytes: &'a mut [u8],
@@ -26,20 +21,28 @@ fn copy_into(bytes: &mut [u8], element_size: usize, cells: &ArraySubset) -> Resu
 }
 
 // What such a copy answers; damage where the bytes, which were 77, are not these then.
+fn copied_over(
+    alloc: Global,
+    element_size: usize,
+    cells: &ArraySubset,
+    want: &[u8],
+) -> Result<(), CodecError> {
+    let mut bytes = Vec::from_elem(alloc, 77, want.len())?;
+    let answer = copy_into(&mut bytes, element_size, cells);
+    if bytes.as_slice() == want {
+        answer
+    } else {
+        Err(CodecError::Damaged)
+    }
+}
+
 fn copied(
     alloc: Global,
     element_size: usize,
     ranges: &[Range<u64>],
     want: &[u8],
 ) -> Result<(), CodecError> {
-    let cells = subset(alloc, ranges)?;
-    let mut bytes = bytes_of(alloc, want.len())?;
-    let answer = copy_into(&mut bytes, element_size, &cells);
-    if bytes.as_slice() == want {
-        answer
-    } else {
-        Err(CodecError::Damaged)
-    }
+    copied_over(alloc, element_size, &subset(alloc, ranges)?, want)
 }
 
 // As many elements of the target's size are copied into the box; others are refused and change nothing.
@@ -74,11 +77,11 @@ fn fill_into(
 }
 
 // What filling a column answers; damage where the bytes, which were 77, are not these then.
-fn filled(alloc: Global, value: &[u8], want: &[u8]) -> Result<(), CodecError> {
+fn filled(alloc: Global, value: &[u8], want: &[u8; 9]) -> Result<(), CodecError> {
     let column = subset(alloc, &[1..3, 1..2])?;
-    let mut bytes = bytes_of(alloc, 9)?;
+    let mut bytes = [77; 9];
     let answer = fill_into(alloc, &mut bytes, &column, value);
-    if bytes.as_slice() == want {
+    if bytes == *want {
         answer
     } else {
         Err(CodecError::Damaged)
@@ -88,7 +91,7 @@ fn filled(alloc: Global, value: &[u8], want: &[u8]) -> Result<(), CodecError> {
 // A value of the target's size fills the box; another is refused and changes nothing.
 #[test]
 fn a_box_is_filled(rt: HostRuntime) {
-    let rows: [(&[u8], Result<(), CodecError>, &[u8]); 2] = [
+    let rows: [(&[u8], Result<(), CodecError>, &[u8; 9]); 2] = [
         (&[5, 5], Err(CodecError::WrongElementKind), &[77; 9]),
         (&[5], Ok(()), &[77, 77, 77, 77, 5, 77, 77, 5, 77]),
     ];
@@ -105,9 +108,7 @@ fn tells(bytes: &mut [u8], cells: &ArraySubset, count: u64) -> Result<bool, Code
 }
 
 fn tells_its_column(alloc: Global) -> Result<bool, CodecError> {
-    let column = subset(alloc, &[1..3, 1..2])?;
-    let mut bytes = bytes_of(alloc, 9)?;
-    tells(&mut bytes, &column, 2)
+    tells(&mut [77; 9], &subset(alloc, &[1..3, 1..2])?, 2)
 }
 
 // A target tells its elements and its box.
@@ -117,15 +118,18 @@ fn a_target_tells_its_box(rt: HostRuntime) {
 }
 
 // Whether nine bytes fit a box; a fault unless they are a target over it just then.
-fn fits(alloc: Global, element_size: usize, ranges: &[Range<u64>]) -> Result<bool, CodecError> {
-    let cells = subset(alloc, ranges)?;
-    let mut bytes = bytes_of(alloc, 9)?;
-    let fits = FixedTarget::fits(bytes.len(), element_size, &[3, 3], &cells);
-    if target_of(&mut bytes, element_size, &cells).is_ok() == fits {
+fn nine_fit(element_size: usize, cells: &ArraySubset) -> Result<bool, CodecError> {
+    let mut bytes = [77; 9];
+    let fits = FixedTarget::fits(bytes.len(), element_size, &[3, 3], cells);
+    if target_of(&mut bytes, element_size, cells).is_ok() == fits {
         Ok(fits)
     } else {
         Err(CodecError::Fault)
     }
+}
+
+fn fits(alloc: Global, element_size: usize, ranges: &[Range<u64>]) -> Result<bool, CodecError> {
+    nine_fit(element_size, &subset(alloc, ranges)?)
 }
 
 // Bytes are a target over a box where they fit it.

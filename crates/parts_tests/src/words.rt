@@ -4,7 +4,7 @@ use std::alloc::Global;
 use std::test::Fail;
 use zarr_parts::{CodecError, CodecOptions, CodecSpecificOptions};
 
-const TEXTS: [(CodecError, &str); 17] = [
+const TEXTS: &[(CodecError, &str)] = &[
     (CodecError::OutOfMemory, "OutOfMemory"),
     (CodecError::TooLarge, "TooLarge"),
     (
@@ -38,8 +38,8 @@ fn printed(alloc: Global, error: CodecError) -> Result<String, Fail> {
 #[test]
 fn an_error_prints_its_name(rt: HostRuntime) -> Result<(), Fail> {
     for (error, text) in TEXTS {
-        let found = printed(rt.alloc(), error)?;
-        same(&rt, found.as_str(), text);
+        let found = printed(rt.alloc(), *error)?;
+        same(&rt, found.as_str(), *text);
     }
     Ok(())
 }
