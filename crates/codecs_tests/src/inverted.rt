@@ -1,31 +1,13 @@
 // A codec from arrays to arrays before the codec `bytes`: one that takes each byte from 255.
 use crate::compared::{same, same_at};
-use crate::examples::{Asked, asked_for, decoded, encoded_elements, fixed, read_range_of};
+use crate::pairs::{decoded_pair, encoded_pair, has, reads_second, said};
 use std::alloc::Global;
 use test_codecs::InvertedCodec;
 use zarr_codecs::{ArrayChain, BytesCodec, FunctionalCodec, Interval};
-use zarr_parts::{ArrayBytes, CodecError, DataType};
-
-// Arrays of two bytes.
-fn two_cells(alloc: Global) -> Result<Asked, CodecError> {
-    asked_for(alloc, &[2], DataType::UInt8, &[0])
-}
+use zarr_parts::{ArrayBytes, CodecError};
 
 fn inverted() -> ArrayChain<InvertedCodec, BytesCodec> {
     ArrayChain::new(InvertedCodec, BytesCodec::little())
-}
-
-fn inverted_text(alloc: Global, elements: &[u8]) -> Result<Vec<u8>, CodecError> {
-    let two = two_cells(alloc)?;
-    encoded_elements(alloc, &inverted(), &two, elements, 1)
-}
-
-// What an answer says, for a comparison.
-fn said(answer: &Result<Vec<u8>, CodecError>) -> Result<&[u8], CodecError> {
-    match answer {
-        Ok(bytes) => Ok(bytes.as_slice()),
-        Err(error) => Err(*error),
-    }
 }
 
 // The first codec encodes first, and the second is not given what is no array of the shape.
@@ -33,13 +15,9 @@ fn said(answer: &Result<Vec<u8>, CodecError>) -> Result<&[u8], CodecError> {
 fn an_array_is_encoded_before_it_is_laid_out(rt: HostRuntime) {
     let few = Err(CodecError::InvalidNumberOfElements);
     for (elements, want) in [([1, 2].as_slice(), Ok([254, 253].as_slice())), (&[1], few)] {
-        same(&rt, said(&inverted_text(rt.alloc(), elements)), want);
+        let text = encoded_pair(rt.alloc(), &inverted(), elements);
+        same(&rt, said(&text), want);
     }
-}
-
-fn elements(alloc: Global, bytes: &[u8]) -> Result<ArrayBytes<'_>, CodecError> {
-    let two = two_cells(alloc)?;
-    decoded(alloc, &inverted(), &two, bytes)
 }
 
 // Whether an array that owns its bytes is equal to a copy.
@@ -55,8 +33,8 @@ fn is_owned(alloc: Global, array: ArrayBytes) -> Result<bool, CodecError> {
 
 // Whether bytes are decoded as the elements 1 and 2, lent or owned; or the refusal.
 fn is_one_two(alloc: Global, bytes: &[u8]) -> Result<bool, CodecError> {
-    let array = elements(alloc, bytes)?;
-    let same = array == fixed(&[1, 2], 1)?;
+    let array = decoded_pair(alloc, &inverted(), bytes)?;
+    let same = has(&array, &[1, 2])?;
     Ok(is_owned(alloc, array)? && same)
 }
 
@@ -73,17 +51,10 @@ fn an_array_is_decoded_after_its_bytes(rt: HostRuntime) {
     }
 }
 
-// The second cell, read of an interval of 7, 254, 253, 7.
-fn second_of(alloc: Global, interval: Interval) -> Result<ArrayBytes<'static>, CodecError> {
-    let two = two_cells(alloc)?;
-    let object = [7, 254, 253, 7].as_slice();
-    read_range_of(alloc, &inverted(), &two, object, interval, 1..2)
-}
-
-// Whether that cell is 2; or the refusal.
+// Whether the second cell, read of an interval of 7, 254, 253, 7, is 2; or the refusal.
 fn reads_two(alloc: Global, offset: u64, size: u64) -> Result<bool, CodecError> {
-    let cells = second_of(alloc, Interval { offset, size })?;
-    Ok(cells == fixed(&[2], 1)?)
+    let interval = Interval { offset, size };
+    reads_second(alloc, &inverted(), &[7, 254, 253, 7], interval, 2)
 }
 
 // The bytes of an interval are decoded whole.

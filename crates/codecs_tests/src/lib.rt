@@ -20,6 +20,8 @@ mod inverted;
 #[cfg(test)]
 mod laws;
 #[cfg(test)]
+mod pairs;
+#[cfg(test)]
 mod reads;
 #[cfg(test)]
 mod reads_into;
