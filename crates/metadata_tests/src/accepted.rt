@@ -1,13 +1,13 @@
 // Metadata and configurations that are accepted, and what is written of the codec.
 use crate::compared::{same, same_at};
-use crate::examples::{Shards, ShardsOfShards, codec_of, configured, created};
+use crate::examples::{Shards, ShardsOfShards, codec_of, configured, created, shape_of};
 use serde_json::Value;
 use std::alloc::Global;
 use std::test::Fail;
 use zarr_codecs::{
     ArrayToBytesCodecTraits, BytesCodec, CodecTraitsV3, DefaultArrayToBytesCodec, VlenCodec,
 };
-use zarr_parts::{ChunkShape, CodecError, DataType, FillValue};
+use zarr_parts::{CodecError, DataType, FillValue};
 
 const LITTLE: &str =
     r#"{"chunk_shape":[2,2],"codecs":[{"configuration":{"endian":"little"},"name":"bytes"}],"index_codecs":[{"configuration":{"endian":"little"},"name":"bytes"}],"index_location":"start"}"#;
@@ -146,23 +146,23 @@ fn the_metadata_of_shards_of_shards_is_read_and_written(rt: HostRuntime) -> Resu
     Ok(())
 }
 
-fn checked(alloc: Global, text: &str) -> Result<Result<(), CodecError>, Fail> {
+fn configured_codec(alloc: Global, text: &str) -> Result<Shards, Fail> {
     let value = Value::from_str(alloc, text)?;
-    let codec = codec_of(alloc, &value)?;
-    let Some(shape) = ChunkShape::new(alloc, &[4])? else {
-        return Ok(Err(CodecError::InvalidSubchunkShape));
-    };
+    Ok(codec_of(alloc, &value)?)
+}
+
+// How a codec serves arrays of four bytes.
+fn checked(alloc: Global, codec: &Shards) -> Result<(), CodecError> {
+    let four = shape_of(alloc, &[4])?;
     let fill = FillValue::from_number(alloc, 0u8)?;
-    Ok(codec.check(alloc, &shape, &DataType::UInt8, &fill))
+    codec.check(alloc, &four, &DataType::UInt8, &fill)
 }
 
 // An index codec without a byte order makes a codec that serves no shape.
 #[test]
 fn an_index_needs_a_byte_order(rt: HostRuntime) -> Result<(), Fail> {
-    same(
-        &rt,
-        checked(rt.alloc(), BIG)?,
-        Err(CodecError::UnsupportedDataType),
-    );
+    let codec = configured_codec(rt.alloc(), BIG)?;
+    let answer = checked(rt.alloc(), &codec);
+    same(&rt, answer, Err(CodecError::UnsupportedDataType));
     Ok(())
 }

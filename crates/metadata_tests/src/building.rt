@@ -1,34 +1,43 @@
 // Sharding codecs that are put together part by part.
 use crate::compared::same;
+use crate::examples::shape_of;
 use std::alloc::Global;
 use std::borrow::CowSlice;
+use std::sync::Arc;
 use std::test::Fail;
 use zarr_codecs::{
     ArrayToBytesCodecTraits, BytesCodec, BytesRepresentation, CodecTraitsV3,
     DefaultArrayToBytesCodec,
 };
 use zarr_crc32c::Crc32cCodec;
-use zarr_parts::{ArrayBytes, Axes, ChunkShape, CodecError, CodecOptions, DataType, FillValue};
-use zarrs_sharding::{ShardingCodecBuilder, ShardingIndexLocation};
+use zarr_parts::{ArrayBytes, CodecError, CodecOptions, DataType, FillValue};
+use zarrs_sharding::{ShardingCodec, ShardingCodecBuilder, ShardingIndexLocation};
 
 type Pairs = ShardingCodecBuilder<DefaultArrayToBytesCodec, BytesCodec>;
-
-fn shape_of(alloc: Global, axes: &[u64]) -> Result<ChunkShape, CodecError> {
-    ChunkShape::new(alloc, axes)?.ok_or(CodecError::OutOfBounds)
-}
 
 // A builder of shards of subchunks of two cells.
 fn pairs(alloc: Global) -> Result<Pairs, CodecError> {
     Ok(ShardingCodecBuilder::new(shape_of(alloc, &[2])?, &DataType::UInt16))
 }
 
-// The shard that a codec makes of the cells 1 to 4.
+// The shard that a codec makes of four cells.
+fn encoded_cells<C: ArrayToBytesCodecTraits>(
+    alloc: Global,
+    codec: &C,
+    cells: &ArrayBytes,
+    data_type: &DataType,
+    fill: &FillValue,
+) -> Result<Vec<u8>, CodecError> {
+    let four = shape_of(alloc, &[4])?;
+    let options = CodecOptions::default();
+    codec.encode(alloc, cells, &four, data_type, fill, &options)
+}
+
+// The shard that it makes of the cells 1 to 4.
 fn encoded<C: ArrayToBytesCodecTraits>(alloc: Global, codec: &C) -> Result<Vec<u8>, CodecError> {
     let cells = ArrayBytes::from_numbers(alloc, &[1u16, 2, 3, 4])?;
-    let shape = shape_of(alloc, &[4])?;
     let fill = FillValue::from_number(alloc, 0u16)?;
-    let options = CodecOptions::default();
-    codec.encode(alloc, &cells, &shape, &DataType::UInt16, &fill, &options)
+    encoded_cells(alloc, codec, &cells, &DataType::UInt16, &fill)
 }
 
 // The first byte of a shard, and how many it has in all.
@@ -56,14 +65,24 @@ fn with_checksums(alloc: Global) -> Result<Vec<u8>, CodecError> {
 }
 
 // Four elements that have lengths of their own, of which the last two are the fill value.
-fn words(alloc: Global) -> Result<Vec<u8>, CodecError> {
-    let codec = ShardingCodecBuilder::new(shape_of(alloc, &[2])?, &DataType::Bytes).build();
+fn words(alloc: Global) -> Result<ArrayBytes<'static>, CodecError> {
     let offsets = [0, 1, 1, 1, 1].to_vec(alloc)?;
-    let cells = ArrayBytes::new_vlen(CowSlice::Borrowed(b"a"), offsets).ok_or(CodecError::Fault)?;
-    let shape = shape_of(alloc, &[4])?;
+    ArrayBytes::new_vlen(CowSlice::Borrowed(b"a"), offsets).ok_or(CodecError::Fault)
+}
+
+fn encoded_words<C: ArrayToBytesCodecTraits>(
+    alloc: Global,
+    codec: &C,
+) -> Result<Vec<u8>, CodecError> {
+    let words = words(alloc)?;
     let none = FillValue::new(Vec::new(alloc));
-    let options = CodecOptions::default();
-    codec.encode(alloc, &cells, &shape, &DataType::Bytes, &none, &options)
+    encoded_cells(alloc, codec, &words, &DataType::Bytes, &none)
+}
+
+// Their shard.
+fn shard_of_words(alloc: Global) -> Result<Vec<u8>, CodecError> {
+    let builder = ShardingCodecBuilder::new(shape_of(alloc, &[2])?, &DataType::Bytes);
+    encoded_words(alloc, &builder.build())
 }
 
 // The text of the first two words, then the index: its slice, and no other.
@@ -72,7 +91,7 @@ fn the_type_chooses_the_codec(rt: HostRuntime) {
     let mut want = [0xFF; 45];
     want[..13].copy_from_slice(&[2, 0, 0, 0, 1, 0, 0, 0, 97, 0, 0, 0, 0]);
     want[13..29].copy_from_slice(&[0, 0, 0, 0, 0, 0, 0, 0, 13, 0, 0, 0, 0, 0, 0, 0]);
-    let found = words(rt.alloc());
+    let found = shard_of_words(rt.alloc());
     assert!(rt; found.is_ok_and(|shard| shard.as_slice() == want.as_slice()));
 }
 
@@ -95,18 +114,24 @@ fn a_codec_is_built_part_by_part(rt: HostRuntime) {
     same(&rt, replaced(rt.alloc()).map(start_of), Ok((0, 40)));
 }
 
-// A shared codec for subchunks of 2 by 2, its index at the start: its configuration, and its metadata.
-fn told(alloc: Global, data_type: &DataType) -> Result<(String, String), Fail> {
-    let shape = ChunkShape::new(alloc, &[2, 2])?.unwrap_or(ChunkShape::from_positive(Axes::new(
-        alloc,
-    )));
-    let codec = ShardingCodecBuilder::new(shape, data_type)
-        .index_location(ShardingIndexLocation::Start)
-        .build_arc(alloc)?;
-    Ok((
-        codec.configuration(alloc)?.to_string(alloc)?,
-        codec.metadata(alloc)?.to_string(alloc)?,
-    ))
+type Shared = Arc<ShardingCodec<DefaultArrayToBytesCodec, BytesCodec>>;
+
+// A shared codec for subchunks of 2 by 2, its index at the start.
+fn shared(alloc: Global, data_type: &DataType) -> Result<Shared, CodecError> {
+    let builder = ShardingCodecBuilder::new(shape_of(alloc, &[2, 2])?, data_type).index_location(
+        ShardingIndexLocation::Start,
+    );
+    Ok(builder.build_arc(alloc)?)
+}
+
+fn configuration_of(alloc: Global, data_type: &DataType) -> Result<String, Fail> {
+    let codec = shared(alloc, data_type)?;
+    Ok(codec.configuration(alloc)?.to_string(alloc)?)
+}
+
+fn metadata_of(alloc: Global, data_type: &DataType) -> Result<String, Fail> {
+    let codec = shared(alloc, data_type)?;
+    Ok(codec.metadata(alloc)?.to_string(alloc)?)
 }
 
 #[test]
@@ -116,7 +141,7 @@ fn a_built_codec_has_metadata(rt: HostRuntime) -> Result<(), Fail> {
         (DataType::UInt8, little),
         (DataType::Bytes, r#"{"name":"zarr_parts.vlen"}"#),
     ] {
-        let (configuration, metadata) = told(rt.alloc(), &data_type)?;
+        let configuration = configuration_of(rt.alloc(), &data_type)?;
         let wanted = format!(in rt.alloc();
             "{{\"chunk_shape\":[2,2],\"codecs\":[{inner}],\"index_codecs\":[{little}],\"index_location\":\"start\"}}"
         )?;
@@ -124,9 +149,22 @@ fn a_built_codec_has_metadata(rt: HostRuntime) -> Result<(), Fail> {
         let whole = format!(in rt.alloc();
             "{{\"configuration\":{wanted},\"name\":\"sharding_indexed\"}}"
         )?;
+        let metadata = metadata_of(rt.alloc(), &data_type)?;
         same(&rt, metadata.as_str(), whole.as_str());
     }
     Ok(())
+}
+
+// What a codec encodes arrays of 4 by 4 to.
+fn represented_by<C: ArrayToBytesCodecTraits>(
+    alloc: Global,
+    codec: &C,
+    data_type: &DataType,
+    fill: &[u8],
+) -> Result<BytesRepresentation, CodecError> {
+    let shape = shape_of(alloc, &[4, 4])?;
+    let fill = FillValue::new(fill.to_vec(alloc)?);
+    codec.encoded_representation(alloc, &shape, data_type, &fill)
 }
 
 // What shards of 4 by 4 in subchunks of 2 by 2 are encoded to.
@@ -135,9 +173,8 @@ fn represented(
     data_type: &DataType,
     fill: &[u8],
 ) -> Result<BytesRepresentation, CodecError> {
-    let codec = ShardingCodecBuilder::new(shape_of(alloc, &[2, 2])?, data_type).build();
-    let fill = FillValue::new(fill.to_vec(alloc)?);
-    codec.encoded_representation(alloc, &shape_of(alloc, &[4, 4])?, data_type, &fill)
+    let builder = ShardingCodecBuilder::new(shape_of(alloc, &[2, 2])?, data_type);
+    represented_by(alloc, &builder.build(), data_type, fill)
 }
 
 #[test]

@@ -6,12 +6,21 @@ use std::alloc::Global;
 use std::test::Fail;
 use zarr_codecs::PluginCreateError;
 
+fn told(error: &PluginCreateError) -> (u8, &'static str) {
+    (error.number(), error.name())
+}
+
+// What the refusal of a configuration tells.
+fn refusal_of(alloc: Global, value: &Value) -> (u8, &'static str) {
+    match codec_of(alloc, value) {
+        Ok(_) => (0, ""),
+        Err(error) => told(&error),
+    }
+}
+
 fn refusal(alloc: Global, text: &str) -> Result<(u8, &'static str), Fail> {
     let value = Value::from_str(alloc, text)?;
-    match codec_of(alloc, &value) {
-        Ok(_) => Ok((0, "")),
-        Err(error) => Ok((error.number(), error.name())),
-    }
+    Ok(refusal_of(alloc, &value))
 }
 
 // A refusal has a number, and a name without the text that it carries.
@@ -31,7 +40,10 @@ fn a_refusal_tells_its_number_and_name(rt: HostRuntime) -> Result<(), Fail> {
     ] {
         same_at(&rt, text, refusal(rt.alloc(), text)?, want);
     }
-    let memory = PluginCreateError::OutOfMemory;
-    same(&rt, (memory.number(), memory.name()), (1, "OutOfMemory"));
+    same(
+        &rt,
+        told(&PluginCreateError::OutOfMemory),
+        (1, "OutOfMemory"),
+    );
     Ok(())
 }

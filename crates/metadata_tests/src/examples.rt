@@ -3,11 +3,16 @@ use serde_json::Value;
 use std::alloc::Global;
 use std::test::Fail;
 use zarr_codecs::{BytesCodec, CodecTraitsV3, PluginCreateError};
+use zarr_parts::{ChunkShape, CodecError};
 use zarrs_sharding::{ShardingCodec, ShardingCodecConfiguration};
 
 pub type Shards = ShardingCodec<BytesCodec, BytesCodec>;
 
 pub type ShardsOfShards = ShardingCodec<Shards, BytesCodec>;
+
+pub fn shape_of(alloc: Global, axes: &[u64]) -> Result<ChunkShape, CodecError> {
+    ChunkShape::new(alloc, axes)?.ok_or(CodecError::OutOfBounds)
+}
 
 pub fn codec_of(alloc: Global, value: &Value) -> Result<Shards, PluginCreateError> {
     let configuration = ShardingCodecConfiguration::from_value(alloc, value)?;
@@ -27,11 +32,19 @@ pub fn configured(alloc: Global, text: &str) -> Result<String, Fail> {
     }
 }
 
+fn metadata_text<C: CodecTraitsV3>(alloc: Global, codec: &C) -> Result<String, Fail> {
+    Ok(codec.metadata(alloc)?.to_string(alloc)?)
+}
+
+fn answer<C: CodecTraitsV3 + Drop>(alloc: Global, value: &Value) -> Result<String, Fail> {
+    match C::create(alloc, value) {
+        Ok(codec) => metadata_text(alloc, &codec),
+        Err(error) => refusal_text(alloc, error),
+    }
+}
+
 // The metadata of the codec that metadata names, or why it is refused.
 pub fn created<C: CodecTraitsV3 + Drop>(alloc: Global, text: &str) -> Result<String, Fail> {
     let value = Value::from_str(alloc, text)?;
-    match C::create(alloc, &value) {
-        Ok(codec) => Ok(codec.metadata(alloc)?.to_string(alloc)?),
-        Err(error) => refusal_text(alloc, error),
-    }
+    answer::<C>(alloc, &value)
 }

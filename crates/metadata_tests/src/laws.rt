@@ -1,13 +1,21 @@
 // What is written is read as the codec: the laws as calls.
-use crate::compared::same;
-use crate::examples::Shards;
+use crate::compared::{same, same_at};
+use crate::examples::{Shards, shape_of};
 use std::alloc::Global;
 use std::test::Fail;
 use zarr_codecs::{
     BytesCodec, CodecTraitsV3, DefaultArrayToBytesCodec, VlenCodec, create_after_metadata,
 };
-use zarr_parts::{Axes, ChunkShape};
 use zarrs_sharding::{ShardingCodec, ShardingIndexLocation, new_after_configuration};
+
+// Whether what is created of a codec's metadata is the codec.
+fn is_given_back<C: CodecTraitsV3 + PartialEq + Drop>(
+    alloc: Global,
+    codec: &C,
+) -> Result<bool, Fail> {
+    let metadata = codec.metadata(alloc)?;
+    Ok(create_after_metadata(alloc, codec, &metadata)? == *codec)
+}
 
 // The metadata of a codec names the codec.
 #[test]
@@ -17,12 +25,7 @@ fn metadata_gives_the_codec_back(rt: HostRuntime) -> Result<(), Fail> {
         BytesCodec::little(),
         BytesCodec::big(),
     ] {
-        let metadata = codec.metadata(rt.alloc())?;
-        same(
-            &rt,
-            create_after_metadata(rt.alloc(), &codec, &metadata)?,
-            codec,
-        );
+        same_at(&rt, codec, is_given_back(rt.alloc(), &codec)?, true);
     }
     Ok(())
 }
@@ -30,12 +33,7 @@ fn metadata_gives_the_codec_back(rt: HostRuntime) -> Result<(), Fail> {
 // So does that of a codec that has no configuration.
 #[test]
 fn a_name_gives_the_codec_back(rt: HostRuntime) -> Result<(), Fail> {
-    let metadata = VlenCodec.metadata(rt.alloc())?;
-    same(
-        &rt,
-        create_after_metadata(rt.alloc(), &VlenCodec, &metadata)?,
-        VlenCodec,
-    );
+    same(&rt, is_given_back(rt.alloc(), &VlenCodec)?, true);
     Ok(())
 }
 
@@ -47,20 +45,13 @@ fn the_default_codec_is_given_back(rt: HostRuntime) -> Result<(), Fail> {
         DefaultArrayToBytesCodec::Bytes(BytesCodec::big()),
         DefaultArrayToBytesCodec::Vlen(VlenCodec),
     ] {
-        let metadata = codec.metadata(rt.alloc())?;
-        same(
-            &rt,
-            create_after_metadata(rt.alloc(), &codec, &metadata)?,
-            codec,
-        );
+        same_at(&rt, codec, is_given_back(rt.alloc(), &codec)?, true);
     }
     Ok(())
 }
 
 fn shards(alloc: Global, location: ShardingIndexLocation) -> Result<Shards, Fail> {
-    let shape = ChunkShape::new(alloc, &[3, 5])?.unwrap_or(ChunkShape::from_positive(Axes::new(
-        alloc,
-    )));
+    let shape = shape_of(alloc, &[3, 5])?;
     Ok(ShardingCodec::new(shape, BytesCodec::big(), BytesCodec::little(), location))
 }
 

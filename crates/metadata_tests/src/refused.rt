@@ -5,7 +5,7 @@ use std::test::Fail;
 use zarr_codecs::{BytesCodec, VlenCodec};
 
 // What is no configuration: another key comes before a missing one, and the form of a list before its members.
-const CONFIGURATIONS: [(&str, &str); 47] = [
+const CONFIGURATIONS: &[(&str, &str)] = &[
     (r#"null"#, "BadField configuration"),
     (r#"true"#, "BadField configuration"),
     (r#"7"#, "BadField configuration"),
@@ -101,13 +101,13 @@ const CONFIGURATIONS: [(&str, &str); 47] = [
 fn what_is_no_configuration_is_refused(rt: HostRuntime) -> Result<(), Fail> {
     for (text, want) in CONFIGURATIONS {
         let found = configured(rt.alloc(), text)?;
-        same_at(&rt, text, found.as_str(), want);
+        same_at(&rt, *text, found.as_str(), *want);
     }
     Ok(())
 }
 
 // Lists of codecs: names, how many they are, and then the one member; the inner codec before the index codec.
-const LISTS: [(&str, &str); 24] = [
+const LISTS: &[(&str, &str)] = &[
     (
         r#"{"chunk_shape":[1,2,2],"codecs":[],"index_codecs":[]}"#,
         "UnsupportedChain",
@@ -210,13 +210,13 @@ const LISTS: [(&str, &str); 24] = [
 fn lists_of_codecs_are_refused_in_order(rt: HostRuntime) -> Result<(), Fail> {
     for (text, want) in LISTS {
         let found = configured(rt.alloc(), text)?;
-        same_at(&rt, text, found.as_str(), want);
+        same_at(&rt, *text, found.as_str(), *want);
     }
     Ok(())
 }
 
 // Metadata of another codec than `bytes`, and of none.
-const METADATA: [(&str, &str); 35] = [
+const METADATA: &[(&str, &str)] = &[
     (r#"null"#, "BadField name"),
     (r#"7"#, "BadField name"),
     (r#"[]"#, "BadField name"),
@@ -327,13 +327,13 @@ const METADATA: [(&str, &str); 35] = [
 fn metadata_is_refused_in_order(rt: HostRuntime) -> Result<(), Fail> {
     for (text, want) in METADATA {
         let found = created::<BytesCodec>(rt.alloc(), text)?;
-        same_at(&rt, text, found.as_str(), want);
+        same_at(&rt, *text, found.as_str(), *want);
     }
     Ok(())
 }
 
 // Metadata of another codec than that of variable elements, which has no member in its configuration.
-const VARIABLE: [(&str, &str); 4] = [
+const VARIABLE: &[(&str, &str)] = &[
     (r#""bytes""#, "UnsupportedCodec bytes"),
     (
         r#"{"name":"zarr_parts.vlen","endian":"big"}"#,
@@ -353,13 +353,13 @@ const VARIABLE: [(&str, &str); 4] = [
 fn a_member_that_no_configuration_has_is_refused(rt: HostRuntime) -> Result<(), Fail> {
     for (text, want) in VARIABLE {
         let found = created::<VlenCodec>(rt.alloc(), text)?;
-        same_at(&rt, text, found.as_str(), want);
+        same_at(&rt, *text, found.as_str(), *want);
     }
     Ok(())
 }
 
 // Metadata of no shard of shards.
-const SHARDS: [(&str, &str); 12] = [
+const SHARDS: &[(&str, &str)] = &[
     (r#"7"#, "BadField name"),
     (r#""bytes""#, "UnsupportedCodec bytes"),
     (r#""sharding_indexed""#, "MissingField configuration"),
@@ -402,7 +402,7 @@ const SHARDS: [(&str, &str); 12] = [
 fn the_metadata_of_shards_is_refused_in_order(rt: HostRuntime) -> Result<(), Fail> {
     for (text, want) in SHARDS {
         let found = created::<ShardsOfShards>(rt.alloc(), text)?;
-        same_at(&rt, text, found.as_str(), want);
+        same_at(&rt, *text, found.as_str(), *want);
     }
     Ok(())
 }
