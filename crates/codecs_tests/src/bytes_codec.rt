@@ -78,9 +78,9 @@ fn whole_numbers_are_stored_in_their_order(rt: HostRuntime) {
         (unordered, DataType::Raw(3), 3, six, six),
         (unordered, DataType::UInt8, 1, six, six),
     ];
-    for (codec, data_type, size, memory, want) in &rows {
-        let found = is_stored_as(rt.alloc(), *codec, *data_type, *size, memory, want);
-        same_at(&rt, (*data_type, *codec), found, Ok(true));
+    for (codec, data_type, size, memory, want) in rows {
+        let found = is_stored_as(rt.alloc(), codec, data_type, size, memory, want);
+        same_at(&rt, (data_type, codec), found, Ok(true));
     }
 }
 
