@@ -81,8 +81,8 @@ fn an_empty_axis_leaves_no_point(rt: HostRuntime) {
 
 // Whether a copy of the column is equal to it.
 fn is_copied(alloc: Global) -> Result<bool, CodecError> {
-    let column = subset(alloc, &[1..3, 0..1])?;
-    is_box(alloc, &column.try_clone(alloc)?, &[1..3, 0..1])
+    let copy = subset(alloc, &[1..3, 0..1])?.try_clone(alloc)?;
+    is_box(alloc, &copy, &[1..3, 0..1])
 }
 
 // Whether the column is the box of these ranges.
