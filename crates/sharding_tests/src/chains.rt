@@ -1,10 +1,12 @@
 // Shards with codecs behind the inner codec and the index codec.
-use crate::compared::{same, same_at};
-use crate::shards::{ABSENT, around, decoded, encoded, read, said, shape_of, shard_of, subset_of};
+use crate::compared::same;
+use crate::shards::{
+    ABSENT, around, decoded, done, is_decoded_to, is_encoded_as, read_back, shape_of, shard_of,
+};
 use std::alloc::Global;
 use std::test::Fail;
 use test_codecs::{MarkedCodec, UnboundedCodec};
-use zarr_codecs::{ArrayToBytesCodecTraits, BytesChain, BytesCodec, MemoryHandle};
+use zarr_codecs::{ArrayToBytesCodecTraits, BytesChain, BytesCodec};
 use zarr_crc32c::Crc32cCodec;
 use zarr_parts::CodecError;
 use zarrs_sharding::{ShardingCodec, ShardingIndexLocation};
@@ -30,27 +32,34 @@ fn object_of(alloc: Global, behind: &[u8]) -> Result<Vec<u8>, CodecError> {
     Ok(object)
 }
 
-fn with_marks(alloc: Global) -> Result<bool, CodecError> {
-    let object = encoded(alloc, &codec(alloc, marked())?, &[4], &[1, 2, 0, 0])?;
-    Ok(object.len() == 36 && object == object_of(alloc, &[42])?)
+// Whether a codec encodes 1, 2, 0, 0 as this shard, and decodes it so; and finds that another is damaged.
+fn is_shard<C: ArrayToBytesCodecTraits>(
+    alloc: Global,
+    codec: &C,
+    shard: &[u8],
+    other: &[u8],
+) -> Result<bool, CodecError> {
+    let cells = [1, 2, 0, 0];
+    let refused = done(decoded(alloc, codec, &[4], other)) == Err(CodecError::Damaged);
+    Ok(
+        refused
+            && is_encoded_as(alloc, codec, &[4], &cells, shard)?
+            && is_decoded_to(alloc, codec, &[4], shard, &cells)?,
+    )
 }
 
-fn marks_decoded(alloc: Global, behind: &[u8]) -> Result<Vec<u8>, CodecError> {
-    let object = object_of(alloc, behind)?;
-    decoded(alloc, &codec(alloc, marked())?, &[4], &object)
+fn is_marked(alloc: Global, shard: &[u8], other: &[u8]) -> Result<bool, CodecError> {
+    is_shard(alloc, &codec(alloc, marked())?, shard, other)
 }
 
 // An index with another mark behind it is damaged.
 #[test]
-fn marks_are_demanded(rt: HostRuntime) {
-    same(&rt, with_marks(rt.alloc()), Ok(true));
-    for (behind, want) in [
-        (42, Ok([1u8, 2, 0, 0].as_slice())),
-        (41, Err(CodecError::Damaged)),
-    ] {
-        let cells = marks_decoded(rt.alloc(), &[behind]);
-        same_at(&rt, behind, said(&cells), want);
-    }
+fn marks_are_demanded(rt: HostRuntime) -> Result<(), Fail> {
+    let shard = object_of(rt.alloc(), &[42])?;
+    let other = object_of(rt.alloc(), &[41])?;
+    same(&rt, shard.len(), 36);
+    same(&rt, is_marked(rt.alloc(), &shard, &other), Ok(true));
+    Ok(())
 }
 
 // The codec of shards with a checksum behind the index, and nothing behind the slices.
@@ -72,52 +81,39 @@ fn checked_object(alloc: Global, checksum: &[u8]) -> Result<Vec<u8>, CodecError>
     Ok(object)
 }
 
-fn checked_encoded(alloc: Global) -> Result<Vec<u8>, CodecError> {
-    encoded(alloc, &checked(alloc)?, &[4], &[1, 2, 0, 0])
-}
-
-fn checked_decoded(alloc: Global, checksum: &[u8]) -> Result<Vec<u8>, CodecError> {
-    let object = checked_object(alloc, checksum)?;
-    decoded(alloc, &checked(alloc)?, &[4], &object)
+fn is_checked(alloc: Global, shard: &[u8], other: &[u8]) -> Result<bool, CodecError> {
+    is_shard(alloc, &checked(alloc)?, shard, other)
 }
 
 // An index is written with its checksum behind it, and is damaged where that is another one.
 #[test]
 fn checksums_of_indices_are_written_and_compared(rt: HostRuntime) -> Result<(), Fail> {
-    let wanted = checked_object(rt.alloc(), &[189, 19, 189, 86])?;
-    same(
-        &rt,
-        said(&checked_encoded(rt.alloc())),
-        Ok(wanted.as_slice()),
-    );
-    for (first, want) in [
-        (189, Ok([1u8, 2, 0, 0].as_slice())),
-        (188, Err(CodecError::Damaged)),
-    ] {
-        let cells = checked_decoded(rt.alloc(), &[first, 19, 189, 86]);
-        same_at(&rt, first, said(&cells), want);
-    }
+    let shard = checked_object(rt.alloc(), &[189, 19, 189, 86])?;
+    let other = checked_object(rt.alloc(), &[188, 19, 189, 86])?;
+    same(&rt, is_checked(rt.alloc(), &shard, &other), Ok(true));
     Ok(())
 }
 
-// Two cells of an array of 4 by 4 that is one subchunk.
-fn read_two<I: ArrayToBytesCodecTraits + Drop>(
+// Whether two cells of an array of 4 by 4 that is one subchunk are read as these.
+fn are_read_by<I: ArrayToBytesCodecTraits + Drop>(
     alloc: Global,
     inner: I,
     cells: &[u8],
-) -> Result<Vec<u8>, CodecError> {
+    want: &[u8],
+) -> Result<bool, CodecError> {
     let codec = around(alloc, &[4, 4], inner, ShardingIndexLocation::End)?;
-    let handle = MemoryHandle::new(Some(encoded(alloc, &codec, &[4, 4], cells)?));
-    read(
-        alloc,
-        &codec,
-        handle,
-        &[4, 4],
-        &subset_of(alloc, &[1..3, 0..1])?,
-    )
+    let found = read_back(alloc, &codec, &[4, 4], cells, &[1..3, 0..1])?;
+    Ok(found.as_slice() == want)
 }
 
-// A subchunk is read in part, also where nothing tells how long its encoding is.
+// The same, also where nothing tells how long the subchunk's encoding is.
+fn are_read(alloc: Global, cells: &[u8], want: &[u8]) -> Result<bool, CodecError> {
+    let plain = BytesCodec::little();
+    let unbounded = BytesChain::new(BytesCodec::little(), UnboundedCodec);
+    Ok(are_read_by(alloc, plain, cells, want)? && are_read_by(alloc, unbounded, cells, want)?)
+}
+
+// A subchunk is read in part.
 #[test]
 fn one_subchunk_is_read_in_part(rt: HostRuntime) {
     for (cells, want) in [
@@ -127,10 +123,6 @@ fn one_subchunk_is_read_in_part(rt: HostRuntime) {
         ),
         ([0; 16], [0, 0]),
     ] {
-        let inner = BytesChain::new(BytesCodec::little(), UnboundedCodec);
-        let plain = read_two(rt.alloc(), BytesCodec::little(), &cells);
-        let unbounded = read_two(rt.alloc(), inner, &cells);
-        same(&rt, said(&plain), Ok(want.as_slice()));
-        same(&rt, said(&unbounded), Ok(want.as_slice()));
+        same(&rt, are_read(rt.alloc(), &cells, &want), Ok(true));
     }
 }

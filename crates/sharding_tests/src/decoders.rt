@@ -1,7 +1,8 @@
 // Decoders: what they tell besides cells, subchunks as they are stored, reads into a target, and objects that are not opened.
 use crate::compared::{same, same_at};
 use crate::shards::{
-    ABSENT, Plain, cells_of, decoder_of, listed, plain, read, said, shard_of, sixteen, subset_of,
+    ABSENT, Cells, Plain, Sixteen, cells_of, decoder_of, listed, plain, read, said, shard_of,
+    sixteen_cells, subset_of,
 };
 use std::alloc::Global;
 use std::ops::Range;
@@ -21,37 +22,38 @@ fn told<H: BytesPartialDecoderTraits + Drop>(
     Ok((exists, held, data_type, decoder.supports_partial_decode()))
 }
 
-// Whether a decoder of a handle's object tells this.
-fn tells<H: BytesPartialDecoderTraits + Drop>(
+// What a decoder of a handle's object tells.
+fn told_of<H: BytesPartialDecoderTraits + Drop>(
     alloc: Global,
+    codec: &Plain,
     handle: H,
-    want: Told,
-) -> Result<bool, CodecError> {
-    let codec = plain(alloc, &[2, 2], ShardingIndexLocation::Start)?;
-    let mut decoder = decoder_of(alloc, &codec, handle, &[4, 4])?;
-    Ok(told(&mut decoder)? == want)
+) -> Result<Told, CodecError> {
+    let mut decoder = decoder_of(alloc, codec, handle, &[4, 4])?;
+    told(&mut decoder)
 }
 
 // A decoder holds its index besides what its handle holds, and none where there is no object.
 #[test]
-fn an_object_is_told(rt: HostRuntime) {
-    let stored = (true, 80 + 64, DataType::UInt8, true);
-    let lent = SliceHandle::new(&[255; 80]);
-    same(&rt, tells(rt.alloc(), lent, stored), Ok(true));
-    let none = (false, 0, DataType::UInt8, true);
-    same(
-        &rt,
-        tells(rt.alloc(), MemoryHandle::new(None), none),
-        Ok(true),
-    );
+fn an_object_is_told(rt: HostRuntime) -> Result<(), Fail> {
+    let codec = plain(rt.alloc(), &[2, 2], ShardingIndexLocation::Start)?;
+    let lent = told_of(rt.alloc(), &codec, SliceHandle::new(&[255; 80]));
+    same(&rt, lent, Ok((true, 80 + 64, DataType::UInt8, true)));
+    let none = told_of(rt.alloc(), &codec, MemoryHandle::new(None));
+    same(&rt, none, Ok((false, 0, DataType::UInt8, true)));
+    Ok(())
 }
 
 // The cells at coordinates of a shape of 4 by 4.
 fn read_at(alloc: Global, flat: &[u64]) -> Result<Vec<u8>, CodecError> {
-    let codec = plain(alloc, &[2, 2], ShardingIndexLocation::Start)?;
-    let object = sixteen(alloc, &codec)?;
     let asked = listed(alloc, 2, flat)?;
-    read(alloc, &codec, SliceHandle::new(&object), &[4, 4], &asked)
+    let stored = sixteen_cells(alloc)?;
+    read(
+        alloc,
+        &stored.codec,
+        SliceHandle::new(&stored.shard),
+        &[4, 4],
+        &asked,
+    )
 }
 
 // Cells of several subchunks are read in the order in which they are asked, one of them twice.
@@ -61,33 +63,27 @@ fn coordinates_are_read(rt: HostRuntime) {
     same(&rt, said(&cells), Ok([15u8, 0, 7, 15, 1].as_slice()));
 }
 
-// Reads two cells into a box of a target of 3 by 3.
-fn read_into<H: BytesPartialDecoderTraits>(
-    alloc: Global,
-    decoder: &mut ShardingPartialDecoder<'_, BytesCodec, BytesCodec, H>,
-    bytes: &mut [u8],
-    element_size: usize,
-    rows: Range<u64>,
-) -> Result<(), CodecError> {
+// Reads two of sixteen cells into a target.
+fn read_two(alloc: Global, stored: &Sixteen, target: &mut FixedTarget) -> Result<(), CodecError> {
     let asked = subset_of(alloc, &[1..3, 0..1])?;
-    let cells = subset_of(alloc, &[rows, 1..2])?;
-    let mut target = FixedTarget::new(bytes, element_size, &[3, 3], &cells).ok_or(
-        CodecError::OutOfBounds,
-    )?;
-    decoder.partial_decode_into(alloc, &asked, &mut target, &CodecOptions::default())
+    let handle = SliceHandle::new(&stored.shard);
+    let mut decoder = decoder_of(alloc, &stored.codec, handle, &[4, 4])?;
+    decoder.partial_decode_into(alloc, &asked, target, &CodecOptions::default())
 }
 
-// The same by a decoder of sixteen cells.
-fn target_of(
+// Reads them into a box of a target of 3 by 3.
+fn read_into(
     alloc: Global,
+    stored: &Sixteen,
     bytes: &mut [u8],
     element_size: usize,
     rows: Range<u64>,
 ) -> Result<(), CodecError> {
-    let codec = plain(alloc, &[2, 2], ShardingIndexLocation::Start)?;
-    let object = sixteen(alloc, &codec)?;
-    let mut decoder = decoder_of(alloc, &codec, SliceHandle::new(&object), &[4, 4])?;
-    read_into(alloc, &mut decoder, bytes, element_size, rows)
+    let cells = subset_of(alloc, &[rows, 1..2])?;
+    match FixedTarget::new(bytes, element_size, &[3, 3], &cells) {
+        Some(mut target) => read_two(alloc, stored, &mut target),
+        None => Err(CodecError::OutOfBounds),
+    }
 }
 
 // What such a read answers; a fault where the target, whose bytes were 77, has not these then.
@@ -97,8 +93,9 @@ fn is_target(
     rows: Range<u64>,
     want: &[u8],
 ) -> Result<(), CodecError> {
+    let stored = sixteen_cells(alloc)?;
     let mut bytes = vec![in alloc; 77u8; want.len()]?;
-    let answer = target_of(alloc, &mut bytes, element_size, rows);
+    let answer = read_into(alloc, &stored, &mut bytes, element_size, rows);
     if bytes.as_slice() == want {
         answer
     } else {
@@ -117,7 +114,8 @@ fn cells_are_read_into_a_target(rt: HostRuntime) {
         (2, 1..3, wrong, &[77; 18]),
     ];
     for (element_size, rows, answer, want) in rows {
-        same(&rt, is_target(rt.alloc(), element_size, rows, want), answer);
+        let found = is_target(rt.alloc(), element_size, rows, want);
+        same(&rt, found, answer);
     }
 }
 
@@ -196,15 +194,13 @@ fn a_subchunk_is_retrieved_as_it_is_stored(rt: HostRuntime) {
     same(&rt, is_stored(rt.alloc(), &[1], None), Ok(true));
 }
 
-// Whether a handle is not opened for this reason, and holds so many bytes where it comes back; or whether it is opened.
-fn is_refused(
+// How many bytes a handle holds that comes back, since it is not opened, and why it is not.
+fn refusal_of(
     alloc: Global,
     codec: &Plain,
-    len: usize,
-    want: Option<(usize, CodecError)>,
-) -> Result<bool, CodecError> {
-    let cells = cells_of(alloc, &[4])?;
-    let handle = MemoryHandle::new(Some(vec![in alloc; 255u8; len]?));
+    cells: &Cells,
+    handle: MemoryHandle,
+) -> Option<(usize, CodecError)> {
     let options = CodecOptions::default();
     match codec.partial_decoder(
         alloc,
@@ -214,9 +210,21 @@ fn is_refused(
         &cells.fill,
         &options,
     ) {
-        Ok(_) => Ok(want.is_none()),
-        Err((handle, error)) => Ok(want == Some((handle.size_held(), error))),
+        Ok(_) => None,
+        Err((handle, error)) => Some((handle.size_held(), error)),
     }
+}
+
+// The same of an object of so many bytes.
+fn refused(
+    alloc: Global,
+    codec: &Plain,
+    len: usize,
+) -> Result<Option<(usize, CodecError)>, CodecError> {
+    let object = vec![in alloc; 255u8; len]?;
+    let cells = cells_of(alloc, &[4])?;
+    let handle = MemoryHandle::new(Some(object));
+    Ok(refusal_of(alloc, codec, &cells, handle))
 }
 
 // An object shorter than the index, of 32 bytes, is not opened.
@@ -228,8 +236,7 @@ fn a_short_object_is_given_back(rt: HostRuntime) -> Result<(), Fail> {
         (31, Some((31, CodecError::ShardTooShort))),
         (32, None),
     ] {
-        let found = is_refused(rt.alloc(), &codec, len, want);
-        same_at(&rt, len, found, Ok(true));
+        same_at(&rt, len, refused(rt.alloc(), &codec, len), Ok(want));
     }
     Ok(())
 }

@@ -1,11 +1,11 @@
 // Boxes of shards whose subchunks are shards, read by a decoder, and into a target that nobody looks at where it is refused.
 use crate::compared::{same, same_at};
-use crate::shards::{Cells, Plain, around, cells_of, encoded, plain, read, said, subset_of};
+use crate::shards::{Cells, Plain, around, cells_of, encoded, plain, read_back, said, subset_of};
 use std::alloc::Global;
 use std::ops::Range;
 use zarr_codecs::{
     ArrayToBytesCodecTraits, BytesCodec, BytesPartialDecoderTraits, FaultingHandle, Interval,
-    MemoryHandle, SliceHandle, StoredArray,
+    SliceHandle, StoredArray,
 };
 use zarr_parts::{ArraySubset, CodecError, CodecOptions, DataType, FixedTarget};
 use zarrs_sharding::{ShardingCodec, ShardingIndexLocation};
@@ -24,9 +24,8 @@ fn object_of(alloc: Global) -> Result<Vec<u8>, CodecError> {
 
 // The cells of a box.
 fn box_of(alloc: Global, rows: Range<u64>, columns: Range<u64>) -> Result<Vec<u8>, CodecError> {
-    let handle = MemoryHandle::new(Some(object_of(alloc)?));
-    let asked = subset_of(alloc, &[rows, columns])?;
-    read(alloc, &rows_of_shards(alloc)?, handle, &[4, 4], &asked)
+    let codec = rows_of_shards(alloc)?;
+    read_back(alloc, &codec, &[4, 4], &CELLS, &[rows, columns])
 }
 
 #[test]

@@ -1,6 +1,8 @@
 // What callers learn from the codec's laws, each called once.
 use crate::compared::same;
-use crate::shards::{Plain, elements_of, encoded, fill_of, plain, shape_of, shard_of};
+use crate::shards::{
+    Cells, Plain, cells_of, elements_of, encoded, fill_of, plain, shape_of, shard_of,
+};
 use std::alloc::Global;
 use std::borrow::CowSlice;
 use std::test::Fail;
@@ -20,7 +22,7 @@ fn array(alloc: Global) -> Result<ArrayBytes<'static>, CodecError> {
 }
 
 // The encoding of the cells behind their index, which is big endian.
-fn one_encoding(alloc: Global) -> Result<Vec<u8>, CodecError> {
+fn one_encoding(alloc: Global, array: &ArrayBytes, cells: &Cells) -> Result<Vec<u8>, CodecError> {
     let codec = ShardingCodec::new(
         shape_of(alloc, &[2])?,
         BytesCodec::big(),
@@ -28,20 +30,23 @@ fn one_encoding(alloc: Global) -> Result<Vec<u8>, CodecError> {
         ShardingIndexLocation::Start,
     )
     .with_subchunk_write_order(SubchunkWriteOrder::C);
+    let options = CodecOptions::default();
     encode_functional(
         &codec,
         alloc,
-        &array(alloc)?,
-        &shape_of(alloc, &[4])?,
+        array,
+        &cells.shape,
         &DataType::UInt8,
-        &fill_of(alloc, &[0])?,
-        &CodecOptions::default(),
+        &cells.fill,
+        &options,
     )
 }
 
 #[test]
 fn a_shard_has_one_encoding(rt: HostRuntime) -> Result<(), Fail> {
-    let shard = one_encoding(rt.alloc())?;
+    let array = array(rt.alloc())?;
+    let cells = cells_of(rt.alloc(), &[4])?;
+    let shard = one_encoding(rt.alloc(), &array, &cells)?;
     let want = [
         255, 255, 255, 255, 255, 255, 255, 255, 255, 255, 255, 255, 255, 255, 255, 255, 0, 0, 0, 0,
         0, 0, 0, 32, 0, 0, 0, 0, 0, 0, 0, 2, 7, 9,
@@ -51,34 +56,31 @@ fn a_shard_has_one_encoding(rt: HostRuntime) -> Result<(), Fail> {
 }
 
 // What the encoding of the cells before their index, in any order, is compacted to.
-fn compacted_encoding(alloc: Global) -> Result<Option<Vec<u8>>, CodecError> {
+fn compacted_encoding(
+    alloc: Global,
+    array: &ArrayBytes,
+    cells: &Cells,
+) -> Result<Option<Vec<u8>>, CodecError> {
     let codec = ShardingCodec::new(
         shape_of(alloc, &[2])?,
         BytesCodec::big(),
         BytesCodec::big(),
         ShardingIndexLocation::End,
     );
-    let shape = shape_of(alloc, &[4])?;
-    let zero = fill_of(alloc, &[0])?;
-    let array = array(alloc)?;
+    let (shape, bytes, fill) = (&cells.shape, &DataType::UInt8, &cells.fill);
     let options = CodecOptions::default();
-    let shard = codec.encode(alloc, &array, &shape, &DataType::UInt8, &zero, &options)?;
-    compact_encoded(
-        &codec,
-        alloc,
-        &shard,
-        &array,
-        &shape,
-        &DataType::UInt8,
-        &zero,
-        &options,
-    )
+    let shard = codec.encode(alloc, array, shape, bytes, fill, &options)?;
+    compact_encoded(&codec, alloc, &shard, array, shape, bytes, fill, &options)
 }
 
 // Nothing stands in an encoding that a compaction leaves out.
 #[test]
-fn an_encoding_is_compact(rt: HostRuntime) {
-    same(&rt, compacted_encoding(rt.alloc()), Ok(None));
+fn an_encoding_is_compact(rt: HostRuntime) -> Result<(), Fail> {
+    let array = array(rt.alloc())?;
+    let cells = cells_of(rt.alloc(), &[4])?;
+    let compacted = compacted_encoding(rt.alloc(), &array, &cells);
+    same(&rt, compacted, Ok(None));
+    Ok(())
 }
 
 // The cells of a shard that the codec serves.
@@ -132,33 +134,34 @@ fn an_encoding_is_decoded(rt: HostRuntime) -> Result<(), Fail> {
     Ok(())
 }
 
-// What a shard with dead bytes is compacted to, and how long what it is compacted to is.
-fn compacted_twice(alloc: Global) -> Result<(Option<Vec<u8>>, usize), CodecError> {
-    let codec = plain(alloc, &[2], ShardingIndexLocation::End)?;
-    let shape = shape_of(alloc, &[4])?;
-    let zero = fill_of(alloc, &[0])?;
-    codec.check(alloc, &shape, &DataType::UInt8, &zero)?;
-    let bytes = shard_of(alloc, &[9, 9, 1, 2, 3, 4], &[2, 2, 4, 2])?;
+// Whether a shard is compacted to one of so many bytes, which is compact.
+fn is_compacted_to(
+    alloc: Global,
+    codec: &Plain,
+    cells: &Cells,
+    shard: &[u8],
+    len: usize,
+) -> Result<bool, CodecError> {
+    let (shape, bytes, fill) = (&cells.shape, &DataType::UInt8, &cells.fill);
+    codec.check(alloc, shape, bytes, fill)?;
     let options = CodecOptions::default();
-    let compacted = codec.compact(alloc, &bytes, &shape, &DataType::UInt8, &zero, &options)?;
+    let compacted = codec.compact(alloc, shard, shape, bytes, fill, &options)?;
     let Some(compacted) = compacted else {
-        return Err(CodecError::Damaged);
+        return Ok(false);
     };
     let again = compact_again(
-        &codec,
-        alloc,
-        &bytes,
-        &compacted,
-        &shape,
-        &DataType::UInt8,
-        &zero,
-        &options,
+        codec, alloc, shard, &compacted, shape, bytes, fill, &options,
     )?;
-    Ok((again, compacted.len()))
+    Ok(again.is_none() && compacted.len() == len)
 }
 
 // Two dead bytes of six go, beside an index of 32 bytes, and then nothing.
 #[test]
-fn a_compacted_shard_is_compact(rt: HostRuntime) {
-    same(&rt, compacted_twice(rt.alloc()), Ok((None, 36)));
+fn a_compacted_shard_is_compact(rt: HostRuntime) -> Result<(), Fail> {
+    let codec = plain(rt.alloc(), &[2], ShardingIndexLocation::End)?;
+    let cells = cells_of(rt.alloc(), &[4])?;
+    let shard = shard_of(rt.alloc(), &[9, 9, 1, 2, 3, 4], &[2, 2, 4, 2])?;
+    let found = is_compacted_to(rt.alloc(), &codec, &cells, &shard, 36);
+    same(&rt, found, Ok(true));
+    Ok(())
 }

@@ -1,14 +1,14 @@
 // Shards whose subchunks are shards.
 use crate::compared::{same, same_at};
 use crate::shards::{
-    ABSENT, Plain, around, array_of, cells_of, decoded, encoded, plain, read, said, shard_of,
-    subset_of,
+    ABSENT, Cells, Plain, around, array_of, cells_of, decoded, encoded, is_decoded_to,
+    is_encoded_as, plain, read_back, read_box, said, shard_of,
 };
 use std::alloc::Global;
 use std::ops::Range;
 use std::test::Fail;
-use zarr_codecs::{ArrayToBytesCodecTraits, BytesCodec, MemoryHandle};
-use zarr_parts::{CodecError, CodecOptions, DataType};
+use zarr_codecs::{ArrayToBytesCodecTraits, BytesCodec};
+use zarr_parts::{ArrayBytes, CodecError, CodecOptions, DataType};
 use zarrs_sharding::{ShardingCodec, ShardingIndexLocation};
 
 // Four cells in two shards of two subchunks each, with all indices at this place.
@@ -41,14 +41,8 @@ fn read_nested(
     outer_size: u64,
     cells: Range<u64>,
 ) -> Result<Vec<u8>, CodecError> {
-    let handle = MemoryHandle::new(Some(object_of(alloc, inner_size, outer_size)?));
-    read(
-        alloc,
-        &nested(alloc)?,
-        handle,
-        &[4],
-        &subset_of(alloc, &[cells])?,
-    )
+    let object = object_of(alloc, inner_size, outer_size)?;
+    read_box(alloc, &nested(alloc)?, object, &[4], &[cells])
 }
 
 // An inner shard is damaged where an index names another number of bytes.
@@ -85,10 +79,20 @@ fn nested_shards_are_read(rt: HostRuntime) {
     }
 }
 
+fn is_encoded_at(
+    alloc: Global,
+    location: ShardingIndexLocation,
+    cells: &[u8],
+    want: &[u8],
+) -> Result<bool, CodecError> {
+    is_encoded_as(alloc, &nested_at(alloc, location)?, &[4], cells, want)
+}
+
 // Whether the encoding of 1, 0, 0, 0 is that object, of 65 bytes.
 fn is_encoded_so(alloc: Global) -> Result<bool, CodecError> {
-    let object = encoded(alloc, &nested(alloc)?, &[4], &[1, 0, 0, 0])?;
-    Ok(object.len() == 65 && object == object_of(alloc, 1, 33)?)
+    let object = object_of(alloc, 1, 33)?;
+    let cells = [1, 0, 0, 0];
+    Ok(object.len() == 65 && is_encoded_at(alloc, ShardingIndexLocation::End, &cells, &object)?)
 }
 
 // An inner shard of the fill value alone is not stored.
@@ -125,25 +129,49 @@ fn both_stored(
     shard_at(alloc, location, &inner, &[place, 33, behind_first, 34])
 }
 
-// The encoding of elements behind the bytes 5, 6, and what is answered.
+// Puts the encoding of an array behind bytes.
+fn put_onto(
+    alloc: Global,
+    location: ShardingIndexLocation,
+    array: &ArrayBytes,
+    cells: &Cells,
+    bytes: &mut Vec<u8>,
+) -> Result<(), CodecError> {
+    let codec = nested_at(alloc, location)?;
+    let options = CodecOptions::default();
+    codec.encode_onto(
+        alloc,
+        array,
+        &cells.shape,
+        &DataType::UInt8,
+        &cells.fill,
+        bytes,
+        &options,
+    )
+}
+
 fn put_behind(
     alloc: Global,
     location: ShardingIndexLocation,
     elements: &[u8],
-) -> Result<(Vec<u8>, Result<(), CodecError>), CodecError> {
-    let codec = nested_at(alloc, location)?;
+    bytes: &mut Vec<u8>,
+) -> Result<(), CodecError> {
+    let array = array_of(alloc, elements)?;
     let cells = cells_of(alloc, &[4])?;
+    put_onto(alloc, location, &array, &cells, bytes)
+}
+
+// Whether the encoding of elements stands behind other bytes as these.
+fn is_put_behind(
+    alloc: Global,
+    location: ShardingIndexLocation,
+    elements: &[u8],
+    want: &[u8],
+) -> Result<bool, CodecError> {
     let mut bytes = [5, 6].to_vec(alloc)?;
-    let answer = codec.encode_onto(
-        alloc,
-        &array_of(alloc, elements)?,
-        &cells.shape,
-        &DataType::UInt8,
-        &cells.fill,
-        &mut bytes,
-        &CodecOptions::default(),
-    );
-    Ok((bytes, answer))
+    put_behind(alloc, location, elements, &mut bytes)?;
+    let (before, behind) = (bytes.get(..2), bytes.get(2..));
+    Ok(before == Some([5u8, 6].as_slice()) && behind == Some(want))
 }
 
 const LOCATIONS: [(ShardingIndexLocation, [u64; 3]); 2] = [
@@ -154,19 +182,13 @@ const LOCATIONS: [(ShardingIndexLocation, [u64; 3]); 2] = [
 // Inner shards stand one behind the other, and each index counts from where its own shard begins.
 #[test]
 fn inner_shards_stand_behind_one_another(rt: HostRuntime) -> Result<(), Fail> {
+    let cells = [1u8, 0, 2, 3].as_slice();
     for (location, places) in LOCATIONS {
         let want = both_stored(rt.alloc(), location, places)?;
-        let object = encoded(
-            rt.alloc(),
-            &nested_at(rt.alloc(), location)?,
-            &[4],
-            &[1, 0, 2, 3],
-        )?;
-        same(&rt, object.as_slice(), want.as_slice());
-        let (bytes, answer) = put_behind(rt.alloc(), location, &[1, 0, 2, 3])?;
-        same(&rt, answer, Ok(()));
-        same(&rt, bytes.get(..2), Some([5u8, 6].as_slice()));
-        same(&rt, bytes.get(2..), Some(want.as_slice()));
+        let is_encoded = is_encoded_at(rt.alloc(), location, cells, &want);
+        same(&rt, is_encoded, Ok(true));
+        let is_behind = is_put_behind(rt.alloc(), location, cells, &want);
+        same(&rt, is_behind, Ok(true));
     }
     Ok(())
 }
@@ -174,7 +196,9 @@ fn inner_shards_stand_behind_one_another(rt: HostRuntime) -> Result<(), Fail> {
 // Where an array is refused, the bytes stay.
 #[test]
 fn a_refused_shard_is_not_put_behind_bytes(rt: HostRuntime) -> Result<(), Fail> {
-    let (bytes, answer) = put_behind(rt.alloc(), ShardingIndexLocation::Start, &[1, 0, 2])?;
+    let mut bytes = [5, 6].to_vec(rt.alloc())?;
+    let start = ShardingIndexLocation::Start;
+    let answer = put_behind(rt.alloc(), start, &[1, 0, 2], &mut bytes);
     same(&rt, answer, Err(CodecError::InvalidNumberOfElements));
     same(&rt, bytes.as_slice(), [5u8, 6].as_slice());
     Ok(())
@@ -191,29 +215,40 @@ fn thrice(
 
 const EIGHT: [u8; 8] = [1, 2, 0, 4, 0, 0, 7, 8];
 
-fn decoded_thrice(alloc: Global) -> Result<Vec<u8>, CodecError> {
-    let codec = thrice(alloc)?;
-    let object = encoded(alloc, &codec, &[8], &EIGHT)?;
-    decoded(alloc, &codec, &[8], &object)
+// Whether the cells are decoded from their shard.
+fn are_decoded<C: ArrayToBytesCodecTraits>(alloc: Global, codec: &C) -> Result<bool, CodecError> {
+    let shard = encoded(alloc, codec, &[8], &EIGHT)?;
+    is_decoded_to(alloc, codec, &[8], &shard, &EIGHT)
 }
 
-fn read_thrice(alloc: Global, cells: Range<u64>) -> Result<Vec<u8>, CodecError> {
-    let codec = thrice(alloc)?;
-    let handle = MemoryHandle::new(Some(encoded(alloc, &codec, &[8], &EIGHT)?));
-    read(alloc, &codec, handle, &[8], &subset_of(alloc, &[cells])?)
+// Whether a part of them is read as these cells.
+fn is_read_as<I: ArrayToBytesCodecTraits, X: ArrayToBytesCodecTraits>(
+    alloc: Global,
+    codec: &ShardingCodec<I, X>,
+    cells: Range<u64>,
+    want: &[u8],
+) -> Result<bool, CodecError> {
+    Ok(read_back(alloc, codec, &[8], &EIGHT, &[cells])?.as_slice() == want)
+}
+
+// Whether all of them are decoded and read back, and those of a part.
+fn are_read_back<I: ArrayToBytesCodecTraits, X: ArrayToBytesCodecTraits>(
+    alloc: Global,
+    codec: &ShardingCodec<I, X>,
+) -> Result<bool, CodecError> {
+    Ok(
+        are_decoded(alloc, codec)?
+            && is_read_as(alloc, codec, 0..8, &EIGHT)?
+            && is_read_as(alloc, codec, 3..7, &[4, 0, 0, 7])?,
+    )
+}
+
+fn thrice_read_back(alloc: Global) -> Result<bool, CodecError> {
+    are_read_back(alloc, &thrice(alloc)?)
 }
 
 // What is stored three shards deep is decoded and read.
 #[test]
-fn three_nested_shards_are_read_back(rt: HostRuntime) -> Result<(), Fail> {
-    same(
-        &rt,
-        decoded_thrice(rt.alloc())?.as_slice(),
-        EIGHT.as_slice(),
-    );
-    for (cells, want) in [(0..8, EIGHT.as_slice()), (3..7, &[4, 0, 0, 7])] {
-        let answer = read_thrice(rt.alloc(), cells)?;
-        same(&rt, answer.as_slice(), want);
-    }
-    Ok(())
+fn three_nested_shards_are_read_back(rt: HostRuntime) {
+    same(&rt, thrice_read_back(rt.alloc()), Ok(true));
 }

@@ -1,22 +1,22 @@
 // Reads of a shard that stands in an interval of an object, and decoding into a target.
 use crate::compared::{same, same_at};
-use crate::shards::{Plain, cells_of, elements_of, plain, said, sixteen, subset_of};
+use crate::shards::{Plain, Sixteen, cells_of, elements_of, said, sixteen_cells, subset_of};
 use std::alloc::Global;
+use std::test::Fail;
 use zarr_codecs::{ArrayToBytesCodecTraits, Interval, MemoryHandle};
 use zarr_parts::{CodecError, CodecOptions, DataType, FixedTarget};
-use zarrs_sharding::ShardingIndexLocation;
 
 // A shard of 80 bytes behind three bytes of an object, and before one; or no object.
 fn object_around_a_shard(
     alloc: Global,
-    codec: &Plain,
+    shard: &[u8],
     is_there: bool,
 ) -> Result<Option<Vec<u8>>, CodecError> {
     if !is_there {
         return Ok(None);
     }
     let mut object = [9u8, 9, 9].to_vec(alloc)?;
-    object.extend_from_slice(&sixteen(alloc, codec)?)?;
+    object.extend_from_slice(shard)?;
     object.push(9)?;
     Ok(Some(object))
 }
@@ -41,18 +41,20 @@ fn read_column(
 
 fn column_of(
     alloc: Global,
+    stored: &Sixteen,
     is_there: bool,
     interval: Interval,
     row: u64,
 ) -> Result<Vec<u8>, CodecError> {
-    let codec = plain(alloc, &[2, 2], ShardingIndexLocation::Start)?;
-    let mut handle = MemoryHandle::new(object_around_a_shard(alloc, &codec, is_there)?);
-    read_column(alloc, &codec, &mut handle, interval, row)
+    let object = object_around_a_shard(alloc, &stored.shard, is_there)?;
+    let mut handle = MemoryHandle::new(object);
+    read_column(alloc, &stored.codec, &mut handle, interval, row)
 }
 
 // The cells are tested before the shard, and only the bytes of the interval are read.
 #[test]
-fn a_shard_inside_an_object_is_read(rt: HostRuntime) {
+fn a_shard_inside_an_object_is_read(rt: HostRuntime) -> Result<(), Fail> {
+    let stored = sixteen_cells(rt.alloc())?;
     for (is_there, offset, size, row, want) in [
         (true, 3, 80, 1, Ok([4u8, 8].as_slice())),
         (true, 5, 80, 1, Err(CodecError::OutOfBounds)),
@@ -62,9 +64,16 @@ fn a_shard_inside_an_object_is_read(rt: HostRuntime) {
         (true, 3, 63, 3, Err(CodecError::OutOfBounds)),
         (false, 0, 80, 1, Err(CodecError::OutOfBounds)),
     ] {
-        let cells = column_of(rt.alloc(), is_there, Interval { offset, size }, row);
+        let cells = column_of(
+            rt.alloc(),
+            &stored,
+            is_there,
+            Interval { offset, size },
+            row,
+        );
         same_at(&rt, (size, offset, row), said(&cells), want);
     }
+    Ok(())
 }
 
 // Decodes a shard into a target of one byte for each cell.
@@ -88,18 +97,19 @@ fn decode_into(
 }
 
 // Decodes sixteen cells into bytes.
-fn sixteen_into(alloc: Global, bytes: &mut [u8]) -> Result<(), CodecError> {
-    let codec = plain(alloc, &[2, 2], ShardingIndexLocation::Start)?;
-    let object = sixteen(alloc, &codec)?;
+fn sixteen_into(alloc: Global, stored: &Sixteen, bytes: &mut [u8]) -> Result<(), CodecError> {
     let whole = subset_of(alloc, &[0..4, 0..4])?;
-    let mut target = FixedTarget::new(bytes, 1, &[4, 4], &whole).ok_or(CodecError::OutOfBounds)?;
-    decode_into(alloc, &codec, &object, &mut target)
+    match FixedTarget::new(bytes, 1, &[4, 4], &whole) {
+        Some(mut target) => decode_into(alloc, &stored.codec, &stored.shard, &mut target),
+        None => Err(CodecError::OutOfBounds),
+    }
 }
 
 // Whether the bytes of a target are these once sixteen cells are decoded into it.
 fn is_decoded_into(alloc: Global, want: &[u8]) -> Result<bool, CodecError> {
-    let mut bytes = vec![in alloc; 77u8; 16]?;
-    sixteen_into(alloc, &mut bytes)?;
+    let stored = sixteen_cells(alloc)?;
+    let mut bytes = [77u8; 16];
+    sixteen_into(alloc, &stored, &mut bytes)?;
     Ok(bytes.as_slice() == want)
 }
 

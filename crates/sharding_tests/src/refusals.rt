@@ -1,12 +1,11 @@
 // Refusals that no script can bring about, or of which it does not tell all.
 use crate::compared::{same, same_at};
 use crate::shards::{
-    ABSENT, Plain, cells_of, decoded, done, fill_of, plain, read, said, shape_of, shard_of,
-    subset_of,
+    ABSENT, Plain, cells_of, decoded, done, fill_of, plain, read_box, said, shape_of, shard_of,
 };
 use std::alloc::Global;
 use std::ops::Range;
-use zarr_codecs::{ArrayToBytesCodecTraits, BytesCodec, MemoryHandle};
+use zarr_codecs::{ArrayToBytesCodecTraits, BytesCodec};
 use zarr_parts::CodecError::{
     BadFillValue, IncompatibleDimensionality, InvalidSubchunkShape, TooLarge, UnsupportedDataType,
 };
@@ -45,8 +44,8 @@ fn compacted(alloc: Global, codec: &Plain, shard: &[u8]) -> Result<(), CodecErro
 
 fn read_by(alloc: Global, index: [u64; 4], cells: Range<u64>) -> Result<Vec<u8>, CodecError> {
     let codec = plain(alloc, &[2], ShardingIndexLocation::End)?;
-    let handle = MemoryHandle::new(Some(two_slices(alloc, index)?));
-    read(alloc, &codec, handle, &[4], &subset_of(alloc, &[cells])?)
+    let shard = two_slices(alloc, index)?;
+    read_box(alloc, &codec, shard, &[4], &[cells])
 }
 
 // The second pair is half empty, passes 64 bits or has no size; or the first is half empty, before one that ends outside.

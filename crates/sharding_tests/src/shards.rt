@@ -2,7 +2,7 @@
 use std::alloc::Global;
 use std::borrow::CowSlice;
 use std::ops::Range;
-use zarr_codecs::{ArrayToBytesCodecTraits, BytesCodec, BytesPartialDecoderTraits};
+use zarr_codecs::{ArrayToBytesCodecTraits, BytesCodec, BytesPartialDecoderTraits, MemoryHandle};
 use zarr_parts::{
     ArrayBytes, ArraySubset, ChunkShape, CodecError, CodecOptions, Coordinates, DataType,
     FillValue, Indexer,
@@ -106,6 +106,17 @@ pub(crate) fn encoded<C: ArrayToBytesCodecTraits>(
     )
 }
 
+// Whether a codec encodes cells as these bytes.
+pub(crate) fn is_encoded_as<C: ArrayToBytesCodecTraits>(
+    alloc: Global,
+    codec: &C,
+    shape: &[u64],
+    cells: &[u8],
+    want: &[u8],
+) -> Result<bool, CodecError> {
+    Ok(encoded(alloc, codec, shape, cells)?.as_slice() == want)
+}
+
 pub(crate) fn decoded<C: ArrayToBytesCodecTraits>(
     alloc: Global,
     codec: &C,
@@ -125,6 +136,17 @@ pub(crate) fn decoded<C: ArrayToBytesCodecTraits>(
     elements_of(alloc, array)
 }
 
+// Whether a codec decodes bytes to these cells.
+pub(crate) fn is_decoded_to<C: ArrayToBytesCodecTraits>(
+    alloc: Global,
+    codec: &C,
+    shape: &[u64],
+    bytes: &[u8],
+    want: &[u8],
+) -> Result<bool, CodecError> {
+    Ok(decoded(alloc, codec, shape, bytes)?.as_slice() == want)
+}
+
 // A shard of these slices before their index.
 pub(crate) fn shard_of(alloc: Global, slices: &[u8], index: &[u64]) -> Result<Vec<u8>, CodecError> {
     let mut bytes = slices.to_vec(alloc)?;
@@ -134,14 +156,18 @@ pub(crate) fn shard_of(alloc: Global, slices: &[u8], index: &[u64]) -> Result<Ve
     Ok(bytes)
 }
 
-// The cells 0 to 15 of a shape of 4 by 4, in four subchunks.
-pub(crate) fn sixteen(alloc: Global, codec: &Plain) -> Result<Vec<u8>, CodecError> {
-    encoded(
-        alloc,
-        codec,
-        &[4, 4],
-        &[0, 1, 2, 3, 4, 5, 6, 7, 8, 9, 10, 11, 12, 13, 14, 15],
-    )
+// A codec of four subchunks of 2 by 2, and its shard of the cells 0 to 15.
+#[derive(Drop)]
+pub(crate) struct Sixteen {
+    pub(crate) codec: Plain,
+    pub(crate) shard: Vec<u8>,
+}
+
+pub(crate) fn sixteen_cells(alloc: Global) -> Result<Sixteen, CodecError> {
+    let cells = [0, 1, 2, 3, 4, 5, 6, 7, 8, 9, 10, 11, 12, 13, 14, 15];
+    let codec = plain(alloc, &[2, 2], ShardingIndexLocation::Start)?;
+    let shard = encoded(alloc, &codec, &[4, 4], &cells)?;
+    Ok(Sixteen { codec, shard })
 }
 
 pub(crate) fn subset_of(alloc: Global, ranges: &[Range<u64>]) -> Result<ArraySubset, CodecError> {
@@ -197,4 +223,28 @@ pub(crate) fn read<
     let mut decoder = decoder_of(alloc, codec, handle, shape)?;
     let cells = decoder.partial_decode(alloc, indexer, &CodecOptions::default());
     elements_of(alloc, cells)
+}
+
+// The cells of a box that a decoder of an object reads.
+pub(crate) fn read_box<I: ArrayToBytesCodecTraits, X: ArrayToBytesCodecTraits>(
+    alloc: Global,
+    codec: &ShardingCodec<I, X>,
+    object: Vec<u8>,
+    shape: &[u64],
+    ranges: &[Range<u64>],
+) -> Result<Vec<u8>, CodecError> {
+    let asked = subset_of(alloc, ranges)?;
+    read(alloc, codec, MemoryHandle::new(Some(object)), shape, &asked)
+}
+
+// The cells of a box, of those that a codec encoded before.
+pub(crate) fn read_back<I: ArrayToBytesCodecTraits, X: ArrayToBytesCodecTraits>(
+    alloc: Global,
+    codec: &ShardingCodec<I, X>,
+    shape: &[u64],
+    cells: &[u8],
+    ranges: &[Range<u64>],
+) -> Result<Vec<u8>, CodecError> {
+    let object = encoded(alloc, codec, shape, cells)?;
+    read_box(alloc, codec, object, shape, ranges)
 }

@@ -25,7 +25,7 @@ held index_cells inner_written index_written sub location order size g a b lent 
 pub compact_encoded-requires-clause-holds : goal.compact_encoded-requires-clause-holds
 compact_encoded-requires-clause-holds c =
     let s = c.new-codec.result in
-    let asked = geo c.in_ok-shape.shape UInt8 c.in_ok-zero.zero in
-    held _ _ _ s.subchunk_shape s.location s.order _ asked c.in_ok-array.array.elements c.in_ok-shard.shard.items c.deref.result.now c.deref.ensures.value
+    let asked = geo c.args.cells.now.shape UInt8 c.args.cells.now.fill in
+    held _ _ _ s.subchunk_shape s.location s.order _ asked c.args.array.now.elements c.in_ok-shard.shard.items c.deref.result.now c.deref.ensures.value
     (λ x y of written. bytes_written_cells s.index_codec (index_geo (grid_of asked.shape s.subchunk_shape)) x y c.in_ok-shard.ensures.serves.index_served.served of written)
     c.in_ok-shard.ensures.written
