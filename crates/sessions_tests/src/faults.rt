@@ -64,27 +64,30 @@ fn is_there(handle: FaultingHandle) -> u8 {
     u8::from(handle.into_inner().is_some())
 }
 
-// A run over an object, of which the call with this number fails: it is opened, written, read and erased. How these are refused,
-// with the cell that is read, and what comes after them in a session that failed; and whether there is an object then.
+// A run over a handle's object, which is opened, written, read and erased. How these are refused, with the cells that are read,
+// and what comes after them in a session that failed; and whether there is an object then.
+fn run_opened(
+    alloc: Global,
+    shards: &Shards,
+    cells: &ArraySubset,
+    handle: FaultingHandle,
+) -> [u8; 7] {
+    match shards.open(alloc, handle) {
+        Ok(mut session) => {
+            let [write, first, second, erase, again] = run_calls(alloc, &mut session, cells);
+            let left = is_there(session.close());
+            [0, write, first, second, erase, again, left]
+        }
+        Err((handle, error)) => [error.number(), 0, 0, 0, 0, 0, is_there(handle)],
+    }
+}
+
+// The same over the object of 0, 7, 0, 0, of which the call with this number fails.
 fn run(alloc: Global, fails_at: u64) -> Result<[u8; 7], CodecError> {
     let shards = Shards::new(alloc, ShardingIndexLocation::End)?;
     let cells = subset_of(alloc, 0..2)?;
     let handle = FaultingHandle::new(Some(seven(alloc)?), fails_at);
-    match shards.open(alloc, handle) {
-        Ok(mut session) => {
-            let [write, first, second, erase, again] = run_calls(alloc, &mut session, &cells);
-            Ok([
-                0,
-                write,
-                first,
-                second,
-                erase,
-                again,
-                is_there(session.close()),
-            ])
-        }
-        Err((handle, error)) => Ok([error.number(), 0, 0, 0, 0, 0, is_there(handle)]),
-    }
+    Ok(run_opened(alloc, &shards, &cells, handle))
 }
 
 // A fault at the opening leaves the object. One where the write reads leaves the session and the cells 0 and 7, and where it writes

@@ -5,8 +5,9 @@ ghost use Rattle.zarrs_sharding.specs.Decoders.{object_cells};
 ghost use Rattle.zarrs_sharding.specs.Writing.{AreOverlaid};
 
 use crate::compared::same;
-use crate::shards::{seven, shape_of, subset_of};
+use crate::shards::{elements_of, seven, shape_of, subset_of};
 use std::alloc::Global;
+use std::test::Fail;
 use zarr_codecs::{ArrayToBytesCodecTraits, BytesCodec, MemoryHandle};
 use zarr_parts::{
     ArrayBytes, ArraySubset, ChunkShape, CodecError, CodecOptions, DataType, FillValue,
@@ -82,8 +83,9 @@ fn written_and_read(
     );
     match opened {
         Ok(mut session) => {
-            session.partial_encode(alloc, subset, update, &options)?;
+            let written = session.partial_encode(alloc, subset, update, &options);
             let after = session.close();
+            written?;
             read_written(alloc, codec, asked, before, after, subset, update, all)
         }
         Err((_, error)) => Err(error),
@@ -104,27 +106,32 @@ fn codec(alloc: Global) -> Result<Codec, CodecError> {
     Ok(ShardingCodec::new(sub, inner, index, ShardingIndexLocation::End))
 }
 
+// The cells of an object after an update was written over the first.
+fn updated(
+    alloc: Global,
+    codec: &Codec,
+    asked: &Asked,
+    before: &[u8],
+    update: &ArrayBytes,
+) -> Result<Vec<u8>, CodecError> {
+    let first = subset_of(alloc, 0..1)?;
+    let all = subset_of(alloc, 0..4)?;
+    let cells = written_and_read(alloc, codec, asked, before, &first, update, &all);
+    elements_of(alloc, cells)
+}
+
 // The cells 0, 7, 0, 0 after 5 was written over the first.
-fn five_and_seven(alloc: Global) -> Result<Vec<u8>, CodecError> {
+fn five_and_seven(alloc: Global, codec: &Codec, asked: &Asked) -> Result<Vec<u8>, CodecError> {
+    let before = seven(alloc)?;
     let update = ArrayBytes::from_numbers(alloc, &[5u8])?;
-    let cells = written_and_read(
-        alloc,
-        &codec(alloc)?,
-        &four_cells(alloc)?,
-        &seven(alloc)?,
-        &subset_of(alloc, 0..1)?,
-        &update,
-        &subset_of(alloc, 0..4)?,
-    )?;
-    cells.to_numbers(alloc)
+    updated(alloc, codec, asked, &before, &update)
 }
 
 #[test]
-fn a_read_after_a_write_has_its_cells(rt: HostRuntime) {
-    let found = five_and_seven(rt.alloc());
-    same(
-        &rt,
-        found.as_ref().map(Vec::as_slice),
-        Ok([5u8, 7, 0, 0].as_slice()),
-    );
+fn a_read_after_a_write_has_its_cells(rt: HostRuntime) -> Result<(), Fail> {
+    let codec = codec(rt.alloc())?;
+    let asked = four_cells(rt.alloc())?;
+    let found = five_and_seven(rt.alloc(), &codec, &asked)?;
+    same(&rt, found.as_slice(), [5u8, 7, 0, 0].as_slice());
+    Ok(())
 }

@@ -1,6 +1,6 @@
 // A session that threads share.
 use crate::compared::same;
-use crate::shards::{Shards, Shared, seven, subset_of};
+use crate::shards::{Shards, Shared, elements_of, seven, subset_of};
 use std::alloc::Global;
 use std::ops::Range;
 use std::sync::Wait;
@@ -39,9 +39,19 @@ fn read<R: Wait>(
     range: Range<u64>,
 ) -> Result<Vec<u8>, CodecError> {
     let subset = subset_of(alloc, range)?;
-    let array = session.partial_decode(rt, alloc, &subset, &CodecOptions::default())?;
-    let elements = array.fixed_bytes().ok_or(CodecError::WrongElementKind)?;
-    Ok(elements.to_vec(alloc)?)
+    let array = session.partial_decode(rt, alloc, &subset, &CodecOptions::default());
+    elements_of(alloc, array)
+}
+
+// Whether the cells of a range are these.
+fn are_cells<R: Wait>(
+    rt: &R,
+    alloc: Global,
+    session: &Shared<'_, MemoryHandle>,
+    range: Range<u64>,
+    want: &[u8],
+) -> Result<bool, CodecError> {
+    Ok(read(rt, alloc, session, range)?.as_slice() == want)
 }
 
 // Whether there is an object, and how many bytes are held of it.
@@ -52,93 +62,88 @@ fn told<R: Wait>(rt: &R, session: &Shared<'_, MemoryHandle>) -> Result<Told, Cod
     Ok((exists, session.size_held(rt)))
 }
 
-// The cells after a write of the first one; what is told then, and after an erasure; and whether an object is left.
-fn written_and_erased<R: Wait>(
+// Whether the cells are right after a write of the first one; and what is told then, and after an erasure.
+fn told_twice<R: Wait>(
     rt: &R,
     alloc: Global,
-) -> Result<(Vec<u8>, Told, Told, bool), CodecError> {
-    let shards = Shards::new(alloc, End)?;
-    let session = opened(alloc, &shards)?;
-    write(rt, alloc, &session, 0, 3)?;
-    let cells = read(rt, alloc, &session, 0..4)?;
-    let written = told(rt, &session)?;
+    session: &Shared<'_, MemoryHandle>,
+) -> Result<(bool, Told, Told), CodecError> {
+    write(rt, alloc, session, 0, 3)?;
+    let are_right = are_cells(rt, alloc, session, 0..4, &[3, 7, 0, 0])?;
+    let written = told(rt, session)?;
     session.erase(rt)?;
-    let erased = told(rt, &session)?;
-    Ok((
-        cells,
-        written,
-        erased,
-        session.into_inner().into_inner().is_some(),
-    ))
+    let erased = told(rt, session)?;
+    Ok((are_right, written, erased))
 }
 
 #[test]
 fn a_shared_session_writes_reads_and_erases(rt: HostRuntime) -> Result<(), Fail> {
-    let (cells, written, erased, left) = written_and_erased(&rt, rt.alloc())?;
-    same(&rt, cells.as_slice(), [3u8, 7, 0, 0].as_slice());
-    same(
-        &rt,
-        (written, erased, left),
-        ((true, 34 + 32), (false, 32), false),
-    );
+    let shards = Shards::new(rt.alloc(), End)?;
+    let session = opened(rt.alloc(), &shards)?;
+    let found = told_twice(&rt, rt.alloc(), &session);
+    same(&rt, found, Ok((true, (true, 34 + 32), (false, 32))));
+    let left = session.into_inner().into_inner();
+    same(&rt, left.is_some(), false);
     Ok(())
 }
 
 // What is told without a lock, and so without a runtime.
-fn told_at_once(alloc: Global) -> Result<(DataType, bool, bool), CodecError> {
-    let shards = Shards::new(alloc, End)?;
-    let session = opened(alloc, &shards)?;
-    let parts = (
-        session.supports_partial_decode(),
-        session.supports_partial_encode(),
-    );
-    Ok((*session.data_type(), parts.0, parts.1))
+fn told_at_once(session: &Shared<'_, MemoryHandle>) -> (DataType, bool, bool) {
+    let read = session.supports_partial_decode();
+    let write = session.supports_partial_encode();
+    (*session.data_type(), read, write)
 }
 
 #[test]
-fn what_never_changes_is_told_without_a_runtime(rt: HostRuntime) {
+fn what_never_changes_is_told_without_a_runtime(rt: HostRuntime) -> Result<(), Fail> {
+    let shards = Shards::new(rt.alloc(), End)?;
+    let session = opened(rt.alloc(), &shards)?;
     let want = (DataType::UInt8, true, true);
-    same(&rt, told_at_once(rt.alloc()), Ok(want));
+    same(&rt, told_at_once(&session), want);
+    Ok(())
 }
 
-// A read that is refused, and the cells that are read after it.
+// How a read is refused, and whether the cells that are read after it are right.
 fn read_after_refusal<R: Wait>(
     rt: &R,
     alloc: Global,
-) -> Result<(Option<CodecError>, Vec<u8>), CodecError> {
-    let shards = Shards::new(alloc, End)?;
-    let session = opened(alloc, &shards)?;
-    let refused = read(rt, alloc, &session, 3..5).err();
-    let cells = read(rt, alloc, &session, 0..2)?;
-    Ok((refused, cells))
+    session: &Shared<'_, MemoryHandle>,
+) -> Result<(bool, bool), CodecError> {
+    let refused = are_cells(rt, alloc, session, 3..5, &[]) == Err(CodecError::OutOfBounds);
+    let are_right = are_cells(rt, alloc, session, 0..2, &[0, 7])?;
+    Ok((refused, are_right))
 }
 
 #[test]
 fn a_refused_call_gives_the_lock_back(rt: HostRuntime) -> Result<(), Fail> {
-    let (refused, cells) = read_after_refusal(&rt, rt.alloc())?;
-    same(&rt, refused, Some(CodecError::OutOfBounds));
-    same(&rt, cells.as_slice(), [0u8, 7].as_slice());
+    let shards = Shards::new(rt.alloc(), End)?;
+    let session = opened(rt.alloc(), &shards)?;
+    let found = read_after_refusal(&rt, rt.alloc(), &session);
+    same(&rt, found, Ok((true, true)));
     Ok(())
 }
 
-// The cells after two threads wrote one each.
-fn written_by_two<R: Threads + Wait + Sync>(rt: &R, alloc: Global) -> Result<Vec<u8>, CodecError> {
-    let shards = Shards::new(alloc, End)?;
-    let session = opened(alloc, &shards)?;
-    let shared = &session;
+// Whether the cells are right after two threads wrote one each.
+fn written_by_two<R: Threads + Wait + Sync>(
+    rt: &R,
+    alloc: Global,
+    session: &Shared<'_, MemoryHandle>,
+) -> Result<bool, CodecError> {
     let (first, second) = join(
         rt,
-        || write(rt, alloc, shared, 0, 3),
-        || write(rt, alloc, shared, 3, 9),
+        || write(rt, alloc, session, 0, 3),
+        || write(rt, alloc, session, 3, 9),
     );
     first?;
     second?;
-    read(rt, alloc, shared, 0..4)
+    are_cells(rt, alloc, session, 0..4, &[3, 7, 0, 9])
 }
 
 #[test]
 fn two_threads_write_into_one_session(rt: HostRuntime) -> Result<(), Fail> {
-    let cells = written_by_two(&rt, rt.alloc())?;
-    same(&rt, cells.as_slice(), [3u8, 7, 0, 9].as_slice());
+    let shards = Shards::new(rt.alloc(), End)?;
+    let session = opened(rt.alloc(), &shards)?;
+    let found = written_by_two(&rt, rt.alloc(), &session);
+    same(&rt, found, Ok(true));
     Ok(())
 }

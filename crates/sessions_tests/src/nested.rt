@@ -1,6 +1,6 @@
 // Writes into a shard whose subchunks are shards: four cells of one byte, in two of two.
 use crate::compared::same;
-use crate::shards::{ABSENT, object_of, read, shape_of, subset_of, write};
+use crate::shards::{ABSENT, are_cells, object_of, shape_of, write};
 use std::alloc::Global;
 use std::ops::Range;
 use zarr_codecs::{BytesCodec, MemoryHandle};
@@ -77,16 +77,14 @@ fn two_found(alloc: Global) -> Result<Found, CodecError> {
     Ok((None, Some(two_stored(alloc)?)))
 }
 
-fn all_cells(alloc: Global, object: Vec<u8>) -> Result<Vec<u8>, CodecError> {
+// Whether all cells of that object are these.
+fn are_read(alloc: Global, want: &[u8]) -> Result<bool, CodecError> {
+    let object = two_stored(alloc)?;
     let nests = Nests::new(alloc)?;
     let mut session = nests.open(alloc, Some(object))?;
-    let all = subset_of(alloc, 0..4)?;
-    read(alloc, &mut session, &all)
-}
-
-fn two_read(alloc: Global) -> Result<Vec<u8>, CodecError> {
-    let object = two_stored(alloc)?;
-    all_cells(alloc, object)
+    let answer = are_cells(alloc, &mut session, 0..4, want);
+    let _ = session.close();
+    answer
 }
 
 // A write into no object makes both, and they are read back.
@@ -94,8 +92,7 @@ fn two_read(alloc: Global) -> Result<Vec<u8>, CodecError> {
 fn a_shard_in_a_shard_is_written(rt: HostRuntime) {
     let found = written(rt.alloc(), None, 1..3, &[5, 6]);
     same(&rt, found, two_found(rt.alloc()));
-    let cells = [0u8, 5, 6, 0].to_vec(rt.alloc()).map_err(CodecError::from);
-    same(&rt, two_read(rt.alloc()), cells);
+    same(&rt, are_read(rt.alloc(), &[0, 5, 6, 0]), Ok(true));
 }
 
 // An object whose first subchunk is a shard of these bytes and pairs, and whose second is absent.

@@ -15,7 +15,10 @@ fn refused(
 ) -> Result<Option<(usize, CodecError)>, CodecError> {
     let shards = Shards::new(alloc, location)?;
     match shards.open(alloc, MemoryHandle::new(Some(object))) {
-        Ok(_) => Ok(None),
+        Ok(session) => {
+            let _ = session.close();
+            Ok(None)
+        }
         Err((handle, error)) => Ok(Some((handle.size_held(), error))),
     }
 }

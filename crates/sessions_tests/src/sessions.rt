@@ -36,14 +36,22 @@ fn opened(
     }
 }
 
-// What is told of an object, or of none, and after it was erased; and whether an object is left.
-fn told_twice(alloc: Global, stored: bool) -> Result<(Told, Told, bool), CodecError> {
+// What is told of an object, and after it was erased.
+fn told_twice(session: &mut Session<'_, MemoryHandle>) -> Result<(Told, Told), CodecError> {
+    let before = told(session)?;
+    session.erase()?;
+    let after = told(session)?;
+    Ok((before, after))
+}
+
+// The same of an object, or of none; and whether an object is left.
+fn told_and_erased(alloc: Global, stored: bool) -> Result<(Told, Told, bool), CodecError> {
     let shards = Shards::new(alloc, ShardingIndexLocation::End)?;
     let mut session = opened(alloc, &shards, stored)?;
-    let before = told(&mut session)?;
-    session.erase()?;
-    let after = told(&mut session)?;
-    Ok((before, after, session.close().into_inner().is_some()))
+    let told = told_twice(&mut session);
+    let left = session.close().into_inner().is_some();
+    let (before, after) = told?;
+    Ok((before, after, left))
 }
 
 // A session holds an index of four numbers besides what its handle holds, also where there is no object.
@@ -51,7 +59,11 @@ fn told_twice(alloc: Global, stored: bool) -> Result<(Told, Told, bool), CodecEr
 fn an_object_is_told_and_erased(rt: HostRuntime) {
     let none = (false, 32, false);
     for (stored, want) in [(true, (true, 34 + 32, false)), (false, none)] {
-        same(&rt, told_twice(rt.alloc(), stored), Ok((want, none, false)));
+        same(
+            &rt,
+            told_and_erased(rt.alloc(), stored),
+            Ok((want, none, false)),
+        );
     }
 }
 
@@ -59,11 +71,11 @@ fn an_object_is_told_and_erased(rt: HostRuntime) {
 fn told_at_once(alloc: Global) -> Result<(DataType, bool, bool), CodecError> {
     let shards = Shards::new(alloc, ShardingIndexLocation::End)?;
     let session = opened(alloc, &shards, false)?;
-    let parts = (
-        session.supports_partial_decode(),
-        session.supports_partial_encode(),
-    );
-    Ok((*session.data_type(), parts.0, parts.1))
+    let data_type = *session.data_type();
+    let read = session.supports_partial_decode();
+    let write = session.supports_partial_encode();
+    let _ = session.close();
+    Ok((data_type, read, write))
 }
 
 #[test]
@@ -73,6 +85,20 @@ fn a_session_reads_and_writes_in_part(rt: HostRuntime) {
 }
 
 // The cells of a range, after so many erasures.
+fn read_erased(
+    alloc: Global,
+    session: &mut Session<'_, MemoryHandle>,
+    erasures: u64,
+    range: Range<u64>,
+) -> Result<Vec<u8>, CodecError> {
+    for _ in 0..erasures {
+        session.erase()?;
+    }
+    let cells = subset_of(alloc, range)?;
+    read(alloc, session, &cells)
+}
+
+// The same in a session of an object, or of none.
 fn read_after(
     alloc: Global,
     stored: bool,
@@ -80,12 +106,10 @@ fn read_after(
     range: Range<u64>,
 ) -> Result<Vec<u8>, CodecError> {
     let shards = Shards::new(alloc, ShardingIndexLocation::End)?;
-    let cells = subset_of(alloc, range)?;
     let mut session = opened(alloc, &shards, stored)?;
-    for _ in 0..erasures {
-        session.erase()?;
-    }
-    read(alloc, &mut session, &cells)
+    let cells = read_erased(alloc, &mut session, erasures, range);
+    let _ = session.close();
+    cells
 }
 
 // Without an object each cell is the fill value, also after an erasure; cells outside are refused in both cases.

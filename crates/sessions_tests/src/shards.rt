@@ -103,15 +103,35 @@ pub(crate) fn subset_of(alloc: Global, range: Range<u64>) -> Result<ArraySubset,
     ArraySubset::new_with_ranges(alloc, &[range])?.ok_or(CodecError::OutOfBounds)
 }
 
+// The elements of an array, each of which has one size, or the refusal.
+pub(crate) fn elements_of(
+    alloc: Global,
+    answer: Result<ArrayBytes, CodecError>,
+) -> Result<Vec<u8>, CodecError> {
+    let array = answer?;
+    let elements = array.fixed_bytes().ok_or(CodecError::WrongElementKind)?;
+    Ok(elements.to_vec(alloc)?)
+}
+
 // The cells that an indexer asks.
 pub(crate) fn read<I: ArrayToBytesCodecTraits, H: BytesPartialEncoderTraits, N: Indexer>(
     alloc: Global,
     session: &mut ShardState<'_, I, BytesCodec, H>,
     indexer: &N,
 ) -> Result<Vec<u8>, CodecError> {
-    let array = session.partial_decode(alloc, indexer, &CodecOptions::default())?;
-    let elements = array.fixed_bytes().ok_or(CodecError::WrongElementKind)?;
-    Ok(elements.to_vec(alloc)?)
+    let array = session.partial_decode(alloc, indexer, &CodecOptions::default());
+    elements_of(alloc, array)
+}
+
+// Whether the cells of a range are these.
+pub(crate) fn are_cells<I: ArrayToBytesCodecTraits, H: BytesPartialEncoderTraits>(
+    alloc: Global,
+    session: &mut ShardState<'_, I, BytesCodec, H>,
+    range: Range<u64>,
+    want: &[u8],
+) -> Result<bool, CodecError> {
+    let asked = subset_of(alloc, range)?;
+    Ok(read(alloc, session, &asked)?.as_slice() == want)
 }
 
 // Writes cells over those of a range.

@@ -1,6 +1,6 @@
 // Writes in one session, and those that are refused.
 use crate::compared::same;
-use crate::shards::{ABSENT, Session, Shards, object_of, read, seven, subset_of, write};
+use crate::shards::{ABSENT, Session, Shards, are_cells, object_of, seven, subset_of, write};
 use std::alloc::Global;
 use std::borrow::CowSlice;
 use std::ops::Range;
@@ -21,18 +21,34 @@ fn write_all(alloc: Global, session: &mut Memory<'_>, steps: &[Step]) -> Result<
     Ok(())
 }
 
-// The cells after these writes in a session.
-fn cells_after(
+// Whether a session has these cells after these writes.
+fn has_cells_after(
     alloc: Global,
     session: &mut Memory<'_>,
     steps: &[Step],
-) -> Result<Vec<u8>, CodecError> {
+    cells: &[u8],
+) -> Result<bool, CodecError> {
     write_all(alloc, session, steps)?;
-    let all = subset_of(alloc, 0..4)?;
-    read(alloc, session, &all)
+    are_cells(alloc, session, 0..4, cells)
 }
 
 // The object after these writes in one session of no object, and whether it has these cells.
+fn written_in(
+    alloc: Global,
+    shards: &Shards,
+    steps: &[Step],
+    cells: &[u8],
+) -> Result<(Option<Vec<u8>>, bool), CodecError> {
+    match shards.open(alloc, MemoryHandle::new(None)) {
+        Ok(mut session) => {
+            let found = has_cells_after(alloc, &mut session, steps, cells);
+            let object = session.close().into_inner();
+            Ok((object, found?))
+        }
+        Err((_, error)) => Err(error),
+    }
+}
+
 fn written(
     alloc: Global,
     location: ShardingIndexLocation,
@@ -40,13 +56,7 @@ fn written(
     cells: &[u8],
 ) -> Result<(Option<Vec<u8>>, bool), CodecError> {
     let shards = Shards::new(alloc, location)?;
-    match shards.open(alloc, MemoryHandle::new(None)) {
-        Ok(mut session) => {
-            let found = cells_after(alloc, &mut session, steps)?.as_slice() == cells;
-            Ok((session.close().into_inner(), found))
-        }
-        Err((_, error)) => Err(error),
-    }
+    written_in(alloc, &shards, steps, cells)
 }
 
 fn wanted(
