@@ -1,17 +1,25 @@
 // Whether the shards of an array are sound.
-use crate::arrays::{Array, Decoder, ShardFile, read_through};
+use crate::arrays::{Array, ShardFile, read_through};
 use crate::progress::Progress;
 use crate::stop::{Place, Refusal, Stop};
 use std::alloc::AllocError;
 use std::io;
 use std::io::Write;
 use std::rt::Files;
+use zarr_codecs::{ArrayToBytesCodecTraits, BytesPartialDecoderTraits};
 use zarr_parts::{CodecError, unravel_index};
+use zarrs_sharding::{ShardingCodec, ShardingPartialDecoder};
 
 // Reads a subchunk of a shard.
-fn check_subchunk<R: Files + AllocGlobal>(
+fn check_subchunk<
+    R: Files + AllocGlobal,
+    I: ArrayToBytesCodecTraits,
+    X: ArrayToBytesCodecTraits,
+    H: BytesPartialDecoderTraits,
+>(
     array: &Array<'_, R>,
-    decoder: &mut Decoder<'_, '_, R>,
+    codec: &ShardingCodec<I, X>,
+    decoder: &mut ShardingPartialDecoder<'_, I, X, H>,
     number: u64,
 ) -> Result<(), CodecError> {
     let alloc = array.alloc();
@@ -22,7 +30,7 @@ fn check_subchunk<R: Files + AllocGlobal>(
     read_through(
         alloc,
         decoder,
-        &asked.codec,
+        codec,
         &asked.data_type,
         &asked.fill_value,
         &subchunk,
@@ -45,11 +53,18 @@ fn refused_subchunk<R: Files + AllocGlobal>(
 
 // Reads each subchunk of a shard, and goes on behind one that is refused. Where nothing more can be read, that subchunk is told,
 // and why.
-fn check_each<R: Files + AllocGlobal, M: Write>(
+fn check_each<
+    R: Files + AllocGlobal,
+    M: Write,
+    I: ArrayToBytesCodecTraits,
+    X: ArrayToBytesCodecTraits,
+    H: BytesPartialDecoderTraits,
+>(
     array: &Array<'_, R>,
+    codec: &ShardingCodec<I, X>,
     shard: u64,
     key: &str,
-    decoder: &mut Decoder<'_, '_, R>,
+    decoder: &mut ShardingPartialDecoder<'_, I, X, H>,
     refusals: &mut Vec<Refusal>,
     progress: &mut Progress<'_, M>,
 ) -> Result<Option<(u64, CodecError)>, Stop> {
@@ -58,7 +73,7 @@ fn check_each<R: Files + AllocGlobal, M: Write>(
     let all = array.grid.len().saturating_mul(count);
     for number in 0..count {
         progress.step(before.saturating_add(number), all);
-        match check_subchunk(array, decoder, number) {
+        match check_subchunk(array, codec, decoder, number) {
             Ok(()) => {}
             Err(error) if matches!(error, CodecError::Fault | CodecError::OutOfMemory) => {
                 return Ok(Some((number, error)));
@@ -84,15 +99,21 @@ fn list_last<R: Files + AllocGlobal>(
 }
 
 // Reads each subchunk of a shard that is open.
-fn check_opened<R: Files + AllocGlobal, M: Write>(
+fn check_opened<
+    R: Files + AllocGlobal,
+    M: Write,
+    I: ArrayToBytesCodecTraits,
+    X: ArrayToBytesCodecTraits,
+>(
     array: &Array<'_, R>,
+    codec: &ShardingCodec<I, X>,
     shard: u64,
     key: &str,
-    mut decoder: Decoder<'_, '_, R>,
+    mut decoder: ShardingPartialDecoder<'_, I, X, ShardFile<'_, R>>,
     refusals: &mut Vec<Refusal>,
     progress: &mut Progress<'_, M>,
 ) -> Result<(), Stop> {
-    let checked = check_each(array, shard, key, &mut decoder, refusals, progress);
+    let checked = check_each(array, codec, shard, key, &mut decoder, refusals, progress);
     let file = decoder.close();
     match checked? {
         Some(last) => list_last(array, key, &file, last, refusals),
@@ -109,7 +130,10 @@ fn check_shard<R: Files + AllocGlobal, M: Write>(
 ) -> Result<(), Stop> {
     let key = array.key(number)?;
     match array.decoder(&key)? {
-        Ok(decoder) => check_opened(array, number, &key, decoder, refusals, progress),
+        Ok(decoder) => {
+            let codec = &array.metadata.codec;
+            check_opened(array, codec, number, &key, decoder, refusals, progress)
+        }
         Err(refusal) => {
             refusals.push(refusal)?;
             Ok(())

@@ -1,11 +1,13 @@
 // The cells of a box of an array.
-use crate::arrays::{Array, Decoder, read_cells};
+use crate::arrays::{Array, ShardFile, read_cells};
 use crate::progress::Progress;
 use crate::stop::{Place, Stop};
 use array_shards::{BoxCells, ShardPart};
 use std::io::Write;
 use std::rt::Files;
+use zarr_codecs::{ArrayToBytesCodecTraits, BytesPartialDecoderTraits};
 use zarr_parts::{ArrayBytes, ArraySubset, CodecError};
+use zarrs_sharding::ShardingPartialDecoder;
 
 // The cells of a box as they are held, or fill values where none are.
 fn held_cells<R: Files + AllocGlobal>(
@@ -34,11 +36,16 @@ fn put_part<R: Files + AllocGlobal>(
 }
 
 // Reads the part of a box that lies in a shard, which is open, or says how that is refused.
-fn read_open_part<R: Files + AllocGlobal>(
+fn read_open_part<
+    R: Files + AllocGlobal,
+    I: ArrayToBytesCodecTraits,
+    X: ArrayToBytesCodecTraits,
+    H: BytesPartialDecoderTraits,
+>(
     array: &Array<'_, R>,
     asked: &ArraySubset,
     part: &ShardPart,
-    decoder: &mut Decoder<'_, '_, R>,
+    decoder: &mut ShardingPartialDecoder<'_, I, X, H>,
     cells: &mut Option<BoxCells>,
 ) -> Result<Option<CodecError>, Stop> {
     match read_cells(array.alloc(), decoder, &part.in_shard) {
@@ -51,12 +58,12 @@ fn read_open_part<R: Files + AllocGlobal>(
 }
 
 // Reads the part of a box that lies in a shard with this key, which is open.
-fn read_opened<R: Files + AllocGlobal>(
+fn read_opened<R: Files + AllocGlobal, I: ArrayToBytesCodecTraits, X: ArrayToBytesCodecTraits>(
     array: &Array<'_, R>,
     asked: &ArraySubset,
     part: &ShardPart,
     key: &str,
-    mut decoder: Decoder<'_, '_, R>,
+    mut decoder: ShardingPartialDecoder<'_, I, X, ShardFile<'_, R>>,
     cells: &mut Option<BoxCells>,
 ) -> Result<(), Stop> {
     let refused = read_open_part(array, asked, part, &mut decoder, cells);
