@@ -34,25 +34,25 @@ pub read_open : {I X H : Type 0} (meaning : ShardingCodec I X → Geo → Meanin
     → IsRead (state old) (state new) → IsHeldOpen meaning index_meaning state codec old failed opened
     → IsHeldOpen meaning index_meaning state codec new failed opened
 read_open meaning index_meaning state codec old new failed opened read h = record {
-      in_step = record {
-        serves = h.in_step.serves;
-        index = h.in_step.index;
-        held = λ usable told. rw read.contents_same (h.in_step.held usable (rw read.tells_same at told));
-      };
-      is_open = λ usable. let o = h.is_open usable in record {
-        known = record {
-          serves = o.known.serves;
-          room = o.known.room;
-          counted = o.known.counted;
-          held = λ told. rw read.contents_same (o.known.held (rw read.tells_same at told));
-          cells = o.known.cells;
-          grid = o.known.grid;
-          subchunks = o.known.subchunks;
-        };
-        plan = o.plan;
-        grid = o.grid;
-        blank = o.blank;
-        numbers = o.numbers;
-        held = λ told. rw read.contents_same (o.held (rw read.tells_same at told));
-      };
-    }
+  in_step = record {
+    serves = h.in_step.serves;
+    index = h.in_step.index;
+    held = λ usable told. rw read.contents_same (h.in_step.held usable (rw read.tells_same at told));
+  };
+  is_open = λ usable. let o = h.is_open usable in record {
+    known = record {
+      serves = o.known.serves;
+      room = o.known.room;
+      counted = o.known.counted;
+      held = λ told. rw read.contents_same (o.known.held (rw read.tells_same at told));
+      cells = o.known.cells;
+      grid = o.known.grid;
+      subchunks = o.known.subchunks;
+    };
+    plan = o.plan;
+    grid = o.grid;
+    blank = o.blank;
+    numbers = o.numbers;
+    held = λ told. rw read.contents_same (o.held (rw read.tells_same at told));
+  };
+}
