@@ -117,7 +117,7 @@ fn a_codec_is_built_part_by_part(rt: HostRuntime) {
 type Shared = Arc<ShardingCodec<DefaultArrayToBytesCodec, BytesCodec>>;
 
 // A shared codec for subchunks of 2 by 2, its index at the start.
-fn shared(alloc: Global, data_type: &DataType) -> Result<Shared, CodecError> {
+fn built(alloc: Global, data_type: &DataType) -> Result<Shared, CodecError> {
     let builder = ShardingCodecBuilder::new(shape_of(alloc, &[2, 2])?, data_type).index_location(
         ShardingIndexLocation::Start,
     );
@@ -125,12 +125,12 @@ fn shared(alloc: Global, data_type: &DataType) -> Result<Shared, CodecError> {
 }
 
 fn configuration_of(alloc: Global, data_type: &DataType) -> Result<String, Fail> {
-    let codec = shared(alloc, data_type)?;
+    let codec = built(alloc, data_type)?;
     Ok(codec.configuration(alloc)?.to_string(alloc)?)
 }
 
 fn metadata_of(alloc: Global, data_type: &DataType) -> Result<String, Fail> {
-    let codec = shared(alloc, data_type)?;
+    let codec = built(alloc, data_type)?;
     Ok(codec.metadata(alloc)?.to_string(alloc)?)
 }
 
