@@ -3,8 +3,9 @@ use crate::compared::same;
 use crate::orders::Answer::{Cells, Compacted, Done, Refused};
 use crate::orders::Order::{Compact, Erase, Read, ReadCells, Reopen, Write};
 use crate::orders::{Answer, Order, commands_of, run, say, shape_of};
+use shard_sessions::{Command, CommandRun};
 use std::alloc::Global;
-use zarr_codecs::BytesCodec;
+use zarr_codecs::{BytesCodec, MemoryHandle};
 use zarr_parts::CodecError;
 use zarrs_sharding::{ShardingCodec, ShardingIndexLocation};
 
@@ -119,13 +120,25 @@ fn object_of(alloc: Global, object: &Object) -> Result<Option<Vec<u8>>, CodecErr
 // Whether a run replies as the row says, the object then, and why it stops.
 type Found = (bool, Option<Vec<u8>>, Option<CodecError>);
 
-fn found(alloc: Global, row: &Row) -> Result<Found, CodecError> {
+fn codec(alloc: Global) -> Result<ShardingCodec<BytesCodec, BytesCodec>, CodecError> {
     let little = BytesCodec::little();
     let sub = shape_of(alloc, &[2])?;
-    let codec = ShardingCodec::new(sub, little, little, ShardingIndexLocation::End);
+    Ok(ShardingCodec::new(sub, little, little, ShardingIndexLocation::End))
+}
+
+fn ended(
+    alloc: Global,
+    row: &Row,
+    commands: &[Command],
+) -> Result<CommandRun<MemoryHandle>, CodecError> {
+    let codec = codec(alloc)?;
     let before = object_of(alloc, &row.before)?;
+    run(alloc, &codec, row.cells, before, commands)
+}
+
+fn found(alloc: Global, row: &Row) -> Result<Found, CodecError> {
     let commands = commands_of(alloc, row.orders)?;
-    let ended = run(alloc, &codec, row.cells, before, &commands)?;
+    let ended = ended(alloc, row, &commands)?;
     let same = say(&ended.replies, row.answers);
     Ok((same, ended.handle.into_inner(), ended.stop))
 }

@@ -98,11 +98,8 @@ fn agrees(reply: &Reply, wanted: &Option<Vec<u8>>) -> bool {
     }
 }
 
-// How many of the replies of a run of five hundred commands are those of the plain list.
-fn agreed<I: ArrayToBytesCodecTraits, X: ArrayToBytesCodecTraits>(
-    alloc: Global,
-    codec: &ShardingCodec<I, X>,
-) -> Result<usize, CodecError> {
+// Five hundred commands, and what each is to read.
+fn asked(alloc: Global) -> Result<(Vec<Command>, Vec<Option<Vec<u8>>>), CodecError> {
     let mut cells = [0u8; 16];
     let mut commands = Vec::new(alloc);
     let mut wanted = Vec::new(alloc);
@@ -113,6 +110,15 @@ fn agreed<I: ArrayToBytesCodecTraits, X: ArrayToBytesCodecTraits>(
         commands.push(command)?;
         wanted.push(read)?;
     }
+    Ok((commands, wanted))
+}
+
+// How many of the replies of a run of these are those of the plain list.
+fn agreed<I: ArrayToBytesCodecTraits, X: ArrayToBytesCodecTraits>(
+    alloc: Global,
+    codec: &ShardingCodec<I, X>,
+) -> Result<usize, CodecError> {
+    let (commands, wanted) = asked(alloc)?;
     let ended = run(alloc, codec, 16, None, &commands)?;
     let pairs = ended.replies.iter().zip(wanted.iter());
     Ok(pairs.filter(|(reply, read)| agrees(reply, read)).count())

@@ -4,8 +4,10 @@ ghost use Rattle.zarr_parts.specs.Geo.{geo};
 ghost use Rattle.zarr_elements.specs.declared.data_type.DataType.TheVariants.{UInt8};
 
 use crate::compared::{same, same_at};
-use crate::shards::{ABSENT, Answer, Call, Shards, called, how_it_ended, object_of};
-use shard_sessions::Naming;
+use crate::shards::{
+    ABSENT, Answer, Call, Encoder, Shards, alone, called, how_it_ended, object_of,
+};
+use shard_sessions::{Naming, Seat};
 use std::alloc::Global;
 use std::marker::Brand;
 use std::sync::Wait;
@@ -23,6 +25,32 @@ fn number(answer: &Answer) -> u8 {
     }
 }
 
+// How a write and a read after it are refused, and the seat.
+fn written_and_read<J: Naming<BytesCodec, BytesCodec>, R: Wait>(
+    rt: &R,
+    alloc: Global,
+    encoder: &Encoder<'_, J>,
+    seat: Seat,
+) -> Result<(u8, u8, Seat), CodecError> {
+    let write = Call::Write { cell: 0, value: 1 };
+    let (seat, written) = called(rt, alloc, encoder, seat, write)?;
+    let (seat, read) = called(rt, alloc, encoder, seat, Call::Read { first: 0, end: 2 })?;
+    Ok((number(&written), number(&read), seat))
+}
+
+// The same, and how the session ends.
+fn run_opened<J: Naming<BytesCodec, BytesCodec>, R: Wait>(
+    rt: &R,
+    alloc: Global,
+    encoder: Encoder<'_, J>,
+    seat: Seat,
+) -> Result<Stage, CodecError> {
+    let (written, read, seat) = written_and_read(rt, alloc, &encoder, seat)?;
+    let seats = alone(alloc, seat)?;
+    let end = how_it_ended(alloc, encoder.close(seats))?;
+    Ok((written, read, end.how))
+}
+
 fn run<J: Naming<BytesCodec, BytesCodec>, R: Wait>(
     rt: &R,
     alloc: Global,
@@ -34,16 +62,10 @@ fn run<J: Naming<BytesCodec, BytesCodec>, R: Wait>(
 {
     let object = object_of(alloc, &[0, 7], &[0, 2, ABSENT, ABSENT])?;
     let handle = FaultingHandle::new(Some(object), fails_at);
-    let Ok((encoder, seat)) = shards.recorded::<J>(alloc, handle) else {
-        return Ok((0, 0, "refused"));
-    };
-    let write = Call::Write { cell: 0, value: 1 };
-    let (seat, written) = called(rt, alloc, &encoder, seat, write)?;
-    let (seat, read) = called(rt, alloc, &encoder, seat, Call::Read { first: 0, end: 2 })?;
-    let mut seats = Vec::new(alloc);
-    seats.push(seat)?;
-    let end = how_it_ended(alloc, encoder.close(seats))?;
-    Ok((number(&written), number(&read), end.how))
+    match shards.recorded::<J>(alloc, handle) {
+        Ok((encoder, seat)) => run_opened(rt, alloc, encoder, seat),
+        Err(_) => Ok((0, 0, "refused")),
+    }
 }
 
 // A fault at the opening refuses it. One where the write reads, or where the read does, is no event, and the session ends as ever. By one

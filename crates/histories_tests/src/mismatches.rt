@@ -4,7 +4,7 @@ ghost use Rattle.zarr_parts.specs.Geo.{geo};
 ghost use Rattle.zarr_elements.specs.declared.data_type.DataType.TheVariants.{UInt8};
 
 use crate::compared::same;
-use crate::shards::{Call, Encoder, Ended, Shards, called, how_it_ended};
+use crate::shards::{Call, Encoder, Ended, Shards, alone, called, how_it_ended};
 use shard_sessions::{Naming, Seat};
 use std::alloc::Global;
 use std::marker::Brand;
@@ -32,6 +32,20 @@ fn written<'a, J: Naming<BytesCodec, BytesCodec>, R: Wait>(
     }
 }
 
+// The seat of such a session, alone.
+fn seats_of<J: Naming<BytesCodec, BytesCodec>, R: Wait>(
+    rt: &R,
+    alloc: Global,
+    shards: &Shards,
+    value: u8,
+) -> Result<Vec<Seat>, CodecError>
+    requires codec_named { Some shards.now.codec ≡ J.codec }
+    requires geo_named { geo shards.now.shape UInt8 shards.now.fill ≡ J.geo }
+{
+    let (_, seat) = written::<J, _>(rt, alloc, shards, value)?;
+    alone(alloc, seat)
+}
+
 // How a session ends in which 3 was written, with the seat of one in which this value was written.
 fn crossed<J: Naming<BytesCodec, BytesCodec>, R: Wait>(
     rt: &R,
@@ -42,10 +56,8 @@ fn crossed<J: Naming<BytesCodec, BytesCodec>, R: Wait>(
     requires codec_named { Some shards.now.codec ≡ J.codec }
     requires geo_named { geo shards.now.shape UInt8 shards.now.fill ≡ J.geo }
 {
+    let seats = seats_of::<J, _>(rt, alloc, shards, value)?;
     let (encoder, _) = written::<J, _>(rt, alloc, shards, 3)?;
-    let (_, seat) = written::<J, _>(rt, alloc, shards, value)?;
-    let mut seats = Vec::new(alloc);
-    seats.push(seat)?;
     how_it_ended(alloc, encoder.close(seats))
 }
 

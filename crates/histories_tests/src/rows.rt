@@ -4,8 +4,10 @@ ghost use Rattle.zarr_parts.specs.Geo.{geo};
 ghost use Rattle.zarr_elements.specs.declared.data_type.DataType.TheVariants.{UInt8};
 
 use crate::compared::same;
-use crate::shards::{ABSENT, Answer, Call, Ended, Shards, called, how_it_ended, object_of};
-use shard_sessions::Naming;
+use crate::shards::{
+    ABSENT, Answer, Call, Encoder, Ended, Shards, called, how_it_ended, object_of,
+};
+use shard_sessions::{Naming, Seat};
 use std::alloc::Global;
 use std::marker::Brand;
 use std::sync::Wait;
@@ -13,7 +15,56 @@ use std::test::Fail;
 use zarr_codecs::{BytesCodec, FaultingHandle};
 use zarr_parts::CodecError;
 
-// What a session of four cells answers, whose calls come by the second of two seats, and how it ends with both or the first alone.
+// What a seat's calls answer, and the seat.
+fn answered<J: Naming<BytesCodec, BytesCodec>, R: Wait>(
+    rt: &R,
+    alloc: Global,
+    encoder: &Encoder<'_, J>,
+    seat: Seat,
+    calls: &[Call],
+) -> Result<(Vec<Answer>, Seat), CodecError> {
+    let mut seat = seat;
+    let mut answers = Vec::new(alloc);
+    for call in calls {
+        let (next, answer) = called(rt, alloc, encoder, seat, *call)?;
+        seat = next;
+        answers.push(answer)?;
+    }
+    Ok((answers, seat))
+}
+
+// Both seats, or the first alone.
+fn seats_of(
+    alloc: Global,
+    first: Seat,
+    second: Seat,
+    with_both: bool,
+) -> Result<Vec<Seat>, CodecError> {
+    let mut seats = Vec::new(alloc);
+    seats.push(first)?;
+    if with_both {
+        seats.push(second)?;
+    }
+    Ok(seats)
+}
+
+// What a session answers, whose calls come by the second of two seats, and how it ends with both or the first alone.
+fn played_to_the_end<J: Naming<BytesCodec, BytesCodec>, R: Wait>(
+    rt: &R,
+    alloc: Global,
+    encoder: Encoder<'_, J>,
+    seat: Seat,
+    calls: &[Call],
+    with_both: bool,
+) -> Result<(Vec<Answer>, Ended), CodecError> {
+    let (first, second) = encoder.split_seat(seat);
+    let (answers, second) = answered(rt, alloc, &encoder, second, calls)?;
+    let seats = seats_of(alloc, first, second, with_both)?;
+    let end = how_it_ended(alloc, encoder.close(seats))?;
+    Ok((answers, end))
+}
+
+// The same of a session of four cells in an object.
 fn played<J: Naming<BytesCodec, BytesCodec>, R: Wait>(
     rt: &R,
     alloc: Global,
@@ -26,23 +77,10 @@ fn played<J: Naming<BytesCodec, BytesCodec>, R: Wait>(
     requires geo_named { geo shards.now.shape UInt8 shards.now.fill ≡ J.geo }
 {
     let handle = FaultingHandle::new(Some(object), u64::MAX);
-    let mut answers = Vec::new(alloc);
-    let (encoder, first) = match shards.recorded::<J>(alloc, handle) {
-        Ok(opened) => opened,
-        Err((handle, error)) => return Ok((answers, Ended::refused(alloc, handle, error))),
-    };
-    let (first, mut second) = encoder.split_seat(first);
-    for call in calls {
-        let (seat, answer) = called(rt, alloc, &encoder, second, *call)?;
-        second = seat;
-        answers.push(answer)?;
+    match shards.recorded::<J>(alloc, handle) {
+        Ok((encoder, seat)) => played_to_the_end(rt, alloc, encoder, seat, calls, with_both),
+        Err((handle, error)) => Ok((Vec::new(alloc), Ended::refused(alloc, handle, error))),
     }
-    let mut seats = Vec::new(alloc);
-    seats.push(first)?;
-    if with_both {
-        seats.push(second)?;
-    }
-    Ok((answers, how_it_ended(alloc, encoder.close(seats))?))
 }
 
 // The object of the cells 0, 7, 0, 0.

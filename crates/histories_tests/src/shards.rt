@@ -37,6 +37,12 @@ fn shape_of(alloc: Global, axis: u64) -> Result<ChunkShape, CodecError> {
     ChunkShape::new(alloc, &[axis])?.ok_or(CodecError::OutOfBounds)
 }
 
+// The cells of an array.
+fn cells_of(alloc: Global, array: &ArrayBytes) -> Result<Vec<u8>, CodecError> {
+    let cells = array.fixed_bytes().ok_or(CodecError::WrongElementKind)?;
+    Ok(cells.to_vec(alloc)?)
+}
+
 impl Shards {
     // Shards of so many cells.
     pub(crate) fn new(alloc: Global, cells: u64) -> Result<Self, CodecError> {
@@ -66,8 +72,7 @@ impl Shards {
             &self.fill,
             &options,
         )?;
-        let cells = array.fixed_bytes().ok_or(CodecError::WrongElementKind)?;
-        Ok(cells.to_vec(alloc)?)
+        cells_of(alloc, &array)
     }
 
     // An object without what is not needed, or `None` where there is nothing to gain.
@@ -184,6 +189,13 @@ pub(crate) fn called<J: Naming<BytesCodec, BytesCodec>, R: Wait>(
     }
 }
 
+// A seat alone.
+pub(crate) fn alone(alloc: Global, seat: Seat) -> Result<Vec<Seat>, CodecError> {
+    let mut seats = Vec::new(alloc);
+    seats.push(seat)?;
+    Ok(seats)
+}
+
 // How a session ended: by which end, with how many events, which opening cells, which refusal, which receipt that does not agree, by
 // seat and place, and which object was left.
 #[derive(Drop)]
@@ -214,19 +226,14 @@ impl Ended {
         how: &'static str,
         closed: Closed<FaultingHandle>,
     ) -> Result<Self, CodecError> {
-        let Closed {
-            handle,
-            opening,
-            history,
-        } = closed;
-        let cells = opening.fixed_bytes().ok_or(CodecError::WrongElementKind)?;
+        let opening = cells_of(alloc, &closed.opening)?;
         Ok(Ended {
             how,
-            events: history.len(),
-            opening: cells.to_vec(alloc)?,
+            events: closed.history.len(),
+            opening,
             error: None,
             receipt: None,
-            object: handle.into_inner(),
+            object: closed.handle.into_inner(),
         })
     }
 }

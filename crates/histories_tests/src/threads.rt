@@ -129,12 +129,13 @@ fn shared<J: Naming<BytesCodec, BytesCodec> + Send + Sync, R: Threads + Wait + S
     requires geo_named { geo shards.now.shape UInt8 shards.now.fill ≡ J.geo }
 {
     let handle = FaultingHandle::new(object, u64::MAX);
-    let (encoder, seat) = match shards.recorded::<J>(alloc, handle) {
-        Ok(opened) => opened,
-        Err((handle, error)) => return Ok((0, Ended::refused(alloc, handle, error))),
-    };
-    let (seats, right) = worked(rt, alloc, &encoder, seat, plan)?;
-    Ok((right, how_it_ended(alloc, encoder.close(seats))?))
+    match shards.recorded::<J>(alloc, handle) {
+        Ok((encoder, seat)) => {
+            let (seats, right) = worked(rt, alloc, &encoder, seat, plan)?;
+            Ok((right, how_it_ended(alloc, encoder.close(seats))?))
+        }
+        Err((handle, error)) => Ok((0, Ended::refused(alloc, handle, error))),
+    }
 }
 
 // The object of the cells 1 to 8.
