@@ -103,8 +103,8 @@ const FOUND: [&[u8]; 6] = [
 // The call of the number is refused once, and changes nothing.
 #[test]
 fn the_call_of_the_number_fails_once(rt: HostRuntime) {
-    for number in 0..6 {
-        let found = fails_once(rt.alloc(), number as u64, FOUND[number]);
+    for (number, want) in (0..CALLS).zip(FOUND) {
+        let found = fails_once(rt.alloc(), number, want);
         same_at(&rt, number, found, Ok(true));
     }
 }
