@@ -10,7 +10,7 @@ use Rattle.zarr_parts.specs.Geo.{Geo, IsArrayOf}
 use Rattle.zarr_parts.specs.Types.{size_of, FitsKind}
 use Rattle.zarr_parts.specs.Arrays.{Array, element_of}
 use Rattle.zarr_parts.specs.Selections.{Selection, IsSelectionOf}
-use Rattle.zarr_boxes.proofs.NumberingLaws.{number_below}
+use Rattle.row_major.proofs.NumberingLaws.{number_below}
 use Rattle.object_handles.specs.declared.bytes.Interval.{Interval}
 use Rattle.object_handles.specs.declared.bytes.ByteRange.TheVariants.{FromStart}
 use Rattle.object_handles.specs.Handles.{IsPart}
@@ -19,7 +19,7 @@ use Rattle.codec_laws.specs.Refusals.{AreTooLong}
 use Rattle.codec_laws.specs.Reads.{cells_at, IsAnswer, IsReadOf}
 use Rattle.codec_laws.proofs.CodecLaws.{same_elements}
 use Rattle.object_handles.specs.Objects.{interval_part, HasInterval}
-use Rattle.zarr_boxes.proofs.PieceLaws.{map-map}
+use Rattle.box_runs.proofs.PieceLaws.{map-map}
 use Rattle.std.proofs.Math.Seq.{take-length}
 
 some_same : (x y : List ℕ) → Some x ≡ Some y → x ≡ y

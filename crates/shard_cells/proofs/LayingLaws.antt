@@ -17,7 +17,7 @@ use Rattle.zarr_elements.specs.declared.data_type.DataTypeSize.{DataTypeSize}
 use Rattle.zarr_elements.specs.declared.data_type.DataTypeSize.TheVariants.{Fixed}
 use Rattle.zarr_boxes.proofs.PieceLaws.{map_range_same, concat-pieces, piece_of-pieces, piece_of-concat}
 use Rattle.zarr_boxes.proofs.RunLaws.{range_split}
-use Rattle.zarr_boxes.proofs.FollowLaws.{contiguous_number}
+use Rattle.zarr_selections.proofs.FollowLaws.{contiguous_number}
 use Rattle.zarr_boxes.proofs.GridLaws.{number_in-subchunk_box, subchunk_number-below, place_number-below, cell_number-located, subchunk_number-cell_number, place_number-cell_number}
 use Rattle.shard_format.specs.Grids.{GridTests}
 use Rattle.shard_format.specs.Decoding.{AreChunks, IsPartOf, element_at, element_in}

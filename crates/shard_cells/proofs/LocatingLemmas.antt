@@ -5,7 +5,8 @@ use Rattle.std.proofs.lemmas.List.Elements.{length_all_zip}
 use Rattle.zarr_parts.specs.Numbering.{count_of, number_of, point_of}
 use Rattle.zarr_parts.specs.Grid.{Divides, grid_of, subchunk_of, place_of, subchunk_number, place_number}
 use Rattle.zarr_boxes.proofs.NumberingLaws.{length-point_of, point_inside, both_positive}
-use Rattle.zarr_boxes.proofs.BoxLaws.{AxisStep, axis_step, point_of_at, get_or-zip_with, length-zip_with}
+use Rattle.zarr_boxes.proofs.PointLaws.{AxisStep, axis_step, point_of_at}
+use Rattle.zarr_boxes.proofs.BoxLaws.{get_or-zip_with, length-zip_with}
 use Rattle.zarr_boxes.proofs.GridLaws.{at_least, count-grid, length-grid, subchunk_of_inside, place_of_inside}
 
 -- the axes of both

@@ -12,9 +12,9 @@ ghost use Rattle.shard_cells.specs.Gathering.{elements_in, places_there};
 use shard_format::{calculate_chunks_per_shard, subchunk_subset};
 use std::alloc::{AllocError, Global};
 use std::borrow::CowSlice;
-use zarr_boxes::subchunks_follow;
 use zarr_elements::{repeated, scatter};
 use zarr_parts::{ArrayBytes, ChunkShape, CodecError};
+use zarr_selections::subchunks_follow;
 
 // Whether some subchunk is absent.
 fn any_absent(subchunks: &[Option<ArrayBytes>]) -> bool

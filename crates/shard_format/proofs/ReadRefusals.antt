@@ -8,7 +8,7 @@ use Rattle.std.proofs.lemmas.List.Sums.{length-filter, count_by-le-length}
 use Rattle.zarr_parts.specs.Geo.{Geo}
 use Rattle.zarr_parts.specs.Selections.{Selection, MatchesBox, LiesWithin, SelectionTests}
 use Rattle.zarr_boxes.proofs.NumberingLaws.{number_below}
-use Rattle.zarr_boxes.proofs.SelectionLemmas.{inside_within}
+use Rattle.zarr_selections.proofs.SelectionLemmas.{inside_within}
 use Rattle.zarr_parts.specs.Types.{byte_size, FitsKind}
 use Rattle.zarr_parts.specs.Numbering.{count_of, number_of, IsInside}
 use Rattle.zarr_parts.specs.Grid.{grid_of, Divides, subchunk_number, place_number}

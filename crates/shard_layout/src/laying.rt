@@ -9,8 +9,8 @@ ghost use Rattle.shard_layout.specs.Rows.{FollowBy};
 
 use shard_format::{ShardingIndexLocation, Slot, subchunk_subset};
 use std::alloc::{AllocError, Global};
-use zarr_boxes::subchunks_follow;
 use zarr_parts::{ArrayBytes, ChunkShape, CodecError, DataType};
+use zarr_selections::subchunks_follow;
 
 /// Makes room behind the slices of a shard, which begin at `start`, for so many bytes more, where some of the subchunks are laid out
 /// and some are left: as many as are there, but no more than the rest will have if it is like the others, and a sixteenth. So they

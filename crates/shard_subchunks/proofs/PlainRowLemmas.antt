@@ -14,7 +14,7 @@ use Rattle.zarr_parts.specs.Geo.{geo, IsArrayOf}
 use Rattle.zarr_parts.specs.DataType.{DataType}
 use Rattle.zarr_parts.specs.Arrays.{IsWhole, fixed_array}
 use Rattle.zarr_boxes.proofs.GridLaws.{count-grid, length-subchunk}
-use Rattle.zarr_boxes.proofs.FollowLaws.{subchunk_follows}
+use Rattle.zarr_selections.proofs.FollowLaws.{subchunk_follows}
 use Rattle.zarr_boxes.proofs.PieceLaws.{length-concat, piece_of-concat, concat-pieces, length-pieces, piece_of-pieces, piece_in_run}
 use Rattle.zarr_elements.proofs.ArrayLaws.{length-piece, whole_from_length}
 use Rattle.zarr_elements.proofs.FillLaws.{pieces_from_shift, shift_from_pieces, all_from_each, each_from_all}

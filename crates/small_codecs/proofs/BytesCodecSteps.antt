@@ -7,7 +7,7 @@ use Rattle.codec_laws.specs.Refusals.{AreTooLong}
 use Rattle.codec_laws.specs.Encodings.{IsPlain}
 use Rattle.codec_laws.specs.Reads.{cells_at}
 use Rattle.codec_laws.proofs.ReadLemmas.{elements_at, sized_too_long}
-use Rattle.zarr_boxes.proofs.SelectionLemmas.{numbers_below}
+use Rattle.zarr_selections.proofs.SelectionLemmas.{numbers_below}
 use Rattle.std.specs.List.{All, range_with_len, concat}
 use borrow.Rule.Slice.PartMut.{put_mid}
 use Rattle.zarr_parts.specs.Numbering.{count_of, number_of, AllPositive, IsInside}
@@ -17,8 +17,8 @@ use Rattle.zarr_parts.specs.Pieces.{piece, pieces}
 use Rattle.zarr_parts.specs.Arrays.{Array, IsWhole, fixed_array}
 use Rattle.zarr_parts.specs.DataType.{DataType}
 use Rattle.zarr_parts.specs.DataTypeSize.TheVariants.{Fixed}
-use Rattle.zarr_boxes.proofs.NumberingLaws.{count_positive}
-use Rattle.zarr_boxes.proofs.PieceLaws.{map-map, map_range_same, length-pieces, All-pieces, piece_written, piece_kept}
+use Rattle.row_major.proofs.NumberingLaws.{count_positive}
+use Rattle.box_runs.proofs.PieceLaws.{map-map, map_range_same, length-pieces, All-pieces, piece_written, piece_kept}
 use Rattle.zarr_parts.proofs.ArrayLaws.{concat-fixed_array, fixed_array-concat, whole_from_length, All-fixed_array, whole-concat, length-piece}
 use Rattle.small_codecs.specs.declared.bytes_codec.Endianness.{Endianness}
 use Rattle.small_codecs.specs.BytesCodec.{is_reversed, swapped, KnowsOrder, SwapsAs, element_size, IsMeasured, bytes_of, bytes_cells, bytes_meaning}

@@ -13,7 +13,7 @@ use Rattle.zarr_parts.specs.Arrays.{Array}
 use Rattle.zarr_parts.specs.Pieces.{pieces}
 use Rattle.zarr_parts.specs.DataTypeSize.{DataTypeSize}
 use Rattle.zarr_parts.specs.DataTypeSize.TheVariants.{Fixed}
-use Rattle.zarr_boxes.proofs.PieceLaws.{length-pieces, length-concat, pieces-concat, All-pieces}
+use Rattle.box_runs.proofs.PieceLaws.{length-pieces, length-concat, pieces-concat, All-pieces}
 use Rattle.small_codecs.specs.declared.bytes_codec.Endianness.{Endianness}
 use Rattle.codec_laws.specs.Cells.{all_there}
 use Rattle.zarr_parts.specs.CodecError.{CodecError}

@@ -5,11 +5,11 @@ use Rattle.std.proofs.Math.Nat.{div-lt_iff_lt-mul, div-add-mod, mod-zero, mul_co
 use Rattle.std.proofs.lemmas.List.Elements.{length_all_zip, AllZip-get_or, All-from_get_or}
 use Rattle.std.proofs.lemmas.List.FromFn.{get_or-map-range_with_len, length-map-range_with_len}
 use Rattle.std.specs.List.{AllZip}
-use Rattle.zarr_boxes.specs.Numbering.{count_of, IsInside, point_of, AllPositive, zip_with}
-use Rattle.zarr_boxes.specs.Boxes.{IsBox, LiesIn, number_in}
+use Rattle.row_major.specs.Numbering.{count_of, IsInside, point_of, AllPositive, zip_with}
+use Rattle.box_runs.specs.Boxes.{IsBox, LiesIn, number_in}
 use Rattle.zarr_boxes.specs.Grid.{Divides, grid_of, subchunk_of, place_of, joined, subchunk_number, place_number, cell_number, subchunk_box, subchunk}
-use Rattle.zarr_boxes.proofs.NumberingLaws.{number_below, point_inside, point_of-number_of, number_of-point_of, count_positive, le_product, length-point_of}
-use Rattle.zarr_boxes.proofs.BoxLaws.{all_zip_from_each, length-zip_with, get_or-zip_with, lies_in_length, lies_in_at}
+use Rattle.row_major.proofs.NumberingLaws.{number_below, point_inside, point_of-number_of, number_of-point_of, count_positive, le_product, length-point_of}
+use Rattle.box_runs.proofs.BoxLaws.{all_zip_from_each, length-zip_with, get_or-zip_with, lies_in_length, lies_in_at}
 
 -- ---- one axis
 pub quotient_below : (x n d : ℕ) → n % d ≡ 0 → x < n → x / d < n / d

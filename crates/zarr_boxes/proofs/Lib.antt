@@ -1,19 +1,16 @@
 mod AxesLemmas
-pub mod NumberingLaws
-pub mod BoxLaws
-pub mod PieceLaws
-pub mod RunLaws
-pub mod RowLaws
+pub use Rattle.row_major.proofs.NumberingLaws
+pub use Rattle.row_major.proofs.PointLaws
+pub use Rattle.box_runs.proofs.BoxLaws
+pub use Rattle.box_runs.proofs.CountLaws
+pub use Rattle.box_runs.proofs.PieceLaws
+pub use Rattle.box_runs.proofs.RunLaws
+pub use Rattle.box_runs.proofs.RowLaws
 pub mod RowSetLaws
 pub mod SetLaws
 pub mod MissLaws
 pub mod GridLaws
-pub mod FollowLaws
-pub mod LocateLaws
 pub mod RangeLaws
-pub mod CoordinateLaws
-pub mod SelectionLemmas
 pub mod OverlapLaws
 pub mod MeetingLaws
 pub mod TouchedLaws
-pub mod CountLaws

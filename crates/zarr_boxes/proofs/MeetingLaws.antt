@@ -3,14 +3,15 @@ use Rattle.std.proofs.Common.{◌≡◌, ℕ, ◌+◌, ◌-◌, ◌^◌, ◌<◌
 use Rattle.std.proofs.lemmas.List.{ext_get_or}
 use Rattle.std.proofs.lemmas.List.Elements.{length_all_zip, AllZip-get_or}
 use Rattle.std.specs.List.{AllZip}
-use Rattle.zarr_boxes.specs.Numbering.{count_of, IsInside, number_of, point_of, AllPositive, zip_with}
-use Rattle.zarr_boxes.specs.Boxes.{Region, IsBox, LiesIn, point_in, number_in}
+use Rattle.row_major.specs.Numbering.{count_of, IsInside, number_of, point_of, AllPositive, zip_with}
+use Rattle.box_runs.specs.Boxes.{Region, IsBox, LiesIn, point_in, number_in}
 use Rattle.zarr_boxes.specs.Grid.{Divides, grid_of, cell_number, subchunk_box}
 use Rattle.zarr_boxes.specs.Overlaps.{overlap_of, relative_box}
 use Rattle.zarr_boxes.specs.Laws.{IsInBox}
-use Rattle.zarr_boxes.proofs.NumberingLaws.{number_below, point_inside, point_of-number_of, same_from_number, length-point_of}
-use Rattle.zarr_boxes.proofs.BoxLaws.{all_zip_from_each, length-zip_with, get_or-zip_with, shifted_inside, axis_positive, lies_in_length, lies_in_at, lies_in_from_each, length-point_in}
-use Rattle.zarr_boxes.proofs.PieceLaws.{same_point}
+use Rattle.row_major.proofs.NumberingLaws.{number_below, point_inside, point_of-number_of, same_from_number, length-point_of}
+use Rattle.row_major.proofs.PointLaws.{axis_positive}
+use Rattle.box_runs.proofs.BoxLaws.{all_zip_from_each, length-zip_with, get_or-zip_with, shifted_inside, lies_in_length, lies_in_at, lies_in_from_each, length-point_in}
+use Rattle.box_runs.proofs.PieceLaws.{same_point}
 use Rattle.zarr_boxes.proofs.MissLaws.{place_of_point, on_every_axis}
 use Rattle.zarr_boxes.proofs.GridLaws.{axis_le_count, subchunk_box-is_box, subchunk_box-lies_in, number_in-subchunk_box}
 use Rattle.zarr_boxes.proofs.OverlapLaws.{HaveSameAxes, same_lengths, overlap_at, overlap_is_box, overlap_has_both, relative_is_box}

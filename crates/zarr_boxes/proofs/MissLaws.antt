@@ -4,11 +4,11 @@ use mathlib.Core.Logic.{◌⊎◌}
 use Rattle.std.proofs.lemmas.List.{ext_get_or}
 use Rattle.std.proofs.lemmas.List.Elements.{length_all_zip}
 use Rattle.std.proofs.lemmas.Bool.{cases_lt}
-use Rattle.zarr_boxes.specs.Numbering.{count_of, IsInside, number_of, point_of, zip_with}
-use Rattle.zarr_boxes.specs.Boxes.{Region, IsBox, LiesIn, point_in, number_in}
+use Rattle.row_major.specs.Numbering.{count_of, IsInside, number_of, point_of, zip_with}
+use Rattle.box_runs.specs.Boxes.{Region, IsBox, LiesIn, point_in, number_in}
 use Rattle.zarr_boxes.specs.Laws.{IsOnAxis, IsElsewhere}
-use Rattle.zarr_boxes.proofs.NumberingLaws.{number_below, point_inside, point_of-number_of, same_from_number, below_axis, length-point_of}
-use Rattle.zarr_boxes.proofs.BoxLaws.{all_zip_from_each, length-zip_with, get_or-zip_with, shifted_inside, lies_in_length}
+use Rattle.row_major.proofs.NumberingLaws.{number_below, point_inside, point_of-number_of, same_from_number, below_axis, length-point_of}
+use Rattle.box_runs.proofs.BoxLaws.{all_zip_from_each, length-zip_with, get_or-zip_with, shifted_inside, lies_in_length}
 
 -- a box has a point on every axis, or misses it on one
 pub on_or_off : (box : Region) (point : List ℕ) (n : ℕ) → ((axis : ℕ) → axis < n → IsOnAxis box point axis) ⊎ ((axis : ℕ) × (axis < n) × ¬ IsOnAxis box point axis)

@@ -1,13 +1,13 @@
 -- The box where two boxes meet, by axis.
-use Rattle.std.proofs.Common.{◌≡◌, ℕ, ◌+◌, ◌-◌, ◌^◌, ◌<◌, ◌≤◌, List, [], ◌∷◌, ◌++◌, length, get_or, take, refl, sym, ◌∙◌, arith, max, min}
+use Rattle.std.proofs.Common.{◌≡◌, ℕ, ◌+◌, ◌-◌, ◌^◌, ◌<◌, ◌≤◌, List, [], ◌∷◌, ◌++◌, length, get_or, take, sym, ◌∙◌, arith, max, min}
 use Rattle.std.proofs.lemmas.List.{take_all}
 use Rattle.std.proofs.lemmas.List.Elements.{length_all_zip, AllZip-get_or}
 use Rattle.std.specs.List.{AllZip}
-use Rattle.zarr_boxes.specs.Numbering.{zip_with}
-use Rattle.zarr_boxes.specs.Boxes.{Region, IsBox, end_of}
+use Rattle.row_major.specs.Numbering.{zip_with}
+use Rattle.box_runs.specs.Boxes.{Region, IsBox, end_of}
 use Rattle.zarr_boxes.specs.Overlaps.{overlap_of}
 use Rattle.zarr_boxes.specs.Laws.{IsOnAxis, IsInBox, OverlapLaw}
-use Rattle.zarr_boxes.proofs.BoxLaws.{all_zip_from_each, length-zip_with, get_or-zip_with, zip_with_more}
+use Rattle.box_runs.proofs.BoxLaws.{all_zip_from_each, length-zip_with, get_or-zip_with, zip_with_more}
 
 -- two boxes of as many axes, each of which is a box
 pub record HaveSameAxes (box other : Region) : Type 0 where
@@ -74,32 +74,21 @@ overlap_is_box box other h =
     let other_fits = AllZip-get_or (λ first len. first + len < 2 ^ 64) other.start other.shape k 0 0 h.other_well_formed (omega (arith, long.other_start)) in
     omega (arith, at.start, at.shape, fits, other_fits))
 
--- the first axes of the overlap
-pub record OverlapSoFar (box other : Region) (axis : ℕ) (starts lengths : List ℕ) : Type 0 where
-  pub starts_are : starts ≡ take axis (overlap_of box other).start
-  pub lengths_are : lengths ≡ take axis (overlap_of box other).shape
-
-pub overlap_more : (box other : Region) (k a n b m first end len : ℕ) (starts lengths more_starts more_lengths : List ℕ) → HaveSameAxes box other → k < length box.start
+-- one axis more of how long the overlap is
+pub overlap_length_more : (box other : Region) (k a n b m first end len : ℕ) (lengths more_lengths : List ℕ) → HaveSameAxes box other → k < length box.start
     → a ≡ get_or box.start k 0 → n ≡ get_or box.shape k 0 → b ≡ get_or other.start k 0 → m ≡ get_or other.shape k 0
     → first ≡ max a b → end ≡ min (a + n) (b + m) → len ≡ end - first
-    → OverlapSoFar box other k starts lengths → more_starts ≡ starts ++ first ∷ [] → more_lengths ≡ lengths ++ len ∷ [] → OverlapSoFar box other (k + 1) more_starts more_lengths
-overlap_more box other k a n b m first end len starts lengths more_starts more_lengths h lt ae ne be me first_is end_is len_is so start_more length_more =
+    → lengths ≡ take k (overlap_of box other).shape → more_lengths ≡ lengths ++ len ∷ [] → more_lengths ≡ take (k + 1) (overlap_of box other).shape
+overlap_length_more box other k a n b m first end len lengths more_lengths h lt ae ne be me first_is end_is len_is so_far more =
     let long = same_lengths box other h in
     let at = overlap_at box other k h lt in
-    record {
-      starts_are = zip_with_more max box.start other.start k a b starts more_starts h.same_axes lt ae be so.starts_are (rw first_is at start_more);
-      lengths_are = zip_with_more ◌-◌ (zip_with min (end_of box) (end_of other)) (zip_with max box.start other.start) k end first lengths more_lengths
-          (omega (arith, long.ends, long.starts)) (omega (arith, long.ends)) (omega (arith, at.end, end_is, ae, ne, be, me)) (omega (arith, at.start, first_is, ae, be))
-          so.lengths_are (rw len_is at length_more);
-    }
+    zip_with_more ◌-◌ (zip_with min (end_of box) (end_of other)) (zip_with max box.start other.start) k end first lengths more_lengths
+    (omega (arith, long.ends, long.starts)) (omega (arith, long.ends)) (omega (arith, at.end, end_is, ae, ne, be, me)) (omega (arith, at.start, first_is, ae, be))
+    so_far (rw len_is at more)
 
-pub overlap_whole : (box other : Region) (k : ℕ) (starts lengths : List ℕ) → HaveSameAxes box other → length box.start ≤ k → OverlapSoFar box other k starts lengths
-    → record { start = starts; shape = lengths } ≡ overlap_of box other
-overlap_whole box other k starts lengths h all so =
-    let long = same_lengths box other h in
-    let start = so.starts_are ∙ take_all k (overlap_of box other).start (omega (arith, long.starts)) in
-    let shape = so.lengths_are ∙ take_all k (overlap_of box other).shape (omega (arith, long.overlap_shape)) in
-    rw (start, shape) refl
+pub overlap_lengths_whole : (box other : Region) (k : ℕ) (lengths : List ℕ) → HaveSameAxes box other → length box.start ≤ k → lengths ≡ take k (overlap_of box other).shape → lengths ≡ (overlap_of box other).shape
+overlap_lengths_whole box other k lengths h all so_far =
+    so_far ∙ take_all k (overlap_of box other).shape (omega (arith, (same_lengths box other h).overlap_shape))
 
 -- a box that starts below an origin on no axis is a box when its coordinates are counted from there
 pub relative_is_box : (start shape origin : List ℕ) → length start ≡ length origin → AllZip ◌≤◌ origin start → IsBox start shape → IsBox (zip_with ◌-◌ start origin) shape

@@ -3,7 +3,7 @@ use Rattle.std.proofs.Common.{◌≡◌, ℕ, ◌+◌, ◌-◌, ◌^◌, ◌<◌
 use Rattle.std.proofs.lemmas.List.{take_more, map-append}
 use Rattle.std.proofs.lemmas.List.Elements.{All-more, AllZip-push}
 use Rattle.std.specs.declared.ops.Range.{Range}
-use Rattle.zarr_boxes.specs.Boxes.{IsBox}
+use Rattle.box_runs.specs.Boxes.{IsBox}
 
 -- the starts and lengths of the first ranges, each of which ends no earlier than it starts
 pub record RangesSoFar (ranges : List (Range ℕ)) (i : ℕ) (start shape : List ℕ) : Type 0 where

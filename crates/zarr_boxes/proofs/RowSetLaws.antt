@@ -2,12 +2,12 @@
 use Rattle.std.proofs.Common.{◌≡◌, ℕ, ◌+◌, ◌-◌, ◌*◌, ◌<◌, ◌≤◌, List, refl, ap, sym, ◌∙◌, arith, inl, inr}
 use Rattle.std.proofs.lemmas.Nat.{row_fits, div-add-mod', div-mul-add, mod-mul-add}
 use Rattle.std.proofs.lemmas.Bool.{cases_lt}
-use Rattle.zarr_boxes.specs.Numbering.{count_of}
-use Rattle.zarr_boxes.specs.Boxes.{Region, IsBox, LiesIn, number_in}
-use Rattle.zarr_boxes.specs.Pieces.{IsUpdated}
-use Rattle.zarr_boxes.specs.Runs.{row_place, AreBoxRows}
-use Rattle.zarr_boxes.proofs.NumberingLaws.{positive_product}
-use Rattle.zarr_boxes.proofs.PieceLaws.{number_in_below, same_point, updated_run}
+use Rattle.row_major.specs.Numbering.{count_of}
+use Rattle.box_runs.specs.Boxes.{Region, IsBox, LiesIn, number_in}
+use Rattle.box_runs.specs.Pieces.{IsUpdated}
+use Rattle.box_runs.specs.Runs.{row_place, AreBoxRows}
+use Rattle.row_major.proofs.NumberingLaws.{positive_product}
+use Rattle.box_runs.proofs.PieceLaws.{number_in_below, same_point, updated_run}
 
 -- the place of an element of a row
 pub row_at : (first stride run k r : ℕ) → r < run → row_place first stride run (k * run + r) ≡ first + k * stride + r

@@ -2,11 +2,11 @@
 use Rattle.std.proofs.Common.{◌≡◌, ℕ, ◌+◌, ◌-◌, ◌*◌, ◌<◌, ◌≤◌, List, [], ◌∷◌, length, get_or, drop, refl, ap, ◌∙◌, arith}
 use Rattle.std.proofs.lemmas.Nat.{row_fits}
 use Rattle.std.proofs.Math.Nat.{zero-div, zero-mod}
-use Rattle.zarr_boxes.specs.Numbering.{count_of, point_of, zip_with}
-use Rattle.zarr_boxes.specs.Boxes.{Region, LiesIn, number_in}
-use Rattle.zarr_boxes.specs.Runs.{AreRows, AreSets, IsAtSet}
-use Rattle.zarr_boxes.proofs.NumberingLaws.{rest_positive, count_of-drop}
-use Rattle.zarr_boxes.proofs.RowLaws.{stepping_none, stepping_turn, stepping_more, place_next, turn_fits, box_rows_at}
+use Rattle.row_major.specs.Numbering.{count_of, point_of, zip_with}
+use Rattle.box_runs.specs.Boxes.{Region, LiesIn, number_in}
+use Rattle.box_runs.specs.Runs.{AreRows, AreSets, IsAtSet}
+use Rattle.row_major.proofs.NumberingLaws.{rest_positive, count_of-drop}
+use Rattle.box_runs.proofs.RowLaws.{stepping_none, stepping_turn, stepping_more, place_next, turn_fits, box_rows_at}
 
 -- a set more, which lies in the group of the last
 pub record NextSet (place : ℕ → ℕ) (group stride passed turn sets here : ℕ) : Type 0 where

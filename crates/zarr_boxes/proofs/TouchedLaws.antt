@@ -8,15 +8,15 @@ use borrow.Author.Count.{below_more}
 use Rattle.std.proofs.lemmas.List.Elements.{length_all_zip, AllZip-get_or, All-from_get_or}
 use Rattle.std.proofs.lemmas.List.FromFn.{get_or-map-range_with_len, length-map-range_with_len}
 use Rattle.std.specs.List.{All, AllZip}
-use Rattle.zarr_boxes.specs.Numbering.{count_of, IsInside, number_of, point_of, AllPositive, zip_with}
-use Rattle.zarr_boxes.specs.Boxes.{Region, IsBox, LiesIn, point_in, number_in, numbers_in}
+use Rattle.row_major.specs.Numbering.{count_of, IsInside, number_of, point_of, AllPositive, zip_with}
+use Rattle.box_runs.specs.Boxes.{Region, IsBox, LiesIn, point_in, number_in, numbers_in}
 use Rattle.zarr_boxes.specs.Grid.{Divides, grid_of, subchunk_of, subchunk_number}
 use Rattle.zarr_boxes.specs.Laws.{IsOnAxis}
 use Rattle.zarr_boxes.specs.Touched.{Touches, AreTouched, IsTouchedBox}
-use Rattle.zarr_boxes.proofs.NumberingLaws.{number_below, point_inside, point_of-number_of, rest_positive}
-use Rattle.zarr_boxes.proofs.BoxLaws.{all_zip_from_each, length-zip_with, get_or-zip_with, shifted_inside, lies_in_length, lies_in_at, lies_in_from_each, length-point_in}
+use Rattle.row_major.proofs.NumberingLaws.{number_below, point_inside, point_of-number_of, rest_positive}
+use Rattle.box_runs.proofs.BoxLaws.{all_zip_from_each, length-zip_with, get_or-zip_with, shifted_inside, lies_in_length, lies_in_at, lies_in_from_each, length-point_in}
 use Rattle.zarr_boxes.proofs.MissLaws.{place_of_point, on_every_axis}
-use Rattle.zarr_boxes.proofs.PieceLaws.{number_in_below}
+use Rattle.box_runs.proofs.PieceLaws.{number_in_below}
 use Rattle.zarr_boxes.proofs.GridLaws.{quotient_below, subchunk_of_inside, length-grid, get_or-grid, axis_divided, count-grid, positive_factor, count-positive, at_least}
 
 -- a number below another has no greater quotient
@@ -66,43 +66,39 @@ number_rising (a ∷ rest) (n ∷ ns) (s ∷ ss) i j e h lt below =
           omega (arith, rises, ap (λ t. (a + t) * count_of ss) same)
     ]
 
--- the first axes of that box
-pub record TouchedSoFar (box : Region) (sub : List ℕ) (axis : ℕ) (firsts many : List ℕ) : Type 0 where
-  pub axes : length firsts ≡ axis
+-- in how many subchunks a box lies along the first axes
+pub record TouchedSoFar (box : Region) (sub : List ℕ) (axis : ℕ) (many : List ℕ) : Type 0 where
   pub lengths : length many ≡ axis
-  pub starts : (k : ℕ) → k < axis → get_or firsts k 0 ≡ get_or box.start k 0 / get_or sub k 0
   pub none : (k : ℕ) → k < axis → get_or box.shape k 0 ≡ 0 → get_or many k 0 ≡ 0
   pub ends : (k : ℕ) → k < axis → 0 < get_or box.shape k 0
-      → get_or firsts k 0 + get_or many k 0 ≡ (get_or box.start k 0 + (get_or box.shape k 0 - 1)) / get_or sub k 0 + 1
+      → get_or box.start k 0 / get_or sub k 0 + get_or many k 0 ≡ (get_or box.start k 0 + (get_or box.shape k 0 - 1)) / get_or sub k 0 + 1
 
-pub touched_more : (box : Region) (sub : List ℕ) (k first many : ℕ) (starts lengths more_starts more_lengths : List ℕ) → TouchedSoFar box sub k starts lengths
-    → more_starts ≡ starts ++ first ∷ [] → more_lengths ≡ lengths ++ many ∷ []
-    → first ≡ get_or box.start k 0 / get_or sub k 0 → (get_or box.shape k 0 ≡ 0 → many ≡ 0)
-    → (0 < get_or box.shape k 0 → first + many ≡ (get_or box.start k 0 + (get_or box.shape k 0 - 1)) / get_or sub k 0 + 1)
-    → TouchedSoFar box sub (k + 1) more_starts more_lengths
-touched_more box sub k first many starts lengths more_starts more_lengths h s l start none end =
-    let here : get_or more_starts k 0 ≡ first = rw s (get_or_push starts first 0 k h.axes) in
-    let here_many : get_or more_lengths k 0 ≡ many = rw l (get_or_push lengths many 0 k h.lengths) in
-    let before : (j : ℕ) → j < k → get_or more_starts j 0 ≡ get_or starts j 0 = λ j lt. rw s (get_or-append starts (first ∷ []) 0 j (omega (arith, lt, h.axes))) in
-    let before_many : (j : ℕ) → j < k → get_or more_lengths j 0 ≡ get_or lengths j 0 = λ j lt. rw l (get_or-append lengths (many ∷ []) 0 j (omega (arith, lt, h.lengths))) in
+pub touched_more : (box : Region) (sub : List ℕ) (k many : ℕ) (lengths more_lengths : List ℕ) → TouchedSoFar box sub k lengths
+    → more_lengths ≡ lengths ++ many ∷ []
+    → (get_or box.shape k 0 ≡ 0 → many ≡ 0)
+    → (0 < get_or box.shape k 0 → get_or box.start k 0 / get_or sub k 0 + many ≡ (get_or box.start k 0 + (get_or box.shape k 0 - 1)) / get_or sub k 0 + 1)
+    → TouchedSoFar box sub (k + 1) more_lengths
+touched_more box sub k many lengths more_lengths h l none end =
+    let here : get_or more_lengths k 0 ≡ many = rw l (get_or_push lengths many 0 k h.lengths) in
+    let before : (j : ℕ) → j < k → get_or more_lengths j 0 ≡ get_or lengths j 0 = λ j lt. rw l (get_or-append lengths (many ∷ []) 0 j (omega (arith, lt, h.lengths))) in
     record {
-      axes = rw s (omega (arith, length_push starts first, h.axes));
       lengths = rw l (omega (arith, length_push lengths many, h.lengths));
-      starts = below_more (λ j. get_or more_starts j 0 ≡ get_or box.start j 0 / get_or sub j 0) k (λ j lt. before j lt ∙ h.starts j lt) (here ∙ start);
-      none = below_more (λ j. get_or box.shape j 0 ≡ 0 → get_or more_lengths j 0 ≡ 0) k (λ j lt zero. before_many j lt ∙ h.none j lt zero) (λ zero. here_many ∙ none zero);
-      ends = below_more (λ j. 0 < get_or box.shape j 0 → get_or more_starts j 0 + get_or more_lengths j 0 ≡ (get_or box.start j 0 + (get_or box.shape j 0 - 1)) / get_or sub j 0 + 1) k
-          (λ j lt some. rw (before j lt, before_many j lt) (h.ends j lt some)) (λ some. rw (here, here_many) (end some));
+      none = below_more (λ j. get_or box.shape j 0 ≡ 0 → get_or more_lengths j 0 ≡ 0) k (λ j lt zero. before j lt ∙ h.none j lt zero) (λ zero. here ∙ none zero);
+      ends = below_more (λ j. 0 < get_or box.shape j 0 → get_or box.start j 0 / get_or sub j 0 + get_or more_lengths j 0 ≡ (get_or box.start j 0 + (get_or box.shape j 0 - 1)) / get_or sub j 0 + 1) k
+          (λ j lt some. rw (before j lt) (h.ends j lt some)) (λ some. rw here (end some));
     }
 
-pub touched_whole : (box : Region) (sub : List ℕ) (k : ℕ) (starts lengths : List ℕ) → length box.start ≡ k → TouchedSoFar box sub k starts lengths
-    → IsTouchedBox box sub (record { start = starts; shape = lengths })
-touched_whole box sub k starts lengths all h =
+pub touched_whole : (box : Region) (sub : List ℕ) (k : ℕ) (lengths : List ℕ) → length box.start ≡ length sub → length box.start ≡ k → TouchedSoFar box sub k lengths
+    → IsTouchedBox box sub (record { start = grid_of box.start sub; shape = lengths })
+touched_whole box sub k lengths same all h =
+    let at : (j : ℕ) → j < length box.start → get_or (grid_of box.start sub) j 0 ≡ get_or box.start j 0 / get_or sub j 0 =
+    λ j lt. get_or-zip_with ◌/◌ box.start sub j lt (omega (arith, lt, same)) in
     record {
-      axes = omega (arith, h.axes, all);
+      axes = length-zip_with ◌/◌ box.start sub same;
       lengths = omega (arith, h.lengths, all);
-      starts = λ j lt. h.starts j (omega (arith, lt, all));
+      starts = at;
       none = λ j lt. h.none j (omega (arith, lt, all));
-      ends = λ j lt. h.ends j (omega (arith, lt, all));
+      ends = λ j lt some. rw (at j lt) (h.ends j (omega (arith, lt, all)) some);
     }
 
 -- a box of a shape, and the box of the grid that has the subchunks which it touches

@@ -2,8 +2,8 @@
 use Rattle.std.specs.Prelude.{◌≡◌, ℕ, ◌^◌, ◌<◌, List, length}
 use Rattle.zarr_words.specs.Words.{Refusals}
 use Rattle.zarr_words.specs.Order.{◌or◌then◌}
-use Rattle.zarr_boxes.specs.Numbering.{count_of}
-use Rattle.zarr_boxes.specs.Boxes.{Region, LiesIn}
+use Rattle.row_major.specs.Numbering.{count_of}
+use Rattle.box_runs.specs.Boxes.{Region, LiesIn}
 use Rattle.zarr_words.specs.declared.error.CodecError.TheVariants.{TooLarge, IncompatibleDimensionality, OutOfBounds}
 
 -- the tests of a box in a shape

@@ -2,8 +2,8 @@
 use Rattle.std.specs.Prelude.{◌≡◌, ℕ, ◌+◌, ◌*◌, ◌/◌, ◌%◌, List, [], map, slice_index_or}
 use Rattle.std.specs.List.{AllZip, range_with_len}
 use Rattle.zarr_words.specs.Words.{Elements}
-use Rattle.zarr_boxes.specs.Numbering.{count_of, number_of, point_of, zip_with}
-use Rattle.zarr_boxes.specs.Boxes.{Region}
+use Rattle.row_major.specs.Numbering.{count_of, number_of, point_of, zip_with}
+use Rattle.box_runs.specs.Boxes.{Region}
 
 -- the subchunk shape divides the shape evenly, axis by axis
 abbrev pub Divides : List ℕ → List ℕ → Type 0

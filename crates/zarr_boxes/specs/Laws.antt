@@ -1,8 +1,8 @@
 -- The laws of numbering and of the grid.
 use Rattle.std.specs.Prelude.{◌≡◌, ◌≢◌, ℕ, ◌+◌, ◌<◌, ◌≤◌, List, length, slice_index}
-use Rattle.zarr_boxes.specs.Numbering.{count_of, IsInside, number_of, point_of}
+use Rattle.row_major.specs.Numbering.{count_of, IsInside, number_of, point_of}
 use Rattle.zarr_boxes.specs.Grid.{grid_of, subchunk_of, place_of, joined}
-use Rattle.zarr_boxes.specs.Boxes.{Region, number_in}
+use Rattle.box_runs.specs.Boxes.{Region, number_in}
 use Rattle.zarr_boxes.specs.Overlaps.{overlap_of}
 
 -- the coordinates inside a shape and the numbers below its count correspond one to one

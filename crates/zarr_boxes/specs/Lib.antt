@@ -1,11 +1,10 @@
 pub mod Axes
-pub mod Numbering
-pub mod Boxes
+pub use Rattle.row_major.specs.Numbering
+pub use Rattle.box_runs.specs.Boxes
 pub mod Overlaps
 pub mod Grid
 pub mod Touched
-pub mod Pieces
-pub mod Runs
-pub mod Selections
+pub use Rattle.box_runs.specs.Pieces
+pub use Rattle.box_runs.specs.Runs
 pub mod Laws
 pub mod BoxRefusals

@@ -3,8 +3,8 @@ use Rattle.std.specs.Prelude.{◌≡◌, ℕ, ◌-◌, ◌≤◌, max, min, List
 use Rattle.std.specs.List.{AllZip}
 use Rattle.zarr_words.specs.Words.{Refusals}
 use Rattle.zarr_words.specs.Order.{◌or◌then◌}
-use Rattle.zarr_boxes.specs.Numbering.{zip_with}
-use Rattle.zarr_boxes.specs.Boxes.{Region, end_of}
+use Rattle.row_major.specs.Numbering.{zip_with}
+use Rattle.box_runs.specs.Boxes.{Region, end_of}
 use Rattle.zarr_words.specs.declared.error.CodecError.TheVariants.{IncompatibleDimensionality, OutOfBounds}
 
 -- where two boxes meet: from the larger start to the smaller end along each axis, and of length 0 where that end comes no later

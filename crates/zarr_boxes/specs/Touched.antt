@@ -1,7 +1,7 @@
 -- The subchunks of a shape that a box touches.
 use Rattle.std.specs.Prelude.{◌≡◌, ◌<◌, ◌+◌, ◌-◌, ◌/◌, ℕ, List, length, slice_index}
-use Rattle.zarr_boxes.specs.Numbering.{count_of}
-use Rattle.zarr_boxes.specs.Boxes.{Region, number_in}
+use Rattle.row_major.specs.Numbering.{count_of}
+use Rattle.box_runs.specs.Boxes.{Region, number_in}
 use Rattle.zarr_boxes.specs.Grid.{subchunk_number}
 
 -- some point of the box lies in subchunk k

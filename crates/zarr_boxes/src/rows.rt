@@ -1,11 +1,11 @@
 // Rows of neighbouring elements in a box, a stride apart.
 ghost use Rattle.std.specs.Prelude.{◌≡◌, ℕ, ◌+◌, ◌*◌, ◌^◌, ◌<◌, ◌≤◌, List, length};
-ghost use Rattle.zarr_boxes.specs.Numbering.{count_of};
-ghost use Rattle.zarr_boxes.specs.Boxes.{IsBox, IsServed};
-ghost use Rattle.zarr_boxes.specs.Runs.{AreBoxRows};
+ghost use Rattle.row_major.specs.Numbering.{count_of};
+ghost use Rattle.box_runs.specs.Boxes.{IsBox, IsServed};
+ghost use Rattle.box_runs.specs.Runs.{AreBoxRows};
 
-use crate::runs::{RowSet, row_set};
 use crate::subset::{ArraySubset, points_in};
+use box_runs::{RowSet, row_set};
 
 /// The rows of a box in an array: sets of so many runs of neighbouring elements, each run a stride behind the one before it.
 #[derive(Clone, Copy)]

@@ -1,8 +1,8 @@
 // Where the sets of a box's elements begin, found by steps.
 ghost use Rattle.std.specs.Prelude.{◌≡◌, ℕ, ◌+◌, ◌*◌, ◌^◌, ◌<◌};
-ghost use Rattle.zarr_boxes.specs.Numbering.{count_of};
-ghost use Rattle.zarr_boxes.specs.Boxes.{number_in, IsBox, IsServed};
-ghost use Rattle.zarr_boxes.specs.Runs.{AreRows};
+ghost use Rattle.row_major.specs.Numbering.{count_of};
+ghost use Rattle.box_runs.specs.Boxes.{number_in, IsBox, IsServed};
+ghost use Rattle.box_runs.specs.Runs.{AreRows};
 
 use crate::subset::ArraySubset;
 use std::marker::Model;
@@ -23,8 +23,8 @@ pub struct SetStarts<'a> {
 
 impl<'a> Model for SetStarts<'a> {
     ghost use Rattle.std.specs.Prelude.{ℕ, ◌*◌};
-    ghost use Rattle.zarr_boxes.specs.Boxes.{number_in};
-    ghost use Rattle.zarr_boxes.specs.Runs.{SetWalk, AreSets, IsAtSet};
+    ghost use Rattle.box_runs.specs.Boxes.{number_in};
+    ghost use Rattle.box_runs.specs.Runs.{SetWalk, AreSets, IsAtSet};
 
     ghost Value = { SetWalk };
 

@@ -1,9 +1,9 @@
 // Shapes of chunks, none of whose axes is 0.
 ghost use Rattle.std.specs.Prelude.{◌≡◌, ◌^◌, ◌<◌, SomeIff, IfOk};
-ghost use Rattle.zarr_boxes.specs.Numbering.{count_of, AllPositive};
+ghost use Rattle.row_major.specs.Numbering.{count_of, AllPositive};
 
 use crate::axes::Axes;
-use crate::numbering::count;
+use row_major::count;
 use std::alloc::{AllocError, Global};
 use std::marker::Model;
 
@@ -17,7 +17,7 @@ pub struct ChunkShape {
 
 impl Model for ChunkShape {
     ghost use Rattle.std.specs.Prelude.{ℕ, ◌^◌, ◌<◌, List, SomeIff};
-    ghost use Rattle.zarr_boxes.specs.Numbering.{AllPositive, count_of};
+    ghost use Rattle.row_major.specs.Numbering.{AllPositive, count_of};
 
     ghost Value = { List ℕ };
 

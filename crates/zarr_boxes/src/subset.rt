@@ -2,15 +2,16 @@
 ghost use Rattle.std.specs.Prelude.{◌≡◌, ℕ, ◌+◌, ◌*◌, ◌^◌, ◌<◌, ◌≤◌, List, SomeIff, IfOk, IfErr, OnOk, OnErr, IsTrue, ◌↔◌, length, replicate, All};
 ghost use Rattle.zarr_words.specs.Order.{◌or◌then◌, done, RefusedBy};
 ghost use Rattle.zarr_words.specs.declared.error.CodecError.TheVariants.{OutOfBounds};
-ghost use Rattle.zarr_boxes.specs.Numbering.{count_of};
-ghost use Rattle.zarr_boxes.specs.Boxes.{Region, region_of_ranges, IsBox, end_of, LiesIn, number_in, IsServed};
+ghost use Rattle.row_major.specs.Numbering.{count_of};
+ghost use Rattle.box_runs.specs.Boxes.{Region, region_of_ranges, IsBox, end_of, LiesIn, number_in, IsServed};
 ghost use Rattle.zarr_boxes.specs.BoxRefusals.{BoxTests};
 
 mod overlap;
 mod touched;
 
 use crate::axes::Axes;
-use crate::numbering::count;
+use box_runs::number_of_point;
+use row_major::count;
 use std::alloc::{AllocError, Global};
 use std::marker::Model;
 use std::ops::Range;
@@ -24,7 +25,7 @@ pub struct ArraySubset {
 }
 
 impl Model for ArraySubset {
-    ghost use Rattle.zarr_boxes.specs.Boxes.{Region, IsBox};
+    ghost use Rattle.box_runs.specs.Boxes.{Region, IsBox};
 
     ghost Value = { Region };
 
@@ -198,27 +199,6 @@ fn ends_within(start: &[u64], len: &[u64], shape: &[u64]) -> bool
     true
 }
 
-// The number in an array of a shape of a box's point with the number `i`.
-fn number_of_point(start: &[u64], len: &[u64], i: u64, shape: &[u64]) -> u64
-    requires well_formed { IsBox start.now len.now }
-    requires inside { LiesIn (record { start = start.now; shape = len.now }) shape.now }
-    requires below { i < count_of len.now }
-    requires fits { count_of shape.now < 2 ^ 64 }
-    ensures value { result ≡ number_in (record { start = start.now; shape = len.now }) shape.now i }
-    ensures below { result < count_of shape.now }
-{
-    let mut rest = i;
-    let mut stride = 1;
-    let mut number = 0;
-    for axis in (0..shape.len()).rev() {
-        let index = start[axis] + rest % len[axis];
-        number += index * stride;
-        rest /= len[axis];
-        stride *= shape[axis];
-    }
-    number
-}
-
 impl ArraySubset {
     /// Whether the box ends within a shape on every axis.
     pub fn lies_in(&self, shape: &[u64]) -> bool
@@ -262,5 +242,5 @@ pub fn points_in(subset: &ArraySubset, shape: &[u64]) -> u64
     ensures value { result ≡ count_of subset.now.shape }
     ensures well_formed { IsBox subset.now.start subset.now.shape }
 {
-    subset.num_elements().unwrap()
+    box_runs::points_in(subset.start(), subset.shape(), shape)
 }

@@ -1,4 +1,4 @@
-pub use Rattle.zarr_boxes.proofs.SelectionLemmas
+pub use Rattle.zarr_selections.proofs.SelectionLemmas
 pub use Rattle.zarr_boxes.proofs.NumberingLaws
 pub use Rattle.zarr_boxes.proofs.GridLaws
 pub use Rattle.zarr_boxes.proofs.PieceLaws

@@ -9,7 +9,7 @@ pub use Rattle.zarr_boxes.specs.Grid
 pub use Rattle.zarr_boxes.specs.Touched
 pub use Rattle.zarr_boxes.specs.Pieces
 pub use Rattle.zarr_boxes.specs.Runs
-pub use Rattle.zarr_boxes.specs.Selections
+pub use Rattle.zarr_selections.specs.Selections
 pub use Rattle.zarr_boxes.specs.Laws
 pub use Rattle.zarr_boxes.specs.BoxRefusals
 pub use Rattle.zarr_elements.specs.Types

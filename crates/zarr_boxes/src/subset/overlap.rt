@@ -1,9 +1,9 @@
 // Where boxes meet, and boxes seen from another origin.
-ghost use Rattle.std.specs.Prelude.{◌≡◌, ◌-◌, ◌≤◌, IfOk, IfErr, OnOk, MatchOption, length};
+ghost use Rattle.std.specs.Prelude.{◌≡◌, ◌-◌, ◌≤◌, ◌↔◌, IsTrue, IfOk, IfErr, OnOk, length, max};
 ghost use Rattle.std.specs.List.{AllZip};
 ghost use Rattle.zarr_words.specs.Order.{◌or◌then◌, done, RefusedBy};
-ghost use Rattle.zarr_boxes.specs.Numbering.{zip_with};
-ghost use Rattle.zarr_boxes.specs.Boxes.{IsBox};
+ghost use Rattle.row_major.specs.Numbering.{zip_with};
+ghost use Rattle.box_runs.specs.Boxes.{IsBox};
 ghost use Rattle.zarr_boxes.specs.Overlaps.{overlap_of, relative_box, OriginTests};
 ghost use Rattle.zarr_words.specs.declared.error.CodecError.TheVariants.{IncompatibleDimensionality};
 
@@ -12,46 +12,65 @@ use crate::axes::Axes;
 use std::alloc::{AllocError, Global};
 use zarr_words::CodecError;
 
-// The start and the shape of the box where two boxes meet.
-fn overlap_axes(
+// Where the box starts where two boxes meet.
+fn overlap_starts(alloc: Global, start: &[u64], other_start: &[u64]) -> Result<Axes, AllocError>
+    requires { length start.now ≡ length other_start.now }
+    ensures { IfOk result (λ starts. starts.items ≡ zip_with max start.now other_start.now) }
+{
+    let mut starts = Axes::new(alloc);
+    for axis in 0..start.len() {
+        starts.push(start[axis].max(other_start[axis]))?;
+    }
+    Ok(starts)
+}
+
+// How long the box is where two boxes meet, along each axis.
+fn overlap_lengths(
     alloc: Global,
     start: &[u64],
     shape: &[u64],
     other_start: &[u64],
     other_shape: &[u64],
-) -> Result<(Axes, Axes), AllocError>
+) -> Result<Axes, AllocError>
     requires well_formed { IsBox start.now shape.now }
     requires other_well_formed { IsBox other_start.now other_shape.now }
     requires same_axes { length start.now ≡ length other_start.now }
-    ensures { IfOk result (λ made. record { start = made.0.items; shape = made.1.items }
-        ≡ overlap_of (record { start = start.now; shape = shape.now }) (record { start = other_start.now; shape = other_shape.now })) }
+    ensures { IfOk result (λ lengths. lengths.items
+        ≡ (overlap_of (record { start = start.now; shape = shape.now }) (record { start = other_start.now; shape = other_shape.now })).shape) }
 {
-    let mut starts = Axes::new(alloc);
     let mut lengths = Axes::new(alloc);
     for axis in 0..start.len() {
         let first = start[axis].max(other_start[axis]);
         let end = (start[axis] + shape[axis]).min(other_start[axis] + other_shape[axis]);
-        starts.push(first)?;
         lengths.push(end.saturating_sub(first))?;
     }
-    Ok((starts, lengths))
+    Ok(lengths)
 }
 
-// A start counted from an origin, if it lies below it on no axis.
-fn start_from(alloc: Global, start: &[u64], origin: &[u64]) -> Result<Option<Axes>, AllocError>
+// Whether a start lies below an origin on no axis.
+fn is_behind(start: &[u64], origin: &[u64]) -> bool
     requires { length start.now ≡ length origin.now }
-    ensures { IfOk result (λ moved. MatchOption moved
-        (¬ AllZip ◌≤◌ origin.now start.now)
-        (λ moved. AllZip ◌≤◌ origin.now start.now × (moved.items ≡ zip_with ◌-◌ start.now origin.now))) }
+    ensures { IsTrue result ↔ AllZip ◌≤◌ origin.now start.now }
+{
+    for axis in 0..start.len() {
+        if start[axis] < origin[axis] {
+            return false;
+        }
+    }
+    true
+}
+
+// A start counted from an origin, below which it lies on no axis.
+fn start_from(alloc: Global, start: &[u64], origin: &[u64]) -> Result<Axes, AllocError>
+    requires axes { length start.now ≡ length origin.now }
+    requires behind { AllZip ◌≤◌ origin.now start.now }
+    ensures { IfOk result (λ moved. moved.items ≡ zip_with ◌-◌ start.now origin.now) }
 {
     let mut moved = Axes::new(alloc);
     for axis in 0..start.len() {
-        let Some(from_origin) = start[axis].checked_sub(origin[axis]) else {
-            return Ok(None);
-        };
-        moved.push(from_origin)?;
+        moved.push(start[axis] - origin[axis])?;
     }
-    Ok(Some(moved))
+    Ok(moved)
 }
 
 impl ArraySubset {
@@ -65,13 +84,8 @@ impl ArraySubset {
         if self.start.len() != other.start.len() {
             return Err(CodecError::IncompatibleDimensionality);
         }
-        let (start, shape) = overlap_axes(
-            alloc,
-            &self.start,
-            &self.shape,
-            &other.start,
-            &other.shape,
-        )?;
+        let start = overlap_starts(alloc, &self.start, &other.start)?;
+        let shape = overlap_lengths(alloc, &self.start, &self.shape, &other.start, &other.shape)?;
         Ok(ArraySubset { start, shape })
     }
 
@@ -87,9 +101,10 @@ impl ArraySubset {
         if self.start.len() != origin.len() {
             return Err(CodecError::IncompatibleDimensionality);
         }
-        let Some(start) = start_from(alloc, &self.start, origin)? else {
+        if !is_behind(&self.start, origin) {
             return Err(CodecError::OutOfBounds);
-        };
+        }
+        let start = start_from(alloc, &self.start, origin)?;
         let shape = Axes::from_slice(alloc, &self.shape)?;
         Ok(ArraySubset { start, shape })
     }

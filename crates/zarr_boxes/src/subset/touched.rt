@@ -1,13 +1,13 @@
 // The subchunks that a box touches.
 ghost use Rattle.std.specs.Prelude.{◌≡◌, ◌+◌, ◌-◌, ◌/◌, ◌^◌, ◌<◌, IfOk, All, length};
-ghost use Rattle.zarr_boxes.specs.Numbering.{AllPositive, count_of};
-ghost use Rattle.zarr_boxes.specs.Boxes.{IsBox, LiesIn};
+ghost use Rattle.row_major.specs.Numbering.{AllPositive, count_of};
+ghost use Rattle.box_runs.specs.Boxes.{IsBox, LiesIn};
 ghost use Rattle.zarr_boxes.specs.Grid.{Divides, grid_of};
 ghost use Rattle.zarr_boxes.specs.Touched.{AreTouched, IsTouchedBox};
 
 use super::{ArraySubset, points_in};
 use crate::axes::Axes;
-use crate::selection::box_numbers;
+use crate::runs::box_numbers;
 use crate::shape::ChunkShape;
 use std::alloc::{AllocError, Global};
 
@@ -25,28 +25,7 @@ fn touched_along(first: u64, len: u64, part: u64) -> u64
     last - first / part + 1
 }
 
-// The box of the grid that has the subchunks which a box touches.
-fn touched_box(
-    alloc: Global,
-    start: &[u64],
-    len: &[u64],
-    sub: &[u64],
-) -> Result<(Axes, Axes), AllocError>
-    requires well_formed { IsBox start.now len.now }
-    requires sub { AllPositive sub.now }
-    requires axes { length start.now ≡ length sub.now }
-    ensures { IfOk result (λ made. IsTouchedBox (record { start = start.now; shape = len.now }) sub.now (record { start = made.0.items; shape = made.1.items })) }
-{
-    let mut starts = Axes::new(alloc);
-    let mut lengths = Axes::new(alloc);
-    for axis in 0..start.len() {
-        starts.push(start[axis] / sub[axis])?;
-        lengths.push(touched_along(start[axis], len[axis], sub[axis]))?;
-    }
-    Ok((starts, lengths))
-}
-
-// The quotients of a shape's axes by the subchunk's.
+// The quotients of each axis by the subchunk's.
 fn quotients(alloc: Global, shape: &[u64], sub: &[u64]) -> Result<Axes, AllocError>
     requires sub { AllPositive sub.now }
     requires axes { length shape.now ≡ length sub.now }
@@ -57,6 +36,47 @@ fn quotients(alloc: Global, shape: &[u64], sub: &[u64]) -> Result<Axes, AllocErr
         grid.push(shape[axis] / sub[axis])?;
     }
     Ok(grid)
+}
+
+// In how many subchunks the cells of a box lie along each axis.
+fn touched_lengths(
+    alloc: Global,
+    start: &[u64],
+    len: &[u64],
+    sub: &[u64],
+) -> Result<Axes, AllocError>
+    requires well_formed { IsBox start.now len.now }
+    requires sub { AllPositive sub.now }
+    requires axes { length start.now ≡ length sub.now }
+    ensures { IfOk result (λ lengths. IsTouchedBox (record { start = start.now; shape = len.now }) sub.now (record { start = grid_of start.now sub.now; shape = lengths.items })) }
+{
+    let mut lengths = Axes::new(alloc);
+    for axis in 0..start.len() {
+        lengths.push(touched_along(start[axis], len[axis], sub[axis]))?;
+    }
+    Ok(lengths)
+}
+
+// The box of the grid that has the subchunks which a box touches.
+fn touched_box(
+    alloc: Global,
+    start: &[u64],
+    len: &[u64],
+    shape: &[u64],
+    sub: &[u64],
+) -> Result<ArraySubset, AllocError>
+    requires well_formed { IsBox start.now len.now }
+    requires inside { LiesIn (record { start = start.now; shape = len.now }) shape.now }
+    requires sub { AllPositive sub.now }
+    requires divides { Divides sub.now shape.now }
+    ensures { IfOk result (λ touched. IsTouchedBox (record { start = start.now; shape = len.now }) sub.now touched) }
+{
+    let starts = quotients(alloc, start, sub)?;
+    let lengths = touched_lengths(alloc, start, len, sub)?;
+    Ok(ArraySubset {
+        start: starts,
+        shape: lengths,
+    })
 }
 
 // The row-major numbers in the grid of the subchunks in which points of a box lie, ascending.
@@ -77,8 +97,7 @@ fn touched_numbers(
     ensures below { IfOk result (λ touched. All (λ k. k < count_of (grid_of shape.now sub.now)) touched.items) }
 {
     let grid = quotients(alloc, shape, sub)?;
-    let (start, shape) = touched_box(alloc, start, len, sub)?;
-    let touched = ArraySubset { start, shape };
+    let touched = touched_box(alloc, start, len, shape, sub)?;
     let numbers = box_numbers(alloc, &touched, points_in(&touched, &grid), &grid)?;
     Ok(numbers)
 }

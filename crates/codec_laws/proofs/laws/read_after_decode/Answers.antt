@@ -1,5 +1,5 @@
 use Rattle.std.proofs.Common.{refl}
-use Rattle.zarr_boxes.proofs.SelectionLemmas.{selection_inside}
+use Rattle.zarr_selections.proofs.SelectionLemmas.{selection_inside}
 use Rattle.codec_laws.proofs.CodecLaws.{answered_so}
 use Rattle.codec_laws.proofs.ReadLemmas.{reads_agree}
 use Rattle.codec_laws.proofs.laws.read_after_decode.Goals as goal

@@ -3,7 +3,7 @@ use Rattle.std.proofs.lemmas.List.{length-map, get_or-map, map-set}
 use Rattle.std.proofs.lemmas.List.Elements.{All-take}
 use Rattle.zarr_parts.specs.Numbering.{count_of}
 use Rattle.zarr_parts.specs.Grid.{subchunk_number, place_number}
-use Rattle.zarr_boxes.specs.declared.grid.Located.{Located}
+use Rattle.zarr_selections.specs.declared.grid.Located.{Located}
 use Rattle.shard_format.specs.ReadTests.{places_in}
 use Rattle.shard_cells.specs.declared.grouping.Grouping.{Grouping}
 use Rattle.shard_cells.proofs.GroupingLemmas.{Contains-map, same_at, none_standing, one_more_stands, used_from_members, grouped_cells, used_below, places_below}

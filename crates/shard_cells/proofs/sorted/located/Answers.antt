@@ -1,5 +1,5 @@
 use Rattle.std.proofs.Common.{◌-◌, ◌*◌, ap, arith}
-use Rattle.zarr_boxes.proofs.BoxLaws.{axis_positive, rest_more}
+use Rattle.zarr_boxes.proofs.PointLaws.{axis_positive, rest_more}
 use Rattle.zarr_boxes.proofs.GridLaws.{get_or-grid}
 use Rattle.shard_cells.proofs.LocatingLemmas.{same_axes, subchunk_step, place_step, last_axes, all_subchunk, all_place}
 use Rattle.shard_cells.proofs.sorted.located.Goals as goal

@@ -5,7 +5,7 @@ use Rattle.zarr_parts.specs.Numbering.{count_of}
 use Rattle.zarr_parts.specs.Grid.{grid_of}
 use Rattle.zarr_parts.specs.Arrays.{Array, element_of}
 use Rattle.zarr_boxes.proofs.GridLaws.{count-grid}
-use Rattle.zarr_boxes.proofs.FollowLaws.{subchunk_follows}
+use Rattle.zarr_selections.proofs.FollowLaws.{subchunk_follows}
 use Rattle.shard_layout.proofs.laying.lent_subchunk.Goals as goal
 use Rattle.shard_layout.proofs.laying.lent_subchunk.Goals.{Start}
 

@@ -1,10 +1,11 @@
 use Rattle.std.proofs.Common.{◌≡◌, ◌+◌, ◌-◌, ◌<◌, ◌^◌, ap, sym, ◌∙◌, arith, refl, length, get_or}
 use Rattle.std.proofs.lemmas.List.{drop_all}
 use Rattle.std.proofs.lemmas.List.Elements.{length_all_zip}
-use Rattle.zarr_boxes.specs.Numbering.{IsInside, number_of, point_of}
-use Rattle.zarr_boxes.specs.Boxes.{number_in}
-use Rattle.zarr_boxes.proofs.NumberingLaws.{point_inside}
-use Rattle.zarr_boxes.proofs.BoxLaws.{lies_in_length, shifted_inside, AxisStep, axis_step}
+use Rattle.row_major.specs.Numbering.{IsInside, number_of, point_of}
+use Rattle.box_runs.specs.Boxes.{number_in}
+use Rattle.row_major.proofs.NumberingLaws.{point_inside}
+use Rattle.row_major.proofs.PointLaws.{AxisStep, axis_step}
+use Rattle.box_runs.proofs.BoxLaws.{lies_in_length, shifted_inside}
 use Rattle.zarr_boxes.proofs.SetLaws.{first_point}
 use Rattle.zarr_boxes.proofs.sets.first_number.Goals as goal
 use Rattle.zarr_boxes.proofs.sets.first_number.Goals.{After-start-start, In-loop-axis}

@@ -1,12 +1,12 @@
 use Rattle.std.proofs.Common.{◌≡◌, ◌+◌, ◌-◌, ◌<◌, ◌^◌, sym, ◌∙◌, arith, refl, length, drop}
 use Rattle.std.proofs.lemmas.List.{drop_all}
 use Rattle.std.proofs.lemmas.List.Elements.{length_all_zip}
-use Rattle.zarr_boxes.specs.Numbering.{count_of}
-use Rattle.zarr_boxes.proofs.BoxLaws.{lies_in_length}
-use Rattle.zarr_boxes.proofs.CountLaws.{box_count_le}
-use Rattle.zarr_boxes.proofs.NumberingLaws.{positive_product}
-use Rattle.zarr_boxes.proofs.PieceLaws.{number_in_below}
-use Rattle.zarr_boxes.proofs.RunLaws.{tail_step}
+use Rattle.row_major.specs.Numbering.{count_of}
+use Rattle.box_runs.proofs.BoxLaws.{lies_in_length}
+use Rattle.box_runs.proofs.CountLaws.{box_count_le}
+use Rattle.row_major.proofs.NumberingLaws.{positive_product}
+use Rattle.box_runs.proofs.PieceLaws.{number_in_below}
+use Rattle.box_runs.proofs.RunLaws.{tail_step}
 use Rattle.zarr_boxes.proofs.SetLaws.{tail_more, one_each, along_axis}
 use Rattle.zarr_boxes.proofs.sets.set_group.Goals as goal
 use Rattle.zarr_boxes.proofs.sets.set_group.Goals.{After-shape-len, In-loop-axis}

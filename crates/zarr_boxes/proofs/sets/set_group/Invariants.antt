@@ -1,5 +1,5 @@
 use Rattle.std.proofs.Common.{◌≡◌, drop, length}
-use Rattle.zarr_boxes.specs.Numbering.{count_of}
+use Rattle.row_major.specs.Numbering.{count_of}
 use Rattle.zarr_boxes.proofs.sets.set_group.Given as goal
 
 abbrev pub invariant-loop-axis : goal.invariant-loop-axis

@@ -1,6 +1,6 @@
 use Rattle.std.proofs.Common.{ap, length, arith}
 use Rattle.std.proofs.lemmas.List.Elements.{length_all_zip}
-use Rattle.zarr_boxes.proofs.BoxLaws.{lies_in_length}
+use Rattle.box_runs.proofs.BoxLaws.{lies_in_length}
 use Rattle.zarr_boxes.proofs.subset.check_box.Goals as goal
 
 pub returns-then-start-shape-clause-unserved : goal.returns-then-start-shape-clause-unserved

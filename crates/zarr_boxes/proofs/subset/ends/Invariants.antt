@@ -1,5 +1,5 @@
 use Rattle.std.proofs.Common.{◌≡◌, ◌+◌, take}
-use Rattle.zarr_boxes.specs.Numbering.{zip_with}
+use Rattle.row_major.specs.Numbering.{zip_with}
 use Rattle.zarr_boxes.proofs.subset.ends.Given as goal
 
 abbrev pub invariant-loop-axis : goal.invariant-loop-axis

@@ -1,7 +1,7 @@
 use Rattle.std.proofs.Common.{◌+◌, ◌^◌, ◌<◌, arith, refl}
 use Rattle.std.proofs.lemmas.Bool.{false≢true}
 use Rattle.std.proofs.lemmas.List.Elements.{length_all_zip, AllZip-get_or}
-use Rattle.zarr_boxes.proofs.BoxLaws.{lies_in_length, lies_in_at, lies_in_from_each}
+use Rattle.box_runs.proofs.BoxLaws.{lies_in_length, lies_in_at, lies_in_from_each}
 use Rattle.zarr_boxes.proofs.subset.ends_within.Goals as goal
 
 pub returns-then-start-shape : goal.returns-then-start-shape

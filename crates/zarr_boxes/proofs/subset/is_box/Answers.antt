@@ -1,5 +1,5 @@
 use Rattle.std.proofs.Common.{◌+◌, ◌^◌, ◌<◌, arith, refl}
-use Rattle.zarr_boxes.proofs.BoxLaws.{all_zip_from_each}
+use Rattle.box_runs.proofs.BoxLaws.{all_zip_from_each}
 use Rattle.zarr_boxes.proofs.subset.is_box.Goals as goal
 
 pub returns : goal.returns

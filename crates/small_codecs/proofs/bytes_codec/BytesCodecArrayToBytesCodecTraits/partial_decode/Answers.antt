@@ -2,7 +2,7 @@ use Rattle.std.proofs.Common.{◌∙◌, refl, sym, ap, inl, inr, map, arith}
 use Rattle.zarr_parts.specs.Geo.{geo}
 use Rattle.zarr_parts.specs.Numbering.{number_of}
 use Rattle.zarr_parts.specs.Types.{byte_size}
-use Rattle.zarr_boxes.proofs.SelectionLemmas.{numbers_below}
+use Rattle.zarr_selections.proofs.SelectionLemmas.{numbers_below}
 use Rattle.small_codecs.specs.BytesCodecLaws.{bytes_damaged}
 use Rattle.small_codecs.proofs.BytesCodecSteps.{whole_elements, decoded, asked_past}
 use Rattle.codec_laws.proofs.ReadLemmas.{length-interval_part, asked_answer, elements_at, interval_read}

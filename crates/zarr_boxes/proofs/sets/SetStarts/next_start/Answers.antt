@@ -1,5 +1,5 @@
 use Rattle.std.proofs.Common.{◌+◌, ◌*◌, arith}
-use Rattle.zarr_boxes.proofs.PieceLaws.{number_in_below}
+use Rattle.box_runs.proofs.PieceLaws.{number_in_below}
 use Rattle.zarr_boxes.proofs.SetLaws.{next_set, next_group, set_below}
 use Rattle.zarr_boxes.proofs.sets.SetStarts.next_start.Goals as goal
 

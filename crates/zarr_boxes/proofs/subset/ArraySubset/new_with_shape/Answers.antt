@@ -1,5 +1,5 @@
 use Rattle.std.proofs.Common.{◌≡◌, ℕ, ap, length, replicate, ◌∙◌, arith}
-use Rattle.zarr_boxes.proofs.BoxLaws.{is_box_from_zero}
+use Rattle.box_runs.proofs.BoxLaws.{is_box_from_zero}
 use Rattle.zarr_boxes.proofs.subset.ArraySubset.new_with_shape.Goals as goal
 
 pub invariant_of-result : goal.invariant_of-result

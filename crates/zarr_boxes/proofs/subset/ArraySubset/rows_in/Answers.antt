@@ -1,12 +1,12 @@
 use Rattle.std.proofs.Common.{◌≡◌, ◌+◌, ◌*◌, ◌/◌, ◌<◌, ◌^◌, sym, ◌∙◌, arith, length, refl}
 use Rattle.std.proofs.lemmas.List.Elements.{length_all_zip}
-use Rattle.zarr_boxes.specs.Numbering.{count_of}
-use Rattle.zarr_boxes.specs.Boxes.{number_in}
-use Rattle.zarr_boxes.specs.Runs.{IsRunLength, AreRows}
-use Rattle.zarr_boxes.proofs.BoxLaws.{lies_in_length}
-use Rattle.zarr_boxes.proofs.PieceLaws.{number_in_below}
-use Rattle.zarr_boxes.proofs.RunLaws.{run_divides}
-use Rattle.zarr_boxes.proofs.RowLaws.{box_rows, rows_of_box}
+use Rattle.row_major.specs.Numbering.{count_of}
+use Rattle.box_runs.specs.Boxes.{number_in}
+use Rattle.box_runs.specs.Runs.{IsRunLength, AreRows}
+use Rattle.box_runs.proofs.BoxLaws.{lies_in_length}
+use Rattle.box_runs.proofs.PieceLaws.{number_in_below}
+use Rattle.box_runs.proofs.RunLaws.{run_divides}
+use Rattle.box_runs.proofs.RowLaws.{box_rows, rows_of_box}
 use Rattle.zarr_boxes.proofs.subset.ArraySubset.rows_in.Goals as goal
 use Rattle.zarr_boxes.proofs.subset.ArraySubset.rows_in.Goals.{After-row_set-run}
 

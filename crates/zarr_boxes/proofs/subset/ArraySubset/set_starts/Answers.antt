@@ -1,8 +1,8 @@
 use Rattle.std.proofs.Common.{◌≡◌, ◌+◌, ◌*◌, ◌<◌, ◌^◌, ◌∙◌, ap, arith}
 use Rattle.std.proofs.lemmas.List.Elements.{length_all_zip}
-use Rattle.zarr_boxes.specs.Boxes.{number_in}
-use Rattle.zarr_boxes.proofs.CountLaws.{box_count_le}
-use Rattle.zarr_boxes.proofs.NumberingLaws.{positive_product}
+use Rattle.box_runs.specs.Boxes.{number_in}
+use Rattle.box_runs.proofs.CountLaws.{box_count_le}
+use Rattle.row_major.proofs.NumberingLaws.{positive_product}
 use Rattle.zarr_boxes.proofs.SetLaws.{first_set, last_set}
 use Rattle.zarr_boxes.proofs.subset.ArraySubset.set_starts.Goals as goal
 use Rattle.zarr_boxes.proofs.subset.ArraySubset.set_starts.Goals.{then-sets-eq0, else-sets-eq0}

@@ -1,7 +1,7 @@
 use Rattle.std.proofs.Common.{◌/◌, ◌∙◌, arith, refl}
 use Rattle.std.proofs.lemmas.List.{take_all}
-use Rattle.zarr_boxes.specs.Numbering.{zip_with}
-use Rattle.zarr_boxes.proofs.BoxLaws.{length-zip_with, zip_with_more}
+use Rattle.row_major.specs.Numbering.{zip_with}
+use Rattle.box_runs.proofs.BoxLaws.{length-zip_with, zip_with_more}
 use Rattle.zarr_boxes.proofs.subset.touched.quotients.Goals as goal
 
 pub loop-axis-preserved : goal.loop-axis-preserved

@@ -1,22 +1,24 @@
-use Rattle.std.proofs.Common.{◌+◌, ◌^◌, ◌<◌, arith, refl}
+use Rattle.std.proofs.Common.{◌%◌, ◌∙◌, ◌≡◌, ◌+◌, ◌^◌, ◌<◌, sym}
 use Rattle.std.proofs.lemmas.List.Elements.{length_all_zip}
-use Rattle.zarr_boxes.proofs.TouchedLaws.{touched_more, touched_whole}
+use Rattle.box_runs.proofs.BoxLaws.{lies_in_length}
+use Rattle.zarr_boxes.proofs.TouchedLaws.{touched_is_box}
 use Rattle.zarr_boxes.proofs.subset.touched.touched_box.Goals as goal
 
-pub bounds-sub-axis : goal.bounds-sub-axis
-bounds-sub-axis c = omega (arith, c.requires.axes)
+pub quotients-requires-clause-axes : goal.quotients-requires-clause-axes
+quotients-requires-clause-axes c =
+    let one = length_all_zip (λ first len. first + len < 2 ^ 64) c.args.start.now c.args.len.now c.requires.well_formed in
+    lies_in_length c.args.start.now c.args.len.now c.args.shape.now one c.requires.inside
+    ∙ sym (length_all_zip (λ part axis. axis % part ≡ 0) c.args.sub.now c.args.shape.now c.requires.divides)
 
-pub bounds-sub-axis-in-loop-axis : goal.bounds-sub-axis-in-loop-axis
-bounds-sub-axis-in-loop-axis c = omega (arith, c.requires.axes)
+pub touched_lengths-requires-clause-axes : goal.touched_lengths-requires-clause-axes
+touched_lengths-requires-clause-axes c =
+    let one = length_all_zip (λ first len. first + len < 2 ^ 64) c.args.start.now c.args.len.now c.requires.well_formed in
+    lies_in_length c.args.start.now c.args.len.now c.args.shape.now one c.requires.inside
+    ∙ sym (length_all_zip (λ part axis. axis % part ≡ 0) c.args.sub.now c.args.shape.now c.requires.divides)
 
-pub bounds-len-axis : goal.bounds-len-axis
-bounds-len-axis c =
-    omega (arith, length_all_zip (λ first len. first + len < 2 ^ 64) c.args.start.now c.args.len.now c.requires.well_formed)
-
-pub loop-axis-preserved : goal.loop-axis-preserved
-loop-axis-preserved c =
-    touched_more (record { start = c.args.start.now; shape = c.args.len.now }) c.args.sub.now c.loop-axis.axis _ _ _ _ _ _
-    c.loop-axis.invariant c.in_ok-push.ensures.ok c.in_ok-push-2.ensures.ok refl c.touched_along.ensures.none c.touched_along.ensures.ends
-
-pub returns : goal.returns
-returns c = touched_whole (record { start = c.args.start.now; shape = c.args.len.now }) c.args.sub.now c.loop-axis.axis _ _ (omega arith) c.loop-axis.invariant
+pub invariant_of-result : goal.invariant_of-result
+invariant_of-result c =
+    let a = c.args in
+    let made = rw (← c.in_ok-starts.ensures) at c.in_ok-lengths.ensures in
+    touched_is_box a.shape.now a.sub.now (record { start = a.start.now; shape = a.len.now }) (record { start = c.in_ok-starts.starts.items; shape = c.in_ok-lengths.lengths.items })
+    made c.requires.sub c.requires.divides c.requires.well_formed c.requires.inside

@@ -1,54 +1,35 @@
-use Rattle.std.proofs.Common.{◌%◌, ◌∙◌, ◌≡◌, ◌+◌, ◌^◌, ◌<◌, sym}
+use Rattle.std.proofs.Common.{◌%◌, ◌≡◌, sym}
 use Rattle.std.proofs.lemmas.List.Elements.{length_all_zip}
-use Rattle.zarr_boxes.proofs.BoxLaws.{lies_in_length}
-use Rattle.zarr_boxes.proofs.TouchedLaws.{touched_is_box, touched_served, are_touched, touched_below}
+use Rattle.zarr_boxes.proofs.TouchedLaws.{touched_served, are_touched, touched_below}
 use Rattle.zarr_boxes.proofs.subset.touched.touched_numbers.Goals as goal
 
 pub quotients-requires-clause-axes : goal.quotients-requires-clause-axes
 quotients-requires-clause-axes c = sym (length_all_zip (λ part axis. axis % part ≡ 0) c.args.sub.now c.args.shape.now c.requires.divides)
 
-pub touched_box-requires-clause-axes : goal.touched_box-requires-clause-axes
-touched_box-requires-clause-axes c =
-    let one = length_all_zip (λ first len. first + len < 2 ^ 64) c.args.start.now c.args.len.now c.requires.well_formed in
-    lies_in_length c.args.start.now c.args.len.now c.args.shape.now one c.requires.inside
-    ∙ sym (length_all_zip (λ part axis. axis % part ≡ 0) c.args.sub.now c.args.shape.now c.requires.divides)
-
-pub invariant_of-touched : goal.invariant_of-touched
-invariant_of-touched c =
-    let a = c.args in
-    touched_is_box a.shape.now a.sub.now (record { start = a.start.now; shape = a.len.now }) (record { start = c.in_ok-start.start.items; shape = c.in_ok-start.shape.items })
-    c.in_ok-start.ensures c.requires.sub c.requires.divides c.requires.well_formed c.requires.inside
-
 pub points_in-requires : goal.points_in-requires
 points_in-requires c =
     let a = c.args in
     rw (c.deref.ensures, c.in_ok-grid.ensures)
-    (touched_served a.shape.now a.sub.now (record { start = a.start.now; shape = a.len.now }) (record { start = c.in_ok-start.start.items; shape = c.in_ok-start.shape.items })
-    c.in_ok-start.ensures c.requires.sub c.requires.divides c.requires.well_formed c.requires.inside c.requires.shape c.requires.fits)
-
-pub invariant_of-touched-2 : goal.invariant_of-touched-2
-invariant_of-touched-2 c =
-    let a = c.args in
-    touched_is_box a.shape.now a.sub.now (record { start = a.start.now; shape = a.len.now }) (record { start = c.in_ok-start.start.items; shape = c.in_ok-start.shape.items })
-    c.in_ok-start.ensures c.requires.sub c.requires.divides c.requires.well_formed c.requires.inside
+    (touched_served a.shape.now a.sub.now (record { start = a.start.now; shape = a.len.now }) c.in_ok-touched.touched
+    c.in_ok-touched.ensures c.requires.sub c.requires.divides c.requires.well_formed c.requires.inside c.requires.shape c.requires.fits)
 
 pub box_numbers-requires : goal.box_numbers-requires
 box_numbers-requires c =
     let a = c.args in
     rw (c.deref-2.ensures, c.in_ok-grid.ensures)
-    (touched_served a.shape.now a.sub.now (record { start = a.start.now; shape = a.len.now }) (record { start = c.in_ok-start.start.items; shape = c.in_ok-start.shape.items })
-    c.in_ok-start.ensures c.requires.sub c.requires.divides c.requires.well_formed c.requires.inside c.requires.shape c.requires.fits)
+    (touched_served a.shape.now a.sub.now (record { start = a.start.now; shape = a.len.now }) c.in_ok-touched.touched
+    c.in_ok-touched.ensures c.requires.sub c.requires.divides c.requires.well_formed c.requires.inside c.requires.shape c.requires.fits)
 
 pub returns-clause-touched : goal.returns-clause-touched
 returns-clause-touched c =
     let a = c.args in
     let numbers = rw (c.deref-2.ensures, c.in_ok-grid.ensures) at c.in_ok-numbers.ensures in
-    are_touched a.shape.now a.sub.now (record { start = a.start.now; shape = a.len.now }) (record { start = c.in_ok-start.start.items; shape = c.in_ok-start.shape.items })
-    c.in_ok-start.ensures c.requires.sub c.requires.divides c.requires.well_formed c.requires.inside c.in_ok-numbers.numbers.items numbers
+    are_touched a.shape.now a.sub.now (record { start = a.start.now; shape = a.len.now }) c.in_ok-touched.touched
+    c.in_ok-touched.ensures c.requires.sub c.requires.divides c.requires.well_formed c.requires.inside c.in_ok-numbers.numbers.items numbers
 
 pub returns-clause-below : goal.returns-clause-below
 returns-clause-below c =
     let a = c.args in
     let numbers = rw (c.deref-2.ensures, c.in_ok-grid.ensures) at c.in_ok-numbers.ensures in
-    touched_below a.shape.now a.sub.now (record { start = a.start.now; shape = a.len.now }) (record { start = c.in_ok-start.start.items; shape = c.in_ok-start.shape.items })
-    c.in_ok-start.ensures c.requires.sub c.requires.divides c.requires.well_formed c.requires.inside c.in_ok-numbers.numbers.items numbers
+    touched_below a.shape.now a.sub.now (record { start = a.start.now; shape = a.len.now }) c.in_ok-touched.touched
+    c.in_ok-touched.ensures c.requires.sub c.requires.divides c.requires.well_formed c.requires.inside c.in_ok-numbers.numbers.items numbers

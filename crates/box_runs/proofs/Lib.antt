@@ -1,0 +1,5 @@
+pub mod BoxLaws
+pub mod CountLaws
+pub mod PieceLaws
+pub mod RunLaws
+pub mod RowLaws

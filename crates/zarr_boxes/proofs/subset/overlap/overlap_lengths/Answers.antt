@@ -1,0 +1,34 @@
+use Rattle.std.proofs.Common.{◌+◌, ◌^◌, ◌<◌, arith, refl}
+use Rattle.std.proofs.lemmas.List.Elements.{length_all_zip}
+use Rattle.box_runs.specs.Boxes.{Region}
+use Rattle.zarr_boxes.proofs.OverlapLaws.{HaveSameAxes, overlap_length_more, overlap_lengths_whole}
+use Rattle.zarr_boxes.proofs.subset.overlap.overlap_lengths.Goals as goal
+
+pub bounds-other_start-axis : goal.bounds-other_start-axis
+bounds-other_start-axis c = omega (arith, c.requires.same_axes)
+
+pub bounds-shape-axis : goal.bounds-shape-axis
+bounds-shape-axis c =
+    omega (arith, length_all_zip (λ first len. first + len < 2 ^ 64) c.args.start.now c.args.shape.now c.requires.well_formed)
+
+pub bounds-other_start-axis-in-loop-axis : goal.bounds-other_start-axis-in-loop-axis
+bounds-other_start-axis-in-loop-axis c = omega (arith, c.requires.same_axes)
+
+pub bounds-other_shape-axis : goal.bounds-other_shape-axis
+bounds-other_shape-axis c =
+    omega (arith, c.requires.same_axes, length_all_zip (λ first len. first + len < 2 ^ 64) c.args.other_start.now c.args.other_shape.now c.requires.other_well_formed)
+
+pub loop-axis-preserved : goal.loop-axis-preserved
+loop-axis-preserved c =
+    let box : Region = record { start = c.args.start.now; shape = c.args.shape.now } in
+    let other : Region = record { start = c.args.other_start.now; shape = c.args.other_shape.now } in
+    let alike : HaveSameAxes box other = record { well_formed = c.requires.well_formed; other_well_formed = c.requires.other_well_formed; same_axes = c.requires.same_axes } in
+    overlap_length_more box other c.loop-axis.axis _ _ _ _ _ _ _ _ _ alike (omega arith) refl refl refl refl c.max-first.ensures c.min-end.ensures c.saturating_sub.ensures
+    c.loop-axis.invariant c.in_ok-push.ensures.ok
+
+pub returns : goal.returns
+returns c =
+    let box : Region = record { start = c.args.start.now; shape = c.args.shape.now } in
+    let other : Region = record { start = c.args.other_start.now; shape = c.args.other_shape.now } in
+    let alike : HaveSameAxes box other = record { well_formed = c.requires.well_formed; other_well_formed = c.requires.other_well_formed; same_axes = c.requires.same_axes } in
+    overlap_lengths_whole box other c.loop-axis.axis _ alike (omega arith) c.loop-axis.invariant

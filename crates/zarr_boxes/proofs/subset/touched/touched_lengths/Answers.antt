@@ -1,0 +1,19 @@
+use Rattle.std.proofs.Common.{◌+◌, ◌^◌, ◌<◌, arith}
+use Rattle.std.proofs.lemmas.List.Elements.{length_all_zip}
+use Rattle.zarr_boxes.proofs.TouchedLaws.{touched_more, touched_whole}
+use Rattle.zarr_boxes.proofs.subset.touched.touched_lengths.Goals as goal
+
+pub bounds-sub-axis : goal.bounds-sub-axis
+bounds-sub-axis c = omega (arith, c.requires.axes)
+
+pub bounds-len-axis : goal.bounds-len-axis
+bounds-len-axis c =
+    omega (arith, length_all_zip (λ first len. first + len < 2 ^ 64) c.args.start.now c.args.len.now c.requires.well_formed)
+
+pub loop-axis-preserved : goal.loop-axis-preserved
+loop-axis-preserved c =
+    touched_more (record { start = c.args.start.now; shape = c.args.len.now }) c.args.sub.now c.loop-axis.axis _ _ _
+    c.loop-axis.invariant c.in_ok-push.ensures.ok c.touched_along.ensures.none c.touched_along.ensures.ends
+
+pub returns : goal.returns
+returns c = touched_whole (record { start = c.args.start.now; shape = c.args.len.now }) c.args.sub.now c.loop-axis.axis _ c.requires.axes (omega arith) c.loop-axis.invariant

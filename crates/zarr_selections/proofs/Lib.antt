@@ -1,0 +1,4 @@
+pub mod LocateLaws
+pub mod FollowLaws
+pub mod CoordinateLaws
+pub mod SelectionLemmas
