@@ -1,4 +1,4 @@
-use Rattle.std.proofs.Common.{ℕ, get_or, rules, arith}
+use Rattle.std.proofs.Common.{ℕ, get_or, arith}
 use Rattle.zarr_selections.proofs.LocateLaws.{front, LocatedMore, located_more, empty_subchunk, empty_place}
 use Rattle.zarr_selections.proofs.grid.+locate.Goals as goal
 use Rattle.zarr_selections.proofs.grid.+locate.Goals.{After-locate-rest}
@@ -7,7 +7,7 @@ pub locate-rest-requires : goal.locate-rest-requires
 locate-rest-requires t c =
     let q = c.requires in
     let f = front c.args.number c.args.shape.now c.args.sub.now c.in-len1-up.len_at_least c.in-len1-up-sub.len_at_least q.shape q.sub q.divides q.inside in
-    (search rules, (rw (q.cells, f.cells) f.below, (f.shape_rest, (f.sub_rest, (f.divides, (rw q.cells f.cells, (rw q.subchunks f.subchunks, rw q.places f.places)))))))
+    (omega (arith, c.decreases, c.in-len1-up.len_at_least), (rw (q.cells, f.cells) f.below, (f.shape_rest, (f.sub_rest, (f.divides, (rw q.cells f.cells, (rw q.subchunks f.subchunks, rw q.places f.places)))))))
 
 -- what the first axis adds to the numbers of the axes after it
 turn : (t : ℕ) (c : After-locate-rest t) → LocatedMore c.args.number (get_or c.args.shape.now 0 0) (get_or c.args.sub.now 0 0) c.args.cells c.args.subchunks c.args.places
