@@ -1,9 +1,14 @@
 use Rattle.std.proofs.Common.{◌+◌, ◌^◌, ◌<◌, ◌∙◌, arith, refl}
 use Rattle.std.proofs.lemmas.List.{take_all}
-use Rattle.std.proofs.lemmas.List.Elements.{length_all_zip}
+use Rattle.std.proofs.lemmas.List.Elements.{length_all_zip, AllZip-get_or}
 use Rattle.row_major.specs.Numbering.{zip_with}
 use Rattle.box_runs.proofs.BoxLaws.{length-zip_with, zip_with_more}
 use Rattle.zarr_boxes.proofs.subset.ends.Goals as goal
+
+pub overflow_add-start : goal.overflow_add-start
+overflow_add-start c =
+    let fits = AllZip-get_or (λ first len. first + len < 2 ^ 64) c.args.start.now c.args.shape.now c.loop-axis.axis 0 0 c.requires (omega arith) in
+    omega (arith, fits)
 
 pub loop-axis-preserved : goal.loop-axis-preserved
 loop-axis-preserved c =

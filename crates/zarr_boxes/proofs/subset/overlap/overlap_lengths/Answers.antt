@@ -1,5 +1,5 @@
 use Rattle.std.proofs.Common.{◌+◌, ◌^◌, ◌<◌, arith, refl}
-use Rattle.std.proofs.lemmas.List.Elements.{length_all_zip}
+use Rattle.std.proofs.lemmas.List.Elements.{length_all_zip, AllZip-get_or}
 use Rattle.box_runs.specs.Boxes.{Region}
 use Rattle.zarr_boxes.proofs.OverlapLaws.{HaveSameAxes, overlap_length_more, overlap_lengths_whole}
 use Rattle.zarr_boxes.proofs.subset.overlap.overlap_lengths.Goals as goal
@@ -17,6 +17,16 @@ bounds-other_start-axis-in-loop-axis c = omega (arith, c.requires.same_axes)
 pub bounds-other_shape-axis : goal.bounds-other_shape-axis
 bounds-other_shape-axis c =
     omega (arith, c.requires.same_axes, length_all_zip (λ first len. first + len < 2 ^ 64) c.args.other_start.now c.args.other_shape.now c.requires.other_well_formed)
+
+pub overflow_add-start : goal.overflow_add-start
+overflow_add-start c =
+    let fits = AllZip-get_or (λ first len. first + len < 2 ^ 64) c.args.start.now c.args.shape.now c.loop-axis.axis 0 0 c.requires.well_formed (omega arith) in
+    omega (arith, fits)
+
+pub overflow_add-other_start : goal.overflow_add-other_start
+overflow_add-other_start c =
+    let fits = AllZip-get_or (λ first len. first + len < 2 ^ 64) c.args.other_start.now c.args.other_shape.now c.loop-axis.axis 0 0 c.requires.other_well_formed (omega (arith, c.requires.same_axes)) in
+    omega (arith, fits)
 
 pub loop-axis-preserved : goal.loop-axis-preserved
 loop-axis-preserved c =

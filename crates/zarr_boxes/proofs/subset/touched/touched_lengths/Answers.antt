@@ -1,5 +1,5 @@
 use Rattle.std.proofs.Common.{◌+◌, ◌^◌, ◌<◌, arith}
-use Rattle.std.proofs.lemmas.List.Elements.{length_all_zip}
+use Rattle.std.proofs.lemmas.List.Elements.{length_all_zip, AllZip-get_or}
 use Rattle.zarr_boxes.proofs.TouchedLaws.{touched_more, touched_whole}
 use Rattle.zarr_boxes.proofs.subset.touched.touched_lengths.Goals as goal
 
@@ -9,6 +9,14 @@ bounds-sub-axis c = omega (arith, c.requires.axes)
 pub bounds-len-axis : goal.bounds-len-axis
 bounds-len-axis c =
     omega (arith, length_all_zip (λ first len. first + len < 2 ^ 64) c.args.start.now c.args.len.now c.requires.well_formed)
+
+pub touched_along-requires-clause-some : goal.touched_along-requires-clause-some
+touched_along-requires-clause-some c = c.requires.sub c.loop-axis.axis 0 (omega (arith, c.requires.axes))
+
+pub touched_along-requires-clause-fits : goal.touched_along-requires-clause-fits
+touched_along-requires-clause-fits c =
+    let fits = AllZip-get_or (λ first len. first + len < 2 ^ 64) c.args.start.now c.args.len.now c.loop-axis.axis 0 0 c.requires.well_formed (omega arith) in
+    omega (arith, fits)
 
 pub loop-axis-preserved : goal.loop-axis-preserved
 loop-axis-preserved c =
