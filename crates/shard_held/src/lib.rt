@@ -1,6 +1,7 @@
-// What a session holds of a shard that is open for reading and writing, and the steps of a session before its handle is written.
+// What a session holds of a shard that is open for reading and writing, and the steps of its reads and writes.
 #![tactic(auto)]
 
+mod reads;
 mod session;
 mod writes;
 

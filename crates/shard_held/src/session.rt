@@ -80,8 +80,8 @@ impl OpenSession {
         }
     }
 
-    /// Holds what a write left.
-    pub fn hold(&mut self, prepared: Prepared)
+    // Holds what a write left.
+    pub(crate) fn hold(&mut self, prepared: Prepared)
         ensures shard { self.new.shard ≡ record self.old.shard { held = held_after prepared.change prepared.len prepared.numbers } }
         ensures plan { self.new.plan ≡ self.old.plan }
         ensures blank { IfNone self.new.shard.held (self.new.blank.items ≡ replicate (length prepared.numbers.items) absent_number) }

@@ -1,12 +1,14 @@
-// Writes into a session, before the one writing call of its handle.
-ghost use Rattle.std.specs.Prelude.{◌≡◌, IsTrue, IfOk, IfErr, All, length};
-ghost use Rattle.zarr_parts.specs.Order.{RefusedBy};
+// Writes into a session: all that is read and encoded first, and the one writing call of its handle.
+ghost use Rattle.std.specs.Prelude.{◌≡◌, ◌+◌, ◌<◌, ◌^◌, IsTrue, IfOk, IfErr, IfSome, IfNone, OnOk, OnErr, All, length, replicate};
+ghost use Rattle.zarr_parts.specs.Order.{done, RefusedBy};
 ghost use Rattle.zarr_parts.specs.Numbering.{AllPositive, count_of};
 ghost use Rattle.zarr_parts.specs.Boxes.{IsBox, LiesIn};
 ghost use Rattle.zarr_parts.specs.Grid.{grid_of};
 ghost use Rattle.zarr_parts.specs.Types.{size_of, FitsKind};
 ghost use Rattle.object_handles.specs.Handles.{IsRead, IsCounted};
 ghost use Rattle.object_handles.specs.Objects.{ObjectTests};
+ghost use Rattle.object_handles.specs.Writes.{IsWriting, KeptUnlessFault};
+ghost use Rattle.shard_format.specs.Index.{absent_number};
 ghost use Rattle.shard_format.specs.Serves.{sub_geo};
 ghost use Rattle.shard_steps.specs.Indexes.{index_meaning};
 ghost use Rattle.shard_writing.specs.Changes.{object_after};
@@ -15,11 +17,11 @@ ghost use Rattle.shard_steps.specs.Meanings.{inner_of, index_of, meaning_of};
 ghost use Rattle.shard_opening.specs.Held.{object_cells};
 ghost use Rattle.shard_opening.specs.OpenShards.{shard_geo, numbers_by};
 ghost use Rattle.shard_held.specs.OpenSessions.{IsOpenSession, numbers_held};
-ghost use Rattle.shard_held.specs.PreparedWrites.{IsWrittenTo, WriteToTests};
+ghost use Rattle.shard_held.specs.PreparedWrites.{IsWrittenTo, WriteToTests, held_after};
 
 use crate::session::OpenSession;
 use codec_laws::ArrayToBytesCodecTraits;
-use object_handles::BytesPartialDecoderTraits;
+use object_handles::{BytesPartialDecoderTraits, BytesPartialEncoderTraits};
 use shard_steps::{IndexCodec, Sharding, Subchunks};
 use shard_writing::{Prepared, Writing};
 use std::alloc::Global;
@@ -90,5 +92,29 @@ impl OpenSession {
         let (len, numbers) = self.held_index();
         let prepared = writing.prepare(alloc, handle, places, len, numbers, subset, update)?;
         Ok(prepared)
+    }
+
+    /// Makes a prepared write by one writing call of the handle, and holds what it leaves. Refused as `Fault`, where the handle
+    /// failed, or `OutOfMemory`; a refusal leaves what is held, and one that is no fault leaves the object.
+    pub fn write<H: BytesPartialEncoderTraits>(
+        &mut self,
+        alloc: Global,
+        handle: &mut H,
+        prepared: Prepared,
+    ) -> Result<(), CodecError>
+        requires room { IsTrue (H.state handle.old).tells → IfSome (object_after prepared.change (H.state handle.old).contents) (λ bytes. length bytes + 1 < 2 ^ 64) }
+        ensures writing { IsWriting (H.state handle.old) (H.state handle.new) }
+        ensures made { OnOk result (IsTrue (H.state handle.old).tells → (H.state handle.new).contents ≡ object_after prepared.change (H.state handle.old).contents) }
+        ensures shard { OnOk result (self.new.shard ≡ record self.old.shard { held = held_after prepared.change prepared.len prepared.numbers }) }
+        ensures plan { OnOk result (self.new.plan ≡ self.old.plan) }
+        ensures blank { OnOk result (IfNone self.new.shard.held (self.new.blank.items ≡ replicate (length prepared.numbers.items) absent_number)) }
+        ensures left { OnErr result (self.new ≡ self.old) }
+        ensures kept { IfErr result (KeptUnlessFault (H.state handle.old) (H.state handle.new)) }
+        ensures fault { IfErr result (IsCounted (H.state handle.old) (H.state handle.new)) }
+        ensures refused { IfErr result (RefusedBy (ObjectTests (H.state handle.old) (H.state handle.new) done)) }
+    {
+        prepared.change.make(alloc, handle)?;
+        self.hold(prepared);
+        Ok(())
     }
 }

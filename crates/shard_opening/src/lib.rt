@@ -4,6 +4,5 @@
 mod held;
 mod reads;
 mod shard;
-mod subchunks;
 
 pub use shard::OpenShard;

@@ -1,3 +1,1 @@
 pub mod RoomLemmas
-mod CompactLemmas
-mod PlaceLemmas

@@ -1,6 +1,6 @@
 pub mod Meanings
 pub mod MeaningLaws
-pub mod Plans
+pub use Rattle.shard_plans.specs.Plans
 pub use Rattle.shard_index.specs.DataPart
 pub use Rattle.shard_index.specs.Indexes
 pub use Rattle.shard_cells.specs.Updates

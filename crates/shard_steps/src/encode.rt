@@ -4,16 +4,17 @@ ghost use Rattle.zarr_parts.specs.Order.{RefusedBy};
 ghost use Rattle.zarr_parts.specs.Geo.{IsArrayOf};
 ghost use Rattle.zarr_parts.specs.Types.{size_of};
 ghost use Rattle.zarr_parts.specs.CodecError.TheVariants.{OutOfMemory};
+ghost use Rattle.codec_laws.specs.Encodings.{IsEncodedOnto};
 ghost use Rattle.shard_format.specs.Index.{data_start};
 ghost use Rattle.shard_format.specs.Laying.{whole_shard};
 ghost use Rattle.shard_index.specs.Indexes.{index_meaning};
 ghost use Rattle.shard_steps.specs.Meanings.{meaning_of};
-ghost use Rattle.shard_steps.specs.Plans.{asked_geo, IsPlan};
+ghost use Rattle.shard_plans.specs.Plans.{asked_geo, IsPlan};
 
-use crate::plan::Plan;
 use crate::sharding::Sharding;
 use codec_laws::ArrayToBytesCodecTraits;
 use shard_format::{Asked, ShardingIndexLocation};
+use shard_plans::Plan;
 use shard_subchunks::Subchunks;
 use std::alloc::{AllocError, Global};
 use zarr_parts::{ArrayBytes, CodecError, CodecOptions};
@@ -120,5 +121,32 @@ impl<I: ArrayToBytesCodecTraits, X: ArrayToBytesCodecTraits> Sharding<'_, I, X> 
             .encode(alloc, &slots, &plan.index, options)?;
         put_index(shard, start, self.index_codec.location, &index)?;
         Ok(())
+    }
+    /// As `encode_planned`; where it is refused, what was put there is cut off.
+    pub(crate) fn encode_or_cut(
+        &self,
+        alloc: Global,
+        array: &ArrayBytes,
+        asked: &Asked,
+        plan: &Plan,
+        options: &CodecOptions,
+        shard: &mut Vec<u8>,
+    ) -> Result<(), CodecError>
+        requires serves { (meaning_of I.meaning X.meaning self.now (asked_geo asked.now)).serves }
+        requires plan { IsPlan (index_meaning X.meaning self.now.index_codec.codec.now) asked.now.shape.now self.now.subchunk_shape.now plan.now }
+        ensures array { let g = asked_geo asked.now in
+            OnOk result ((array.now.kind ≡ size_of asked.now.data_type.now) × IsArrayOf g array.now.elements) }
+        ensures written { let m = meaning_of I.meaning X.meaning self.now (asked_geo asked.now) in
+            OnOk result (IsEncodedOnto m.written array.now.elements shard.old.items shard.new.items) }
+        ensures kept { OnErr result (shard.new.items ≡ shard.old.items) }
+        ensures refused { let m = meaning_of I.meaning X.meaning self.now (asked_geo asked.now) in
+            IfErr result (RefusedBy (m.encode_tests array.now)) }
+    {
+        let len = shard.len();
+        let answer = self.encode_planned(alloc, array, asked, plan, options, shard);
+        if answer.is_err() {
+            shard.truncate(len);
+        }
+        answer
     }
 }

@@ -1,7 +1,7 @@
 // The steps of the sharding codec: from what it is asked to plans, and from arrays to shards and back.
 #![tactic(auto)]
 
-mod compact;
+mod decode;
 mod encode;
 mod plain;
 mod plan;
@@ -9,12 +9,12 @@ mod read;
 mod read_into;
 mod sharding;
 
-pub use plan::Plan;
 pub use shard_cells::{check_asked, check_update, filled, gathered};
 pub use shard_format::{
     Asked, PartialDecoderCapability, PartialEncoderCapability, ShardingCodecOptions,
 };
 pub use shard_index::{IndexCodec, IndexPlan, check_pairs, without_pairs};
 pub use shard_layout::{LaidOut, elements_in_row, gather_subchunk, joined_shard, placed};
+pub use shard_plans::Plan;
 pub use shard_subchunks::{Stored, Subchunks};
 pub use sharding::Sharding;

@@ -9,13 +9,13 @@ ghost use Rattle.codec_laws.specs.Reads.{IsAnswer, IsReadOf};
 ghost use Rattle.object_handles.specs.Objects.{ObjectTests, IntervalTests};
 ghost use Rattle.shard_index.specs.Indexes.{index_meaning};
 ghost use Rattle.shard_steps.specs.Meanings.{meaning_of};
-ghost use Rattle.shard_steps.specs.Plans.{asked_geo, IsPlan};
+ghost use Rattle.shard_plans.specs.Plans.{asked_geo, IsPlan};
 
-use crate::plan::Plan;
 use crate::sharding::Sharding;
 use codec_laws::ArrayToBytesCodecTraits;
-use object_handles::{BytesPartialDecoderTraits, Interval, check_interval};
+use object_handles::{BytesPartialDecoderTraits, Interval};
 use shard_format::Asked;
+use shard_plans::{Plan, read_index};
 use shard_subchunks::Subchunks;
 use std::alloc::Global;
 use zarr_parts::{ArrayBytes, CodecError, CodecOptions, Indexer};
@@ -52,10 +52,14 @@ impl<I: ArrayToBytesCodecTraits, X: ArrayToBytesCodecTraits> Sharding<'_, I, X> 
             IfErr result (RefusedBy (ObjectTests (H.state handle.old) (H.state handle.new) (
             IntervalTests interval (H.state handle.old).contents (λ b. (meaning_of I.meaning X.meaning self.now g).read_tests b (N.selection indexer.now).points)))) }
     {
-        check_interval(handle, interval)?;
-        let index = self
-            .index_codec
-            .read(alloc, handle, interval, &plan.index, options)?;
+        let index = read_index(
+            alloc,
+            &self.index_codec,
+            handle,
+            interval,
+            &plan.index,
+            options,
+        )?;
         let subchunks = Subchunks {
             codec: self.inner,
             shape: self.subchunk_shape,

@@ -15,11 +15,11 @@ use codec_laws::{
     ArrayToBytesCodecTraits, BytesRepresentation, RecommendedConcurrency, StoredArray, check_target,
 };
 use object_handles::{BytesPartialDecoderTraits, Interval};
-use shard_cells::{check_asked, gathered};
-use shard_format::{Asked, SubchunkWriteOrder, count_subchunks};
+use shard_cells::check_asked;
+use shard_compaction::compacted;
+use shard_format::{Asked, SubchunkWriteOrder};
 use shard_index::IndexCodec;
-use shard_layout::{compact_size, elements_in_row};
-use shard_subchunks::Subchunks;
+use shard_plans::{recommended_workers, shard_bound, told_of_subchunks};
 use std::alloc::Global;
 use zarr_parts::{
     ArrayBytes, ChunkShape, CodecError, CodecOptions, DataType, FillValue, FixedTarget, Indexer,
@@ -107,12 +107,7 @@ impl<I: ArrayToBytesCodecTraits, X: ArrayToBytesCodecTraits> ArrayToBytesCodecTr
             fill_value,
         };
         let plan = self.prepared(alloc, &asked)?;
-        let len = encoded.len();
-        let answer = self.encode_planned(alloc, bytes, &asked, &plan, options, encoded);
-        if answer.is_err() {
-            encoded.truncate(len);
-        }
-        answer
+        self.encode_or_cut(alloc, bytes, &asked, &plan, options, encoded)
     }
 
     /// Decodes every subchunk: straight from the bytes where subchunks follow one another and their elements stand in these; where
@@ -132,33 +127,7 @@ impl<I: ArrayToBytesCodecTraits, X: ArrayToBytesCodecTraits> ArrayToBytesCodecTr
             fill_value,
         };
         let plan = self.prepared(alloc, &asked)?;
-        let index = self.index_codec.decode(alloc, bytes, &plan.index, options)?;
-        let inner = Subchunks {
-            codec: self.inner,
-            shape: self.subchunk_shape,
-            data_type,
-            fill_value,
-            options,
-        };
-        let rows = inner.decode_rows(alloc, bytes, &index, shape, plan.cells)?;
-        if let Some(straight) = rows {
-            return Ok(straight);
-        }
-        if inner.has_room(plan.cells) && elements_in_row(shape, self.subchunk_shape).is_none() {
-            let whole = inner.decode_whole(alloc, bytes, &index, shape, plan.cells)?;
-            return Ok(whole);
-        }
-        let subchunks = inner.decode(alloc, bytes, &index)?;
-        let array = gathered(
-            alloc,
-            &subchunks,
-            plan.cells,
-            shape,
-            self.subchunk_shape,
-            data_type.size(),
-            fill_value.as_ne_bytes(),
-        )?;
-        Ok(array)
+        self.decoded(alloc, bytes, &asked, &plan, options)
     }
 
     /// Where the inner codec stores elements as they are in memory, each slice is copied to where it lies in the target; else all is
@@ -180,11 +149,7 @@ impl<I: ArrayToBytesCodecTraits, X: ArrayToBytesCodecTraits> ArrayToBytesCodecTr
         };
         let plan = self.prepared(alloc, &asked)?;
         check_target(target, shape.num_elements(), data_type)?;
-        if self.copied_into(alloc, bytes, &asked, &plan, target, options)? {
-            return Ok(());
-        }
-        let array = self.decode(alloc, bytes, shape, data_type, fill_value, options)?;
-        target.copy_from(&array)
+        self.decoded_into(alloc, bytes, &asked, &plan, target, options)
     }
 
     /// The index and the present slices, ascending and without gaps, or nothing where that has as many bytes.
@@ -208,15 +173,8 @@ impl<I: ArrayToBytesCodecTraits, X: ArrayToBytesCodecTraits> ArrayToBytesCodecTr
         ensures refused { let g = geo shape.now data_type.now fill_value.now in
             IfErr result (RefusedBy ((meaning_of I.meaning X.meaning self.now g).compact_tests bytes.now)) }
     {
-        let plan = self.planned(alloc, shape, 0)?;
-        let index = self.index_codec.decode(alloc, bytes, &plan.index, options)?;
-        let len = bytes.len() as u64;
-        let total = compact_size(&index, plan.index.size)?;
-        if total == len {
-            return Ok(None);
-        }
-        let shard = self.rewritten(alloc, bytes, index.numbers, total, &plan.index, options)?;
-        Ok(Some(shard))
+        let sub = self.subchunk_shape;
+        compacted(alloc, &self.index_codec, bytes, shape, sub, options)
     }
 
     /// As many workers as there are subchunks.
@@ -225,8 +183,7 @@ impl<I: ArrayToBytesCodecTraits, X: ArrayToBytesCodecTraits> ArrayToBytesCodecTr
         shape: &ChunkShape,
         _data_type: &DataType,
     ) -> Result<RecommendedConcurrency, CodecError> {
-        let subchunks = count_subchunks(shape.as_slice(), self.subchunk_shape.as_slice())?;
-        Ok(RecommendedConcurrency::new_maximum(subchunks as usize))
+        recommended_workers(shape, self.subchunk_shape)
     }
 
     /// Reads the index, and the asked cells of the subchunks in which there are any.
@@ -299,18 +256,7 @@ impl<I: ArrayToBytesCodecTraits, X: ArrayToBytesCodecTraits> ArrayToBytesCodecTr
             fill_value,
         };
         let plan = self.prepared(alloc, &asked)?;
-        let told = self.told_of_subchunks(alloc, &asked)?;
-        let size = match told {
-            BytesRepresentation::FixedSize(size) => size,
-            BytesRepresentation::BoundedSize(size) => size,
-            BytesRepresentation::UnboundedSize => return Ok(BytesRepresentation::UnboundedSize),
-        };
-        let Some(all) = plan.subchunks.checked_mul(size) else {
-            return Err(CodecError::TooLarge);
-        };
-        let Some(total) = all.checked_add(plan.index.size) else {
-            return Err(CodecError::TooLarge);
-        };
-        Ok(BytesRepresentation::BoundedSize(total))
+        let told = told_of_subchunks(alloc, self.inner, self.subchunk_shape, &asked)?;
+        shard_bound(told, plan.subchunks, plan.index.size)
     }
 }

@@ -7,22 +7,17 @@ use Rattle.zarr_parts.specs.Order.{◌or◌then◌, RefusedBy}
 use Rattle.zarr_parts.specs.Geo.{Geo}
 use Rattle.zarr_parts.specs.Arrays.{Array}
 use Rattle.zarr_parts.specs.Selections.{Selection}
-use Rattle.zarr_parts.specs.DataType.{DataType}
-use Rattle.object_handles.specs.Handles.{HandleState, Support, IsCounted, MayFault}
+use Rattle.object_handles.specs.Handles.{HandleState, IsCounted, MayFault}
 use Rattle.object_handles.specs.Objects.{ObjectTests}
 use Rattle.codec_laws.specs.Meanings.{Meaning}
 use Rattle.codec_laws.specs.Reads.{cells_at, IsAnswer, AskedTests}
 use Rattle.shard_steps.specs.Updates.{UpdateTests, IsUpdateOf}
+pub use Rattle.session_lock.specs.Told.{Told}
 use Rattle.shard_held.specs.Writing.{AreOverlaid}
 use Rattle.sharding_core.specs.Decoders.{object_cells, ObjectCellsTests}
 use Rattle.sharding_core.specs.Sessions.{Session, IsInStep, IsLeft, IsDone, IsLeftOrFailed, absent_index, subchunks_of}
 use Rattle.sharding_core.specs.SessionWrites.{IsWritten, WrittenTests, BoxTested}
 use Rattle.sharding_core.specs.declared.codec.ShardingCodec.{ShardingCodec}
-
--- what it tells without the lock: its data type, and what its handle can do in part
-pub record Told : Type 0 where
-  pub data_type : DataType
-  pub supports : Support
 
 -- of some session in step this is so
 abbrev pub OfSome : {I X H : Type 0} → (ShardingCodec I X → Geo → Meaning) → (X → Geo → Meaning) → (H → HandleState)

@@ -12,9 +12,10 @@ use crate::codec::ShardingCodec;
 use crate::state::ShardState;
 use codec_laws::ArrayToBytesCodecTraits;
 use object_handles::BytesPartialEncoderTraits;
+use session_lock::SessionLock;
 use std::alloc::Global;
 use std::marker::Model;
-use std::sync::{Mutex, Wait};
+use std::sync::Wait;
 use zarr_parts::{ArrayBytes, ChunkShape, CodecError, CodecOptions, DataType, FillValue, Indexer};
 
 /// A session that threads share: each call that looks at the session takes the lock for one call of `ShardState`, and
@@ -26,20 +27,17 @@ pub struct ShardingPartialEncoder<
     X: ArrayToBytesCodecTraits,
     H: BytesPartialEncoderTraits,
 > {
-    lock: Mutex<ShardState<'a, I, X, H>>,
-    data_type: DataType,
-    decode: bool,
-    encode: bool,
+    session: SessionLock<ShardState<'a, I, X, H>>,
 }
 
 impl<'a, I: ArrayToBytesCodecTraits, X: ArrayToBytesCodecTraits, H: BytesPartialEncoderTraits> Model
     for ShardingPartialEncoder<'a, I, X, H> {
-    ghost use Rattle.sharding_core.specs.LockedSessions.{Told};
+    ghost use Rattle.session_lock.specs.Told.{Told};
 
     // what is told without the lock
     ghost Value = { Told };
 
-    ghost view = { λ s. record { data_type = s.data_type; supports = record { decode = s.decode; encode = s.encode } } };
+    ghost view = { λ s. s.session };
 }
 
 impl<I: ArrayToBytesCodecTraits, X: ArrayToBytesCodecTraits> ShardingCodec<I, X> {
@@ -65,11 +63,11 @@ impl<I: ArrayToBytesCodecTraits, X: ArrayToBytesCodecTraits> ShardingCodec<I, X>
             SessionTests X.meaning s g (H.state handle).contents)) e.1) }
     {
         let session = self.open_state(alloc, handle, shape, data_type, fill_value, options)?;
+        let data_type = *session.data_type();
+        let decode = session.supports_partial_decode();
+        let encode = session.supports_partial_encode();
         Ok(ShardingPartialEncoder {
-            data_type: *session.data_type(),
-            decode: session.supports_partial_decode(),
-            encode: session.supports_partial_encode(),
-            lock: Mutex::new(session),
+            session: SessionLock::new(session, data_type, decode, encode),
         })
     }
 }
@@ -84,21 +82,21 @@ impl<
     pub fn data_type(&self) -> &DataType
         ensures { result.now ≡ self.now.data_type }
     {
-        &self.data_type
+        self.session.data_type()
     }
 
     /// Whether the handle can be read in part. Takes no lock.
     pub fn supports_partial_decode(&self) -> bool
         ensures { result ≡ self.now.supports.decode }
     {
-        self.decode
+        self.session.supports_partial_decode()
     }
 
     /// Whether the handle can be written in part. Takes no lock.
     pub fn supports_partial_encode(&self) -> bool
         ensures { result ≡ self.now.supports.encode }
     {
-        self.encode
+        self.session.supports_partial_encode()
     }
 
     /// Whether there is an object. Refused as `ShardState::exists`.
@@ -106,14 +104,14 @@ impl<
         ensures told { IfOk result (λ there. ByOne ⟦<ShardingCodec<I, X> as ArrayToBytesCodecTraits>⟧.meaning X.meaning H.state (HasTold H.state there)) }
         ensures refused { IfErr result (λ e. ByOne ⟦<ShardingCodec<I, X> as ArrayToBytesCodecTraits>⟧.meaning X.meaning H.state (HasRefusedToTell H.state e)) }
     {
-        self.lock.lock(rt).exists()
+        self.session.lock(rt).exists()
     }
 
     /// How many bytes the session holds in memory, as `ShardState::size_held`.
     pub fn size_held<R: Wait>(&self, rt: &R) -> usize
         ensures held { OfSome ⟦<ShardingCodec<I, X> as ArrayToBytesCodecTraits>⟧.meaning X.meaning H.state (λ s. result ≡ bytes_of_session (H.state s.handle).held s.index) }
     {
-        self.lock.lock(rt).size_held()
+        self.session.lock(rt).size_held()
     }
 
     /// Reads the cells that an indexer asks. Refused as `ShardState::partial_decode`.
@@ -128,7 +126,9 @@ impl<
         ensures refused { let codec = ⟦<ShardingCodec<I, X> as ArrayToBytesCodecTraits>⟧ in
             IfErr result (λ e. ByOne codec.meaning X.meaning H.state (HasRefusedRead codec.meaning I.meaning X.meaning H.state (N.selection indexer.now) e)) }
     {
-        self.lock.lock(rt).partial_decode(alloc, indexer, options)
+        self.session
+            .lock(rt)
+            .partial_decode(alloc, indexer, options)
     }
 
     /// Writes elements over the cells of a subset. Refused as `ShardState::partial_encode`.
@@ -144,7 +144,7 @@ impl<
             OnOk result (ByOne codec.meaning X.meaning H.state (HasWritten codec.meaning I.meaning X.meaning H.state (N.selection indexer.now) bytes.now)) }
         ensures refused { IfErr result (λ e. ByOne ⟦<ShardingCodec<I, X> as ArrayToBytesCodecTraits>⟧.meaning X.meaning H.state (HasRefusedWrite I.meaning X.meaning H.state (N.selection indexer.now) bytes.now e)) }
     {
-        self.lock
+        self.session
             .lock(rt)
             .partial_encode(alloc, indexer, bytes, options)
     }
@@ -154,14 +154,14 @@ impl<
         ensures erased { OnOk result (ByOne ⟦<ShardingCodec<I, X> as ArrayToBytesCodecTraits>⟧.meaning X.meaning H.state (HasErased H.state)) }
         ensures refused { IfErr result (λ e. ByOne ⟦<ShardingCodec<I, X> as ArrayToBytesCodecTraits>⟧.meaning X.meaning H.state (HasRefusedErasure H.state e)) }
     {
-        self.lock.lock(rt).erase()
+        self.session.lock(rt).erase()
     }
 
     /// Gives the handle back, also where the session is failed. Takes no lock and no memory.
     pub fn into_inner(self) -> H
         ensures handle { OfSome ⟦<ShardingCodec<I, X> as ArrayToBytesCodecTraits>⟧.meaning X.meaning H.state (λ s. result ≡ s.handle) }
     {
-        let ShardingPartialEncoder { lock, .. } = self;
-        lock.into_inner().close()
+        let ShardingPartialEncoder { session } = self;
+        session.into_inner().close()
     }
 }

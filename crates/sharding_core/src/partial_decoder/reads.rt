@@ -14,9 +14,9 @@ ghost use Rattle.sharding_core.specs.Decoders.{index_in, IsOpen, Unmoved, Object
 
 use super::ShardingPartialDecoder;
 use crate::codec::{ShardingCodec, lent};
-use codec_laws::{ArrayToBytesCodecTraits, check_target};
+use codec_laws::ArrayToBytesCodecTraits;
 use object_handles::BytesPartialDecoderTraits;
-use shard_steps::check_asked;
+use shard_reading::{read_asked, read_into};
 use std::alloc::Global;
 use zarr_parts::{ArrayBytes, CodecError, CodecOptions, FixedTarget, Indexer};
 
@@ -51,16 +51,14 @@ impl<
             ObjectTests (H.state self.old.handle) (H.state self.new.handle) (
             ObjectCellsTests I.meaning X.meaning s g (H.state self.old.handle).contents (N.selection indexer.now).points)))) }
     {
-        let count = check_asked(indexer, &self.shard.shape, &self.shard.data_type)?;
-        let array = self.shard.read(
+        read_asked(
+            &self.shard,
             &lent!(self.codec),
             alloc,
             &mut self.handle,
-            count,
             indexer,
             options,
-        )?;
-        Ok(array)
+        )
     }
 
     /// Reads the cells that an indexer asks into a target: in the indexer's order they go to the target's subset, in row-major
@@ -92,8 +90,14 @@ impl<
             ObjectTests (H.state self.old.handle) (H.state self.new.handle) (
             ObjectCellsTests I.meaning X.meaning s g (H.state self.old.handle).contents (N.selection indexer.now).points))))) }
     {
-        check_target(target, indexer.len(), &self.shard.data_type)?;
-        let array = self.partial_decode(alloc, indexer, options)?;
-        target.copy_from(&array)
+        read_into(
+            &self.shard,
+            &lent!(self.codec),
+            alloc,
+            &mut self.handle,
+            indexer,
+            target,
+            options,
+        )
     }
 }

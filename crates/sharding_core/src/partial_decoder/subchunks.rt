@@ -13,6 +13,7 @@ use super::ShardingPartialDecoder;
 use crate::codec::ShardingCodec;
 use codec_laws::ArrayToBytesCodecTraits;
 use object_handles::{ByteRange, BytesPartialDecoderTraits, copy_range};
+use shard_reading::byte_range;
 use std::alloc::Global;
 use std::borrow::CowSlice;
 use zarr_parts::CodecError;
@@ -34,7 +35,7 @@ impl<
             IfErr result (SlotTests grid subchunk.now (held_slot self.now.len self.now.index (number_of subchunk.now grid)) done) }
         ensures is_open { IsOpen ⟦<ShardingCodec<I, X> as ArrayToBytesCodecTraits>⟧.meaning (index_in X.meaning) H.state self.now }
     {
-        self.shard.byte_range(subchunk)
+        byte_range(&self.shard, subchunk)
     }
 
     /// The bytes of a subchunk as they are stored, by its coordinate in the grid of subchunks and by the held index; `None`
@@ -57,7 +58,7 @@ impl<
             IfErr result (RefusedBy (SlotTests grid subchunk.now (held_slot self.old.len self.old.index (number_of subchunk.now grid)) (
             ObjectTests (H.state self.old.handle) (H.state self.new.handle) done))) }
     {
-        let range = self.shard.byte_range(subchunk)?;
+        let range = byte_range(&self.shard, subchunk)?;
         let Some(range) = range else {
             return Ok(None);
         };

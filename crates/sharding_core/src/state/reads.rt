@@ -13,7 +13,6 @@ use super::ShardState;
 use crate::codec::{ShardingCodec, lent};
 use codec_laws::ArrayToBytesCodecTraits;
 use object_handles::BytesPartialEncoderTraits;
-use shard_steps::check_asked;
 use std::alloc::Global;
 use zarr_parts::{ArrayBytes, CodecError, CodecOptions, Indexer};
 
@@ -51,19 +50,12 @@ impl<
         if self.failed {
             return Err(CodecError::SessionFailed);
         }
-        let count = check_asked(
-            indexer,
-            &self.opened.shard.shape,
-            &self.opened.shard.data_type,
-        )?;
-        let array = self.opened.shard.read(
+        self.opened.read(
             &lent!(self.codec),
             alloc,
             &mut self.handle,
-            count,
             indexer,
             options,
-        )?;
-        Ok(array)
+        )
     }
 }

@@ -73,11 +73,10 @@ impl<
             bytes,
             options,
         )?;
-        if let Err(error) = prepared.change.make(alloc, &mut self.handle) {
+        if let Err(error) = self.opened.write(alloc, &mut self.handle, prepared) {
             self.failed = error == CodecError::Fault;
             return Err(error);
         }
-        self.opened.hold(prepared);
         Ok(())
     }
 }

@@ -4,7 +4,7 @@ use Rattle.shard_format.specs.Serves.{sub_geo, layout, fixed_size}
 use Rattle.shard_format.proofs.RefusalLemmas.{lawful, index_first}
 use Rattle.codec_laws.specs.RefusalLaws.{passed_on}
 use Rattle.shard_subchunks.proofs.WholeLemmas.{cells_whole}
-use Rattle.shard_steps.specs.Plans.{asked_geo}
+use Rattle.shard_plans.specs.Plans.{asked_geo}
 use Rattle.shard_steps.proofs.sharding.Sharding.copied_into.Goals as goal
 
 pub returns-in_err-index-clause-lawful : goal.returns-in_err-index-clause-lawful

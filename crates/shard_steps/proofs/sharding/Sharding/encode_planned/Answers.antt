@@ -9,7 +9,7 @@ use Rattle.shard_format.specs.Serves.{sub_geo, fixed_size, layout}
 use Rattle.shard_format.proofs.EncodingLemmas.{encoded_shard}
 use Rattle.shard_format.proofs.EncodeRefusals.{store_next, total_next, index_next, index_length}
 use Rattle.shard_subchunks.proofs.BehindLemmas.{old_within}
-use Rattle.shard_steps.specs.Plans.{asked_geo}
+use Rattle.shard_plans.specs.Plans.{asked_geo}
 use Rattle.shard_steps.proofs.RoomLemmas.{stay_in_front, room_of_index}
 use Rattle.shard_steps.proofs.sharding.Sharding.encode_planned.Goals as goal
 

@@ -1,4 +1,4 @@
-use Rattle.std.proofs.Common.{◌∙◌, IsTrue, inl, inr, refl, rules, arith}
+use Rattle.std.proofs.Common.{◌∙◌, IsTrue, inl, inr, refl, rules}
 use Rattle.std.proofs.lemmas.Result.{on_ok_weaker}
 use Rattle.zarr_parts.specs.Arrays.{element_of}
 use Rattle.zarr_parts.specs.Grid.{grid_of}
@@ -10,33 +10,45 @@ use Rattle.shard_format.specs.Serves.{sub_geo, layout}
 use Rattle.shard_format.specs.ReadTests.{numbers_of}
 use Rattle.shard_format.proofs.ReadLemmas.{asked_cells, cells_refused}
 use Rattle.shard_cells.proofs.ReadGroupLemmas.{read_then}
-use Rattle.shard_steps.specs.Plans.{asked_geo}
+use Rattle.shard_plans.specs.Plans.{asked_geo}
 use Rattle.shard_steps.proofs.sharding.Sharding.read_planned_into.Goals as goal
 
-pub returns-in_err-check_interval-clause-written : goal.returns-in_err-check_interval-clause-written
-returns-in_err-check_interval-clause-written g c = untouched c.args.target.now
+pub returns-in_err-put_asked-clause-read : goal.returns-in_err-put_asked-clause-read
+returns-in_err-put_asked-clause-read g c = read_then _ _ _ c.read_index.ensures.read c.put_asked.ensures.read
+
+pub returns-then-branch-clause-read : goal.returns-then-branch-clause-read
+returns-then-branch-clause-read g c = read_then _ _ _ c.read_index.ensures.read c.put_asked.ensures.read
+
+pub returns-in_err-array-clause-read : goal.returns-in_err-array-clause-read
+returns-in_err-array-clause-read g c =
+    read_then _ _ _ (read_then _ _ _ c.read_index.ensures.read c.put_asked.ensures.read) c.read_asked.ensures.read
+
+pub returns-clause-read : goal.returns-clause-read
+returns-clause-read g c = read_then _ _ _ (read_then _ _ _ c.read_index.ensures.read c.put_asked.ensures.read) c.read_asked.ensures.read
 
 pub returns-in_err-index-clause-written : goal.returns-in_err-index-clause-written
 returns-in_err-index-clause-written g c = untouched c.args.target.now
 
 pub returns-in_err-index-clause-refused : goal.returns-in_err-index-clause-refused
 returns-in_err-index-clause-refused g c =
-    let before = c.check_interval.ensures.read in
     let plan = c.requires.plan in
     let e = c.in_err-index.field-0.0 in
-    let refused = rw (plan.index.size, plan.grid, before.contents_same) at c.in_err-index.ensures.refused in
-    passed_on _ e _ c.from_residual-in_err-index.ensures.1
+    let refused = rw (plan.index.size, plan.grid) at c.in_err-index.ensures.refused in
+    passed_on _ e _ c.from_residual.ensures.1
     (elim refused [
       | inl memory ↦ inl memory
-      | inr tests ↦ inr (λ t. elim (tests (rw before.tells_same t)) [
-        | inl fault ↦ inl (fault.0, omega (arith, fault.1, before.faults_kept))
-        | inr index ↦ inr (inr (
-          c.in_ok-check_interval.ensures.inside t,
-          elim index [
-            | inl short ↦ inl short
-            | inr long ↦ inr (long.0, elim long.1 [ inl damaged ↦ inl damaged | inr none ↦ absurd none.1 ])
-          ],
-        ))
+      | inr tests ↦ inr (λ t. elim (tests t) [
+        | inl fault ↦ inl fault
+        | inr interval ↦ inr (elim interval [
+          | inl outside ↦ inl outside
+          | inr index ↦ inr (
+            index.0,
+            elim index.1 [
+              | inl short ↦ inl short
+              | inr long ↦ inr (long.0, elim long.1 [ inl damaged ↦ inl damaged | inr none ↦ absurd none.1 ])
+            ],
+          )
+        ])
       ])
     ])
 
@@ -51,14 +63,13 @@ returns-then-branch-clause-cells g c = λ t.
     let l = layout s.subchunk_shape.now s.index_codec.location s.order (g.X.ArrayToBytesCodecTraits.meaning s.index_codec.codec.now index_g).representation asked in
     let points = (g.N.Indexer.selection a.indexer.now).points in
     let bytes = interval_part a.interval (h.state a.handle.now).contents in
-    let before = c.check_interval.ensures.read in
-    let then = c.read.ensures.read in
+    let before = c.read_index.ensures.read in
     let plan = c.requires.plan in
-    let told = rw (plan.index.size, plan.grid, before.contents_same) at (c.in_ok-index.ensures.numbers (rw before.tells_same t)) in
-    let contents = then.contents_same ∙ before.contents_same in
+    let told = rw (plan.index.size, plan.grid) at (c.in_ok-index.ensures.numbers t) in
+    let contents = before.contents_same in
     let true_is : IsTrue c.in_ok-put_asked.field-0 = search rules in
-    let put = rw contents at (c.in_ok-put_asked.ensures.put true_is (rw (then.tells_same ∙ before.tells_same) t)) in (
-      c.in_ok-check_interval.ensures.inside t,
+    let put = rw contents at (c.in_ok-put_asked.ensures.put true_is (rw before.tells_same t)) in (
+      c.in_ok-index.ensures.inside t,
       record {
         elements = put.elements;
         there = asked_cells (g.I.ArrayToBytesCodecTraits.meaning s.inner.now sub_g) (g.X.ArrayToBytesCodecTraits.meaning s.index_codec.codec.now index_g) l bytes c.in_ok-index.index.numbers.items points told c.requires.points ∙ put.there;
@@ -78,17 +89,16 @@ returns-in_err-array-clause-refused g c =
     let index_g = index_geo (grid_of a.asked.now.shape.now s.subchunk_shape.now) in
     let l = layout s.subchunk_shape.now s.index_codec.location s.order (outer.meaning s.index_codec.codec.now index_g).representation asked in
     let points = (g.N.Indexer.selection a.indexer.now).points in
-    let before = c.check_interval.ensures.read in
-    let then = c.read.ensures.read in
+    let before = c.read_index.ensures.read in
     let tried = c.put_asked.ensures.read in
     let plan = c.requires.plan in
     let e = c.in_err-array.field-0.0 in
-    let refused = rw (tried.contents_same, then.contents_same, before.contents_same) at c.in_err-array.ensures.refused in
+    let refused = rw (tried.contents_same, before.contents_same) at c.in_err-array.ensures.refused in
     passed_on _ e _ c.from_residual-in_err-array.ensures.1
     (cells_refused (h.state a.handle.now) (h.state c.put_asked.new.handle) (h.state c.read_asked.new.handle) a.interval (inner.meaning s.inner.now sub_g) (outer.meaning s.index_codec.codec.now index_g) l
     c.in_ok-index.index.numbers.items (numbers_of a.asked.now.shape.now points) points e
-    (read_then _ _ _ (read_then _ _ _ before then) tried) c.in_ok-check_interval.ensures.inside
-    (λ t. rw (plan.index.size, plan.grid, before.contents_same) at (c.in_ok-index.ensures.numbers (rw before.tells_same t))) c.requires.points refl refused)
+    (read_then _ _ _ before tried) c.in_ok-index.ensures.inside
+    (λ t. rw (plan.index.size, plan.grid) at (c.in_ok-index.ensures.numbers t)) c.requires.points refl refused)
 
 pub returns-clause-cells : goal.returns-clause-cells
 returns-clause-cells g c =
@@ -101,17 +111,16 @@ returns-clause-cells g c =
     let l = layout s.subchunk_shape.now s.index_codec.location s.order (g.X.ArrayToBytesCodecTraits.meaning s.index_codec.codec.now index_g).representation asked in
     let points = (g.N.Indexer.selection a.indexer.now).points in
     let bytes = interval_part a.interval (h.state a.handle.now).contents in
-    let before = c.check_interval.ensures.read in
-    let then = c.read.ensures.read in
+    let before = c.read_index.ensures.read in
     let tried = c.put_asked.ensures.read in
     let plan = c.requires.plan in
-    let contents = tried.contents_same ∙ (then.contents_same ∙ before.contents_same) in
+    let contents = tried.contents_same ∙ before.contents_same in
     let array = c.in_ok-array.array in
     on_ok_weaker c.copy_from.result
     (λ wrote t.
-    let told = rw (plan.index.size, plan.grid, before.contents_same) at (c.in_ok-index.ensures.numbers (rw before.tells_same t)) in
-    let read = rw contents at (c.in_ok-array.ensures.cells (rw (tried.tells_same ∙ (then.tells_same ∙ before.tells_same)) t)) in (
-      c.in_ok-check_interval.ensures.inside t,
+    let told = rw (plan.index.size, plan.grid) at (c.in_ok-index.ensures.numbers t) in
+    let read = rw contents at (c.in_ok-array.ensures.cells (rw (tried.tells_same ∙ before.tells_same) t)) in (
+      c.in_ok-index.ensures.inside t,
       record {
         elements = array.elements;
         there = asked_cells (g.I.ArrayToBytesCodecTraits.meaning s.inner.now sub_g) (g.X.ArrayToBytesCodecTraits.meaning s.index_codec.codec.now index_g) l bytes c.in_ok-index.index.numbers.items points told c.requires.points ∙ read;

@@ -1,19 +1,15 @@
-use Rattle.std.proofs.Common.{◌≡◌, rules, subst}
-use Rattle.std.proofs.lemmas.Result.{on_ok_weaker}
-use Rattle.zarr_parts.specs.Arrays.{element_of}
-use Rattle.zarr_parts.specs.FixedTarget.{FixedTarget}
-use Rattle.zarr_parts.specs.Targets.{IsWritten}
+use Rattle.std.proofs.Common.{inl, inr}
+use Rattle.std.proofs.lemmas.Result.{IfErr-weaker}
 use Rattle.shard_steps.proofs.sharding.ShardingArrayToBytesCodecTraits.decode_into.Goals as goal
 
-pub returns-clause-cells : goal.returns-clause-cells
-returns-clause-cells g c =
-    let array = c.in_ok-array.array in
-    let new = c.copy_from.new.self in
-    let kept : c.copied_into.new.target ≡ c.args.target.now = search rules in
-    on_ok_weaker c.copy_from.result
-    (λ wrote. record {
-      elements = array.elements;
-      there = c.in_ok-array.ensures.cells;
-      written = subst (λ (old : FixedTarget). IsWritten old new (element_of array)) kept wrote;
-    })
-    c.copy_from.ensures.written
+pub returns-clause-lawful : goal.returns-clause-lawful
+returns-clause-lawful g c = IfErr-weaker c.decoded_into.result _ _ (λ e may serves kind counted. may) c.decoded_into.ensures.lawful
+
+pub returns-clause-refused : goal.returns-clause-refused
+returns-clause-refused g c =
+    let fits = c.in_ok-check_target.ensures in
+    let counted = fits.counted _ c.num_elements.ensures.value in
+    IfErr-weaker c.decoded_into.result _ _ (λ e refused. elim refused [
+      | inl memory ↦ inl memory
+      | inr tests ↦ inr (inr (c.in_ok-plan.ensures.serves, inr (fits.kind, inr (counted, tests))))
+    ]) c.decoded_into.ensures.refused

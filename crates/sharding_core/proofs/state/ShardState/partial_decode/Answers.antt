@@ -8,18 +8,8 @@ invariant_of-self g c =
     read_open (meant g.I.ArrayToBytesCodecTraits.meaning g.X.ArrayToBytesCodecTraits.meaning) g.X.ArrayToBytesCodecTraits.meaning h.state s.codec.now
     s.handle c.read.new.handle s.failed s.opened c.read.ensures.read c.self.invariant
 
-pub invariant_of-self-2 : goal.invariant_of-self-2
-invariant_of-self-2 g c =
-    let h = g.H.BytesPartialDecoderTraits in
-    let s = c.self.inside in
-    read_open (meant g.I.ArrayToBytesCodecTraits.meaning g.X.ArrayToBytesCodecTraits.meaning) g.X.ArrayToBytesCodecTraits.meaning h.state s.codec.now
-    s.handle c.read.new.handle s.failed s.opened c.read.ensures.read c.self.invariant
-
 pub returns-clause-in_step : goal.returns-clause-in_step
-returns-clause-in_step g c = (invariant_of-self-2 g c).in_step
-
-pub returns-in_err-array-clause-in_step : goal.returns-in_err-array-clause-in_step
-returns-in_err-array-clause-in_step g c = (invariant_of-self g c).in_step
+returns-clause-in_step g c = (invariant_of-self g c).in_step
 
 pub returns-clause-cells : goal.returns-clause-cells
-returns-clause-cells g c = rw (← c.self.view_is) c.in_ok-array.ensures.cells
+returns-clause-cells g c = rw (← c.self.view_is) c.read.ensures.cells

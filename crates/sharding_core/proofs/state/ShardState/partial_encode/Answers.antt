@@ -37,8 +37,8 @@ invariant_of-self g c =
 pub returns-in_err-prepared-clause-in_step : goal.returns-in_err-prepared-clause-in_step
 returns-in_err-prepared-clause-in_step g c = (invariant_of-self g c).in_step
 
-pub invariant_of-self-2 : goal.invariant_of-self-2
-invariant_of-self-2 g c =
+pub invariant_of-self-in_default : goal.invariant_of-self-in_default
+invariant_of-self-in_default g c =
     let inner = g.I.ArrayToBytesCodecTraits in
     let outer = g.X.ArrayToBytesCodecTraits in
     let h = g.H.BytesPartialDecoderTraits in
@@ -46,15 +46,15 @@ invariant_of-self-2 g c =
     let codec = s.codec.now in
     let p = c.in_ok-prepared.prepared in
     let read = c.prepare_write.ensures.read in
-    session_open (meant inner.meaning outer.meaning) outer.meaning h.state codec c.make.new.handle s.failed c.hold.new.self
-    (write_open (meant inner.meaning outer.meaning codec) (λ grid. outer.meaning codec.index_codec (index_geo grid)) codec.location codec.subchunk_shape h.state s.handle c.make.new.handle s.opened c.hold.new.self p.change p.len p.numbers
+    session_open (meant inner.meaning outer.meaning) outer.meaning h.state codec c.write.new.handle s.failed c.write.new.self
+    (write_open (meant inner.meaning outer.meaning codec) (λ grid. outer.meaning codec.index_codec (index_geo grid)) codec.location codec.subchunk_shape h.state s.handle c.write.new.handle s.opened c.write.new.self p.change p.len p.numbers
     (c.self.invariant.is_open c.if-self.false) c.in_ok-prepared.ensures.held c.in_ok-prepared.ensures.told
-    (λ t. let told : IsTrue (h.state c.prepare_write.new.handle).tells = rw c.make.ensures.writing.tells_same at t in
+    (λ t. let told : IsTrue (h.state c.prepare_write.new.handle).tells = rw c.write.ensures.writing.tells_same at t in
     (rw read.tells_same at told, c.in_default.ensures.made told ∙ ap (λ o. object_after p.change o) read.contents_same))
-    c.hold.ensures.shard c.hold.ensures.plan c.hold.ensures.blank)
+    c.in_default.ensures.shard c.in_default.ensures.plan c.in_default.ensures.blank)
 
 pub returns-clause-in_step : goal.returns-clause-in_step
-returns-clause-in_step g c = (invariant_of-self-2 g c).in_step
+returns-clause-in_step g c = (invariant_of-self-in_default g c).in_step
 
 pub returns-clause-written : goal.returns-clause-written
 returns-clause-written g c =
@@ -72,8 +72,8 @@ returns-clause-written g c =
     let told : IsTrue (h.state c.prepare_write.new.handle).tells = rw read.tells_same t in
     written_after (inner.meaning codec.inner sub_g) (outer.meaning codec.index_codec (index_geo (grid_of asked.shape codec.subchunk_shape))) codec.location sub_g asked
     (g.N.Indexer.selection c.args.indexer.now) c.in_ok-subset.subset.now c.args.bytes.now.elements
-    (h.state s.handle).contents (h.state c.make.new.handle).contents (numbers_held shard.held s.opened.blank.items) p.change p.len p.numbers c.hold.new.self.shard.held c.hold.new.self.blank.items
-    c.in_ok-subset.ensures.subset (c.in_default.ensures.made told ∙ ap (λ o. object_after p.change o) read.contents_same) (ap (λ x. x.held) c.hold.ensures.shard) c.hold.ensures.blank
+    (h.state s.handle).contents (h.state c.write.new.handle).contents (numbers_held shard.held s.opened.blank.items) p.change p.len p.numbers c.write.new.self.shard.held c.write.new.self.blank.items
+    c.in_ok-subset.ensures.subset (c.in_default.ensures.made told ∙ ap (λ o. object_after p.change o) read.contents_same) (ap (λ x. x.held) c.in_default.ensures.shard) c.in_default.ensures.blank
     (c.in_ok-prepared.ensures.written t))
 
 pub returns-clause-cells : goal.returns-clause-cells

@@ -1,0 +1,2 @@
+mod CompactLemmas
+mod PlaceLemmas
