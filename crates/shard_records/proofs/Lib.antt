@@ -1,5 +1,4 @@
 pub mod ClosingLemmas
-pub mod EqualityLemmas
 pub mod HistoryLemmas
 pub mod OpeningLemmas
 pub mod ReceiptLemmas

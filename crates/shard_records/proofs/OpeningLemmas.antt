@@ -13,9 +13,9 @@ use Rattle.codec_laws.specs.Meanings.{Meaning}
 use Rattle.sharding_core.specs.Decoders.{ObjectCellsTests}
 use Rattle.sharding_core.specs.Sessions.{Session, IsInStep, IsLeft}
 use Rattle.sharding_core.specs.declared.codec.ShardingCodec.{ShardingCodec}
-use Rattle.shard_runs.specs.Objects.{shards_of, IsSound}
-use Rattle.shard_runs.proofs.CauseLemmas.{selection_first}
-use Rattle.shard_runs.proofs.OpeningLemmas.{usable_in_step}
+use Rattle.cell_maps.specs.Objects.{shards_of, IsSound}
+use Rattle.cell_maps.proofs.CauseLemmas.{selection_first}
+use Rattle.cell_maps.proofs.OpeningLemmas.{usable_in_step}
 use Rattle.shard_records.specs.Histories.{IsCellsOf}
 use Rattle.shard_records.specs.Recorded.{whole_box, meaning_in, WholeReadTests, RecordedTests}
 

@@ -4,7 +4,7 @@ use Rattle.zarr_parts.specs.Arrays.{Array}
 use Rattle.zarr_parts.specs.CodecError.TheVariants.{SessionFailed}
 use Rattle.shard_records.specs.Receipts.{receipts_of, IsMismatch}
 use Rattle.shard_records.specs.Recorded.{Recorded}
-use Rattle.shard_records.specs.declared.event.Receipt.{Receipt}
+use Rattle.session_events.specs.declared.event.Receipt.{Receipt}
 use Rattle.shard_records.specs.declared.closing.Closed.{Closed}
 use Rattle.shard_records.specs.declared.closing.CloseError.{CloseError}
 use Rattle.shard_records.specs.declared.closing.CloseError.TheVariants.{SeatsMissing, ReceiptMismatch, Session}

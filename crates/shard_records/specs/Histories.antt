@@ -8,10 +8,10 @@ use Rattle.codec_laws.specs.Reads.{IsAnswer}
 use Rattle.sharding_core.specs.Updates.{IsUpdateOf}
 use Rattle.shard_format.specs.Cells.{shard_cells}
 use Rattle.sharding_core.specs.Held.{object_cells}
-use Rattle.shard_runs.specs.Maps.{CellMap, filled, IsOverridden, elements_at, elements_of}
-use Rattle.shard_runs.specs.Objects.{Shards, Shows}
-use Rattle.shard_records.specs.declared.event.Event.{Event}
-use Rattle.shard_records.specs.declared.event.Event.TheVariants.{Write, Read, Erase}
+use Rattle.cell_maps.specs.Maps.{CellMap, filled, IsOverridden, elements_at, elements_of}
+use Rattle.cell_maps.specs.Objects.{Shards, Shows}
+use Rattle.session_events.specs.declared.event.Event.{Event}
+use Rattle.session_events.specs.declared.event.Event.TheVariants.{Write, Read, Erase}
 
 -- what an event does to a map: a write puts its elements, one for each cell of its box, into these; a read has the elements of the map at
 -- its box's points, and leaves it; an erase leaves the fill value in every cell

@@ -18,9 +18,9 @@ use Rattle.sharding_core.specs.Meanings.{shard_meaning}
 use Rattle.sharding_core.specs.Decoders.{ObjectCellsTests}
 use Rattle.sharding_core.specs.Sessions.{Session, IsInStep, SessionTests}
 use Rattle.sharding_core.specs.declared.codec.ShardingCodec.{ShardingCodec}
-use Rattle.shard_runs.specs.Objects.{Shards, shards_of, IsSound}
+use Rattle.cell_maps.specs.Objects.{Shards, shards_of, IsSound}
 use Rattle.shard_records.specs.Histories.{Replays}
-use Rattle.shard_records.specs.declared.event.Event.{Event}
+use Rattle.session_events.specs.declared.event.Event.{Event}
 
 -- what contracts see of a recorded session: the session, the cells that it opened with, and what was done since
 pub record Recorded (C H : Type 0) : Type 0 where

@@ -1,16 +1,14 @@
 -- A recorded session that threads share. What a call finds under the lock no clause can name: so a clause says what a call of some recorded
 -- session of the name did, which left it a recorded session of the name.
-use Rattle.std.specs.Prelude.{◌≡◌, false, ℕ, [], ◌∷◌, ◌++◌, Option, length}
-use Rattle.zarr_parts.specs.CodecError.{CodecError}
-use Rattle.zarr_parts.specs.CodecError.TheVariants.{SessionFailed}
-use Rattle.zarr_parts.specs.Order.{◌or◌then◌, RefusedBy}
+use Rattle.std.specs.Prelude.{◌≡◌, ℕ, [], ◌∷◌, ◌++◌, Option, length}
 use Rattle.zarr_parts.specs.Geo.{Geo}
-use Rattle.object_handles.specs.Handles.{HandleState, MayFault}
+use Rattle.object_handles.specs.Handles.{HandleState}
 use Rattle.codec_laws.specs.Meanings.{Meaning}
-use Rattle.sharding_core.specs.Sessions.{Session, IsLeftOrFailed}
+use Rattle.sharding_core.specs.Sessions.{Session}
 use Rattle.sharding_core.specs.declared.codec.ShardingCodec.{ShardingCodec}
+pub use Rattle.recorded_calls.specs.RefusedErasures.{HasRefusedToErase}
 use Rattle.shard_records.specs.Recorded.{Recorded, IsRecorded}
-use Rattle.shard_records.specs.declared.event.Event.{Event}
+use Rattle.session_events.specs.declared.event.Event.{Event}
 
 -- of some recorded session of a name this is so
 abbrev pub OfRecorded : {I X H : Type 0} → (I → Geo → Meaning) → (X → Geo → Meaning) → (H → HandleState) → Option (ShardingCodec I X) → Geo
@@ -38,10 +36,3 @@ pub record HasAddedNone {C H : Type 0} (Refuses : Session C H → Session C H �
   pub session : Refuses old.state new.state
   pub events : new.events ≡ old.events
   pub opening : new.opening ≡ old.opening
-
--- a session refused to let the object go, or there was no memory for the event: it left all else, or it is failed from now on
-pub record HasRefusedToErase {C H : Type 0} (state : H → HandleState) (e : CodecError) (old new : Session C H) : Type 0 where
-  pub failed : IsLeftOrFailed state old new e
-  pub refused : RefusedBy (
-      old.failed ≡ false or SessionFailed then
-      MayFault (state old.handle) (state new.handle)) e

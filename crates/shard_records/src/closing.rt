@@ -3,8 +3,9 @@ ghost use Rattle.std.specs.Prelude.{◌≡◌, ◌≤◌, false, length, replica
 ghost use Rattle.shard_records.specs.Receipts.{Agree, receipts_of};
 ghost use Rattle.shard_records.specs.Closing.{IsRefusedClose, Carries};
 
-use crate::event::{Event, Seat, same_elements};
 use crate::receipts::{first_mismatch, have_as_many};
+use crate::seat::Seat;
+use session_events::{Event, same_elements};
 use zarr_parts::{ArrayBytes, CodecError};
 
 /// What a recorded session leaves: the handle, the cells that it opened with, and what was done since, in order.

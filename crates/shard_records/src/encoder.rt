@@ -6,20 +6,21 @@ ghost use Rattle.zarr_parts.specs.Selections.{box_selection};
 ghost use Rattle.object_handles.specs.Handles.{IsRead, IsCounted};
 ghost use Rattle.sharding_core.specs.Sessions.{IsInStep, IsLeft};
 ghost use Rattle.sharding_core.specs.LockedSessions.{HasWritten, HasRefusedWrite, HasRead, HasRefusedRead, HasErased};
-ghost use Rattle.shard_runs.specs.Objects.{shards_of};
+ghost use Rattle.cell_maps.specs.Objects.{shards_of};
 ghost use Rattle.shard_records.specs.Histories.{IsCellsOf, Replays};
 ghost use Rattle.shard_records.specs.Recorded.{HoldsNamed, whole_box, WholeReadTests, RecordedTests};
 ghost use Rattle.shard_records.specs.SharedRecords.{OfRecorded, ByRecorded, HasAdded, HasAddedNone, HasRefusedToErase};
 ghost use Rattle.shard_records.specs.Receipts.{Agree, receipts_of};
 ghost use Rattle.shard_records.specs.Closing.{IsRefusedClose, IsClosedOf, IsHandedBack};
-ghost use Rattle.shard_records.specs.declared.event.Event.TheVariants.{Write, Read, Erase};
+ghost use Rattle.session_events.specs.declared.event.Event.TheVariants.{Write, Read, Erase};
 
 use crate::closing::{CloseError, Closed};
-use crate::event::Seat;
 use crate::naming::Naming;
+use crate::seat::Seat;
 use crate::shard::RecordedShard;
 use codec_laws::ArrayToBytesCodecTraits;
 use object_handles::BytesPartialEncoderTraits;
+use session_events::History;
 use sharding_core::{ShardState, ShardingCodec};
 use std::alloc::{AllocError, Global};
 use std::marker::Model;
@@ -241,14 +242,15 @@ impl<
         } = self;
         let shard = lock.into_inner();
         let failed = shard.is_failed();
-        let (handle, under, history, seen) = shard.into_parts();
+        let (handle, under, history) = shard.into_parts();
+        let History { events, seen } = history;
         if failed {
             return Err(CloseError::Session(handle, CodecError::SessionFailed));
         }
         let closed = Closed {
             handle,
             opening: under,
-            history,
+            history: events,
         };
         closed.checked(&opening, seen, &seats)
     }

@@ -3,14 +3,14 @@
 
 mod closing;
 mod encoder;
-mod event;
 mod naming;
 mod receipts;
-mod room;
+mod seat;
 mod shard;
 
 pub use closing::{CloseError, Closed};
 pub use encoder::{RecordedPartialEncoder, recorded};
-pub use event::{Event, Receipt, Seat};
 pub use naming::Naming;
+pub use seat::Seat;
+pub use session_events::{Event, Receipt};
 pub use shard::RecordedShard;

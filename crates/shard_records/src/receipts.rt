@@ -4,7 +4,8 @@ ghost use Rattle.std.specs.List.{All};
 ghost use Rattle.shard_records.specs.Receipts.{Stands, RiseFrom, times, receipts_of, Agree, IsMismatch};
 ghost use Rattle.shard_records.specs.Marks.{mark_at, marks, IsSeatMismatch};
 
-use crate::event::{Event, Receipt, Seat};
+use crate::seat::Seat;
+use session_events::{Event, Receipt, same_event};
 
 // Whether a receipt's event stands at its place.
 fn stands(events: &[Event], receipt: &Receipt) -> bool
@@ -14,7 +15,7 @@ fn stands(events: &[Event], receipt: &Receipt) -> bool
     if receipt.place >= events.len() as u64 {
         return false;
     }
-    events[receipt.place as usize].is_same(&receipt.event)
+    same_event(&events[receipt.place as usize], &receipt.event)
 }
 
 // Sets a mark, and says whether it was not set before.

@@ -3,21 +3,22 @@ ghost use Rattle.std.specs.Prelude.{◌≡◌, ◌++◌, ◌∷◌, [], false, S
 ghost use Rattle.zarr_parts.specs.Selections.{box_selection};
 ghost use Rattle.sharding_core.specs.Sessions.{IsInStep};
 ghost use Rattle.sharding_core.specs.LockedSessions.{HasWritten, HasRefusedWrite, HasRead, HasRefusedRead, HasErased};
-ghost use Rattle.shard_runs.specs.Objects.{shards_of};
+ghost use Rattle.cell_maps.specs.Objects.{shards_of};
 ghost use Rattle.shard_records.specs.Histories.{IsCellsOf};
 ghost use Rattle.shard_records.specs.Recorded.{IsRecorded};
 ghost use Rattle.shard_records.specs.SharedRecords.{HasRefusedToErase};
-ghost use Rattle.shard_records.specs.declared.event.Event.TheVariants.{Write, Read, Erase};
+ghost use Rattle.session_events.specs.declared.event.Event.TheVariants.{Write, Read, Erase};
 
-use crate::event::{Event, Seat};
 use crate::naming::Naming;
-use crate::room::{Copies, put, take_room};
+use crate::seat::Seat;
 use codec_laws::ArrayToBytesCodecTraits;
 use object_handles::BytesPartialEncoderTraits;
+use recorded_calls::{record_erase, record_read, record_write};
+use session_events::History;
 use sharding_core::{ShardState, ShardingCodec};
 use std::alloc::Global;
 use std::marker::{Model, PhantomData};
-use zarr_parts::{ArrayBytes, ArraySubset, CodecError, CodecOptions};
+use zarr_parts::{ArrayBytes, ArraySubset, CodecError};
 
 /// A session, the cells that it opened with, and what was done since, in order. Of a session that is not failed the history is
 /// legal: it leads from the opening cells to those of the handle's object, where the handle tells its bytes. Codec and arrays
@@ -32,9 +33,7 @@ pub struct RecordedShard<
 > {
     state: ShardState<'a, I, X, H>,
     opening: ArrayBytes<'static>,
-    events: Vec<Event>,
-    // for the end of the session, which takes no memory: for each event a mark whether its receipt was seen
-    seen: Vec<bool>,
+    history: History,
     of: PhantomData<J>,
 }
 
@@ -52,10 +51,10 @@ impl<
     // the session, its opening cells, and its events
     ghost Value = { Recorded (ShardingCodec I X) H };
 
-    ghost view = { λ s. recorded_of s.state s.opening s.events.items };
+    ghost view = { λ s. recorded_of s.state s.opening s.history.events.items };
 
-    ghost invariant = { λ s. IsRecorded I.meaning X.meaning H.state J.codec J.geo (recorded_of s.state s.opening s.events.items)
-        × (s.seen.items ≡ replicate (length s.events.items) false) };
+    ghost invariant = { λ s. IsRecorded I.meaning X.meaning H.state J.codec J.geo (recorded_of s.state s.opening s.history.events.items)
+        × (s.history.seen.items ≡ replicate (length s.history.events.items) false) };
 }
 
 impl<
@@ -83,8 +82,7 @@ impl<
         RecordedShard {
             state,
             opening,
-            events: Vec::new(alloc),
-            seen: Vec::new(alloc),
+            history: History::new(alloc),
             of: PhantomData,
         }
     }
@@ -117,15 +115,14 @@ impl<
         ensures no_event { OnErr result ((self.new.events ≡ self.old.events) × (seat.new ≡ seat.old)) }
         ensures refused { IfErr result (λ e. HasRefusedWrite I.meaning X.meaning H.state (box_selection subset.now) bytes.now e self.old.state self.new.state) }
     {
-        take_room(&mut self.events, &mut self.seen, &mut seat.receipts)?;
-        let copies = Copies::of_write(alloc, subset, bytes)?;
-        match self
-            .state
-            .partial_encode(alloc, subset, bytes, &CodecOptions::default())
-        {
-            Ok(()) => Ok(put(&mut self.events, &mut self.seen, &mut seat.receipts, copies)),
-            Err(error) => Err(copies.refused(error)),
-        }
+        record_write(
+            alloc,
+            &mut self.state,
+            &mut self.history,
+            &mut seat.receipts,
+            subset,
+            bytes,
+        )
     }
 
     /// Reads the cells of a subset, in row-major order of this, as the session's `partial_decode`, and puts a receipt into the
@@ -147,13 +144,13 @@ impl<
         ensures no_event { OnErr result ((self.new.events ≡ self.old.events) × (seat.new ≡ seat.old)) }
         ensures refused { IfErr result (λ e. HasRefusedRead ⟦<ShardingCodec<I, X> as ArrayToBytesCodecTraits>⟧.meaning I.meaning X.meaning H.state (box_selection subset.now) e self.old.state self.new.state) }
     {
-        take_room(&mut self.events, &mut self.seen, &mut seat.receipts)?;
-        let cells = self
-            .state
-            .partial_decode(alloc, subset, &CodecOptions::default())?;
-        let (copies, cells) = Copies::of_read(alloc, subset, cells)?;
-        let place = put(&mut self.events, &mut self.seen, &mut seat.receipts, copies);
-        Ok((place, cells))
+        record_read(
+            alloc,
+            &mut self.state,
+            &mut self.history,
+            &mut seat.receipts,
+            subset,
+        )
     }
 
     /// Lets the object go, as the session's `erase`, and puts a receipt into the seat. The number is the event's place in the
@@ -170,30 +167,23 @@ impl<
         ensures no_event { OnErr result ((self.new.events ≡ self.old.events) × (seat.new ≡ seat.old)) }
         ensures refused { IfErr result (λ e. HasRefusedToErase H.state e self.old.state self.new.state) }
     {
-        take_room(&mut self.events, &mut self.seen, &mut seat.receipts)?;
-        self.state.erase()?;
-        let copies = Copies {
-            event: Event::Erase,
-            told: Event::Erase,
-        };
-        Ok(put(&mut self.events, &mut self.seen, &mut seat.receipts, copies))
+        record_erase(&mut self.state, &mut self.history, &mut seat.receipts)
     }
 
-    /// Ends the session: the handle, the opening cells, the history, and a mark for each of its events, which is not set.
-    pub(crate) fn into_parts(self) -> (H, ArrayBytes<'static>, Vec<Event>, Vec<bool>)
+    // Ends the session: the handle, the opening cells, and the history, in which no mark is set.
+    pub(crate) fn into_parts(self) -> (H, ArrayBytes<'static>, History)
         ensures handle { result.0 ≡ self.entry.state.handle }
         ensures opening { result.1 ≡ self.entry.opening }
-        ensures events { result.2.items ≡ self.entry.events }
-        ensures seen { result.3.items ≡ replicate (length self.entry.events) false }
+        ensures events { result.2.events.items ≡ self.entry.events }
+        ensures seen { result.2.seen.items ≡ replicate (length self.entry.events) false }
         ensures recorded { IsRecorded I.meaning X.meaning H.state J.codec J.geo self.entry }
     {
         let RecordedShard {
             state,
             opening,
-            events,
-            seen,
+            history,
             of: _,
         } = self;
-        (state.close(), opening, events, seen)
+        (state.close(), opening, history)
     }
 }

@@ -25,16 +25,16 @@ use Rattle.shard_format.specs.declared.slot.Slot.TheVariants.{Absent, InRange, B
 use Rattle.shard_format.proofs.CompactionLemmas.{holds_encoded, scratch_of_compacted}
 use Rattle.sharding_core.specs.DataPart.{IsInDataPart}
 use Rattle.sharding_core.specs.declared.codec.ShardingCodec.{ShardingCodec}
-use Rattle.shard_runs.specs.Maps.{CellMap, elements_of}
-use Rattle.shard_runs.specs.Objects.{Shards, shards_of, Shows, IsSound, IsMinimal, IsRewritten}
-use Rattle.shard_runs.specs.Runs.{AreLeft, Step, Run}
-use Rattle.shard_runs.specs.Ended.{Ended}
+use Rattle.cell_maps.specs.Maps.{CellMap, elements_of}
+use Rattle.cell_maps.specs.Objects.{Shards, shards_of, Shows, IsSound, IsMinimal, IsRewritten}
+use Rattle.cell_maps.specs.Runs.{AreLeft, Step, Run}
+use Rattle.cell_maps.specs.Ended.{Ended}
 use Rattle.shard_runs.specs.FromScratch.{AreFunctional, IsEncoded, GainsNothing, AcceptsNothing, LeavesScratch, LeavesUnwritten, LeavesUntouched}
-use Rattle.shard_runs.specs.declared.command.Command.{Command}
-use Rattle.shard_runs.specs.declared.command.Command.TheVariants.{Write, Read, ReadCells, Erase, Compact, Reopen}
-use Rattle.shard_runs.specs.declared.command.Reply.{Reply}
-use Rattle.shard_runs.specs.declared.command.Reply.TheVariants.{Done, Cells, Compacted, Refused}
-use Rattle.shard_runs.proofs.ShownLemmas.{shards, get_or-shown, get_or-elements_of}
+use Rattle.cell_maps.specs.declared.command.Command.{Command}
+use Rattle.cell_maps.specs.declared.command.Command.TheVariants.{Write, Read, ReadCells, Erase, Compact, Reopen}
+use Rattle.cell_maps.specs.declared.command.Reply.{Reply}
+use Rattle.cell_maps.specs.declared.command.Reply.TheVariants.{Done, Cells, Compacted, Refused}
+use Rattle.cell_maps.proofs.ShownLemmas.{shards, get_or-shown, get_or-elements_of}
 use Rattle.shard_runs.proofs.StandingLemmas.{Mirrors, mirrors_left, mirrors_erased, mirrors_rewritten, mirrors_written, array_of}
 
 same_bytes : (x y : Bytes) → Some x ≡ Some y → x ≡ y

@@ -1,9 +1,3 @@
-pub mod ShownLemmas
-pub mod CauseLemmas
-pub mod StepLemmas
-pub mod OpeningLemmas
-pub mod SessionCauses
-pub mod ReplaceLemmas
 pub mod StandingLemmas
 pub mod FromScratchLemmas
 pub mod RunLemmas

@@ -8,13 +8,13 @@ use Rattle.zarr_parts.specs.Geo.{Geo}
 use Rattle.zarr_parts.specs.Numbering.{count_of, number_of}
 use Rattle.zarr_parts.specs.Boxes.{Region, points_of, point_in, number_in}
 use Rattle.zarr_parts.specs.Arrays.{Array}
-use Rattle.shard_runs.specs.Maps.{CellMap, filled, elements_at, IsOverridden}
-use Rattle.shard_runs.specs.Objects.{Shards, Shows}
-use Rattle.shard_runs.specs.Runs.{Run, ReopenStep, CompactStep}
-use Rattle.shard_runs.specs.declared.command.Command.TheVariants.{Write, Read, Compact, Reopen}
-use Rattle.shard_runs.specs.declared.command.Reply.{Reply}
-use Rattle.shard_runs.specs.declared.command.Reply.TheVariants.{Done, Cells, Compacted, Refused}
-use Rattle.shard_runs.proofs.ShownLemmas.{shown_by_each}
+use Rattle.cell_maps.specs.Maps.{CellMap, filled, elements_at, IsOverridden}
+use Rattle.cell_maps.specs.Objects.{Shards, Shows}
+use Rattle.cell_maps.specs.Runs.{Run, ReopenStep, CompactStep}
+use Rattle.cell_maps.specs.declared.command.Command.TheVariants.{Write, Read, Compact, Reopen}
+use Rattle.cell_maps.specs.declared.command.Reply.{Reply}
+use Rattle.cell_maps.specs.declared.command.Reply.TheVariants.{Done, Cells, Compacted, Refused}
+use Rattle.cell_maps.proofs.ShownLemmas.{shown_by_each}
 
 -- without an object each cell is the fill value
 pub shows_fill : (s : Shards) → Shows s None (filled s.geo)

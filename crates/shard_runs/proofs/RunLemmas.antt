@@ -5,14 +5,15 @@ use Rattle.zarr_parts.specs.Words.{Bytes}
 use Rattle.zarr_parts.specs.CodecError.{CodecError}
 use Rattle.object_handles.specs.Handles.{HandleState}
 use Rattle.object_handles.specs.Writes.{IsWriting}
-use Rattle.shard_runs.specs.Maps.{CellMap}
-use Rattle.shard_runs.specs.Objects.{Shards}
-use Rattle.shard_runs.specs.Runs.{Step, Run}
-use Rattle.shard_runs.specs.Ended.{Ended, StopsBy, MayStopLast}
-use Rattle.shard_runs.specs.Serving.{Leads, Halts, IsUsable, Ran, with_reply}
-use Rattle.shard_runs.specs.declared.command.Command.{Command}
-use Rattle.shard_runs.specs.declared.command.Command.TheVariants.{Compact}
-use Rattle.shard_runs.specs.declared.command.Reply.{Reply}
+use Rattle.cell_maps.specs.Maps.{CellMap}
+use Rattle.cell_maps.specs.Objects.{Shards}
+use Rattle.cell_maps.specs.Runs.{Step, Run}
+use Rattle.cell_maps.specs.Ended.{Ended, StopsBy, MayStopLast}
+use Rattle.cell_maps.specs.Serving.{Leads, IsUsable}
+use Rattle.shard_runs.specs.Halting.{Halts, Ran, with_reply}
+use Rattle.cell_maps.specs.declared.command.Command.{Command}
+use Rattle.cell_maps.specs.declared.command.Command.TheVariants.{Compact}
+use Rattle.cell_maps.specs.declared.command.Reply.{Reply}
 
 module _ (s : Shards) where
   run_more : (m : CellMap) (o : Option Bytes) (cs : List Command) (rs : List Reply) (mid : CellMap) (oid : Option Bytes) (c : Command) (r : Reply) (m' : CellMap) (o' : Option Bytes)

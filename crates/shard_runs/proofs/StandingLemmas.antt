@@ -32,11 +32,11 @@ use Rattle.sharding_core.specs.Writing.{HoldsNumbers, AreAbsent, IsNew, cells_in
 use Rattle.sharding_core.proofs.AnewLemmas.{in_list, pair_absent}
 use Rattle.sharding_core.proofs.HeldLemmas.{told_len}
 use Rattle.sharding_core.proofs.WrittenLemmas.{absent_slot}
-use Rattle.shard_runs.specs.Maps.{CellMap, filled, IsOverridden, elements_of}
-use Rattle.shard_runs.specs.Objects.{Shards, index_numbers, IsObjectWritten, IsRewritten, written_layout}
-use Rattle.shard_runs.specs.Causes.{subchunk_elements}
-use Rattle.shard_runs.specs.Runs.{AreLeft}
-use Rattle.shard_runs.proofs.ShownLemmas.{shards, length-elements_of, get_or-elements_of}
+use Rattle.cell_maps.specs.Maps.{CellMap, filled, IsOverridden, elements_of}
+use Rattle.cell_maps.specs.Objects.{Shards, index_numbers, IsObjectWritten, IsRewritten, written_layout}
+use Rattle.cell_maps.specs.Causes.{subchunk_elements}
+use Rattle.cell_maps.specs.Runs.{AreLeft}
+use Rattle.cell_maps.proofs.ShownLemmas.{shards, length-elements_of, get_or-elements_of}
 
 same_numbers : (x y : List ℕ) → Some x ≡ Some y → x ≡ y
 same_numbers x y h = cc

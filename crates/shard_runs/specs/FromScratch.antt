@@ -9,14 +9,14 @@ use Rattle.shard_format.specs.Index.{index_geo}
 use Rattle.shard_format.specs.Encoding.{IsEncoding}
 use Rattle.shard_format.specs.Scratch.{scratch}
 use Rattle.shard_format.specs.Serves.{sub_geo}
-use Rattle.shard_runs.specs.Maps.{CellMap, elements_of}
-use Rattle.shard_runs.specs.Objects.{Shards, Shows}
-use Rattle.shard_runs.specs.Runs.{Run}
-use Rattle.shard_runs.specs.Ended.{IsShort}
-use Rattle.shard_runs.specs.declared.command.Command.{Command}
-use Rattle.shard_runs.specs.declared.command.Command.TheVariants as command
-use Rattle.shard_runs.specs.declared.command.Reply.{Reply}
-use Rattle.shard_runs.specs.declared.command.Reply.TheVariants.{Done, Compacted}
+use Rattle.cell_maps.specs.Maps.{CellMap, elements_of}
+use Rattle.cell_maps.specs.Objects.{Shards, Shows}
+use Rattle.cell_maps.specs.Runs.{Run}
+use Rattle.cell_maps.specs.Ended.{IsShort}
+use Rattle.cell_maps.specs.declared.command.Command.{Command}
+use Rattle.cell_maps.specs.declared.command.Command.TheVariants as command
+use Rattle.cell_maps.specs.declared.command.Reply.{Reply}
+use Rattle.cell_maps.specs.declared.command.Reply.TheVariants.{Done, Compacted}
 
 -- each array of a geo has one encoding, which a function gives
 abbrev pub HasOneEncoding : Meaning → Geo → (encoding : Elements → Bytes) → Type 0

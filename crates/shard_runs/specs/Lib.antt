@@ -1,8 +1,7 @@
-pub mod Maps
-pub mod Objects
-pub mod Causes
-pub mod Runs
-pub mod Ended
-pub mod Served
-pub mod Serving
+pub mod Halting
 pub mod FromScratch
+pub use Rattle.cell_maps.specs.Maps
+pub use Rattle.cell_maps.specs.Objects
+pub use Rattle.cell_maps.specs.Causes
+pub use Rattle.cell_maps.specs.Runs
+pub use Rattle.cell_maps.specs.Ended

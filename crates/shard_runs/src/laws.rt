@@ -1,7 +1,8 @@
 // What a run of commands says to a caller, as the contract of a call.
 ghost use Rattle.std.specs.Prelude.{◌≡◌, IfOk, IfSome};
 
-use crate::{Command, CommandRun, Reply, run_commands};
+use crate::run::{CommandRun, run_commands};
+use cell_maps::{Command, Reply};
 use codec_laws::ArrayToBytesCodecTraits;
 use object_handles::MemoryHandle;
 use sharding_core::ShardingCodec;

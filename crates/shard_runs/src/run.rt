@@ -6,19 +6,28 @@ ghost use Rattle.object_handles.specs.Objects.{ObjectTests};
 ghost use Rattle.object_handles.specs.Writes.{IsWriting};
 ghost use Rattle.codec_laws.specs.Refusals.{RefusesUnserved};
 ghost use Rattle.sharding_core.specs.Sessions.{SessionTests};
-ghost use Rattle.shard_runs.specs.Objects.{shards_of, IsSound};
-ghost use Rattle.shard_runs.specs.Ended.{Ended, IsShort, StopsBy, StopsAtOpening, MayStopLast};
+ghost use Rattle.shard_commands.specs.Served.{geo_of};
+ghost use Rattle.cell_maps.specs.Objects.{shards_of, IsSound};
+ghost use Rattle.cell_maps.specs.Ended.{Ended, IsShort, StopsBy, StopsAtOpening, MayStopLast};
 ghost use Rattle.shard_runs.specs.FromScratch.{LeavesScratch, LeavesUnwritten, LeavesUntouched};
-ghost use Rattle.shard_runs.specs.Serving.{with_reply};
+ghost use Rattle.shard_runs.specs.Halting.{with_reply};
 
-use crate::command::{Command, CommandRun, Reply};
-use crate::served::Served;
-use crate::step::Halt;
+use crate::step::{Halt, step};
+use cell_maps::{Command, Reply};
 use codec_laws::ArrayToBytesCodecTraits;
 use object_handles::BytesPartialEncoderTraits;
+use shard_commands::Served;
 use sharding_core::ShardingCodec;
 use std::alloc::Global;
 use zarr_parts::{ChunkShape, CodecError, DataType, FillValue};
+
+/// A run of commands that has ended: the handle, a reply for each command that was run, and why the run stopped, where it did.
+#[derive(Debug, Drop)]
+pub struct CommandRun<H> {
+    pub handle: H,
+    pub replies: Vec<Reply>,
+    pub stop: Option<CodecError>,
+}
 
 // The end of a run that stops at a command.
 fn halted<H>(mut replies: Vec<Reply>, halt: Halt<H>) -> CommandRun<H>
@@ -39,6 +48,64 @@ fn halted<H>(mut replies: Vec<Reply>, halt: Halt<H>) -> CommandRun<H>
         handle,
         replies,
         stop: Some(error),
+    }
+}
+
+// A run, as `run_commands`. Of what it leaves byte for byte it says nothing.
+fn run_each<I: ArrayToBytesCodecTraits, X: ArrayToBytesCodecTraits, H: BytesPartialEncoderTraits>(
+    alloc: Global,
+    served: &Served<'_, I, X>,
+    handle: H,
+    commands: &[Command],
+) -> CommandRun<H>
+    ensures writing { IsWriting (H.state handle) (H.state result.handle) }
+    ensures counted { length result.replies.items ≤ length commands.now }
+    ensures run { let s = shards_of I.meaning X.meaning served.now.codec.now (geo_of served.now) in
+        IsTrue (H.state handle).tells → Ended s (H.state handle) (H.state result.handle) commands.now result.replies.items }
+    ensures stops { let s = shards_of I.meaning X.meaning served.now.codec.now (geo_of served.now) in
+        IsTrue (H.state handle).tells → (⟦<ShardingCodec<I, X> as ArrayToBytesCodecTraits>⟧.meaning served.now.codec.now s.geo).serves
+        → IsSound s (H.state handle).contents → IsShort (H.state handle).contents
+        → IfSome result.stop (StopsBy (H.state handle) (H.state result.handle)) }
+    ensures refused { let m = ⟦<ShardingCodec<I, X> as ArrayToBytesCodecTraits>⟧.meaning served.now.codec.now (geo_of served.now) in
+        IsTrue (H.state handle).tells → IfSome result.stop (λ e. StopsBy (H.state handle) (H.state result.handle) e
+        ⊎ StopsAtOpening (H.state handle) (H.state result.handle) result.replies.items (
+        m.serves or_as RefusesUnserved m then
+        ObjectTests (H.state handle) (H.state result.handle) (
+        SessionTests X.meaning served.now.codec.now (geo_of served.now) (H.state handle).contents)) e) }
+    ensures all { result.stop ≡ None → length result.replies.items ≡ length commands.now }
+    ensures last { length result.replies.items ≡ length commands.now → IsSome result.stop → MayStopLast commands.now }
+{
+    let mut replies = Vec::new(alloc);
+    let mut state = match served.open(alloc, handle) {
+        Ok(state) => state,
+        Err((handle, error)) => {
+            return CommandRun {
+                handle,
+                replies,
+                stop: Some(error),
+            };
+        }
+    };
+    for command in commands {
+        if replies.reserve(1).is_err() {
+            return CommandRun {
+                handle: state.close(),
+                replies,
+                stop: Some(CodecError::OutOfMemory),
+            };
+        }
+        match step(served, alloc, state, command) {
+            Ok((next, reply)) => {
+                state = next;
+                replies.push_reserved(reply);
+            }
+            Err(halt) => return halted(replies, halt),
+        }
+    }
+    CommandRun {
+        handle: state.close(),
+        replies,
+        stop: None,
     }
 }
 
@@ -93,36 +160,5 @@ pub fn run_commands<
         data_type,
         fill_value,
     };
-    let mut replies = Vec::new(alloc);
-    let mut state = match served.open(alloc, handle) {
-        Ok(state) => state,
-        Err((handle, error)) => {
-            return CommandRun {
-                handle,
-                replies,
-                stop: Some(error),
-            };
-        }
-    };
-    for command in commands {
-        if replies.reserve(1).is_err() {
-            return CommandRun {
-                handle: state.close(),
-                replies,
-                stop: Some(CodecError::OutOfMemory),
-            };
-        }
-        match served.step(alloc, state, command) {
-            Ok((next, reply)) => {
-                state = next;
-                replies.push_reserved(reply);
-            }
-            Err(halt) => return halted(replies, halt),
-        }
-    }
-    CommandRun {
-        handle: state.close(),
-        replies,
-        stop: None,
-    }
+    run_each(alloc, &served, handle, commands)
 }

@@ -12,8 +12,8 @@ use Rattle.shard_format.specs.Cells.{shard_cells}
 use Rattle.sharding_core.specs.Held.{object_cells}
 use Rattle.sharding_core.specs.Decoders.{ObjectCellsTests}
 use Rattle.sharding_core.proofs.PreparedLemmas.{length-object_cells}
-use Rattle.shard_runs.specs.Objects.{shards_of}
-use Rattle.shard_runs.proofs.CauseLemmas.{session_first}
+use Rattle.cell_maps.specs.Objects.{shards_of}
+use Rattle.cell_maps.proofs.CauseLemmas.{session_first}
 use Rattle.shard_records.specs.Histories.{IsCellsOf}
 use Rattle.shard_records.specs.Recorded.{whole_box, meaning_in}
 use Rattle.shard_records.proofs.WholeLemmas.{whole_cells}

@@ -1,6 +1,6 @@
 use Rattle.std.proofs.Common.{◌≡◌, ◌≤◌, ◌+◌, ◌↔◌, ◌++◌, ◌∷◌, [], ℕ, length, take}
 use Rattle.std.specs.List.{All}
-use Rattle.shard_records.specs.declared.event.Receipt.{Receipt}
+use Rattle.session_events.specs.declared.event.Receipt.{Receipt}
 use Rattle.shard_records.specs.Receipts.{Stands, RiseFrom, times}
 use Rattle.shard_records.specs.Marks.{mark_at, marks}
 use Rattle.shard_records.proofs.receipts.seat_mismatch.Given as goal

@@ -1,7 +1,7 @@
 use Rattle.std.proofs.Common.{refl, ◌∙◌, ap}
 use Rattle.zarr_parts.specs.Geo.{geo}
-use Rattle.shard_runs.specs.Maps.{filled}
-use Rattle.shard_runs.specs.Objects.{shards_of}
+use Rattle.cell_maps.specs.Maps.{filled}
+use Rattle.cell_maps.specs.Objects.{shards_of}
 use Rattle.shard_runs.proofs.ReadBackLaws.{shows_fill, replied_back}
 use Rattle.shard_runs.proofs.laws.read_back.Goals as goal
 

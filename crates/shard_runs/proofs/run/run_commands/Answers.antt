@@ -1,177 +1,9 @@
-use Rattle.std.proofs.Common.{◌+◌, ◌++◌, ◌∷◌, [], take, refl, sym, ap, ◌∙◌, arith}
-use Rattle.std.proofs.lemmas.List.{take_more, length_push}
 use Rattle.zarr_parts.specs.Geo.{geo}
 use Rattle.zarr_parts.specs.Grid.{grid_of}
 use Rattle.shard_format.specs.Index.{index_geo}
 use Rattle.shard_format.specs.Serves.{sub_geo}
-use Rattle.shard_runs.specs.Objects.{shards_of}
-use Rattle.shard_runs.specs.declared.command.Command.{Command}
-use Rattle.shard_runs.proofs.OpeningLemmas.{meant, index_never_long, opening_refused, usable_closed}
 use Rattle.shard_runs.proofs.FromScratchLemmas.{leaves_bytes}
-use Rattle.shard_runs.proofs.RunLemmas.{ran_more, ended_by, ended_by_halt, length-with_reply, halts_last, writing_on}
 use Rattle.shard_runs.proofs.run.run_commands.Goals as goal
-
-pub returns-in-Err-clause-stops : goal.returns-in-Err-clause-stops
-returns-in-Err-clause-stops g c =
-    λ told serves sound short.
-    let inner = g.I.ArrayToBytesCodecTraits.meaning in
-    let outer = g.X.ArrayToBytesCodecTraits.meaning in
-    let state = g.H.BytesPartialDecoderTraits.state in
-    let codec = c.args.codec.now in
-    let asked = geo c.args.shape.now c.args.data_type.now c.args.fill_value.now in
-    let s = shards_of inner outer codec asked in
-    opening_refused inner outer codec asked
-    (index_never_long s.inner s.index codec.subchunk_shape asked (g.met.X.ArrayToBytesCodecTraits.lawful codec.index_codec (index_geo (grid_of asked.shape codec.subchunk_shape))) serves)
-    (meant inner outer codec asked) (state c.args.handle) (state c.in-Err.handle) c.in-Err.error serves told (record { sound = sound; short = short }) c.in-Err.ensures.refused
-
-pub returns-then-is_err-clause-run : goal.returns-then-is_err-clause-run
-returns-then-is_err-clause-run g c =
-    λ told.
-    let inner = g.I.ArrayToBytesCodecTraits.meaning in
-    let outer = g.X.ArrayToBytesCodecTraits.meaning in
-    let state = g.H.BytesPartialDecoderTraits.state in
-    let codec = c.args.codec.now in
-    let asked = geo c.args.shape.now c.args.data_type.now c.args.fill_value.now in
-    let i = c.loop-command.invariant in
-    let session = c.loop-command.state in
-    let usable = usable_closed inner outer state session codec asked session.handle i.in_step i.session.codec i.session.geo i.session.usable refl (rw i.writing.tells_same told) in
-    rw c.reserve.ensures.items
-    (ended_by (shards_of inner outer codec asked) (state c.args.handle) (state c.close.result) c.args.commands.now c.loop-command.command-index c.loop-command.replies.items (state session.handle).contents
-    i.count (i.ran told) usable (λ same. ap (λ h. (state h).contents) c.close.ensures.handle))
-
-pub returns-in-Err-step-clause-counted : goal.returns-in-Err-step-clause-counted
-returns-in-Err-step-clause-counted g c =
-    rw (c.halted.ensures.replies, c.reserve.ensures.items) (omega (arith, length-with_reply c.loop-command.replies.items c.in-Err-step.halt.reply, c.loop-command.invariant.count, c.loop-command-test.true))
-
-pub returns-in-Err-step-clause-run : goal.returns-in-Err-step-clause-run
-returns-in-Err-step-clause-run g c =
-    λ told.
-    let inner = g.I.ArrayToBytesCodecTraits.meaning in
-    let outer = g.X.ArrayToBytesCodecTraits.meaning in
-    let state = g.H.BytesPartialDecoderTraits.state in
-    let codec = c.args.codec.now in
-    let asked = geo c.args.shape.now c.args.data_type.now c.args.fill_value.now in
-    let i = c.loop-command.invariant in
-    let n = c.loop-command.command-index in
-    let session = c.loop-command.state in
-    let here = c.command-item.result in
-    let more = take_more c.args.commands.now n here c.loop-command-test.true ∙ ap (λ (x : Command). take n c.args.commands.now ++ x ∷ []) (sym c.command-item.is) in
-    let halt = c.in-Err-step.halt in
-    let usable = usable_closed inner outer state session codec asked session.handle i.in_step i.session.codec i.session.geo i.session.usable refl (rw i.writing.tells_same told) in
-    rw (c.halted.ensures.handle, c.halted.ensures.replies, c.reserve.ensures.items)
-    (ended_by_halt (shards_of inner outer codec asked) (state c.args.handle) (state session.handle) (state halt.handle) c.args.commands.now n c.loop-command.replies.items here halt.reply halt.error
-    i.count more i.writing.faults_kept (i.ran told) usable (c.in-Err-step.ensures.halts (rw i.writing.tells_same told)))
-
-pub returns-in-Err-step-clause-last : goal.returns-in-Err-step-clause-last
-returns-in-Err-step-clause-last g c =
-    let n = c.loop-command.command-index in
-    let here = c.command-item.result in
-    let more = take_more c.args.commands.now n here c.loop-command-test.true ∙ ap (λ (x : Command). take n c.args.commands.now ++ x ∷ []) (sym c.command-item.is) in
-    rw (c.halted.ensures.replies, c.reserve.ensures.items)
-    (λ whole stopped. halts_last c.args.commands.now n c.loop-command.replies.items here c.in-Err-step.halt.reply c.loop-command.invariant.count c.loop-command-test.true more c.in-Err-step.ensures.compacted whole)
-
-pub loop-command-preserved : goal.loop-command-preserved
-loop-command-preserved g c =
-    let inner = g.I.ArrayToBytesCodecTraits.meaning in
-    let outer = g.X.ArrayToBytesCodecTraits.meaning in
-    let state = g.H.BytesPartialDecoderTraits.state in
-    let codec = c.args.codec.now in
-    let asked = geo c.args.shape.now c.args.data_type.now c.args.fill_value.now in
-    let i = c.loop-command.invariant in
-    let n = c.loop-command.command-index in
-    let session = c.loop-command.state in
-    let here = c.command-item.result in
-    let more = take_more c.args.commands.now n here c.loop-command-test.true ∙ ap (λ (x : Command). take n c.args.commands.now ++ x ∷ []) (sym c.command-item.is) in
-    let next = c.in-Ok-step.next in
-    record {
-      session = c.in-Ok-step.ensures.session;
-      in_step = c.in-Ok-step.ensures.in_step;
-      writing = writing_on (state c.args.handle) (state session.handle) (state next.handle) i.writing c.in-Ok-step.ensures.writing;
-      count = rw (c.push_reserved.ensures.items, c.reserve.ensures.items) (length_push c.loop-command.replies.items c.in-Ok-step.reply ∙ ap (λ m. m + 1) i.count);
-      ran = λ told. rw (c.push_reserved.ensures.items, c.reserve.ensures.items, more)
-          (ran_more (shards_of inner outer codec asked) (state c.args.handle).contents (take n c.args.commands.now) c.loop-command.replies.items (state session.handle).contents here c.in-Ok-step.reply (state next.handle).contents
-          (i.ran told) (c.in-Ok-step.ensures.leads (rw i.writing.tells_same told)));
-    }
-
-pub returns-clause-run : goal.returns-clause-run
-returns-clause-run g c =
-    λ told.
-    let inner = g.I.ArrayToBytesCodecTraits.meaning in
-    let outer = g.X.ArrayToBytesCodecTraits.meaning in
-    let state = g.H.BytesPartialDecoderTraits.state in
-    let codec = c.args.codec.now in
-    let asked = geo c.args.shape.now c.args.data_type.now c.args.fill_value.now in
-    let i = c.loop-command.invariant in
-    let session = c.loop-command.state in
-    let usable = usable_closed inner outer state session codec asked session.handle i.in_step i.session.codec i.session.geo i.session.usable refl (rw i.writing.tells_same told) in
-    ended_by (shards_of inner outer codec asked) (state c.args.handle) (state c.close-2.result) c.args.commands.now c.loop-command.command-index c.loop-command.replies.items (state session.handle).contents
-    i.count (i.ran told) usable (λ same. ap (λ h. (state h).contents) c.close-2.ensures.handle)
-
-pub returns-then-is_err-clause-scratch : goal.returns-then-is_err-clause-scratch
-returns-then-is_err-clause-scratch g c =
-    λ told serves.
-    let state = g.H.BytesPartialDecoderTraits.state in
-    let codec = c.args.codec.now in
-    let asked = geo c.args.shape.now c.args.data_type.now c.args.fill_value.now in
-    (leaves_bytes g.I.ArrayToBytesCodecTraits.meaning g.X.ArrayToBytesCodecTraits.meaning codec asked
-    (g.met.I.ArrayToBytesCodecTraits.lawful codec.inner (sub_geo codec.subchunk_shape asked))
-    (g.met.X.ArrayToBytesCodecTraits.lawful codec.index_codec (index_geo (grid_of asked.shape codec.subchunk_shape)))
-    serves (state c.args.handle) (state c.close.result) _ _ (returns-then-is_err-clause-run g c told)).0
-
-pub returns-then-is_err-clause-unwritten : goal.returns-then-is_err-clause-unwritten
-returns-then-is_err-clause-unwritten g c =
-    λ told serves.
-    let state = g.H.BytesPartialDecoderTraits.state in
-    let codec = c.args.codec.now in
-    let asked = geo c.args.shape.now c.args.data_type.now c.args.fill_value.now in
-    (leaves_bytes g.I.ArrayToBytesCodecTraits.meaning g.X.ArrayToBytesCodecTraits.meaning codec asked
-    (g.met.I.ArrayToBytesCodecTraits.lawful codec.inner (sub_geo codec.subchunk_shape asked))
-    (g.met.X.ArrayToBytesCodecTraits.lawful codec.index_codec (index_geo (grid_of asked.shape codec.subchunk_shape)))
-    serves (state c.args.handle) (state c.close.result) _ _ (returns-then-is_err-clause-run g c told)).1
-
-pub returns-then-is_err-clause-untouched : goal.returns-then-is_err-clause-untouched
-returns-then-is_err-clause-untouched g c =
-    λ told serves.
-    let state = g.H.BytesPartialDecoderTraits.state in
-    let codec = c.args.codec.now in
-    let asked = geo c.args.shape.now c.args.data_type.now c.args.fill_value.now in
-    (leaves_bytes g.I.ArrayToBytesCodecTraits.meaning g.X.ArrayToBytesCodecTraits.meaning codec asked
-    (g.met.I.ArrayToBytesCodecTraits.lawful codec.inner (sub_geo codec.subchunk_shape asked))
-    (g.met.X.ArrayToBytesCodecTraits.lawful codec.index_codec (index_geo (grid_of asked.shape codec.subchunk_shape)))
-    serves (state c.args.handle) (state c.close.result) _ _ (returns-then-is_err-clause-run g c told)).2
-
-pub returns-in-Err-step-clause-scratch : goal.returns-in-Err-step-clause-scratch
-returns-in-Err-step-clause-scratch g c =
-    λ told serves.
-    let state = g.H.BytesPartialDecoderTraits.state in
-    let codec = c.args.codec.now in
-    let asked = geo c.args.shape.now c.args.data_type.now c.args.fill_value.now in
-    (leaves_bytes g.I.ArrayToBytesCodecTraits.meaning g.X.ArrayToBytesCodecTraits.meaning codec asked
-    (g.met.I.ArrayToBytesCodecTraits.lawful codec.inner (sub_geo codec.subchunk_shape asked))
-    (g.met.X.ArrayToBytesCodecTraits.lawful codec.index_codec (index_geo (grid_of asked.shape codec.subchunk_shape)))
-    serves (state c.args.handle) (state c.halted.result.handle) _ _ (returns-in-Err-step-clause-run g c told)).0
-
-pub returns-in-Err-step-clause-unwritten : goal.returns-in-Err-step-clause-unwritten
-returns-in-Err-step-clause-unwritten g c =
-    λ told serves.
-    let state = g.H.BytesPartialDecoderTraits.state in
-    let codec = c.args.codec.now in
-    let asked = geo c.args.shape.now c.args.data_type.now c.args.fill_value.now in
-    (leaves_bytes g.I.ArrayToBytesCodecTraits.meaning g.X.ArrayToBytesCodecTraits.meaning codec asked
-    (g.met.I.ArrayToBytesCodecTraits.lawful codec.inner (sub_geo codec.subchunk_shape asked))
-    (g.met.X.ArrayToBytesCodecTraits.lawful codec.index_codec (index_geo (grid_of asked.shape codec.subchunk_shape)))
-    serves (state c.args.handle) (state c.halted.result.handle) _ _ (returns-in-Err-step-clause-run g c told)).1
-
-pub returns-in-Err-step-clause-untouched : goal.returns-in-Err-step-clause-untouched
-returns-in-Err-step-clause-untouched g c =
-    λ told serves.
-    let state = g.H.BytesPartialDecoderTraits.state in
-    let codec = c.args.codec.now in
-    let asked = geo c.args.shape.now c.args.data_type.now c.args.fill_value.now in
-    (leaves_bytes g.I.ArrayToBytesCodecTraits.meaning g.X.ArrayToBytesCodecTraits.meaning codec asked
-    (g.met.I.ArrayToBytesCodecTraits.lawful codec.inner (sub_geo codec.subchunk_shape asked))
-    (g.met.X.ArrayToBytesCodecTraits.lawful codec.index_codec (index_geo (grid_of asked.shape codec.subchunk_shape)))
-    serves (state c.args.handle) (state c.halted.result.handle) _ _ (returns-in-Err-step-clause-run g c told)).2
 
 pub returns-clause-scratch : goal.returns-clause-scratch
 returns-clause-scratch g c =
@@ -182,7 +14,7 @@ returns-clause-scratch g c =
     (leaves_bytes g.I.ArrayToBytesCodecTraits.meaning g.X.ArrayToBytesCodecTraits.meaning codec asked
     (g.met.I.ArrayToBytesCodecTraits.lawful codec.inner (sub_geo codec.subchunk_shape asked))
     (g.met.X.ArrayToBytesCodecTraits.lawful codec.index_codec (index_geo (grid_of asked.shape codec.subchunk_shape)))
-    serves (state c.args.handle) (state c.close-2.result) _ _ (returns-clause-run g c told)).0
+    serves (state c.args.handle) (state c.run_each.result.handle) _ _ (c.run_each.ensures.run told)).0
 
 pub returns-clause-unwritten : goal.returns-clause-unwritten
 returns-clause-unwritten g c =
@@ -193,7 +25,7 @@ returns-clause-unwritten g c =
     (leaves_bytes g.I.ArrayToBytesCodecTraits.meaning g.X.ArrayToBytesCodecTraits.meaning codec asked
     (g.met.I.ArrayToBytesCodecTraits.lawful codec.inner (sub_geo codec.subchunk_shape asked))
     (g.met.X.ArrayToBytesCodecTraits.lawful codec.index_codec (index_geo (grid_of asked.shape codec.subchunk_shape)))
-    serves (state c.args.handle) (state c.close-2.result) _ _ (returns-clause-run g c told)).1
+    serves (state c.args.handle) (state c.run_each.result.handle) _ _ (c.run_each.ensures.run told)).1
 
 pub returns-clause-untouched : goal.returns-clause-untouched
 returns-clause-untouched g c =
@@ -204,4 +36,4 @@ returns-clause-untouched g c =
     (leaves_bytes g.I.ArrayToBytesCodecTraits.meaning g.X.ArrayToBytesCodecTraits.meaning codec asked
     (g.met.I.ArrayToBytesCodecTraits.lawful codec.inner (sub_geo codec.subchunk_shape asked))
     (g.met.X.ArrayToBytesCodecTraits.lawful codec.index_codec (index_geo (grid_of asked.shape codec.subchunk_shape)))
-    serves (state c.args.handle) (state c.close-2.result) _ _ (returns-clause-run g c told)).2
+    serves (state c.args.handle) (state c.run_each.result.handle) _ _ (c.run_each.ensures.run told)).2

@@ -1,0 +1,5 @@
+pub mod ShownLemmas
+pub mod CauseLemmas
+pub mod StepLemmas
+pub mod OpeningLemmas
+pub mod SessionCauses

@@ -1,0 +1,102 @@
+// Calls on a session whose events are recorded: an accepted call is put at the end of the history, a refused one is no event.
+ghost use Rattle.std.specs.Prelude.{◌≡◌, ◌++◌, ◌∷◌, [], false, IfOk, IfErr, OnOk, OnErr, length};
+ghost use Rattle.zarr_parts.specs.Selections.{box_selection};
+ghost use Rattle.sharding_core.specs.Sessions.{IsInStep};
+ghost use Rattle.sharding_core.specs.LockedSessions.{HasWritten, HasRefusedWrite, HasRead, HasRefusedRead, HasErased};
+ghost use Rattle.recorded_calls.specs.RefusedErasures.{HasRefusedToErase};
+ghost use Rattle.session_events.specs.declared.event.Event.TheVariants.{Write, Read, Erase};
+
+use codec_laws::ArrayToBytesCodecTraits;
+use object_handles::BytesPartialEncoderTraits;
+use session_events::{Copies, History, Receipt};
+use sharding_core::{ShardState, ShardingCodec};
+use std::alloc::Global;
+use zarr_parts::{ArrayBytes, ArraySubset, CodecError, CodecOptions};
+
+// A write of elements over the cells of a subset.
+pub fn record_write<
+    I: ArrayToBytesCodecTraits,
+    X: ArrayToBytesCodecTraits,
+    H: BytesPartialEncoderTraits,
+>(
+    alloc: Global,
+    state: &mut ShardState<'_, I, X, H>,
+    history: &mut History,
+    receipts: &mut Vec<Receipt>,
+    subset: &ArraySubset,
+    bytes: &ArrayBytes,
+) -> Result<u64, CodecError>
+    requires in_step { IsInStep ⟦<ShardingCodec<I, X> as ArrayToBytesCodecTraits>⟧.meaning X.meaning H.state state.old }
+    ensures in_step { IsInStep ⟦<ShardingCodec<I, X> as ArrayToBytesCodecTraits>⟧.meaning X.meaning H.state state.new }
+    ensures place { IfOk result (λ place. place ≡ length history.old.events.items) }
+    ensures event { OnOk result (history.new.events.items ≡ history.old.events.items ++ Write subset.now bytes.now ∷ []) }
+    ensures mark { OnOk result (history.new.seen.items ≡ history.old.seen.items ++ false ∷ []) }
+    ensures receipt { IfOk result (λ place. receipts.new.items ≡ receipts.old.items ++ record { place = place; event = Write subset.now bytes.now } ∷ []) }
+    ensures written { OnOk result (HasWritten ⟦<ShardingCodec<I, X> as ArrayToBytesCodecTraits>⟧.meaning I.meaning X.meaning H.state (box_selection subset.now) bytes.now state.old state.new) }
+    ensures no_event { OnErr result ((history.new.events.items ≡ history.old.events.items) × (receipts.new.items ≡ receipts.old.items)) }
+    ensures no_mark { OnErr result (history.new.seen.items ≡ history.old.seen.items) }
+    ensures refused { IfErr result (λ e. HasRefusedWrite I.meaning X.meaning H.state (box_selection subset.now) bytes.now e state.old state.new) }
+{
+    history.take_room(receipts)?;
+    let copies = Copies::of_write(alloc, subset, bytes)?;
+    match state.partial_encode(alloc, subset, bytes, &CodecOptions::default()) {
+        Ok(()) => Ok(history.put(receipts, copies)),
+        Err(error) => Err(copies.refused(error)),
+    }
+}
+
+// A read of the cells of a subset.
+pub fn record_read<
+    I: ArrayToBytesCodecTraits,
+    X: ArrayToBytesCodecTraits,
+    H: BytesPartialEncoderTraits,
+>(
+    alloc: Global,
+    state: &mut ShardState<'_, I, X, H>,
+    history: &mut History,
+    receipts: &mut Vec<Receipt>,
+    subset: &ArraySubset,
+) -> Result<(u64, ArrayBytes<'static>), CodecError>
+    requires in_step { IsInStep ⟦<ShardingCodec<I, X> as ArrayToBytesCodecTraits>⟧.meaning X.meaning H.state state.old }
+    ensures in_step { IsInStep ⟦<ShardingCodec<I, X> as ArrayToBytesCodecTraits>⟧.meaning X.meaning H.state state.new }
+    ensures place { IfOk result (λ answer. answer.0 ≡ length history.old.events.items) }
+    ensures event { IfOk result (λ answer. history.new.events.items ≡ history.old.events.items ++ Read subset.now answer.1 ∷ []) }
+    ensures mark { OnOk result (history.new.seen.items ≡ history.old.seen.items ++ false ∷ []) }
+    ensures receipt { IfOk result (λ answer. receipts.new.items ≡ receipts.old.items ++ record { place = answer.0; event = Read subset.now answer.1 } ∷ []) }
+    ensures read { IfOk result (λ answer. HasRead ⟦<ShardingCodec<I, X> as ArrayToBytesCodecTraits>⟧.meaning H.state (box_selection subset.now) answer.1 state.old state.new) }
+    ensures no_event { OnErr result ((history.new.events.items ≡ history.old.events.items) × (receipts.new.items ≡ receipts.old.items)) }
+    ensures no_mark { OnErr result (history.new.seen.items ≡ history.old.seen.items) }
+    ensures refused { IfErr result (λ e. HasRefusedRead ⟦<ShardingCodec<I, X> as ArrayToBytesCodecTraits>⟧.meaning I.meaning X.meaning H.state (box_selection subset.now) e state.old state.new) }
+{
+    history.take_room(receipts)?;
+    let cells = state.partial_decode(alloc, subset, &CodecOptions::default())?;
+    let (copies, cells) = Copies::of_read(alloc, subset, cells)?;
+    let place = history.put(receipts, copies);
+    Ok((place, cells))
+}
+
+// An erasure of the object.
+pub fn record_erase<
+    I: ArrayToBytesCodecTraits,
+    X: ArrayToBytesCodecTraits,
+    H: BytesPartialEncoderTraits,
+>(
+    state: &mut ShardState<'_, I, X, H>,
+    history: &mut History,
+    receipts: &mut Vec<Receipt>,
+) -> Result<u64, CodecError>
+    requires in_step { IsInStep ⟦<ShardingCodec<I, X> as ArrayToBytesCodecTraits>⟧.meaning X.meaning H.state state.old }
+    ensures in_step { IsInStep ⟦<ShardingCodec<I, X> as ArrayToBytesCodecTraits>⟧.meaning X.meaning H.state state.new }
+    ensures place { IfOk result (λ place. place ≡ length history.old.events.items) }
+    ensures event { OnOk result (history.new.events.items ≡ history.old.events.items ++ Erase ∷ []) }
+    ensures mark { OnOk result (history.new.seen.items ≡ history.old.seen.items ++ false ∷ []) }
+    ensures receipt { IfOk result (λ place. receipts.new.items ≡ receipts.old.items ++ record { place = place; event = Erase } ∷ []) }
+    ensures erased { OnOk result (HasErased H.state state.old state.new) }
+    ensures no_event { OnErr result ((history.new.events.items ≡ history.old.events.items) × (receipts.new.items ≡ receipts.old.items)) }
+    ensures no_mark { OnErr result (history.new.seen.items ≡ history.old.seen.items) }
+    ensures refused { IfErr result (λ e. HasRefusedToErase H.state e state.old state.new) }
+{
+    history.take_room(receipts)?;
+    state.erase()?;
+    Ok(history.put(receipts, Copies::of_erase()))
+}
