@@ -122,6 +122,24 @@ impl<I: ArrayToBytesCodecTraits + Drop + Sync> Shards<I> {
     }
 }
 
+fn array_of(alloc: Global, held: Held) -> Result<ArrayBytes<'static>, CodecError> {
+    let cells = cells(alloc, held)?;
+    Ok(ArrayBytes::from_numbers(alloc, &cells)?)
+}
+
+// Decodes a shard, and its index.
+fn read_back<R: Threads + Sync, I: ArrayToBytesCodecTraits + Drop + Sync>(
+    rt: &R,
+    alloc: Global,
+    shards: &Shards<I>,
+    shard: &[u8],
+    target: usize,
+) -> Result<(Vec<u16>, Vec<u64>), CodecError> {
+    let cells = shards.decoded(rt, alloc, shard, target)?;
+    let index = shards.index(alloc, shard)?;
+    Ok((cells, index))
+}
+
 // Encodes cells, and decodes what came out.
 fn travel<R: Threads + Sync, I: ArrayToBytesCodecTraits + Drop + Sync>(
     rt: &R,
@@ -130,12 +148,14 @@ fn travel<R: Threads + Sync, I: ArrayToBytesCodecTraits + Drop + Sync>(
     held: Held,
     target: usize,
 ) -> Result<Trip, CodecError> {
-    let array = ArrayBytes::from_numbers(alloc, &cells(alloc, held)?)?;
+    let array = array_of(alloc, held)?;
     let shard = shards.encoded(rt, alloc, &array, target)?;
+    let differs = array.fixed_bytes() != Some(shard.as_slice());
+    let (cells, index) = read_back(rt, alloc, shards, &shard, target)?;
     Ok(Trip {
-        cells: shards.decoded(rt, alloc, &shard, target)?,
-        index: shards.index(alloc, &shard)?,
-        differs: array.fixed_bytes() != Some(shard.as_slice()),
+        cells,
+        index,
+        differs,
     })
 }
 
@@ -180,30 +200,26 @@ fn travel_by<R: Threads + Sync>(
     }
 }
 
-// Every way in which they are encoded.
-fn ways(alloc: Global) -> Result<Vec<Way>, AllocError> {
-    let mut ways = Vec::with_capacity(alloc, 16)?;
-    for number in 0..16u8 {
-        ways.push(Way {
-            location: match number % 2 {
-                0 => ShardingIndexLocation::Start,
-                _ => ShardingIndexLocation::End,
-            },
-            order: match number / 2 % 2 {
-                0 => SubchunkWriteOrder::C,
-                _ => SubchunkWriteOrder::Unordered,
-            },
-            target: if number / 4 % 2 == 0 { 1 } else { 4 },
-            unbounded: number / 8 == 1,
-        })?;
+// Every way in which they are encoded, by its number below 16.
+fn way_of(number: u8) -> Way {
+    Way {
+        location: match number % 2 {
+            0 => ShardingIndexLocation::Start,
+            _ => ShardingIndexLocation::End,
+        },
+        order: match number / 2 % 2 {
+            0 => SubchunkWriteOrder::C,
+            _ => SubchunkWriteOrder::Unordered,
+        },
+        target: if number / 4 % 2 == 0 { 1 } else { 4 },
+        unbounded: number / 8 == 1,
     }
-    Ok(ways)
 }
 
 #[test]
 fn cells_come_back(rt: HostRuntime) -> Result<(), Fail> {
     for (held, numbers) in [(Held::Zeros, 0), (Held::Counted, 1024), (Held::TwoBoxes, 6)] {
-        for way in ways(rt.alloc())? {
+        for way in (0..16u8).map(way_of) {
             let trip = travel_by(&rt, rt.alloc(), held, way)?;
             let (count, ascend) = present(&trip.index);
             let in_order = ascend || matches!(way.order, SubchunkWriteOrder::Unordered);

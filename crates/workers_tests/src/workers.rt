@@ -2,7 +2,7 @@
 use crate::compared::{same, same_at};
 use crate::gates::{Counted, Meeting};
 use crate::shards::{Shards, said};
-use std::alloc::Global;
+use std::alloc::{AllocError, Global};
 use std::test::Fail;
 use std::thread::Threads;
 use zarr_parts::CodecError;
@@ -16,21 +16,19 @@ fn many(alloc: Global) -> Result<Shards, CodecError> {
     Shards::of_bytes(alloc, &[4096], &[1])
 }
 
-fn ones(alloc: Global) -> Result<Vec<u8>, CodecError> {
-    let mut cells = Vec::with_capacity(alloc, 4096)?;
-    for _ in 0..4096 {
-        cells.push(1u8)?;
-    }
-    Ok(cells)
+fn ones(alloc: Global) -> Result<Vec<u8>, AllocError> {
+    vec![in alloc; 1u8; 4096]
 }
 
-// The shard of 4,096 ones, encoded by two workers that meet at a gate, and who came to it.
-fn met<R: Threads + Sync>(rt: &R, alloc: Global) -> Result<(Vec<u8>, (u64, u64)), CodecError> {
+// The shard of 4,096 ones, encoded by two workers that pass a gate.
+fn ones_by_workers<R: Threads + Sync>(
+    rt: &R,
+    alloc: Global,
+    gate: &Meeting,
+) -> Result<Vec<u8>, CodecError> {
     let shards = many(alloc)?;
     let array = shards.array(ones(alloc)?, 1)?;
-    let gate = Meeting::new([0, 4095]);
-    let shard = shards.encoded_by_workers(rt, alloc, &array, &gate, 2)?;
-    Ok((shard, gate.seen()))
+    shards.encoded_by_workers(rt, alloc, &array, gate, 2)
 }
 
 // The shard of 4,096 ones: its slices, one after the other, and then its index.
@@ -45,8 +43,9 @@ fn shard_of_ones(alloc: Global) -> Result<Vec<u8>, CodecError> {
 
 #[test]
 fn two_workers_are_at_work_at_once(rt: HostRuntime) -> Result<(), Fail> {
-    let (shard, seen) = met(&rt, rt.alloc())?;
-    same(&rt, seen, (2, 0));
+    let gate = Meeting::new([0, 4095]);
+    let shard = ones_by_workers(&rt, rt.alloc(), &gate)?;
+    same(&rt, gate.seen(), (2, 0));
     same(&rt, shard, shard_of_ones(rt.alloc())?);
     Ok(())
 }
@@ -89,63 +88,73 @@ fn the_lowest_refused_subchunk_gives_the_refusal(rt: HostRuntime) {
     }
 }
 
-// 4,096 cells of two bytes in 512 subchunks: ones in two boxes, which lie in three of them, and else zeros.
-fn two_boxes(alloc: Global) -> Result<(Shards, Vec<u8>), CodecError> {
-    let mut cells = Vec::with_capacity(alloc, 8192)?;
-    for k in 0..4096u64 {
-        let (plane, row, column) = (k / 256, k / 16 % 16, k % 16);
-        let inside = (plane < 2 || plane == 5 || plane == 6) && row < 2 && column < 2;
-        cells.push(u8::from(inside))?;
-        cells.push(0u8)?;
-    }
-    let shards = Shards::of_pairs(alloc, &[16, 16, 16], &[2, 2, 2])?;
-    Ok((shards, cells))
+// A byte of 4,096 cells of two bytes: ones in two boxes, which lie in three subchunks, and else zeros.
+fn boxed_byte(place: u64) -> u8 {
+    let k = place / 2;
+    let (plane, row, column) = (k / 256, k / 16 % 16, k % 16);
+    let inside = (plane < 2 || plane == 5 || plane == 6) && row < 2 && column < 2;
+    u8::from(inside && place % 2 == 0)
 }
 
-// The shard of these cells, encoded by so many workers at a time, and how many passed the gate; and by `encode`.
-fn encoded_both<R: Threads + Sync>(
+fn two_boxes(alloc: Global) -> Result<Vec<u8>, AllocError> {
+    (0..8192u64).map(boxed_byte).collect(alloc)
+}
+
+// Shards of such cells in 512 subchunks.
+fn planes(alloc: Global) -> Result<Shards, CodecError> {
+    Shards::of_pairs(alloc, &[16, 16, 16], &[2, 2, 2])
+}
+
+// The shard of these cells, encoded by so many workers at a time that pass a gate.
+fn boxes_by_workers<R: Threads + Sync>(
     rt: &R,
     alloc: Global,
+    gate: &Counted,
     target: usize,
-) -> Result<(Vec<u8>, u64, Vec<u8>), CodecError> {
-    let (shards, cells) = two_boxes(alloc)?;
-    let array = shards.array(cells, 2)?;
-    let gate = Counted::new();
-    let shard = shards.encoded_by_workers(rt, alloc, &array, &gate, target)?;
-    let plain = shards.encoded(alloc, &array)?;
-    Ok((shard, gate.passed(), plain))
+) -> Result<Vec<u8>, CodecError> {
+    let shards = planes(alloc)?;
+    let array = shards.array(two_boxes(alloc)?, 2)?;
+    shards.encoded_by_workers(rt, alloc, &array, gate, target)
+}
+
+// The shard of these cells, by `encode`.
+fn boxes_encoded(alloc: Global) -> Result<Vec<u8>, CodecError> {
+    let shards = planes(alloc)?;
+    let array = shards.array(two_boxes(alloc)?, 2)?;
+    shards.encoded(alloc, &array)
 }
 
 #[test]
 fn a_shard_by_workers_is_that_of_encode(rt: HostRuntime) -> Result<(), Fail> {
     for (target, passed) in [(1, 0), (2, 512), (4, 512)] {
-        let (shard, seen, plain) = encoded_both(&rt, rt.alloc(), target)?;
-        same_at(&rt, target, seen, passed);
+        let plain = boxes_encoded(rt.alloc())?;
+        let gate = Counted::new();
+        let shard = boxes_by_workers(&rt, rt.alloc(), &gate, target)?;
+        same_at(&rt, target, gate.passed(), passed);
         same(&rt, shard.len(), 8240);
         same_at(&rt, target, shard, plain);
     }
     Ok(())
 }
 
-// The cells of the shard that `encode` gives, decoded by so many workers at a time, and how many passed the gate.
+// The cells of the shard that `encode` gives, decoded by so many workers at a time that pass a gate.
 fn decoded_again<R: Threads + Sync>(
     rt: &R,
     alloc: Global,
+    gate: &Counted,
     target: usize,
-) -> Result<(Vec<u8>, u64), CodecError> {
-    let (shards, cells) = two_boxes(alloc)?;
-    let shard = shards.encoded(alloc, &shards.array(cells, 2)?)?;
-    let gate = Counted::new();
-    let decoded = shards.decoded_by_workers(rt, alloc, &shard, &gate, target)?;
-    Ok((decoded, gate.passed()))
+) -> Result<Vec<u8>, CodecError> {
+    let shard = boxes_encoded(alloc)?;
+    planes(alloc)?.decoded_by_workers(rt, alloc, &shard, gate, target)
 }
 
 #[test]
 fn a_shard_decodes_by_workers(rt: HostRuntime) -> Result<(), Fail> {
     for (target, passed) in [(1, 0), (2, 512), (4, 512)] {
-        let (decoded, seen) = decoded_again(&rt, rt.alloc(), target)?;
-        let (_, cells) = two_boxes(rt.alloc())?;
-        same_at(&rt, target, seen, passed);
+        let cells = two_boxes(rt.alloc())?;
+        let gate = Counted::new();
+        let decoded = decoded_again(&rt, rt.alloc(), &gate, target)?;
+        same_at(&rt, target, gate.passed(), passed);
         same_at(&rt, target, decoded, cells);
     }
     Ok(())
