@@ -5,14 +5,14 @@ ghost use Rattle.zarr_elements.specs.declared.data_type.DataType.TheVariants.{UI
 
 use crate::compared::{same, same_at};
 use crate::shards::{
-    ABSENT, Answer, Call, Encoder, Shards, alone, called, how_it_ended, object_of,
+    ABSENT, Answer, Call, Encoder, Shards, alone, called, how_it_ended, object_of, shards_of,
 };
 use shard_sessions::{Naming, Seat};
 use std::alloc::Global;
 use std::marker::Brand;
 use std::sync::Wait;
 use std::test::Fail;
-use zarr_codecs::{BytesCodec, FaultingHandle};
+use zarr_codecs::{ArrayToBytesCodecTraits, FaultingHandle};
 use zarr_parts::CodecError;
 
 // What a run answers to a write and to a read after it, by the numbers of their refusals, 0 where there is none; and its end.
@@ -25,36 +25,24 @@ fn number(answer: &Answer) -> u8 {
     }
 }
 
-// How a write and a read after it are refused, and the seat.
-fn written_and_read<J: Naming<BytesCodec, BytesCodec>, R: Wait>(
+// How a write and a read after it are refused, and how the session ends.
+fn run_opened<I: ArrayToBytesCodecTraits, X: ArrayToBytesCodecTraits, J: Naming<I, X>, R: Wait>(
     rt: &R,
     alloc: Global,
-    encoder: &Encoder<'_, J>,
+    encoder: Encoder<'_, I, X, J>,
     seat: Seat,
-) -> Result<(u8, u8, Seat), CodecError> {
+) -> Stage {
     let write = Call::Write { cell: 0, value: 1 };
-    let (seat, written) = called(rt, alloc, encoder, seat, write)?;
-    let (seat, read) = called(rt, alloc, encoder, seat, Call::Read { first: 0, end: 2 })?;
-    Ok((number(&written), number(&read), seat))
+    let (seat, written) = called(rt, alloc, &encoder, seat, write);
+    let (seat, read) = called(rt, alloc, &encoder, seat, Call::Read { first: 0, end: 2 });
+    let end = how_it_ended(encoder.close(alone(alloc, seat)));
+    (number(&written), number(&read), end.how)
 }
 
-// The same, and how the session ends.
-fn run_opened<J: Naming<BytesCodec, BytesCodec>, R: Wait>(
+fn run<I: ArrayToBytesCodecTraits, X: ArrayToBytesCodecTraits, J: Naming<I, X>, R: Wait>(
     rt: &R,
     alloc: Global,
-    encoder: Encoder<'_, J>,
-    seat: Seat,
-) -> Result<Stage, CodecError> {
-    let (written, read, seat) = written_and_read(rt, alloc, &encoder, seat)?;
-    let seats = alone(alloc, seat)?;
-    let end = how_it_ended(alloc, encoder.close(seats))?;
-    Ok((written, read, end.how))
-}
-
-fn run<J: Naming<BytesCodec, BytesCodec>, R: Wait>(
-    rt: &R,
-    alloc: Global,
-    shards: &Shards,
+    shards: &Shards<I, X>,
     fails_at: u64,
 ) -> Result<Stage, CodecError>
     requires codec_named { Some shards.now.codec ≡ J.codec }
@@ -63,7 +51,7 @@ fn run<J: Naming<BytesCodec, BytesCodec>, R: Wait>(
     let object = object_of(alloc, &[0, 7], &[0, 2, ABSENT, ABSENT])?;
     let handle = FaultingHandle::new(Some(object), fails_at);
     match shards.recorded::<J>(alloc, handle) {
-        Ok((encoder, seat)) => run_opened(rt, alloc, encoder, seat),
+        Ok((encoder, seat)) => Ok(run_opened(rt, alloc, encoder, seat)),
         Err(_) => Ok((0, 0, "refused")),
     }
 }
@@ -80,10 +68,10 @@ const STAGES: [Stage; 5] = [
 
 #[test]
 fn a_fault_is_no_event(rt: HostRuntime) -> Result<(), Fail> {
-    let shards = Shards::new(rt.alloc(), 4)?;
+    let shards = shards_of(rt.alloc(), 4)?;
     let mut stage = 0;
     for fails_at in 0..100 {
-        let ran = run::<Brand, _>(&rt, rt.alloc(), &shards, fails_at)?;
+        let ran = run::<_, _, Brand, _>(&rt, rt.alloc(), &shards, fails_at)?;
         if stage < 4 && ran == STAGES[stage + 1] {
             stage += 1;
         }

@@ -5,115 +5,136 @@ ghost use Rattle.zarr_elements.specs.declared.data_type.DataType.TheVariants.{UI
 
 use crate::compared::same;
 use crate::shards::{
-    ABSENT, Answer, Call, Encoder, Ended, Shards, called, how_it_ended, object_of,
+    ABSENT, Answer, Call, Encoder, Ended, Shards, alone, called, how_it_ended, is_object,
+    object_of, shards_of,
 };
 use shard_sessions::{Naming, Seat};
 use std::alloc::Global;
 use std::marker::Brand;
 use std::sync::Wait;
 use std::test::Fail;
-use zarr_codecs::{BytesCodec, FaultingHandle};
+use zarr_codecs::{ArrayToBytesCodecTraits, FaultingHandle};
 use zarr_parts::CodecError;
 
-// What a seat's calls answer, and the seat.
-fn answered<J: Naming<BytesCodec, BytesCodec>, R: Wait>(
+// A seat's calls, whose answers are put behind these, and the seat.
+fn answered<I: ArrayToBytesCodecTraits, X: ArrayToBytesCodecTraits, J: Naming<I, X>, R: Wait>(
     rt: &R,
     alloc: Global,
-    encoder: &Encoder<'_, J>,
+    encoder: &Encoder<'_, I, X, J>,
     seat: Seat,
     calls: &[Call],
-) -> Result<(Vec<Answer>, Seat), CodecError> {
+    answers: &mut Vec<Answer>,
+) -> Seat {
     let mut seat = seat;
-    let mut answers = Vec::new(alloc);
     for call in calls {
-        let (next, answer) = called(rt, alloc, encoder, seat, *call)?;
+        let (next, answer) = called(rt, alloc, encoder, seat, *call);
         seat = next;
-        answers.push(answer)?;
+        let _ = answers.push(answer);
     }
-    Ok((answers, seat))
+    seat
 }
 
-// Both seats, or the first alone.
-fn seats_of(
-    alloc: Global,
-    first: Seat,
-    second: Seat,
-    with_both: bool,
-) -> Result<Vec<Seat>, CodecError> {
-    let mut seats = Vec::new(alloc);
-    seats.push(first)?;
+// Both seats, or the first alone; fewer, where there is no memory.
+fn seats_of(alloc: Global, first: Seat, second: Seat, with_both: bool) -> Vec<Seat> {
+    let mut seats = alone(alloc, first);
     if with_both {
-        seats.push(second)?;
+        let _ = seats.push(second);
     }
-    Ok(seats)
+    seats
 }
 
-// What a session answers, whose calls come by the second of two seats, and how it ends with both or the first alone.
-fn played_to_the_end<J: Naming<BytesCodec, BytesCodec>, R: Wait>(
+// How a session ends with both of two seats or the first alone, whose calls come by the second.
+fn played_to_the_end<
+    I: ArrayToBytesCodecTraits,
+    X: ArrayToBytesCodecTraits,
+    J: Naming<I, X>,
+    R: Wait,
+>(
     rt: &R,
     alloc: Global,
-    encoder: Encoder<'_, J>,
+    encoder: Encoder<'_, I, X, J>,
     seat: Seat,
     calls: &[Call],
     with_both: bool,
-) -> Result<(Vec<Answer>, Ended), CodecError> {
+    answers: &mut Vec<Answer>,
+) -> Ended {
     let (first, second) = encoder.split_seat(seat);
-    let (answers, second) = answered(rt, alloc, &encoder, second, calls)?;
-    let seats = seats_of(alloc, first, second, with_both)?;
-    let end = how_it_ended(alloc, encoder.close(seats))?;
-    Ok((answers, end))
+    let second = answered(rt, alloc, &encoder, second, calls, answers);
+    let seats = seats_of(alloc, first, second, with_both);
+    how_it_ended(encoder.close(seats))
 }
 
-// The same of a session of four cells in an object.
-fn played<J: Naming<BytesCodec, BytesCodec>, R: Wait>(
+// The object that a session opens, its calls, and whether both seats close it.
+#[derive(Clone, Copy)]
+struct Play<'a> {
+    slices: &'a [u8],
+    index: &'a [u64],
+    calls: &'a [Call],
+    with_both: bool,
+}
+
+// How it ends. What its calls answer is put behind these answers.
+fn played<I: ArrayToBytesCodecTraits, X: ArrayToBytesCodecTraits, J: Naming<I, X>, R: Wait>(
     rt: &R,
     alloc: Global,
-    shards: &Shards,
-    object: Vec<u8>,
-    calls: &[Call],
-    with_both: bool,
-) -> Result<(Vec<Answer>, Ended), CodecError>
+    shards: &Shards<I, X>,
+    play: &Play<'_>,
+    answers: &mut Vec<Answer>,
+) -> Result<Ended, CodecError>
     requires codec_named { Some shards.now.codec ≡ J.codec }
     requires geo_named { geo shards.now.shape UInt8 shards.now.fill ≡ J.geo }
 {
+    let object = object_of(alloc, play.slices, play.index)?;
     let handle = FaultingHandle::new(Some(object), u64::MAX);
     match shards.recorded::<J>(alloc, handle) {
-        Ok((encoder, seat)) => played_to_the_end(rt, alloc, encoder, seat, calls, with_both),
-        Err((handle, error)) => Ok((Vec::new(alloc), Ended::refused(alloc, handle, error))),
+        Ok((encoder, seat)) => Ok(played_to_the_end(
+            rt,
+            alloc,
+            encoder,
+            seat,
+            play.calls,
+            play.with_both,
+            answers,
+        )),
+        Err((handle, error)) => Ok(Ended::refused(handle, error)),
     }
 }
 
-// The object of the cells 0, 7, 0, 0.
-fn seven(alloc: Global) -> Result<Vec<u8>, CodecError> {
-    object_of(alloc, &[0, 7], &[0, 2, ABSENT, ABSENT])
-}
-
-// The object of the cells 3, 7, 0, 0.
-fn three_and_seven(alloc: Global) -> Result<Vec<u8>, CodecError> {
-    object_of(alloc, &[3, 7], &[0, 2, ABSENT, ABSENT])
-}
+// The index of an object of which the first subchunk is stored.
+const FIRST: [u64; 4] = [0, 2, ABSENT, ABSENT];
 
 #[test]
 fn a_seat_that_is_missing_is_told_and_the_handle_comes_back(rt: HostRuntime) -> Result<(), Fail> {
-    let alloc = rt.alloc();
-    let shards = Shards::new(alloc, 4)?;
-    let calls = [Call::Write { cell: 0, value: 3 }];
-    let (answers, end) = played::<Brand, _>(&rt, alloc, &shards, seven(alloc)?, &calls, false)?;
+    let shards = shards_of(rt.alloc(), 4)?;
+    let play = Play {
+        slices: &[0, 7],
+        index: &FIRST,
+        calls: &[Call::Write { cell: 0, value: 3 }],
+        with_both: false,
+    };
+    let mut answers = Vec::new(rt.alloc());
+    let end = played::<_, _, Brand, _>(&rt, rt.alloc(), &shards, &play, &mut answers)?;
     same(&rt, answers.as_slice(), [Ok((0, 0))].as_slice());
     same(&rt, end.how, "seats missing");
-    same(&rt, end.object, Some(three_and_seven(alloc)?));
+    let left = is_object(rt.alloc(), &end.object, &[3, 7], &FIRST);
+    same(&rt, left, Ok(true));
     Ok(())
 }
 
 #[test]
 fn a_refused_call_is_no_event(rt: HostRuntime) -> Result<(), Fail> {
-    let alloc = rt.alloc();
-    let shards = Shards::new(alloc, 4)?;
-    let calls = [
-        Call::Write { cell: 0, value: 3 },
-        Call::Read { first: 3, end: 5 },
-    ];
-    let (answers, end) = played::<Brand, _>(&rt, alloc, &shards, seven(alloc)?, &calls, true)?;
+    let shards = shards_of(rt.alloc(), 4)?;
+    let play = Play {
+        slices: &[0, 7],
+        index: &FIRST,
+        calls: &[
+            Call::Write { cell: 0, value: 3 },
+            Call::Read { first: 3, end: 5 },
+        ],
+        with_both: true,
+    };
+    let mut answers = Vec::new(rt.alloc());
+    let end = played::<_, _, Brand, _>(&rt, rt.alloc(), &shards, &play, &mut answers)?;
     same(
         &rt,
         answers.as_slice(),
@@ -121,21 +142,26 @@ fn a_refused_call_is_no_event(rt: HostRuntime) -> Result<(), Fail> {
     );
     same(&rt, end.how, "closed");
     same(&rt, end.events, 1);
-    same(&rt, end.opening.as_slice(), [0, 7, 0, 0].as_slice());
+    same(&rt, end.opening_cells(), [0, 7, 0, 0].as_slice());
     Ok(())
 }
 
 #[test]
 fn an_erased_shard_is_read_and_written_anew(rt: HostRuntime) -> Result<(), Fail> {
-    let alloc = rt.alloc();
-    let shards = Shards::new(alloc, 4)?;
-    let calls = [
-        Call::Erase,
-        Call::Read { first: 1, end: 2 },
-        Call::Write { cell: 1, value: 7 },
-        Call::Read { first: 1, end: 2 },
-    ];
-    let (answers, end) = played::<Brand, _>(&rt, alloc, &shards, seven(alloc)?, &calls, true)?;
+    let shards = shards_of(rt.alloc(), 4)?;
+    let play = Play {
+        slices: &[0, 7],
+        index: &FIRST,
+        calls: &[
+            Call::Erase,
+            Call::Read { first: 1, end: 2 },
+            Call::Write { cell: 1, value: 7 },
+            Call::Read { first: 1, end: 2 },
+        ],
+        with_both: true,
+    };
+    let mut answers = Vec::new(rt.alloc());
+    let end = played::<_, _, Brand, _>(&rt, rt.alloc(), &shards, &play, &mut answers)?;
     same(
         &rt,
         answers.as_slice(),
@@ -143,20 +169,27 @@ fn an_erased_shard_is_read_and_written_anew(rt: HostRuntime) -> Result<(), Fail>
     );
     same(&rt, end.how, "closed");
     same(&rt, end.events, 4);
-    same(&rt, end.object, Some(seven(alloc)?));
+    let left = is_object(rt.alloc(), &end.object, &[0, 7], &FIRST);
+    same(&rt, left, Ok(true));
     Ok(())
 }
 
 #[test]
 fn a_damaged_object_is_refused_and_comes_back(rt: HostRuntime) -> Result<(), Fail> {
-    let alloc = rt.alloc();
-    let shards = Shards::new(alloc, 4)?;
-    let damaged = object_of(alloc, &[5], &[0, 1, ABSENT, ABSENT])?;
-    let unchanged = object_of(alloc, &[5], &[0, 1, ABSENT, ABSENT])?;
-    let (answers, end) = played::<Brand, _>(&rt, alloc, &shards, damaged, &[], true)?;
+    let shards = shards_of(rt.alloc(), 4)?;
+    let index = [0, 1, ABSENT, ABSENT];
+    let play = Play {
+        slices: &[5],
+        index: &index,
+        calls: &[],
+        with_both: true,
+    };
+    let mut answers = Vec::new(rt.alloc());
+    let end = played::<_, _, Brand, _>(&rt, rt.alloc(), &shards, &play, &mut answers)?;
     same(&rt, answers.len(), 0);
     same(&rt, end.how, "refused");
     same(&rt, end.error, Some(CodecError::Damaged));
-    same(&rt, end.object, Some(unchanged));
+    let left = is_object(rt.alloc(), &end.object, &[5], &index);
+    same(&rt, left, Ok(true));
     Ok(())
 }

@@ -5,7 +5,6 @@ ghost use Rattle.zarr_elements.specs.declared.data_type.DataType.TheVariants.{UI
 
 use shard_sessions::{CloseError, Closed, Naming, RecordedPartialEncoder, Seat, recorded};
 use std::alloc::Global;
-use std::ops::Range;
 use std::sync::Wait;
 use zarr_codecs::{ArrayToBytesCodecTraits, BytesCodec, FaultingHandle};
 use zarr_parts::{
@@ -13,22 +12,14 @@ use zarr_parts::{
 };
 use zarrs_sharding::{ShardingCodec, ShardingIndexLocation};
 
-pub(crate) type Codec = ShardingCodec<BytesCodec, BytesCodec>;
-
-pub(crate) type Encoder<'a, J> = RecordedPartialEncoder<
-    'a,
-    BytesCodec,
-    BytesCodec,
-    FaultingHandle,
-    J,
->;
+pub(crate) type Encoder<'a, I, X, J> = RecordedPartialEncoder<'a, I, X, FaultingHandle, J>;
 
 pub(crate) const ABSENT: u64 = u64::MAX;
 
 // A codec, and what it is asked to serve.
 #[derive(Drop)]
-pub(crate) struct Shards {
-    pub codec: Codec,
+pub(crate) struct Shards<I: ArrayToBytesCodecTraits, X: ArrayToBytesCodecTraits> {
+    pub codec: ShardingCodec<I, X>,
     pub shape: ChunkShape,
     pub fill: FillValue,
 }
@@ -37,54 +28,55 @@ fn shape_of(alloc: Global, axis: u64) -> Result<ChunkShape, CodecError> {
     ChunkShape::new(alloc, &[axis])?.ok_or(CodecError::OutOfBounds)
 }
 
-// The cells of an array.
-fn cells_of(alloc: Global, array: &ArrayBytes) -> Result<Vec<u8>, CodecError> {
-    let cells = array.fixed_bytes().ok_or(CodecError::WrongElementKind)?;
-    Ok(cells.to_vec(alloc)?)
+// Shards of so many cells.
+pub(crate) fn shards_of(
+    alloc: Global,
+    cells: u64,
+) -> Result<Shards<BytesCodec, BytesCodec>, CodecError> {
+    let little = BytesCodec::little();
+    let sub = shape_of(alloc, 2)?;
+    let zero = vec![in alloc; 0u8; 1]?;
+    Ok(Shards {
+        codec: ShardingCodec::new(sub, little, little, ShardingIndexLocation::End),
+        shape: shape_of(alloc, cells)?,
+        fill: FillValue::new(zero),
+    })
 }
 
-impl Shards {
-    // Shards of so many cells.
-    pub(crate) fn new(alloc: Global, cells: u64) -> Result<Self, CodecError> {
-        let little = BytesCodec::little();
-        let sub = shape_of(alloc, 2)?;
-        let zero = vec![in alloc; 0u8; 1]?;
-        Ok(Shards {
-            codec: ShardingCodec::new(sub, little, little, ShardingIndexLocation::End),
-            shape: shape_of(alloc, cells)?,
-            fill: FillValue::new(zero),
-        })
-    }
-
-    // The cells of an object.
-    pub(crate) fn cells(
+impl<I: ArrayToBytesCodecTraits, X: ArrayToBytesCodecTraits> Shards<I, X> {
+    // Whether an object has these cells.
+    pub(crate) fn are_cells(
         &self,
         alloc: Global,
-        object: Option<Vec<u8>>,
-    ) -> Result<Vec<u8>, CodecError> {
-        let object = object.ok_or(CodecError::OutOfBounds)?;
-        let options = CodecOptions::default();
+        object: &Option<Vec<u8>>,
+        cells: &[u8],
+    ) -> Result<bool, CodecError> {
+        let Some(object) = object else {
+            return Ok(false);
+        };
         let array = self.codec.decode(
             alloc,
-            &object,
+            object,
             &self.shape,
             &DataType::UInt8,
             &self.fill,
-            &options,
+            &CodecOptions::default(),
         )?;
-        cells_of(alloc, &array)
+        Ok(array.fixed_bytes() == Some(cells))
     }
 
     // An object without what is not needed, or `None` where there is nothing to gain.
     pub(crate) fn compacted(
         &self,
         alloc: Global,
-        object: Option<Vec<u8>>,
+        object: &Option<Vec<u8>>,
     ) -> Result<Option<Vec<u8>>, CodecError> {
-        let object = object.ok_or(CodecError::OutOfBounds)?;
+        let Some(object) = object else {
+            return Err(CodecError::OutOfBounds);
+        };
         self.codec.compact(
             alloc,
-            &object,
+            object,
             &self.shape,
             &DataType::UInt8,
             &self.fill,
@@ -93,11 +85,11 @@ impl Shards {
     }
 
     // A recorded session of them.
-    pub(crate) fn recorded<J: Naming<BytesCodec, BytesCodec>>(
+    pub(crate) fn recorded<J: Naming<I, X>>(
         &self,
         alloc: Global,
         handle: FaultingHandle,
-    ) -> Result<(Encoder<'_, J>, Seat), (FaultingHandle, CodecError)>
+    ) -> Result<(Encoder<'_, I, X, J>, Seat), (FaultingHandle, CodecError)>
         requires codec_named { Some self.now.codec ≡ J.codec }
         requires geo_named { geo self.now.shape UInt8 self.now.fill ≡ J.geo }
     {
@@ -125,6 +117,20 @@ pub(crate) fn object_of(
     Ok(object)
 }
 
+// Whether an object is that of these slices and this index.
+pub(crate) fn is_object(
+    alloc: Global,
+    object: &Option<Vec<u8>>,
+    slices: &[u8],
+    index: &[u64],
+) -> Result<bool, CodecError> {
+    let Some(found) = object else {
+        return Ok(false);
+    };
+    let wanted = object_of(alloc, slices, index)?;
+    Ok(found.as_slice() == wanted.as_slice())
+}
+
 // What a test does in a session: it writes a value into a cell, reads the cells of a range, or erases.
 #[derive(Clone, Copy)]
 pub(crate) enum Call {
@@ -143,57 +149,82 @@ fn read_cell(cells: &ArrayBytes) -> u8 {
     }
 }
 
-fn told<J: Naming<BytesCodec, BytesCodec>, R: Wait>(
-    rt: &R,
-    alloc: Global,
-    encoder: &Encoder<'_, J>,
-    seat: Seat,
-    write: Option<u8>,
-    cells: Range<u64>,
-) -> Result<(Seat, Answer), CodecError> {
-    let subset = ArraySubset::from_ranges(alloc, &[cells])?;
-    match write {
-        Some(value) => {
-            let update = ArrayBytes::from_numbers(alloc, &[value])?;
-            let (seat, answer) = encoder.write(rt, alloc, seat, &subset, &update);
-            Ok((seat, answer.map(|place| (place, 0))))
-        }
-        None => {
-            let (seat, answer) = encoder.read(rt, alloc, seat, &subset);
-            Ok((
-                seat,
-                answer.map(|(place, cells)| (place, read_cell(&cells))),
-            ))
-        }
+fn place_alone(answer: Result<u64, CodecError>) -> Answer {
+    Ok((answer?, 0))
+}
+
+fn place_and_cell(answer: &Result<(u64, ArrayBytes<'static>), CodecError>) -> Answer {
+    match answer {
+        Ok((place, cells)) => Ok((*place, read_cell(cells))),
+        Err(error) => Err(*error),
     }
 }
 
-// One call by a seat.
-pub(crate) fn called<J: Naming<BytesCodec, BytesCodec>, R: Wait>(
+// A value over one cell.
+#[derive(Drop)]
+struct Update {
+    subset: ArraySubset,
+    bytes: ArrayBytes<'static>,
+}
+
+fn update_of(alloc: Global, cell: u64, value: u8) -> Result<Update, CodecError> {
+    let end = cell.saturating_add(1);
+    Ok(Update {
+        subset: ArraySubset::from_ranges(alloc, &[cell..end])?,
+        bytes: ArrayBytes::from_numbers(alloc, &[value])?,
+    })
+}
+
+fn write<I: ArrayToBytesCodecTraits, X: ArrayToBytesCodecTraits, J: Naming<I, X>, R: Wait>(
     rt: &R,
     alloc: Global,
-    encoder: &Encoder<'_, J>,
+    encoder: &Encoder<'_, I, X, J>,
     seat: Seat,
-    call: Call,
-) -> Result<(Seat, Answer), CodecError> {
+    update: &Update,
+) -> (Seat, Answer) {
+    let (seat, answer) = encoder.write(rt, alloc, seat, &update.subset, &update.bytes);
+    (seat, place_alone(answer))
+}
+
+fn read<I: ArrayToBytesCodecTraits, X: ArrayToBytesCodecTraits, J: Naming<I, X>, R: Wait>(
+    rt: &R,
+    alloc: Global,
+    encoder: &Encoder<'_, I, X, J>,
+    seat: Seat,
+    subset: &ArraySubset,
+) -> (Seat, Answer) {
+    let (seat, answer) = encoder.read(rt, alloc, seat, subset);
+    (seat, place_and_cell(&answer))
+}
+
+// One call by a seat. Where there is no memory for its arguments it answers so.
+pub(crate) fn called<
+    I: ArrayToBytesCodecTraits,
+    X: ArrayToBytesCodecTraits,
+    J: Naming<I, X>,
+    R: Wait,
+>(rt: &R, alloc: Global, encoder: &Encoder<'_, I, X, J>, seat: Seat, call: Call) -> (Seat, Answer) {
     match call {
-        Call::Write { cell, value } => {
-            let end = cell.saturating_add(1);
-            told(rt, alloc, encoder, seat, Some(value), cell..end)
-        }
-        Call::Read { first, end } => told(rt, alloc, encoder, seat, None, first..end),
+        Call::Write { cell, value } => match update_of(alloc, cell, value) {
+            Ok(update) => write(rt, alloc, encoder, seat, &update),
+            Err(error) => (seat, Err(error)),
+        },
+        Call::Read { first, end } => match ArraySubset::from_ranges(alloc, &[first..end]) {
+            Ok(subset) => read(rt, alloc, encoder, seat, &subset),
+            Err(_) => (seat, Err(CodecError::OutOfMemory)),
+        },
         Call::Erase => {
             let (seat, answer) = encoder.erase(rt, alloc, seat);
-            Ok((seat, answer.map(|place| (place, 0))))
+            (seat, place_alone(answer))
         }
     }
 }
 
-// A seat alone.
-pub(crate) fn alone(alloc: Global, seat: Seat) -> Result<Vec<Seat>, CodecError> {
+// A seat alone; or none, where there is no memory.
+pub(crate) fn alone(alloc: Global, seat: Seat) -> Vec<Seat> {
     let mut seats = Vec::new(alloc);
-    seats.push(seat)?;
-    Ok(seats)
+    let _ = seats.push(seat);
+    seats
 }
 
 // How a session ended: by which end, with how many events, which opening cells, which refusal, which receipt that does not agree, by
@@ -202,65 +233,68 @@ pub(crate) fn alone(alloc: Global, seat: Seat) -> Result<Vec<Seat>, CodecError> 
 pub(crate) struct Ended {
     pub how: &'static str,
     pub events: usize,
-    pub opening: Vec<u8>,
+    pub opening: Option<ArrayBytes<'static>>,
     pub error: Option<CodecError>,
     pub receipt: Option<(u64, u64)>,
     pub object: Option<Vec<u8>>,
 }
 
 impl Ended {
-    // One that was refused when it was opened.
-    pub(crate) fn refused(alloc: Global, handle: FaultingHandle, error: CodecError) -> Self {
+    fn of(how: &'static str, closed: Closed<FaultingHandle>, receipt: Option<(u64, u64)>) -> Self {
+        let Closed {
+            handle,
+            opening,
+            history,
+        } = closed;
         Ended {
-            how: "refused",
+            how,
+            events: history.len(),
+            opening: Some(opening),
+            error: None,
+            receipt,
+            object: handle.into_inner(),
+        }
+    }
+
+    fn by(how: &'static str, handle: FaultingHandle, error: CodecError) -> Self {
+        Ended {
+            how,
             events: 0,
-            opening: Vec::new(alloc),
+            opening: None,
             error: Some(error),
             receipt: None,
             object: handle.into_inner(),
         }
     }
 
-    fn of(
-        alloc: Global,
-        how: &'static str,
-        closed: Closed<FaultingHandle>,
-    ) -> Result<Self, CodecError> {
-        let opening = cells_of(alloc, &closed.opening)?;
-        Ok(Ended {
-            how,
-            events: closed.history.len(),
-            opening,
-            error: None,
-            receipt: None,
-            object: closed.handle.into_inner(),
-        })
+    // One that was refused when it was opened.
+    pub(crate) fn refused(handle: FaultingHandle, error: CodecError) -> Self {
+        Ended::by("refused", handle, error)
+    }
+
+    // The cells that it opened with.
+    pub(crate) fn opening_cells(&self) -> &[u8] {
+        match &self.opening {
+            Some(cells) => cells.fixed_bytes().unwrap_or(&[]),
+            None => &[],
+        }
     }
 }
 
 // How a session ended.
 pub(crate) fn how_it_ended(
-    alloc: Global,
     end: Result<Closed<FaultingHandle>, CloseError<FaultingHandle>>,
-) -> Result<Ended, CodecError> {
+) -> Ended {
     match end {
-        Ok(closed) => Ended::of(alloc, "closed", closed),
-        Err(CloseError::SeatsMissing(closed)) => Ended::of(alloc, "seats missing", closed),
+        Ok(closed) => Ended::of("closed", closed, None),
+        Err(CloseError::SeatsMissing(closed)) => Ended::of("seats missing", closed, None),
         Err(
             CloseError::ReceiptMismatch {
                 closed,
                 seat,
                 place,
             },
-        ) => {
-            let mut end = Ended::of(alloc, "mismatch", closed)?;
-            end.receipt = Some((seat, place));
-            Ok(end)
-        }
-        Err(CloseError::Session(handle, error)) => {
-            let mut end = Ended::refused(alloc, handle, error);
-            end.how = "failed";
-            Ok(end)
-        }
+        ) => Ended::of("mismatch", closed, Some((seat, place))),
+        Err(CloseError::Session(handle, error)) => Ended::by("failed", handle, error),
     }
 }
