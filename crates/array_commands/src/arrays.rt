@@ -1,32 +1,30 @@
-// An array on disk that is opened: its metadata, its shards, and their files.
+// An array on disk that is open: its metadata, its shards, and their files.
 use crate::stop::{Place, Refusal, Stop};
-use array_metadata::{ArrayMetadata, IndexCodec, InnerCodec};
+use array_metadata::ArrayMetadata;
 use array_shards::ShardGrid;
 use file_handles::FileHandle;
-use shard_format::of_stored;
+use shard_format::{SubchunkWriteOrder, calculate_chunks_per_shard, of_stored};
+use sharding_core::{ShardingCodec, ShardingPartialDecoder};
 use std::alloc::Global;
 use std::rt::Files;
 use std::{fs, io};
 use zarr_codecs::{ArrayToBytesCodecTraits, BytesPartialDecoderTraits};
-use zarr_parts::{
-    ArrayBytes, ArraySubset, ChunkShape, CodecError, CodecOptions, DataType, FillValue,
-};
-use zarrs_sharding::{
-    ShardingCodec, ShardingPartialDecoder, SubchunkWriteOrder, calculate_chunks_per_shard,
-};
+use zarr_parts::{ArrayBytes, ArraySubset, ChunkShape, CodecError, CodecOptions};
 
 /// The file of a shard.
 pub type ShardFile<'a, R> = FileHandle<&'a R>;
 
 /// A shard that is opened to be read.
-pub type Decoder<'c, 'a, R> = ShardingPartialDecoder<'c, InnerCodec, IndexCodec, ShardFile<'a, R>>;
+pub type Decoder<'a, R, I, X> = ShardingPartialDecoder<'a, I, X, ShardFile<'a, R>>;
 
-/// An array on disk.
+/// An array on disk, whose shards are of a codec.
 #[derive(Drop)]
-pub struct Array<'a, R> {
+pub struct Array<'a, R, I, X> {
     rt: &'a R,
     path: &'a str,
-    pub metadata: ArrayMetadata,
+    pub metadata: &'a ArrayMetadata,
+    /// The codec that the metadata names.
+    pub codec: &'a ShardingCodec<I, X>,
     pub grid: ShardGrid,
     /// How many subchunks a shard has along each axis.
     pub subchunks: ChunkShape,
@@ -44,11 +42,9 @@ fn text_of<R: Files + AllocGlobal>(rt: &R, path: &str, document: &str) -> Result
     }
 }
 
-// The metadata of the array whose folder has this path.
-fn metadata_of<R: Files + AllocGlobal>(rt: &R, path: &str) -> Result<ArrayMetadata, Stop> {
-    let document = format!(in rt.alloc(); "{path}/zarr.json")?;
-    let text = text_of(rt, path, &document)?;
-    match ArrayMetadata::from_text(rt.alloc(), &text) {
+// What the array's `zarr.json`, which has this text, says.
+fn read_metadata(alloc: Global, document: String, text: &str) -> Result<ArrayMetadata, Stop> {
+    match ArrayMetadata::from_text(alloc, text) {
         Ok(mut metadata) => {
             metadata.codec.order = SubchunkWriteOrder::C;
             Ok(metadata)
@@ -60,45 +56,53 @@ fn metadata_of<R: Files + AllocGlobal>(rt: &R, path: &str) -> Result<ArrayMetada
     }
 }
 
-// Tests whether a codec serves shards of a shape.
+/// The metadata of the array whose folder has this path.
+pub fn metadata_of<R: Files + AllocGlobal>(rt: &R, path: &str) -> Result<ArrayMetadata, Stop> {
+    let document = format!(in rt.alloc(); "{path}/zarr.json")?;
+    let text = text_of(rt, path, &document)?;
+    read_metadata(rt.alloc(), document, &text)
+}
+
+// Tests whether a codec serves the shards of an array.
 fn check_served<C: ArrayToBytesCodecTraits>(
     alloc: Global,
     codec: &C,
-    shard: &ChunkShape,
-    data_type: &DataType,
-    fill_value: &FillValue,
-) -> Result<(), CodecError> {
-    codec.check(alloc, shard, data_type, fill_value)
-}
-
-// The grid of an array's shards, and that of a shard's subchunks, where the array's codec serves it.
-fn grids_of(
-    alloc: Global,
     metadata: &ArrayMetadata,
-) -> Result<(ShardGrid, ChunkShape), CodecError> {
-    check_served(
+) -> Result<(), CodecError> {
+    codec.check(
         alloc,
-        &metadata.codec,
         &metadata.shard,
         &metadata.data_type,
         &metadata.fill_value,
-    )?;
-    let subchunks = calculate_chunks_per_shard(alloc, &metadata.shard, &metadata.subchunk)?;
-    let grid = ShardGrid::new(alloc, &metadata.shape, &metadata.shard)?;
-    Ok((grid, subchunks))
+    )
 }
 
-// Opens a shard of a codec.
+// How the shards of an array are cut, where the codec serves them.
+fn subchunks_of<C: ArrayToBytesCodecTraits>(
+    alloc: Global,
+    codec: &C,
+    metadata: &ArrayMetadata,
+) -> Result<ChunkShape, CodecError> {
+    check_served(alloc, codec, metadata)?;
+    calculate_chunks_per_shard(alloc, &metadata.shard, &metadata.subchunk)
+}
+
+// Opens a shard of an array's codec.
 fn opened<'c, I: ArrayToBytesCodecTraits, X: ArrayToBytesCodecTraits, H: BytesPartialDecoderTraits>(
     alloc: Global,
     codec: &'c ShardingCodec<I, X>,
     file: H,
-    shard: &ChunkShape,
-    data_type: &DataType,
-    fill_value: &FillValue,
+    metadata: &ArrayMetadata,
 ) -> Result<ShardingPartialDecoder<'c, I, X, H>, (H, CodecError)> {
     let options = CodecOptions::default();
-    codec.partial_decoder(alloc, file, shard, data_type, fill_value, &options)
+    codec.partial_decoder(
+        alloc,
+        file,
+        &metadata.shard,
+        &metadata.data_type,
+        &metadata.fill_value,
+        &options,
+    )
 }
 
 /// Reads the cells of a box of a shard that is open.
@@ -116,6 +120,27 @@ pub fn read_cells<
     Ok(cells)
 }
 
+// Decodes the bytes of a subchunk, and lets the cells go.
+fn decode_subchunk<I: ArrayToBytesCodecTraits, X>(
+    alloc: Global,
+    codec: &ShardingCodec<I, X>,
+    metadata: &ArrayMetadata,
+    bytes: &[u8],
+) -> Result<(), CodecError> {
+    let decoded = codec.inner.decode(
+        alloc,
+        bytes,
+        &codec.subchunk_shape,
+        &metadata.data_type,
+        &metadata.fill_value,
+        &CodecOptions::default(),
+    );
+    match decoded {
+        Ok(_) => Ok(()),
+        Err(error) => Err(of_stored(error)),
+    }
+}
+
 /// Reads the bytes of a subchunk of a shard that is open, decodes them, and lets the cells go.
 pub fn read_through<
     I: ArrayToBytesCodecTraits,
@@ -125,41 +150,16 @@ pub fn read_through<
     alloc: Global,
     decoder: &mut ShardingPartialDecoder<'_, I, X, H>,
     codec: &ShardingCodec<I, X>,
-    data_type: &DataType,
-    fill_value: &FillValue,
+    metadata: &ArrayMetadata,
     subchunk: &[u64],
 ) -> Result<(), CodecError> {
-    let Some(bytes) = decoder.retrieve_subchunk_encoded(alloc, subchunk)? else {
-        return Ok(());
-    };
-    let decoded = codec.inner.decode(
-        alloc,
-        &bytes,
-        &codec.subchunk_shape,
-        data_type,
-        fill_value,
-        &CodecOptions::default(),
-    );
-    match decoded {
-        Ok(_) => Ok(()),
-        Err(error) => Err(of_stored(error)),
+    match decoder.retrieve_subchunk_encoded(alloc, subchunk)? {
+        Some(bytes) => decode_subchunk(alloc, codec, metadata, &bytes),
+        None => Ok(()),
     }
 }
 
-impl<'a, R: Files + AllocGlobal> Array<'a, R> {
-    /// Opens the array whose folder has this path.
-    pub fn open(rt: &'a R, path: &'a str) -> Result<Self, Stop> {
-        let metadata = metadata_of(rt, path)?;
-        let (grid, subchunks) = grids_of(rt.alloc(), &metadata)?;
-        Ok(Array {
-            rt,
-            path,
-            metadata,
-            grid,
-            subchunks,
-        })
-    }
-
+impl<'a, R: Files + AllocGlobal, I, X> Array<'a, R, I, X> {
     /// The allocator.
     pub fn alloc(&self) -> Global {
         self.rt.alloc()
@@ -194,19 +194,38 @@ impl<'a, R: Files + AllocGlobal> Array<'a, R> {
             _ => Ok(Refusal { key, error, place }),
         }
     }
+}
+
+impl<'a, R: Files + AllocGlobal, I: ArrayToBytesCodecTraits, X: ArrayToBytesCodecTraits> Array<
+    'a,
+    R,
+    I,
+    X,
+> {
+    /// Opens the array whose folder has this path, with its metadata and the codec that this names.
+    pub fn open(
+        rt: &'a R,
+        path: &'a str,
+        metadata: &'a ArrayMetadata,
+        codec: &'a ShardingCodec<I, X>,
+    ) -> Result<Self, Stop> {
+        let alloc = rt.alloc();
+        let subchunks = subchunks_of(alloc, codec, metadata)?;
+        let grid = ShardGrid::new(alloc, &metadata.shape, &metadata.shard)?;
+        Ok(Array {
+            rt,
+            path,
+            metadata,
+            codec,
+            grid,
+            subchunks,
+        })
+    }
 
     /// Opens the shard with this key, where it is not refused.
-    pub fn decoder<'c>(&'c self, key: &str) -> Result<Result<Decoder<'c, 'a, R>, Refusal>, Stop> {
-        let asked = &self.metadata;
-        let opened = opened(
-            self.alloc(),
-            &asked.codec,
-            self.file(key)?,
-            &asked.shard,
-            &asked.data_type,
-            &asked.fill_value,
-        );
-        match opened {
+    pub fn decoder(&self, key: &str) -> Result<Result<Decoder<'a, R, I, X>, Refusal>, Stop> {
+        let file = self.file(key)?;
+        match opened(self.alloc(), self.codec, file, self.metadata) {
             Ok(decoder) => Ok(Ok(decoder)),
             Err((file, error)) => {
                 let refusal = self.refusal(key, &file, error, Place::opening(&error))?;

@@ -1,14 +1,14 @@
 // Whether the shards of an array are sound.
-use crate::arrays::{Array, ShardFile, read_through};
-use crate::progress::Progress;
+use crate::arrays::{Array, Decoder, ShardFile, read_through};
 use crate::stop::{Place, Refusal, Stop};
+use command_words::Progress;
+use sharding_core::ShardingPartialDecoder;
 use std::alloc::AllocError;
 use std::io;
 use std::io::Write;
 use std::rt::Files;
 use zarr_codecs::{ArrayToBytesCodecTraits, BytesPartialDecoderTraits};
 use zarr_parts::{CodecError, unravel_index};
-use zarrs_sharding::{ShardingCodec, ShardingPartialDecoder};
 
 // Reads a subchunk of a shard.
 fn check_subchunk<
@@ -17,29 +17,20 @@ fn check_subchunk<
     X: ArrayToBytesCodecTraits,
     H: BytesPartialDecoderTraits,
 >(
-    array: &Array<'_, R>,
-    codec: &ShardingCodec<I, X>,
+    array: &Array<'_, R, I, X>,
     decoder: &mut ShardingPartialDecoder<'_, I, X, H>,
     number: u64,
 ) -> Result<(), CodecError> {
     let alloc = array.alloc();
-    let Some(subchunk) = unravel_index(alloc, number, array.subchunks.as_slice())? else {
-        return Ok(());
-    };
-    let asked = &array.metadata;
-    read_through(
-        alloc,
-        decoder,
-        codec,
-        &asked.data_type,
-        &asked.fill_value,
-        &subchunk,
-    )
+    match unravel_index(alloc, number, array.subchunks.as_slice())? {
+        Some(subchunk) => read_through(alloc, decoder, array.codec, array.metadata, &subchunk),
+        None => Ok(()),
+    }
 }
 
 // The refusal of the subchunk with this number.
-fn refused_subchunk<R: Files + AllocGlobal>(
-    array: &Array<'_, R>,
+fn refused_subchunk<R: Files + AllocGlobal, I, X>(
+    array: &Array<'_, R, I, X>,
     key: &str,
     error: CodecError,
     number: u64,
@@ -60,8 +51,7 @@ fn check_each<
     X: ArrayToBytesCodecTraits,
     H: BytesPartialDecoderTraits,
 >(
-    array: &Array<'_, R>,
-    codec: &ShardingCodec<I, X>,
+    array: &Array<'_, R, I, X>,
     shard: u64,
     key: &str,
     decoder: &mut ShardingPartialDecoder<'_, I, X, H>,
@@ -73,7 +63,7 @@ fn check_each<
     let all = array.grid.len().saturating_mul(count);
     for number in 0..count {
         progress.step(before.saturating_add(number), all);
-        match check_subchunk(array, codec, decoder, number) {
+        match check_subchunk(array, decoder, number) {
             Ok(()) => {}
             Err(error) if matches!(error, CodecError::Fault | CodecError::OutOfMemory) => {
                 return Ok(Some((number, error)));
@@ -85,8 +75,8 @@ fn check_each<
 }
 
 // Lists the subchunk behind which nothing more could be read of a shard.
-fn list_last<R: Files + AllocGlobal>(
-    array: &Array<'_, R>,
+fn list_last<R: Files + AllocGlobal, I, X>(
+    array: &Array<'_, R, I, X>,
     key: &str,
     file: &ShardFile<'_, R>,
     last: (u64, CodecError),
@@ -105,15 +95,14 @@ fn check_opened<
     I: ArrayToBytesCodecTraits,
     X: ArrayToBytesCodecTraits,
 >(
-    array: &Array<'_, R>,
-    codec: &ShardingCodec<I, X>,
+    array: &Array<'_, R, I, X>,
     shard: u64,
     key: &str,
-    mut decoder: ShardingPartialDecoder<'_, I, X, ShardFile<'_, R>>,
+    mut decoder: Decoder<'_, R, I, X>,
     refusals: &mut Vec<Refusal>,
     progress: &mut Progress<'_, M>,
 ) -> Result<(), Stop> {
-    let checked = check_each(array, codec, shard, key, &mut decoder, refusals, progress);
+    let checked = check_each(array, shard, key, &mut decoder, refusals, progress);
     let file = decoder.close();
     match checked? {
         Some(last) => list_last(array, key, &file, last, refusals),
@@ -122,18 +111,20 @@ fn check_opened<
 }
 
 // Opens a shard and reads each subchunk.
-fn check_shard<R: Files + AllocGlobal, M: Write>(
-    array: &Array<'_, R>,
+fn check_shard<
+    R: Files + AllocGlobal,
+    M: Write,
+    I: ArrayToBytesCodecTraits,
+    X: ArrayToBytesCodecTraits,
+>(
+    array: &Array<'_, R, I, X>,
     number: u64,
     refusals: &mut Vec<Refusal>,
     progress: &mut Progress<'_, M>,
 ) -> Result<(), Stop> {
     let key = array.key(number)?;
     match array.decoder(&key)? {
-        Ok(decoder) => {
-            let codec = &array.metadata.codec;
-            check_opened(array, codec, number, &key, decoder, refusals, progress)
-        }
+        Ok(decoder) => check_opened(array, number, &key, decoder, refusals, progress),
         Err(refusal) => {
             refusals.push(refusal)?;
             Ok(())
@@ -142,10 +133,12 @@ fn check_shard<R: Files + AllocGlobal, M: Write>(
 }
 
 /// What is refused in the array: of each shard the index, and each subchunk.
-pub fn check<R: Files + AllocGlobal, M: Write>(
-    array: &Array<'_, R>,
-    progress: &mut Progress<'_, M>,
-) -> Result<Vec<Refusal>, Stop> {
+pub fn check<
+    R: Files + AllocGlobal,
+    M: Write,
+    I: ArrayToBytesCodecTraits,
+    X: ArrayToBytesCodecTraits,
+>(array: &Array<'_, R, I, X>, progress: &mut Progress<'_, M>) -> Result<Vec<Refusal>, Stop> {
     let mut refusals: Vec<Refusal> = Vec::new(array.alloc());
     for number in 0..array.grid.len() {
         check_shard(array, number, &mut refusals, progress)?;

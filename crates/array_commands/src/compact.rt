@@ -1,12 +1,16 @@
 // The compaction of an array's shards.
 use crate::arrays::{Array, ShardFile};
-use crate::progress::Progress;
 use crate::stop::{Place, Refusal, Stop};
+use array_metadata::ArrayMetadata;
+use command_words::Progress;
 use std::alloc::Global;
 use std::io::{ErrorKind, Write};
 use std::rt::Files;
-use zarr_codecs::{ArrayToBytesCodecTraits, ByteRange, BytesPartialEncoderTraits, copy_range};
-use zarr_parts::{ChunkShape, CodecError, CodecOptions, DataType, FillValue};
+use zarr_codecs::{
+    ArrayToBytesCodecTraits, ByteRange, BytesPartialDecoderTraits, BytesPartialEncoderTraits,
+    copy_range,
+};
+use zarr_parts::{CodecError, CodecOptions};
 
 /// What was gained, and whether a shard is refused.
 #[derive(Debug, Clone, Copy, PartialEq, Eq)]
@@ -36,46 +40,54 @@ impl Gained {
     }
 }
 
-// A shard's compaction. `None` where it is compact.
-fn compaction<C: ArrayToBytesCodecTraits>(
-    alloc: Global,
-    codec: &C,
-    bytes: &[u8],
-    shard: &ChunkShape,
-    data_type: &DataType,
-    fill_value: &FillValue,
-) -> Result<Option<Vec<u8>>, CodecError> {
-    let options = CodecOptions::default();
-    codec.compact(alloc, bytes, shard, data_type, fill_value, &options)
+// A compact shard.
+#[derive(Drop)]
+struct Compaction {
+    bytes: Vec<u8>,
+    // how many bytes it has fewer
+    saved: u64,
 }
 
-// A shard's bytes, and those of its compaction. `None` where there is no file, or it is compact.
-fn compacted<R: Files + AllocGlobal>(
-    array: &Array<'_, R>,
-    file: &mut ShardFile<'_, R>,
-) -> Result<Option<(Vec<u8>, Vec<u8>)>, CodecError> {
-    let alloc = array.alloc();
-    let Some(bytes) = copy_range(file, alloc, ByteRange::FromStart(0, None))? else {
-        return Ok(None);
-    };
-    let asked = &array.metadata;
-    let made = compaction(
+// A shard's compaction. `None` where it is compact.
+fn compaction_of<C: ArrayToBytesCodecTraits>(
+    alloc: Global,
+    codec: &C,
+    metadata: &ArrayMetadata,
+    shard: &[u8],
+) -> Result<Option<Compaction>, CodecError> {
+    let made = codec.compact(
         alloc,
-        &asked.codec,
-        &bytes,
-        &asked.shard,
-        &asked.data_type,
-        &asked.fill_value,
-    )?;
-    match made {
-        Some(new) => Ok(Some((bytes, new))),
+        shard,
+        &metadata.shard,
+        &metadata.data_type,
+        &metadata.fill_value,
+        &CodecOptions::default(),
+    );
+    match made? {
+        Some(bytes) => {
+            let saved = shard.len().saturating_sub(bytes.len()) as u64;
+            Ok(Some(Compaction { bytes, saved }))
+        }
+        None => Ok(None),
+    }
+}
+
+// The compaction of the shard in a file. `None` where there is no file, or it is compact.
+fn compacted<C: ArrayToBytesCodecTraits, H: BytesPartialDecoderTraits>(
+    alloc: Global,
+    codec: &C,
+    metadata: &ArrayMetadata,
+    file: &mut H,
+) -> Result<Option<Compaction>, CodecError> {
+    match copy_range(file, alloc, ByteRange::FromStart(0, None))? {
+        Some(shard) => compaction_of(alloc, codec, metadata, &shard),
         None => Ok(None),
     }
 }
 
 // Puts a compaction in the place of a shard's file. Where that is refused the old file stands.
-fn replace<'a, R: Files + AllocGlobal>(
-    array: &Array<'a, R>,
+fn replace<'a, R: Files + AllocGlobal, I, X>(
+    array: &Array<'a, R, I, X>,
     key: &str,
     file: &mut ShardFile<'a, R>,
     bytes: &[u8],
@@ -93,32 +105,47 @@ fn replace<'a, R: Files + AllocGlobal>(
     Err(Stop::Refused(refusal))
 }
 
-// Compacts a shard, and says how many bytes that saves; or why the shard is refused.
-fn compact_shard<R: Files + AllocGlobal>(
-    array: &Array<'_, R>,
+// Compacts the shard in a file, and says how many bytes that saves; or why the shard is refused.
+fn compact_file<'a, R: Files + AllocGlobal, I: ArrayToBytesCodecTraits, X: ArrayToBytesCodecTraits>(
+    array: &Array<'a, R, I, X>,
     key: &str,
+    file: &mut ShardFile<'a, R>,
     is_dry: bool,
 ) -> Result<Result<Option<u64>, Refusal>, Stop> {
-    let mut file = array.file(key)?;
-    match compacted(array, &mut file) {
-        Ok(Some((old, new))) => {
+    match compacted(array.alloc(), array.codec, array.metadata, file) {
+        Ok(Some(compaction)) => {
             if !is_dry {
-                replace(array, key, &mut file, &new)?;
+                replace(array, key, file, &compaction.bytes)?;
             }
-            let saved = old.len().saturating_sub(new.len());
-            Ok(Ok(Some(saved as u64)))
+            Ok(Ok(Some(compaction.saved)))
         }
         Ok(None) => Ok(Ok(None)),
         Err(error) => {
-            let refusal = array.refusal(key, &file, error, Place::opening(&error))?;
+            let refusal = array.refusal(key, file, error, Place::opening(&error))?;
             Ok(Err(refusal))
         }
     }
 }
 
+// Compacts the shard with this key.
+fn compact_shard<R: Files + AllocGlobal, I: ArrayToBytesCodecTraits, X: ArrayToBytesCodecTraits>(
+    array: &Array<'_, R, I, X>,
+    key: &str,
+    is_dry: bool,
+) -> Result<Result<Option<u64>, Refusal>, Stop> {
+    let mut file = array.file(key)?;
+    compact_file(array, key, &mut file, is_dry)
+}
+
 // Compacts a shard, and writes a line where that saves bytes or the shard is refused.
-fn compact_one<R: Files + AllocGlobal, W: Write, M: Write>(
-    array: &Array<'_, R>,
+fn compact_one<
+    R: Files + AllocGlobal,
+    I: ArrayToBytesCodecTraits,
+    X: ArrayToBytesCodecTraits,
+    W: Write,
+    M: Write,
+>(
+    array: &Array<'_, R, I, X>,
     number: u64,
     is_dry: bool,
     out: &mut W,
@@ -143,8 +170,14 @@ fn compact_one<R: Files + AllocGlobal, W: Write, M: Write>(
 
 /// Compacts each shard that is not compact, and writes a line for each and how many bytes were saved in all. With `is_dry` no
 /// file is written. Says whether a shard is refused.
-pub fn compact<R: Files + AllocGlobal, W: Write, M: Write>(
-    array: &Array<'_, R>,
+pub fn compact<
+    R: Files + AllocGlobal,
+    I: ArrayToBytesCodecTraits,
+    X: ArrayToBytesCodecTraits,
+    W: Write,
+    M: Write,
+>(
+    array: &Array<'_, R, I, X>,
     is_dry: bool,
     out: &mut W,
     progress: &mut Progress<'_, M>,

@@ -1,9 +1,10 @@
 // What an array on disk holds, and its shards.
 use crate::arrays::{Array, ShardFile};
-use crate::progress::Progress;
 use crate::stop::{Place, Refusal, Stop};
-use crate::text::{write_numbers, write_rows};
 use array_metadata::ArrayMetadata;
+use command_words::{Progress, write_numbers, write_rows};
+use shard_format::{ShardingIndexLocation, sharding_index_shape};
+use sharding_core::ShardingCodec;
 use std::alloc::Global;
 use std::io;
 use std::io::Write;
@@ -12,7 +13,6 @@ use zarr_codecs::{
     ArrayToBytesCodecTraits, ByteRange, BytesPartialDecoderTraits, BytesRepresentation, copy_range,
 };
 use zarr_parts::{ChunkShape, CodecError, CodecOptions, DataType, FillValue};
-use zarrs_sharding::{ShardingCodec, ShardingIndexLocation, sharding_index_shape};
 
 /// What the index of a shard says.
 #[derive(Debug, Clone, Copy, PartialEq, Eq)]
@@ -109,14 +109,18 @@ fn index_place(location: ShardingIndexLocation, size: u64, length: u64) -> (Byte
     }
 }
 
-// The numbers of an index.
-fn numbers_of<I: ArrayToBytesCodecTraits, X: ArrayToBytesCodecTraits>(
+// The numbers of the index that stands at a range of an object.
+fn numbers_of<I: ArrayToBytesCodecTraits, X: ArrayToBytesCodecTraits, H: BytesPartialDecoderTraits>(
     alloc: Global,
     codec: &ShardingCodec<I, X>,
-    bytes: &[u8],
+    file: &mut H,
+    range: ByteRange,
     subchunks: &ChunkShape,
 ) -> Result<Vec<u64>, CodecError> {
-    codec.decode_index(alloc, bytes, subchunks, &CodecOptions::default())
+    match copy_range(file, alloc, range)? {
+        Some(bytes) => codec.decode_index(alloc, &bytes, subchunks, &CodecOptions::default()),
+        None => Err(CodecError::ShardTooShort),
+    }
 }
 
 // What an index of these numbers says, which takes the bytes of an interval of the object.
@@ -139,40 +143,46 @@ fn info_of(
 }
 
 // What the index of a shard says. Nothing but the index is read.
-fn index_info<R: Files + AllocGlobal>(
-    array: &Array<'_, R>,
-    file: &mut ShardFile<'_, R>,
+fn index_info<I: ArrayToBytesCodecTraits, X: ArrayToBytesCodecTraits, H: BytesPartialDecoderTraits>(
+    alloc: Global,
+    codec: &ShardingCodec<I, X>,
+    subchunks: &ChunkShape,
+    file: &mut H,
     length: u64,
     size: u64,
 ) -> Result<IndexInfo, CodecError> {
-    let alloc = array.alloc();
     if length < size {
         return Err(CodecError::ShardTooShort);
     }
-    let codec = &array.metadata.codec;
     let (range, interval) = index_place(codec.location, size, length);
-    let bytes = copy_range(file, alloc, range)?.ok_or(CodecError::ShardTooShort)?;
-    let numbers = numbers_of(alloc, codec, &bytes, &array.subchunks)?;
+    let numbers = numbers_of(alloc, codec, file, range, subchunks)?;
     info_of(alloc, &numbers, interval, length)
 }
 
 // What the index of a shard with this key says, or why it is refused.
-fn index_of<R: Files + AllocGlobal>(
-    array: &Array<'_, R>,
+fn index_of<R: Files + AllocGlobal, I: ArrayToBytesCodecTraits, X: ArrayToBytesCodecTraits>(
+    array: &Array<'_, R, I, X>,
     key: &str,
     file: &mut ShardFile<'_, R>,
     length: u64,
     size: u64,
 ) -> Result<Result<IndexInfo, Refusal>, Stop> {
-    match index_info(array, file, length, size) {
+    match index_info(
+        array.alloc(),
+        array.codec,
+        &array.subchunks,
+        file,
+        length,
+        size,
+    ) {
         Ok(info) => Ok(Ok(info)),
         Err(error) => Ok(Err(array.refusal(key, file, error, Place::opening(&error))?)),
     }
 }
 
 // How long the file of the shard with this key is, and what its index says, where there is a file.
-fn known_of<R: Files + AllocGlobal>(
-    array: &Array<'_, R>,
+fn known_of<R: Files + AllocGlobal, I: ArrayToBytesCodecTraits, X: ArrayToBytesCodecTraits>(
+    array: &Array<'_, R, I, X>,
     key: &str,
     file: &mut ShardFile<'_, R>,
     size: u64,
@@ -185,8 +195,8 @@ fn known_of<R: Files + AllocGlobal>(
 }
 
 // A shard and what its index says, where there is a file.
-fn shard_info<R: Files + AllocGlobal>(
-    array: &Array<'_, R>,
+fn shard_info<R: Files + AllocGlobal, I: ArrayToBytesCodecTraits, X: ArrayToBytesCodecTraits>(
+    array: &Array<'_, R, I, X>,
     number: u64,
     size: u64,
 ) -> Result<Option<ShardInfo>, Stop> {
@@ -198,13 +208,12 @@ fn shard_info<R: Files + AllocGlobal>(
     }
 }
 
-/// The shards that are there.
-pub fn shards_of<R: Files + AllocGlobal, M: Write>(
-    array: &Array<'_, R>,
+// The shards that are there, whose indexes have so many bytes.
+fn listed<R: Files + AllocGlobal, I: ArrayToBytesCodecTraits, X: ArrayToBytesCodecTraits, M: Write>(
+    array: &Array<'_, R, I, X>,
+    size: u64,
     progress: &mut Progress<'_, M>,
 ) -> Result<Vec<ShardInfo>, Stop> {
-    let codec = &array.metadata.codec;
-    let size = index_size(array.alloc(), &codec.index_codec, &array.subchunks)?;
     let mut shards: Vec<ShardInfo> = Vec::new(array.alloc());
     for number in 0..array.grid.len() {
         progress.step(number, array.grid.len());
@@ -213,6 +222,17 @@ pub fn shards_of<R: Files + AllocGlobal, M: Write>(
         }
     }
     Ok(shards)
+}
+
+/// The shards that are there.
+pub fn shards_of<
+    R: Files + AllocGlobal,
+    I: ArrayToBytesCodecTraits,
+    X: ArrayToBytesCodecTraits,
+    M: Write,
+>(array: &Array<'_, R, I, X>, progress: &mut Progress<'_, M>) -> Result<Vec<ShardInfo>, Stop> {
+    let size = index_size(array.alloc(), &array.codec.index_codec, &array.subchunks)?;
+    listed(array, size, progress)
 }
 
 /// Whether a shard is refused.
@@ -257,12 +277,12 @@ fn write_shard<W: Write>(out: &mut W, shard: &ShardInfo) -> io::Result<()> {
 }
 
 /// Writes what the metadata says, how many shards are there, and a line for each.
-pub fn write_info<R: Files + AllocGlobal, W: Write>(
+pub fn write_info<R: Files + AllocGlobal, I, X, W: Write>(
     out: &mut W,
-    array: &Array<'_, R>,
+    array: &Array<'_, R, I, X>,
     shards: &[ShardInfo],
 ) -> io::Result<()> {
-    write_metadata(out, &array.metadata)?;
+    write_metadata(out, array.metadata)?;
     writeln!(out, "shards: {} of {}", shards.len(), array.grid.len())?;
     for shard in shards {
         write_shard(out, shard)?;

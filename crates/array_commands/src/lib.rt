@@ -2,14 +2,11 @@
 #![tactic(auto)]
 
 mod arrays;
-mod boxes;
 mod check;
 mod command;
 mod compact;
 mod info;
-mod progress;
 mod read;
 mod stop;
-mod text;
 
 pub use command::run_command;

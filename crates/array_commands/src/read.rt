@@ -1,17 +1,17 @@
 // The cells of a box of an array.
-use crate::arrays::{Array, ShardFile, read_cells};
-use crate::progress::Progress;
+use crate::arrays::{Array, Decoder, read_cells};
 use crate::stop::{Place, Stop};
 use array_shards::{BoxCells, ShardPart};
+use command_words::Progress;
+use sharding_core::ShardingPartialDecoder;
 use std::io::Write;
 use std::rt::Files;
 use zarr_codecs::{ArrayToBytesCodecTraits, BytesPartialDecoderTraits};
 use zarr_parts::{ArrayBytes, ArraySubset, CodecError};
-use zarrs_sharding::ShardingPartialDecoder;
 
 // The cells of a box as they are held, or fill values where none are.
-fn held_cells<R: Files + AllocGlobal>(
-    array: &Array<'_, R>,
+fn held_cells<R: Files + AllocGlobal, I, X>(
+    array: &Array<'_, R, I, X>,
     asked: &ArraySubset,
     held: Option<BoxCells>,
 ) -> Result<BoxCells, CodecError> {
@@ -22,8 +22,8 @@ fn held_cells<R: Files + AllocGlobal>(
 }
 
 // Puts the cells of a part into those of a box, for which memory is asked with the first part.
-fn put_part<R: Files + AllocGlobal>(
-    array: &Array<'_, R>,
+fn put_part<R: Files + AllocGlobal, I, X>(
+    array: &Array<'_, R, I, X>,
     asked: &ArraySubset,
     part: &ShardPart,
     found: &ArrayBytes,
@@ -42,7 +42,7 @@ fn read_open_part<
     X: ArrayToBytesCodecTraits,
     H: BytesPartialDecoderTraits,
 >(
-    array: &Array<'_, R>,
+    array: &Array<'_, R, I, X>,
     asked: &ArraySubset,
     part: &ShardPart,
     decoder: &mut ShardingPartialDecoder<'_, I, X, H>,
@@ -59,11 +59,11 @@ fn read_open_part<
 
 // Reads the part of a box that lies in a shard with this key, which is open.
 fn read_opened<R: Files + AllocGlobal, I: ArrayToBytesCodecTraits, X: ArrayToBytesCodecTraits>(
-    array: &Array<'_, R>,
+    array: &Array<'_, R, I, X>,
     asked: &ArraySubset,
     part: &ShardPart,
     key: &str,
-    mut decoder: ShardingPartialDecoder<'_, I, X, ShardFile<'_, R>>,
+    mut decoder: Decoder<'_, R, I, X>,
     cells: &mut Option<BoxCells>,
 ) -> Result<(), Stop> {
     let refused = read_open_part(array, asked, part, &mut decoder, cells);
@@ -78,8 +78,8 @@ fn read_opened<R: Files + AllocGlobal, I: ArrayToBytesCodecTraits, X: ArrayToByt
 }
 
 // Reads the part of a box that lies in a shard.
-fn read_part<R: Files + AllocGlobal>(
-    array: &Array<'_, R>,
+fn read_part<R: Files + AllocGlobal, I: ArrayToBytesCodecTraits, X: ArrayToBytesCodecTraits>(
+    array: &Array<'_, R, I, X>,
     asked: &ArraySubset,
     part: &ShardPart,
     cells: &mut Option<BoxCells>,
@@ -93,8 +93,13 @@ fn read_part<R: Files + AllocGlobal>(
 
 /// The cells of a box, of each shard that it meets; where there is no file, fill values. Memory for them is asked once a part is
 /// read, so that a box in one shard takes less.
-pub fn read_box<R: Files + AllocGlobal, M: Write>(
-    array: &Array<'_, R>,
+pub fn read_box<
+    R: Files + AllocGlobal,
+    I: ArrayToBytesCodecTraits,
+    X: ArrayToBytesCodecTraits,
+    M: Write,
+>(
+    array: &Array<'_, R, I, X>,
     asked: &ArraySubset,
     progress: &mut Progress<'_, M>,
 ) -> Result<BoxCells, Stop> {

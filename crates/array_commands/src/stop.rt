@@ -2,6 +2,7 @@
 ghost use Rattle.std.specs.Prelude.{◌≤◌};
 
 use array_metadata::MetadataError;
+use command_words::BoxError;
 use std::alloc::{AllocError, AllocFailed, Global};
 use std::{fmt, io};
 use thiserror::Error;
@@ -81,15 +82,9 @@ pub enum Stop {
     /// A new file that stands beside a shard already.
     #[error("{0}.replacing is there: another compaction writes it, or one was cut off")]
     Busy(String),
-    /// A box that is no list of ranges.
-    #[error("a box is a range for each axis, as in 0..2,3..5, and {0:?} is none")]
-    Malformed(String),
-    /// A box of another number of axes.
-    #[error("the box has {asked} axes, and the array has {axes}")]
-    Axes { asked: usize, axes: usize },
-    /// A box that passes the array.
-    #[error("the box passes the array, whose shape is {0:?}")]
-    Outside(Vec<u64>),
+    /// A box that is refused.
+    #[error("{0}")]
+    Box(BoxError),
     /// A size that no number here can say.
     #[error("the box has more cells than this program can hold")]
     TooLarge,
@@ -127,6 +122,15 @@ impl From<AllocError> for Stop {
 impl<T: Drop> From<AllocFailed<T>> for Stop {
     fn from(_error: AllocFailed<T>) -> Stop {
         Stop::OutOfMemory
+    }
+}
+
+impl From<BoxError> for Stop {
+    fn from(error: BoxError) -> Stop {
+        match error {
+            BoxError::OutOfMemory => Stop::OutOfMemory,
+            _ => Stop::Box(error),
+        }
     }
 }
 

@@ -5,7 +5,7 @@ use Rattle.serde_json.specs.Find.{get, as_array, as_object}
 use Rattle.zarr_parts.specs.Words.{Bytes}
 use Rattle.zarr_codecs.specs.CreateErrors.{Reading, Refusal, or_refused, and_then, missing_field, bad_field}
 use Rattle.zarr_codecs.specs.Metadata.{first_refused, unless_refused}
-use Rattle.zarrs_sharding.specs.Configuration.{Configuration, configuration_in, is_configuration_member, field, shape_in}
+use Rattle.sharding_core.specs.Configuration.{Configuration, configuration_in, is_configuration_member, field, shape_in}
 use Rattle.array_metadata.specs.declared.codecs.NamedCodec.{NamedCodec}
 use Rattle.array_metadata.specs.MetadataFields.{configured_in}
 use Rattle.array_metadata.specs.ArrayCodecs.{sole_shards}

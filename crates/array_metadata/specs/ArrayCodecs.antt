@@ -10,8 +10,8 @@ use Rattle.codec_chains.specs.declared.bytes_chain.BytesChain.{BytesChain}
 use Rattle.zarr_crc32c.specs.declared.codec.Crc32cCodec.{Crc32cCodec}
 use Rattle.either_codec.specs.declared.either_codec.EitherCodec.{EitherCodec}
 use Rattle.either_codec.specs.declared.either_codec.EitherCodec.TheVariants.{First, Second}
-use Rattle.zarrs_sharding.specs.ShardingCodec.{ShardingCodec}
-use Rattle.zarrs_sharding.specs.ShardMetadata.{shard_configured}
+use Rattle.sharding_core.specs.declared.codec.ShardingCodec.{ShardingCodec}
+use Rattle.sharding_core.specs.ShardMetadata.{shard_configured}
 
 -- `bytes` by its byte order, or `bytes` and `crc32c` behind it
 abbrev pub Elements : Type 0

@@ -3,8 +3,8 @@ ghost use Rattle.std.specs.Prelude.{◌≡◌, Some, Ok, IfOk, IfSome, length, o
 ghost use Rattle.std.specs.List.{All};
 ghost use Rattle.serde_json.specs.Find.{get};
 ghost use Rattle.serde_json.specs.View.{view, items_view};
-ghost use Rattle.zarrs_sharding.specs.Configuration.{configuration_in, shape_in};
-ghost use Rattle.zarrs_sharding.specs.Configurations.{configuration_of};
+ghost use Rattle.sharding_core.specs.Configuration.{configuration_in, shape_in};
+ghost use Rattle.sharding_core.specs.Configurations.{configuration_of};
 ghost use Rattle.array_metadata.specs.MetadataFields.{configured_in};
 ghost use Rattle.array_metadata.specs.ArrayCodecs.{bytes_in, crc32c_in, elements_in, shards_in, subchunks_in, sole_shards, chunks_in};
 ghost use Rattle.array_metadata.specs.CodecNames.{codec_name, Names, IsNamed, listed};
@@ -13,11 +13,11 @@ use crate::error::MetadataError;
 use crate::fields::Placed;
 use either_codec::EitherCodec;
 use serde_json::Value;
+use sharding_core::{ShardingCodec, ShardingCodecConfiguration, ShardingCodecConfigurationV1};
 use std::alloc::Global;
 use zarr_codecs::{BytesChain, BytesCodec, CodecTraitsV3, PluginCreateError};
 use zarr_crc32c::Crc32cCodec;
 use zarr_parts::{ChunkShape, DataType, DataTypeSize};
-use zarrs_sharding::{ShardingCodec, ShardingCodecConfiguration, ShardingCodecConfigurationV1};
 
 /// `bytes`, or `bytes` and `crc32c` behind it.
 pub type ElementCodec = EitherCodec<BytesCodec, BytesChain<BytesCodec, Crc32cCodec>>;

@@ -9,7 +9,7 @@ ghost use Rattle.array_metadata.specs.MetadataFields.{member_in, configured_in, 
 ghost use Rattle.array_metadata.specs.KeyEncodings.{encoding_name, default_separator, separator_text};
 ghost use Rattle.array_metadata.specs.FillValues.{number_in, number_of};
 ghost use Rattle.array_metadata.specs.ArrayCodecs.{chunks_in, shards_in, subchunks_in};
-ghost use Rattle.zarrs_sharding.specs.Configuration.{shape_in};
+ghost use Rattle.sharding_core.specs.Configuration.{shape_in};
 ghost use Rattle.zarr_parts.specs.Types.{size_of, type_name, HasElements};
 ghost use Rattle.zarr_parts.specs.DataTypeSize.TheVariants.{Fixed};
 

@@ -1,7 +1,6 @@
 // Cells as text and as JSON.
 ghost use Rattle.std.specs.Prelude.{◌<◌};
 
-use crate::stop::Stop;
 use serde_json::{Value, json};
 use std::alloc::{AllocError, Global};
 use std::io;
@@ -125,7 +124,7 @@ pub fn json_of(
     data_type: &DataType,
     bytes: &[u8],
     shape: &[u64],
-) -> Result<String, Stop> {
+) -> Result<String, AllocError> {
     let cells = Value::Array(values_of(alloc, data_type, bytes)?);
     let mut axes: Vec<Value> = Vec::new(alloc);
     for axis in shape {
@@ -134,5 +133,5 @@ pub fn json_of(
     let name = data_type.name().unwrap_or("");
     let shape = Value::Array(axes);
     let answer = json!(in alloc; {"shape": shape, "data_type": name, "cells": cells})?;
-    Ok(answer.to_string(alloc)?)
+    answer.to_string(alloc)
 }

@@ -1,0 +1,94 @@
+// Boxes as they stand on a command line.
+use std::alloc::{AllocError, AllocFailed, Global};
+use std::ops::Range;
+use thiserror::Error;
+use zarr_parts::ArraySubset;
+
+/// Why a box is refused.
+#[derive(Debug, Drop, Error)]
+pub enum BoxError {
+    /// A growth was refused.
+    #[error("out of memory")]
+    OutOfMemory,
+    /// It is no list of ranges, or a start passes its end.
+    #[error("a box is a range for each axis, as in 0..2,3..5, and {0:?} is none")]
+    Malformed(String),
+    /// It has another number of axes.
+    #[error("the box has {asked} axes, and the array has {axes}")]
+    Axes { asked: usize, axes: usize },
+    /// It passes the array.
+    #[error("the box passes the array, whose shape is {0:?}")]
+    Outside(Vec<u64>),
+}
+
+impl From<AllocError> for BoxError {
+    fn from(_error: AllocError) -> BoxError {
+        BoxError::OutOfMemory
+    }
+}
+
+impl<T: Drop> From<AllocFailed<T>> for BoxError {
+    fn from(_error: AllocFailed<T>) -> BoxError {
+        BoxError::OutOfMemory
+    }
+}
+
+// The range that a word as `0..2` is.
+fn range_of(word: &str) -> Option<Range<u64>> {
+    let (start, end) = word.split_once("..")?;
+    let start: u64 = start.parse().ok()?;
+    let end: u64 = end.parse().ok()?;
+    Some(start..end)
+}
+
+// The ranges of a box, one for each axis. `None` where a word is no range.
+fn ranges_of(alloc: Global, text: &str) -> Result<Option<Vec<Range<u64>>>, AllocError> {
+    let mut ranges: Vec<Range<u64>> = Vec::new(alloc);
+    for word in text.split(',') {
+        match range_of(word) {
+            Some(range) => ranges.push(range)?,
+            None => return Ok(None),
+        }
+    }
+    Ok(Some(ranges))
+}
+
+// The box that a text is, of any number of axes.
+fn parse(alloc: Global, text: &str) -> Result<Option<ArraySubset>, AllocError> {
+    match ranges_of(alloc, text)? {
+        Some(ranges) => ArraySubset::new_with_ranges(alloc, &ranges),
+        None => Ok(None),
+    }
+}
+
+// Tests that a box lies in an array of a shape.
+fn check_box(alloc: Global, asked: &ArraySubset, shape: &[u64]) -> Result<(), BoxError> {
+    if asked.shape().len() != shape.len() {
+        return Err(BoxError::Axes {
+            asked: asked.shape().len(),
+            axes: shape.len(),
+        });
+    }
+    if !asked.lies_in(shape) {
+        return Err(BoxError::Outside(shape.to_vec(alloc)?));
+    }
+    Ok(())
+}
+
+// The box of an array of a shape that a text is.
+fn parse_box(alloc: Global, text: &str, shape: &[u64]) -> Result<ArraySubset, BoxError> {
+    let Some(asked) = parse(alloc, text)? else {
+        return Err(BoxError::Malformed(String::from_str(alloc, text)?));
+    };
+    check_box(alloc, &asked, shape)?;
+    Ok(asked)
+}
+
+/// The box of an array of a shape that a text as `0..2,3..5` is, or that of the whole array. Refused as `Malformed` where the
+/// text is no list of ranges, or a start passes its end; as `Axes`, and as `Outside`; or as `OutOfMemory`.
+pub fn box_of(alloc: Global, asked: Option<&str>, shape: &[u64]) -> Result<ArraySubset, BoxError> {
+    match asked {
+        Some(text) => parse_box(alloc, text, shape),
+        None => Ok(ArraySubset::new_with_shape(alloc, shape.to_vec(alloc)?)?),
+    }
+}

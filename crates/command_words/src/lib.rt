@@ -1,0 +1,12 @@
+// What stands on a command line over an array on disk, and how its cells and the progress of a command are written.
+#![tactic(auto)]
+
+mod boxes;
+mod command_line;
+mod progress;
+mod text;
+
+pub use boxes::{BoxError, box_of};
+pub use command_line::{Form, Work, program, work_of};
+pub use progress::Progress;
+pub use text::{json_of, write_numbers, write_rows};
