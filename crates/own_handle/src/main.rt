@@ -13,7 +13,8 @@ use zarrs_sharding::{ShardingCodec, ShardingIndexLocation, ShardingPartialDecode
 
 type Inner = ShardingCodec<BytesCodec, BytesCodec>;
 
-type Decoder<'a> = ShardingPartialDecoder<'a, Inner, BytesCodec, Counted>;
+// Three cells, and how many ranges were read for them.
+type Found = (ArrayBytes<'static>, u64);
 
 fn shape(alloc: Global, axes: &[u64]) -> Result<ChunkShape, CodecError> {
     ChunkShape::new(alloc, axes)?.ok_or(CodecError::InvalidSubchunkShape)
@@ -32,38 +33,60 @@ fn codec(alloc: Global) -> Result<ShardingCodec<Inner, BytesCodec>, CodecError> 
     Ok(ShardingCodec::new(outer, inner, BytesCodec::big(), end))
 }
 
-// The numbers 0 to 63 of 16 bits, as an array of 8 by 8 in that codec's bytes.
-fn store(alloc: Global) -> Result<Vec<u8>, CodecError> {
+// The numbers 0 to 63 of 16 bits, as an array of 8 by 8 in a codec's bytes.
+fn store<C: ArrayToBytesCodecTraits>(alloc: Global, codec: &C) -> Result<Vec<u8>, CodecError> {
     let numbers: Vec<u16> = (0..64u16).collect(alloc)?;
     let cells = ArrayBytes::from_numbers(alloc, &numbers)?;
     let shape = shape(alloc, &[8, 8])?;
     let fill = FillValue::from_number(alloc, 0u16)?;
     let options = CodecOptions::default();
-    codec(alloc)?.encode(alloc, &cells, &shape, &DataType::UInt16, &fill, &options)
+    codec.encode(alloc, &cells, &shape, &DataType::UInt16, &fill, &options)
 }
 
-// Three cells, and how many ranges were read for them.
-fn read(alloc: Global, mut decoder: Decoder) -> Result<(ArrayBytes<'static>, u64), CodecError> {
+fn read_cells<I: ArrayToBytesCodecTraits, X: ArrayToBytesCodecTraits>(
+    alloc: Global,
+    decoder: &mut ShardingPartialDecoder<'_, I, X, Counted>,
+) -> Result<ArrayBytes<'static>, CodecError> {
     let asked = Coordinates::new(2, 3, [0, 1, 7, 7, 0, 1].to_vec(alloc)?);
     let asked = asked.ok_or(CodecError::IncompatibleDimensionality)?;
-    let cells = decoder.partial_decode(alloc, &asked, &CodecOptions::default())?;
-    Ok((cells, decoder.close().reads))
+    decoder.partial_decode(alloc, &asked, &CodecOptions::default())
 }
 
-// Three cells of the stored array.
-fn read_three(alloc: Global) -> Result<(ArrayBytes<'static>, u64), CodecError> {
-    let codec = codec(alloc)?;
+fn read<I: ArrayToBytesCodecTraits, X: ArrayToBytesCodecTraits>(
+    alloc: Global,
+    mut decoder: ShardingPartialDecoder<'_, I, X, Counted>,
+) -> Result<Found, CodecError> {
+    let cells = read_cells(alloc, &mut decoder);
+    let reads = decoder.close().reads;
+    Ok((cells?, reads))
+}
+
+// Three cells of an array in the bytes of a codec.
+fn read_through<I: ArrayToBytesCodecTraits, X: ArrayToBytesCodecTraits>(
+    alloc: Global,
+    codec: &ShardingCodec<I, X>,
+    handle: Counted,
+) -> Result<Found, CodecError> {
     let shape = shape(alloc, &[8, 8])?;
     let fill = FillValue::from_number(alloc, 0u16)?;
     let options = CodecOptions::default();
-    let handle = Counted {
-        bytes: store(alloc)?,
-        reads: 0,
-    };
     match codec.partial_decoder(alloc, handle, &shape, &DataType::UInt16, &fill, &options) {
         Ok(decoder) => read(alloc, decoder),
         Err((_handle, error)) => Err(error),
     }
+}
+
+// Three cells of the stored array.
+fn read_stored<I: ArrayToBytesCodecTraits, X: ArrayToBytesCodecTraits>(
+    alloc: Global,
+    codec: &ShardingCodec<I, X>,
+) -> Result<Found, CodecError> {
+    let bytes = store(alloc, codec)?;
+    read_through(alloc, codec, Counted { bytes, reads: 0 })
+}
+
+fn read_three(alloc: Global) -> Result<Found, CodecError> {
+    read_stored(alloc, &codec(alloc)?)
 }
 
 fn main(rt: HostRuntime) -> anyhow::Result<()> {
