@@ -1,34 +1,35 @@
-// A file system whose disk is full.
+// A file system, on a disk that has room or is full.
 use std::alloc::{Alloc, AllocGlobal, Allocator, Global};
 use std::fs::{Metadata, OpenFile, OpenOptions, Permissions};
 use std::io;
 use std::io::{Read, Seek, SeekFrom, Write};
 use std::rt::Files;
 
-// How many bytes an open file still takes.
+// How many bytes an open file still takes on a disk that is full.
 const ROOM: usize = 16;
 
-/// Another file system, on a disk that is full: a file that is open takes 16 bytes more, and then no other.
+/// Another file system. On a disk that is full, a file that is open takes 16 bytes more, and then no other.
 #[derive(Drop)]
-pub struct FullDisk<'a, R> {
+pub struct Disk<'a, R> {
     rt: &'a R,
+    is_full: bool,
 }
 
-/// An open file on a disk that is full.
+/// An open file, and how many bytes it still takes.
 #[derive(Drop)]
-pub struct FullFile<F> {
+pub struct DiskFile<F> {
     file: F,
     room: usize,
 }
 
-impl<'a, R> FullDisk<'a, R> {
+impl<'a, R> Disk<'a, R> {
     /// The files of another file system.
-    pub fn over(rt: &'a R) -> Self {
-        FullDisk { rt }
+    pub fn over(rt: &'a R, is_full: bool) -> Self {
+        Disk { rt, is_full }
     }
 }
 
-impl<R: AllocGlobal> Alloc for FullDisk<'_, R> {
+impl<R: AllocGlobal> Alloc for Disk<'_, R> {
     type A = Global;
 
     fn alloc(&self) -> Global {
@@ -36,14 +37,15 @@ impl<R: AllocGlobal> Alloc for FullDisk<'_, R> {
     }
 }
 
-impl<R: Files> Files for FullDisk<'_, R> {
-    type File = FullFile<R::File>;
+impl<R: Files> Files for Disk<'_, R> {
+    type File = DiskFile<R::File>;
 
     type Dir = R::Dir;
 
-    fn open_file(&self, how: &OpenOptions, path: &str) -> io::Result<FullFile<R::File>> {
+    fn open_file(&self, how: &OpenOptions, path: &str) -> io::Result<DiskFile<R::File>> {
         let file = self.rt.open_file(how, path)?;
-        Ok(FullFile { file, room: ROOM })
+        let room = if self.is_full { ROOM } else { usize::MAX };
+        Ok(DiskFile { file, room })
     }
 
     fn open_dir(&self, path: &str) -> io::Result<R::Dir> {
@@ -83,13 +85,13 @@ impl<R: Files> Files for FullDisk<'_, R> {
     }
 }
 
-impl<F: Read> Read for FullFile<F> {
+impl<F: Read> Read for DiskFile<F> {
     fn read(&mut self, bytes: &mut [u8]) -> io::Result<usize> {
         self.file.read(bytes)
     }
 }
 
-impl<F: Write> Write for FullFile<F> {
+impl<F: Write> Write for DiskFile<F> {
     fn write(&mut self, bytes: &[u8]) -> io::Result<usize> {
         if self.room == 0 {
             return Err(io::ErrorKind::StorageFull.into());
@@ -105,13 +107,13 @@ impl<F: Write> Write for FullFile<F> {
     }
 }
 
-impl<F: Seek> Seek for FullFile<F> {
+impl<F: Seek> Seek for DiskFile<F> {
     fn seek(&mut self, to: SeekFrom) -> io::Result<u64> {
         self.file.seek(to)
     }
 }
 
-impl<F: OpenFile> OpenFile for FullFile<F> {
+impl<F: OpenFile> OpenFile for DiskFile<F> {
     fn metadata(&self) -> io::Result<Metadata> {
         self.file.metadata()
     }

@@ -6,9 +6,9 @@
 // each return to the line's start as `\r`, and the status.
 #![tactic(auto)]
 
-mod full_disk;
+mod disk;
 
-use crate::full_disk::FullDisk;
+use crate::disk::Disk;
 use array_commands::run_command;
 use std::alloc::Global;
 use std::fs::Permissions;
@@ -39,6 +39,16 @@ fn answer_of<R: Files + AllocGlobal>(
     writeln!(out, "status {status}")
 }
 
+// What the words of a line answer, of which the first may say how they are run.
+fn answer_words(rt: &HostRuntime, words: &[&str], out: &mut Vec<u8>) -> io::Result<()> {
+    let (words, is_full, shows_progress) = match words {
+        ["progress", words @ ..] => (words, false, true),
+        ["full", words @ ..] => (words, true, false),
+        words => (words, false, false),
+    };
+    answer_of(&Disk::over(rt, is_full), words, shows_progress, out)
+}
+
 // The bytes of a file, in hexadecimal digits.
 fn write_bytes(rt: &HostRuntime, path: &str, out: &mut Vec<u8>) -> io::Result<()> {
     for byte in fs::read(rt, path)?.iter() {
@@ -62,9 +72,7 @@ fn run_line(rt: &HostRuntime, line: &str) -> io::Result<()> {
     match words.as_slice() {
         ["bytes", path] => write_bytes(rt, path, &mut out)?,
         ["mode", digits, path] => set_mode(rt, digits, path)?,
-        ["progress", words @ ..] => answer_of(rt, words, true, &mut out)?,
-        ["full", words @ ..] => answer_of(&FullDisk::over(rt), words, false, &mut out)?,
-        words => answer_of(rt, words, false, &mut out)?,
+        words => answer_words(rt, words, &mut out)?,
     }
     let answer = String::from_utf8_lossy(rt.alloc(), &out)?;
     print!(rt; "> {line}\n{answer}")
