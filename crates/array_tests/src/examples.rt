@@ -1,7 +1,6 @@
 // What is told of a text of metadata.
 use array_metadata::ArrayMetadata;
-use std::alloc::Global;
-use std::test::Fail;
+use std::alloc::{AllocError, Global};
 
 // The members of an array of two axes. Of two members with one key the later one is read.
 const ARRAY: &str =
@@ -15,29 +14,32 @@ const ARRAY: &str =
         "index_codecs": [{"name": "bytes", "configuration": {"endian": "little"}}, {"name": "crc32c"}],
         "index_location": "end"}}]"#;
 
-// The metadata in a text: its shapes, its fill value, and the key of the chunk with the shape's numbers; or why it is refused.
-pub fn told(alloc: Global, text: &str) -> Result<String, Fail> {
+// The shapes that metadata has, its fill value, and the key of the chunk with the shape's numbers.
+fn told_of(alloc: Global, metadata: &ArrayMetadata) -> Result<String, AllocError> {
+    let shape = metadata.shape.as_slice();
+    let shard = metadata.shard.as_slice();
+    let subchunk = metadata.subchunk.as_slice();
+    let fill = metadata.fill_value.as_ne_bytes();
+    let key = metadata.keys.key_of(alloc, shape)?;
+    format!(in alloc; "{shape:?} {shard:?} {subchunk:?} {fill:?} {key}")
+}
+
+// What is told of the metadata in a text, or why it is refused.
+pub fn told(alloc: Global, text: &str) -> Result<String, AllocError> {
     match ArrayMetadata::from_text(alloc, text) {
-        Ok(metadata) => {
-            let shape = metadata.shape.as_slice();
-            let shard = metadata.shard.as_slice();
-            let subchunk = metadata.subchunk.as_slice();
-            let fill = metadata.fill_value.as_ne_bytes();
-            let key = metadata.keys.key_of(alloc, shape)?;
-            Ok(format!(in alloc; "{shape:?} {shard:?} {subchunk:?} {fill:?} {key}")?)
-        }
-        Err(error) => Ok(format!(in alloc; "{error}")?),
+        Ok(metadata) => told_of(alloc, &metadata),
+        Err(error) => format!(in alloc; "{error}"),
     }
 }
 
 // What is told of the array of two axes with these members in place of its own.
-pub fn told_with(alloc: Global, members: &str) -> Result<String, Fail> {
+pub fn told_with(alloc: Global, members: &str) -> Result<String, AllocError> {
     let text = format!(in alloc; "{{{ARRAY}, {members}}}")?;
     told(alloc, text.as_str())
 }
 
 // What is told of the array of two axes whose subchunks have this list of codecs.
-pub fn told_inside(alloc: Global, codecs: &str) -> Result<String, Fail> {
+pub fn told_inside(alloc: Global, codecs: &str) -> Result<String, AllocError> {
     let members = format!(in alloc;
         r#""codecs": [{{"name": "sharding_indexed", "configuration": {{"chunk_shape": [2, 2], "codecs": {codecs}, "index_codecs": [{{"name": "bytes", "configuration": {{"endian": "big"}}}}]}}}}]"#
     )?;

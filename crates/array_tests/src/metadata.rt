@@ -4,7 +4,7 @@ use crate::examples::{told_inside, told_with};
 use std::test::Fail;
 
 // The arrays: start of the index and big endian elements, an axis of no cells, no axes, and one byte for each element.
-const ARRAYS: [(&str, &str); 6] = [
+const ARRAYS: &[(&str, &str)] = &[
     (
         r#""storage_transformers": []"#,
         "[8, 8] [4, 4] [2, 2] [7, 0] c/8/8",
@@ -47,7 +47,7 @@ const ARRAYS: [(&str, &str); 6] = [
 ];
 
 // Chunk key encodings, and the key of the chunk 8, 8.
-const KEYS: [(&str, &str); 6] = [
+const KEYS: &[(&str, &str)] = &[
     (r#"{"name": "default"}"#, "c/8/8"),
     (r#"{"name": "default", "configuration": {}}"#, "c/8/8"),
     (
@@ -63,7 +63,7 @@ const KEYS: [(&str, &str); 6] = [
 ];
 
 // Fill values of a data type, and their bytes.
-const FILL_VALUES: [(&str, &str, &str); 9] = [
+const FILL_VALUES: &[(&str, &str, &str)] = &[
     ("bool", "true", "[1]"),
     ("int8", "-128", "[128]"),
     ("int16", "-2", "[254, 255]"),
@@ -84,7 +84,7 @@ const FILL_VALUES: [(&str, &str, &str); 9] = [
 ];
 
 // The codecs of subchunks.
-const INNER_CODECS: [&str; 4] = [
+const INNER_CODECS: &[&str] = &[
     r#"[{"name": "bytes", "configuration": {"endian": "big"}}]"#,
     r#"[{"name": "bytes", "configuration": {"endian": "little"}}, {"name": "crc32c"}]"#,
     r#"[{"name": "bytes", "configuration": {"endian": "little"}}, "crc32c"]"#,
@@ -97,7 +97,7 @@ const INNER_CODECS: [&str; 4] = [
 fn arrays_are_read(rt: HostRuntime) -> Result<(), Fail> {
     for (members, want) in ARRAYS {
         let told = told_with(rt.alloc(), members)?;
-        same(&rt, told.as_str(), want);
+        same(&rt, told.as_str(), *want);
     }
     Ok(())
 }

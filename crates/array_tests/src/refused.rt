@@ -4,7 +4,7 @@ use crate::examples::{told, told_inside, told_with};
 use std::test::Fail;
 
 // Whole texts.
-const TEXTS: [(&str, &str); 7] = [
+const TEXTS: &[(&str, &str)] = &[
     (
         "",
         "4 BadField zarr.json: in zarr.json: the text is no JSON",
@@ -36,7 +36,7 @@ const TEXTS: [(&str, &str); 7] = [
 ];
 
 // Members in place of those of an array that is read.
-const MEMBERS: [(&str, &str); 26] = [
+const MEMBERS: &[(&str, &str)] = &[
     (
         r#""zarr_format": 2"#,
         "4 BadField zarr_format: in zarr_format: only arrays of Zarr V3 are read",
@@ -144,7 +144,7 @@ const MEMBERS: [(&str, &str); 26] = [
 ];
 
 // The codecs of subchunks.
-const INNER_CODECS: [(&str, &str); 9] = [
+const INNER_CODECS: &[(&str, &str)] = &[
     (
         r#"[{"name": "bytes"}, {"name": "zstd", "configuration": {"level": 0, "checksum": false}}]"#,
         "2 UnsupportedCodec zstd: in codecs[0].configuration.codecs[1]: this program reads no compressed chunks",
@@ -188,7 +188,7 @@ const INNER_CODECS: [(&str, &str); 9] = [
 fn texts_are_refused(rt: HostRuntime) -> Result<(), Fail> {
     for (text, want) in TEXTS {
         let told = told(rt.alloc(), text)?;
-        same(&rt, told.as_str(), want);
+        same(&rt, told.as_str(), *want);
     }
     Ok(())
 }
@@ -197,7 +197,7 @@ fn texts_are_refused(rt: HostRuntime) -> Result<(), Fail> {
 fn members_are_refused(rt: HostRuntime) -> Result<(), Fail> {
     for (members, want) in MEMBERS {
         let told = told_with(rt.alloc(), members)?;
-        same(&rt, told.as_str(), want);
+        same(&rt, told.as_str(), *want);
     }
     Ok(())
 }
@@ -206,7 +206,7 @@ fn members_are_refused(rt: HostRuntime) -> Result<(), Fail> {
 fn inner_codecs_are_refused(rt: HostRuntime) -> Result<(), Fail> {
     for (codecs, want) in INNER_CODECS {
         let told = told_inside(rt.alloc(), codecs)?;
-        same(&rt, told.as_str(), want);
+        same(&rt, told.as_str(), *want);
     }
     Ok(())
 }

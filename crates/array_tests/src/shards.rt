@@ -3,11 +3,12 @@ use crate::compared::same;
 use array_shards::{BoxCells, ShardGrid, ShardPart};
 use std::alloc::Global;
 use std::ops::Range;
+use std::process::Abort;
 use std::test::Fail;
 use zarr_parts::{ArrayBytes, ArraySubset, ChunkShape, CodecError, FillValue};
 
 // An array shape, a shard shape, how many shards there are, and the coordinates of the last one.
-const GRIDS: [(&[u64], &[u64], u64, &[u64]); 6] = [
+const GRIDS: &[(&[u64], &[u64], u64, &[u64])] = &[
     (&[8, 8], &[4, 4], 4, &[1, 1]),
     (&[5, 7], &[4, 4], 4, &[1, 1]),
     (&[9], &[4], 3, &[2]),
@@ -30,18 +31,38 @@ fn grid_of(alloc: Global, shape: &[u64], shard: &[u64]) -> Result<ShardGrid, Cod
     ShardGrid::new(alloc, shape, &shard)
 }
 
+// Compares the coordinates of a shard, which an array without axes does not have.
+fn compare_coordinates<R: Abort + AllocGlobal>(
+    rt: &R,
+    grid: &ShardGrid,
+    number: u64,
+    axes: usize,
+    want: &[u64],
+) -> Result<(), Fail> {
+    match grid.coordinates(rt.alloc(), number)? {
+        Some(coordinates) => same(rt, coordinates.as_slice(), want),
+        None => same(rt, axes, 0),
+    }
+    Ok(())
+}
+
+// Compares how many shards an array has, and the coordinates of the last one.
+fn compare_grid<R: Abort + AllocGlobal>(
+    rt: &R,
+    shape: &[u64],
+    shard: &[u64],
+    len: u64,
+    last: &[u64],
+) -> Result<(), Fail> {
+    let grid = grid_of(rt.alloc(), shape, shard)?;
+    same(rt, grid.len(), len);
+    compare_coordinates(rt, &grid, len.max(2) - 1, shape.len(), last)
+}
+
 #[test]
 fn as_many_shards_as_hold_all_cells(rt: HostRuntime) -> Result<(), Fail> {
-    let alloc = rt.alloc();
     for (shape, shard, len, last) in GRIDS {
-        let grid = grid_of(alloc, shape, shard)?;
-        same(&rt, grid.len(), len);
-        let number = len.max(2) - 1;
-        if let Some(coordinates) = grid.coordinates(alloc, number)? {
-            same(&rt, coordinates.as_slice(), last);
-        } else {
-            same(&rt, shape.len(), 0);
-        }
+        compare_grid(&rt, shape, shard, *len, last)?;
     }
     Ok(())
 }
