@@ -7,16 +7,6 @@ use std::process::Abort;
 use std::test::Fail;
 use zarr_parts::{ArrayBytes, ArraySubset, ChunkShape, CodecError, FillValue};
 
-// An array shape, a shard shape, how many shards there are, and the coordinates of the last one.
-const GRIDS: &[(&[u64], &[u64], u64, &[u64])] = &[
-    (&[8, 8], &[4, 4], 4, &[1, 1]),
-    (&[5, 7], &[4, 4], 4, &[1, 1]),
-    (&[9], &[4], 3, &[2]),
-    (&[4, 1, 6], &[4, 2, 3], 2, &[0, 0, 1]),
-    (&[], &[], 1, &[]),
-    (&[0, 7], &[4, 4], 0, &[0, 1]),
-];
-
 // The parts of the box 1..5, 3..7 of an array of 5 by 7 in shards of 4 by 4: where each starts in its shard and in the
 // box, and its shape.
 const PARTS: [([u64; 2], [u64; 2], [u64; 2]); 4] = [
@@ -46,7 +36,7 @@ fn compare_coordinates<R: Abort + AllocGlobal>(
     Ok(())
 }
 
-// Compares how many shards an array has, and the coordinates of the last one.
+// Compares how many shards an array of a shape in shards of another has, and the coordinates of the last one.
 fn compare_grid<R: Abort + AllocGlobal>(
     rt: &R,
     shape: &[u64],
@@ -61,10 +51,12 @@ fn compare_grid<R: Abort + AllocGlobal>(
 
 #[test]
 fn as_many_shards_as_hold_all_cells(rt: HostRuntime) -> Result<(), Fail> {
-    for (shape, shard, len, last) in GRIDS {
-        compare_grid(&rt, shape, shard, *len, last)?;
-    }
-    Ok(())
+    compare_grid(&rt, &[8, 8], &[4, 4], 4, &[1, 1])?;
+    compare_grid(&rt, &[5, 7], &[4, 4], 4, &[1, 1])?;
+    compare_grid(&rt, &[9], &[4], 3, &[2])?;
+    compare_grid(&rt, &[4, 1, 6], &[4, 2, 3], 2, &[0, 0, 1])?;
+    compare_grid(&rt, &[], &[], 1, &[])?;
+    compare_grid(&rt, &[0, 7], &[4, 4], 0, &[0, 1])
 }
 
 fn told(alloc: Global, part: &ShardPart) -> Result<String, Fail> {
@@ -80,17 +72,36 @@ fn told(alloc: Global, part: &ShardPart) -> Result<String, Fail> {
     Ok(told)
 }
 
-#[test]
-fn a_box_is_made_of_a_part_of_each_shard(rt: HostRuntime) -> Result<(), Fail> {
-    let alloc = rt.alloc();
+fn wanted(alloc: Global, number: usize) -> Result<String, Fail> {
+    let (inside, within, shape) = &PARTS[number % 4];
+    let wanted = format!(in alloc; "{number} {inside:?} {shape:?} {within:?} {shape:?}")?;
+    Ok(wanted)
+}
+
+fn compare_part<R: Abort + AllocGlobal>(
+    rt: &R,
+    number: usize,
+    part: &ShardPart,
+) -> Result<(), Fail> {
+    let wanted = wanted(rt.alloc(), number)?;
+    let told = told(rt.alloc(), part)?;
+    same(rt, told, wanted);
+    Ok(())
+}
+
+// The parts of the box 1..5, 3..7 of an array of 5 by 7 in shards of 4 by 4.
+fn parts_of_box(alloc: Global) -> Result<Vec<ShardPart>, CodecError> {
     let grid = grid_of(alloc, &[5, 7], &[4, 4])?;
     let asked = ArraySubset::from_ranges(alloc, &[1..5, 3..7])?;
-    let parts = grid.parts(alloc, &asked)?;
+    grid.parts(alloc, &asked)
+}
+
+#[test]
+fn a_box_is_made_of_a_part_of_each_shard(rt: HostRuntime) -> Result<(), Fail> {
+    let parts = parts_of_box(rt.alloc())?;
     same(&rt, parts.len(), 4);
     for (number, part) in parts.iter().enumerate() {
-        let (inside, within, shape) = PARTS[number % 4];
-        let wanted = format!(in alloc; "{number} {inside:?} {shape:?} {within:?} {shape:?}")?;
-        same(&rt, told(alloc, part)?, wanted);
+        compare_part(&rt, number, part)?;
     }
     Ok(())
 }
@@ -139,24 +150,35 @@ fn put(
     cells.put(&at, &ArrayBytes::from_numbers(alloc, numbers)?)
 }
 
+// A box of two by three cells, which are all 258.
+fn box_of_cells(alloc: Global) -> Result<BoxCells, CodecError> {
+    let asked = ArraySubset::from_ranges(alloc, &[4..6, 1..4])?;
+    let fill = FillValue::from_number(alloc, 258u16)?;
+    BoxCells::new(alloc, &asked, &fill)
+}
+
+fn put_a_byte(alloc: Global, cells: &mut BoxCells) -> Result<(), CodecError> {
+    let at = ArraySubset::from_ranges(alloc, &[0..1, 0..1])?;
+    cells.put(&at, &ArrayBytes::from_numbers(alloc, &[4u8])?)
+}
+
 #[test]
 fn parts_are_put_into_a_box(rt: HostRuntime) -> Result<(), Fail> {
     let alloc = rt.alloc();
-    let asked = ArraySubset::from_ranges(alloc, &[4..6, 1..4])?;
-    let mut cells = BoxCells::new(alloc, &asked, &FillValue::from_number(alloc, 258u16)?)?;
-    put(alloc, &mut cells, &[0..2, 1..2], &[1, 2])?;
-    put(alloc, &mut cells, &[1..2, 2..3], &[3])?;
-    let too_many = put(alloc, &mut cells, &[0..1, 0..1], &[4, 5]);
-    same(&rt, too_many, Err(CodecError::InvalidNumberOfElements));
-    same(
-        &rt,
-        put(alloc, &mut cells, &[0..3, 0..1], &[4, 5, 6]),
-        Err(CodecError::OutOfBounds),
-    );
-    let of_a_byte = cells.put(
-        &ArraySubset::from_ranges(alloc, &[0..1, 0..1])?,
-        &ArrayBytes::from_numbers(alloc, &[4u8])?,
-    );
+    let mut cells = box_of_cells(alloc)?;
+    for (ranges, numbers, put_there) in [
+        ([0..2, 1..2], &[1, 2][..], Ok(())),
+        ([1..2, 2..3], &[3], Ok(())),
+        (
+            [0..1, 0..1],
+            &[4, 5],
+            Err(CodecError::InvalidNumberOfElements),
+        ),
+        ([0..3, 0..1], &[4, 5, 6], Err(CodecError::OutOfBounds)),
+    ] {
+        same(&rt, put(alloc, &mut cells, &ranges, numbers), put_there);
+    }
+    let of_a_byte = put_a_byte(alloc, &mut cells);
     same(&rt, of_a_byte, Err(CodecError::WrongElementKind));
     same(
         &rt,
