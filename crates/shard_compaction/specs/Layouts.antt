@@ -10,4 +10,11 @@ use Rattle.shard_format.specs.declared.order.SubchunkWriteOrder.{SubchunkWriteOr
 -- are written
 abbrev pub OfEachLayout : (shape sub : List ℕ) → ShardingIndexLocation → (index : Meaning) → (Layout → Type 0) → Type 0
 OfEachLayout shape sub location index Holds = (fill : List ℕ) (order : SubchunkWriteOrder)
-    → Holds (record { shape = shape; sub = sub; fill = fill; location = location; index_size = fixed_size index.representation; order = order })
+    → Holds (record {
+      shape = shape;
+      sub = sub;
+      fill = fill;
+      location = location;
+      index_size = fixed_size index.representation;
+      order = order;
+    })

@@ -13,6 +13,7 @@ abbrev pub array_geo : {I : Type 0} → Subchunks I → (shape : List ℕ) → G
 array_geo subchunks shape = geo shape subchunks.data_type.now subchunks.fill_value.now
 
 -- it holds of each layout of a shard of this shape, in whichever order its subchunks are written
-abbrev pub OfEachOrder : {I : Type 0} → Subchunks I → (shape : List ℕ) → ShardingIndexLocation → (index : Meaning) → (Layout → Type 0) → Type 0
+abbrev pub OfEachOrder : {I : Type 0} → Subchunks I → (shape : List ℕ) → ShardingIndexLocation → (index : Meaning)
+    → (Layout → Type 0) → Type 0
 OfEachOrder subchunks shape location index Holds = (order : SubchunkWriteOrder)
     → Holds (layout subchunks.shape.now location order index.representation (array_geo subchunks shape))
