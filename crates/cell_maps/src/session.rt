@@ -14,7 +14,7 @@ use sharding_core::{ShardState, ShardingCodec};
 use std::alloc::Global;
 use zarr_parts::{ArrayBytes, ArraySubset, CodecError, CodecOptions, Indexer};
 
-// A refusal is a reply; a fault is none.
+/// A refusal is a reply; a fault is none.
 pub fn refused(error: CodecError) -> Result<Reply, CodecError>
     ensures { MatchResult result (λ reply. (reply ≡ Refused error) × (error ≢ Fault)) (λ e. (e ≡ Fault) × (error ≡ Fault)) }
 {
@@ -24,7 +24,7 @@ pub fn refused(error: CodecError) -> Result<Reply, CodecError>
     }
 }
 
-// Writes elements over the cells of a subset. An error is a fault.
+/// Writes elements over the cells of a subset. A refusal is a reply; an error is a fault.
 pub fn write<I: ArrayToBytesCodecTraits, X: ArrayToBytesCodecTraits, H: BytesPartialEncoderTraits>(
     alloc: Global,
     state: &mut ShardState<'_, I, X, H>,
@@ -46,7 +46,7 @@ pub fn write<I: ArrayToBytesCodecTraits, X: ArrayToBytesCodecTraits, H: BytesPar
     }
 }
 
-// Reads the cells that an indexer asks. An error is a fault.
+/// Reads the cells that an indexer asks. A refusal is a reply; an error is a fault.
 pub fn read<
     I: ArrayToBytesCodecTraits,
     X: ArrayToBytesCodecTraits,
@@ -68,7 +68,7 @@ pub fn read<
     }
 }
 
-// Lets the object go. An error is a fault.
+/// Lets the object go. A refusal is a reply; an error is a fault.
 pub fn erase<I: ArrayToBytesCodecTraits, X: ArrayToBytesCodecTraits, H: BytesPartialEncoderTraits>(
     state: &mut ShardState<'_, I, X, H>,
 ) -> Result<Reply, CodecError>

@@ -13,7 +13,8 @@ use sharding_core::{ShardState, ShardingCodec};
 use std::alloc::Global;
 use zarr_parts::{ArrayBytes, ArraySubset, CodecError, CodecOptions};
 
-// A write of elements over the cells of a subset.
+/// Writes elements over the cells of a subset, as the session's `partial_encode`, with an event and a receipt; the number is the
+/// event's place. A refused call is no event. Refused as `partial_encode` refuses; room for event and receipt is taken before.
 pub fn record_write<
     I: ArrayToBytesCodecTraits,
     X: ArrayToBytesCodecTraits,
@@ -45,7 +46,9 @@ pub fn record_write<
     }
 }
 
-// A read of the cells of a subset.
+/// Reads the cells of a subset, as the session's `partial_decode`, with an event and a receipt; the number is the event's place. A
+/// refused call is no event. Refused as `partial_decode` refuses; room for event and receipt is taken before, that for copies of
+/// the cells after.
 pub fn record_read<
     I: ArrayToBytesCodecTraits,
     X: ArrayToBytesCodecTraits,
@@ -75,7 +78,8 @@ pub fn record_read<
     Ok((place, cells))
 }
 
-// An erasure of the object.
+/// Lets the object go, as the session's `erase`, with an event and a receipt; the number is the event's place. A refused call is no
+/// event. Refused as `OutOfMemory`, where there is no room for event and receipt, which is taken before, or as `erase` refuses.
 pub fn record_erase<
     I: ArrayToBytesCodecTraits,
     X: ArrayToBytesCodecTraits,

@@ -52,7 +52,7 @@ impl Event {
     }
 }
 
-// Whether both did the same.
+/// Whether both did the same.
 pub fn same_event(event: &Event, other: &Event) -> bool
     ensures { IsTrue result ↔ (event.now ≡ other.now) }
 {
@@ -83,7 +83,7 @@ fn same_box(a: &ArraySubset, b: &ArraySubset) -> bool
     a == b
 }
 
-// Whether two arrays have one kind and the same elements.
+/// Whether two arrays have one kind and the same elements.
 pub fn same_elements(a: &ArrayBytes, b: &ArrayBytes) -> bool
     ensures { IsTrue result ↔ (a.now ≡ b.now) }
 {

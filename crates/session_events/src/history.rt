@@ -6,7 +6,7 @@ use crate::event::{Event, Receipt};
 use std::alloc::{AllocError, Global};
 use zarr_parts::{ArrayBytes, ArraySubset, CodecError};
 
-// An event, once for the history and once for its receipt.
+/// An event, once for the history and once for its receipt.
 #[derive(Drop)]
 pub struct Copies {
     pub event: Event,
@@ -14,7 +14,7 @@ pub struct Copies {
 }
 
 impl Copies {
-    // A write of elements over the cells of a subset, which are copied.
+    /// A write of elements over the cells of a subset, which are copied.
     pub fn of_write(
         alloc: Global,
         subset: &ArraySubset,
@@ -28,7 +28,7 @@ impl Copies {
         })
     }
 
-    // A read of the cells of a subset, which are copied, and handed back.
+    /// A read of the cells of a subset, which are copied, and handed back.
     pub fn of_read(
         alloc: Global,
         subset: &ArraySubset,
@@ -45,7 +45,7 @@ impl Copies {
         Ok((copies, cells))
     }
 
-    // An erasure.
+    /// An erasure.
     pub fn of_erase() -> Self
         ensures event { result.event ≡ Erase }
         ensures told { result.told ≡ Erase }
@@ -56,7 +56,7 @@ impl Copies {
         }
     }
 
-    // A refused call is no event: lets the copies go.
+    /// A refused call is no event: lets the copies go.
     pub fn refused(self, error: CodecError) -> CodecError
         ensures { result ≡ error }
     {
@@ -64,7 +64,7 @@ impl Copies {
     }
 }
 
-// What was done in a session, in order, and for each event a mark whether its receipt was seen.
+/// What was done in a session, in order, and for each event a mark whether its receipt was seen.
 #[derive(Drop)]
 pub struct History {
     pub events: Vec<Event>,
@@ -73,7 +73,7 @@ pub struct History {
 }
 
 impl History {
-    // Nothing was done yet. Takes no memory.
+    /// Nothing was done yet. Takes no memory.
     pub fn new(alloc: Global) -> Self
         ensures events { result.events.items ≡ [] }
         ensures seen { result.seen.items ≡ [] }
@@ -84,7 +84,7 @@ impl History {
         }
     }
 
-    // Takes room for one more event, and for its receipt.
+    /// Takes room for one more event, and for its receipt.
     pub fn take_room(&mut self, receipts: &mut Vec<Receipt>) -> Result<(), AllocError>
         ensures events { self.new.events.items ≡ self.old.events.items }
         ensures seen { self.new.seen.items ≡ self.old.seen.items }
@@ -97,7 +97,7 @@ impl History {
         self.seen.reserve(1)
     }
 
-    // Puts an event at the end, and what is told of it into a caller's receipts. The number is its place.
+    /// Puts an event at the end, and what is told of it into a caller's receipts. The number is its place.
     pub fn put(&mut self, receipts: &mut Vec<Receipt>, copies: Copies) -> u64
         requires events { vec_len self.old.events < vec_capacity self.old.events }
         requires seen { vec_len self.old.seen < vec_capacity self.old.seen }

@@ -13,7 +13,7 @@ use sharding_core::{ShardState, ShardingCodec};
 use std::alloc::Global;
 use zarr_parts::CodecError;
 
-// A command on a session that stays open. An error is a fault.
+/// Serves a command on a session that stays open. A refusal is a reply; an error is a fault.
 pub fn serve<I: ArrayToBytesCodecTraits, X: ArrayToBytesCodecTraits, H: BytesPartialEncoderTraits>(
     alloc: Global,
     state: &mut ShardState<'_, I, X, H>,
