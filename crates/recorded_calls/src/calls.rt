@@ -8,7 +8,7 @@ ghost use Rattle.session_events.specs.declared.event.Event.TheVariants.{Write, R
 
 use codec_laws::ArrayToBytesCodecTraits;
 use object_handles::BytesPartialEncoderTraits;
-use session_events::{Copies, History, Receipt};
+use session_events::{Event, History, Receipt};
 use sharding_core::{ShardState, ShardingCodec};
 use std::alloc::Global;
 use zarr_parts::{ArrayBytes, ArraySubset, CodecError, CodecOptions};
@@ -39,10 +39,11 @@ pub fn record_write<
     ensures refused { IfErr result (λ e. HasRefusedWrite I.meaning X.meaning H.state (box_selection subset.now) bytes.now e state.old state.new) }
 {
     history.take_room(receipts)?;
-    let copies = Copies::of_write(alloc, subset, bytes)?;
+    let event = Event::of_write(alloc, subset, bytes)?;
+    let told = Event::of_write(alloc, subset, bytes)?;
     match state.partial_encode(alloc, subset, bytes, &CodecOptions::default()) {
-        Ok(()) => Ok(history.put(receipts, copies)),
-        Err(error) => Err(copies.refused(error)),
+        Ok(()) => Ok(history.put(receipts, event, told)),
+        Err(error) => Err(error),
     }
 }
 
@@ -73,9 +74,9 @@ pub fn record_read<
 {
     history.take_room(receipts)?;
     let cells = state.partial_decode(alloc, subset, &CodecOptions::default())?;
-    let (copies, cells) = Copies::of_read(alloc, subset, cells)?;
-    let place = history.put(receipts, copies);
-    Ok((place, cells))
+    let event = Event::of_read(alloc, subset, &cells)?;
+    let told = Event::of_read(alloc, subset, &cells)?;
+    Ok((history.put(receipts, event, told), cells))
 }
 
 /// Lets the object go, as the session's `erase`, with an event and a receipt; the number is the event's place. A refused call is no
@@ -102,5 +103,5 @@ pub fn record_erase<
 {
     history.take_room(receipts)?;
     state.erase()?;
-    Ok(history.put(receipts, Copies::of_erase()))
+    Ok(history.put(receipts, Event::Erase, Event::Erase))
 }

@@ -23,8 +23,8 @@ pub enum Event {
 }
 
 impl Event {
-    // A write of elements over the cells of a subset, which are copied.
-    pub(crate) fn of_write(
+    /// A write of elements over the cells of a subset, which are copied. Refused for memory alone.
+    pub fn of_write(
         alloc: Global,
         subset: &ArraySubset,
         bytes: &ArrayBytes,
@@ -37,8 +37,8 @@ impl Event {
         })
     }
 
-    // A read of the cells of a subset, which are copied.
-    pub(crate) fn of_read(
+    /// A read of the cells of a subset, which are copied. Refused for memory alone.
+    pub fn of_read(
         alloc: Global,
         subset: &ArraySubset,
         cells: &ArrayBytes,

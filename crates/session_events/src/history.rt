@@ -1,68 +1,8 @@
 // What was done in a session: room for one more event is taken before a call, and the event is put there once the call is accepted.
-ghost use Rattle.std.specs.Prelude.{◌≡◌, ◌<◌, ◌++◌, ◌∷◌, [], false, IfOk, OnOk, length, vec_len, vec_capacity};
-ghost use Rattle.session_events.specs.declared.event.Event.TheVariants.{Write, Read, Erase};
+ghost use Rattle.std.specs.Prelude.{◌≡◌, ◌<◌, ◌++◌, ◌∷◌, [], false, OnOk, length, vec_len, vec_capacity};
 
 use crate::event::{Event, Receipt};
 use std::alloc::{AllocError, Global};
-use zarr_parts::{ArrayBytes, ArraySubset, CodecError};
-
-/// An event, once for the history and once for its receipt.
-#[derive(Drop)]
-pub struct Copies {
-    pub event: Event,
-    pub told: Event,
-}
-
-impl Copies {
-    /// A write of elements over the cells of a subset, which are copied.
-    pub fn of_write(
-        alloc: Global,
-        subset: &ArraySubset,
-        bytes: &ArrayBytes,
-    ) -> Result<Self, AllocError>
-        ensures { IfOk result (λ copies. (copies.event ≡ Write subset.now bytes.now) × (copies.told ≡ Write subset.now bytes.now)) }
-    {
-        Ok(Copies {
-            event: Event::of_write(alloc, subset, bytes)?,
-            told: Event::of_write(alloc, subset, bytes)?,
-        })
-    }
-
-    /// A read of the cells of a subset, which are copied, and handed back.
-    pub fn of_read(
-        alloc: Global,
-        subset: &ArraySubset,
-        cells: ArrayBytes<'static>,
-    ) -> Result<(Self, ArrayBytes<'static>), AllocError>
-        ensures event { IfOk result (λ answer. answer.0.event ≡ Read subset.now answer.1) }
-        ensures told { IfOk result (λ answer. answer.0.told ≡ Read subset.now answer.1) }
-        ensures cells { IfOk result (λ answer. answer.1 ≡ cells.entry) }
-    {
-        let copies = Copies {
-            event: Event::of_read(alloc, subset, &cells)?,
-            told: Event::of_read(alloc, subset, &cells)?,
-        };
-        Ok((copies, cells))
-    }
-
-    /// An erasure.
-    pub fn of_erase() -> Self
-        ensures event { result.event ≡ Erase }
-        ensures told { result.told ≡ Erase }
-    {
-        Copies {
-            event: Event::Erase,
-            told: Event::Erase,
-        }
-    }
-
-    /// A refused call is no event: lets the copies go.
-    pub fn refused(self, error: CodecError) -> CodecError
-        ensures { result ≡ error }
-    {
-        error
-    }
-}
 
 /// What was done in a session, in order, and for each event a mark whether its receipt was seen.
 #[derive(Drop)]
@@ -97,18 +37,17 @@ impl History {
         self.seen.reserve(1)
     }
 
-    /// Puts an event at the end, and what is told of it into a caller's receipts. The number is its place.
-    pub fn put(&mut self, receipts: &mut Vec<Receipt>, copies: Copies) -> u64
+    /// Puts an event at the end, and a copy of it, which is told, into a caller's receipts. The number is its place.
+    pub fn put(&mut self, receipts: &mut Vec<Receipt>, event: Event, told: Event) -> u64
         requires events { vec_len self.old.events < vec_capacity self.old.events }
         requires seen { vec_len self.old.seen < vec_capacity self.old.seen }
         requires receipts { vec_len receipts.old < vec_capacity receipts.old }
         ensures place { result ≡ length self.old.events.items }
-        ensures events { self.new.events.items ≡ self.old.events.items ++ copies.event ∷ [] }
+        ensures events { self.new.events.items ≡ self.old.events.items ++ event ∷ [] }
         ensures seen { self.new.seen.items ≡ self.old.seen.items ++ false ∷ [] }
-        ensures receipts { receipts.new.items ≡ receipts.old.items ++ record { place = result; event = copies.told } ∷ [] }
+        ensures receipts { receipts.new.items ≡ receipts.old.items ++ record { place = result; event = told } ∷ [] }
     {
         let place = self.events.len() as u64;
-        let Copies { event, told } = copies;
         self.events.push_reserved(event);
         self.seen.push_reserved(false);
         receipts.push_reserved(Receipt { place, event: told });

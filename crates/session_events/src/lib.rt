@@ -5,4 +5,4 @@ mod event;
 mod history;
 
 pub use event::{Event, Receipt, same_elements, same_event};
-pub use history::{Copies, History};
+pub use history::History;
