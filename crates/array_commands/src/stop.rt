@@ -1,5 +1,6 @@
 // Why a command stops, and why a shard is refused.
-ghost use Rattle.std.specs.Prelude.{◌≤◌};
+ghost use Rattle.std.specs.Prelude.{◌≡◌, ◌≤◌};
+ghost use Rattle.array_commands.specs.Statuses.{status_of};
 
 use array_metadata::MetadataError;
 use command_words::BoxError;
@@ -104,7 +105,8 @@ impl Stop {
 
     /// The status for the program to end with: 1 where a shard is refused, else 2.
     pub fn status(&self) -> u8
-        ensures { result ≤ 2 }
+        ensures bound { result ≤ 2 }
+        ensures status { result ≡ status_of self.now }
     {
         match self {
             Stop::Refused(_) => 1,
