@@ -178,6 +178,10 @@ const INNER_CODECS: &[(&str, &str)] = &[
         "4 BadField endian: in codecs[0].configuration.codecs[0]: the key is not known, or its value has another form",
     ),
     (
+        r#"[{"name": "bytes", "configuration": {"endian": "little"}}, {"name": "crc32c", "configuration": {"level": 1}}]"#,
+        "4 BadField level: in codecs[0].configuration.codecs[1].configuration: the key is not known",
+    ),
+    (
         r#"[{"name": "sharding_indexed", "configuration": {"chunk_shape": [2, 2],
             "codecs": [{"name": "sharding_indexed"}], "index_codecs": [{"name": "gzip"}]}}]"#,
         "2 UnsupportedCodec gzip: in codecs[0].configuration.codecs[0].configuration.index_codecs[0]: this program reads no compressed chunks",
