@@ -183,6 +183,16 @@ const INNER_CODECS: &[(&str, &str)] = &[
     ),
     (
         r#"[{"name": "sharding_indexed", "configuration": {"chunk_shape": [2, 2],
+            "codecs": [{"name": "bytes"}], "index_codecs": [{"name": "bytes", "configuration": {"endian": "little"}}]}}]"#,
+        "3 MissingField endian: in codecs[0].configuration.codecs[0].configuration.codecs[0]: elements of more than one byte have no byte order",
+    ),
+    (
+        r#"[{"name": "sharding_indexed", "configuration": {"chunk_shape": [2, 2],
+            "codecs": [{"name": "bytes", "configuration": {"endian": "little"}}], "index_codecs": [{"name": "bytes"}]}}]"#,
+        "3 MissingField endian: in codecs[0].configuration.codecs[0].configuration.index_codecs[0]: elements of more than one byte have no byte order",
+    ),
+    (
+        r#"[{"name": "sharding_indexed", "configuration": {"chunk_shape": [2, 2],
             "codecs": [{"name": "sharding_indexed"}], "index_codecs": [{"name": "gzip"}]}}]"#,
         "2 UnsupportedCodec gzip: in codecs[0].configuration.codecs[0].configuration.index_codecs[0]: this program reads no compressed chunks",
     ),
