@@ -37,7 +37,7 @@ impl History {
         self.seen.reserve(1)
     }
 
-    /// Puts an event at the end, and a copy of it, which is told, into a caller's receipts. The number is its place.
+    /// Puts an event at the end, and what is told of it into a caller's receipts. The number is its place.
     pub fn put(&mut self, receipts: &mut Vec<Receipt>, event: Event, told: Event) -> u64
         requires events { vec_len self.old.events < vec_capacity self.old.events }
         requires seen { vec_len self.old.seen < vec_capacity self.old.seen }
