@@ -1,5 +1,5 @@
 -- A compaction of a shard that holds an array is an encoding of it, in order `C`.
-use Rattle.std.proofs.Common.{◌≡◌, ℕ, ◌+◌, ◌<◌, ◌≤◌, inl, List, Option, Some, length, map, refl, sym, ◌∙◌, subst, arith}
+use Rattle.std.proofs.Common.{◌≡◌, ℕ, ◌+◌, ◌<◌, ◌≤◌, List, Option, Some, length, map, refl, sym, ap, ◌∙◌, subst, arith}
 use Rattle.std.specs.List.{range_with_len, sum_by}
 use Rattle.zarr_parts.specs.Geo.{Geo, IsArrayOf}
 use Rattle.zarr_parts.specs.Numbering.{count_of}
@@ -20,6 +20,8 @@ use Rattle.shard_format.specs.declared.order.SubchunkWriteOrder.{SubchunkWriteOr
 use Rattle.shard_format.specs.declared.order.SubchunkWriteOrder.TheVariants.{C}
 use Rattle.shard_format.specs.declared.location.ShardingIndexLocation.{ShardingIndexLocation}
 use Rattle.shard_format.specs.declared.location.ShardingIndexLocation.TheVariants.{Start, End}
+use Rattle.shard_format.specs.WriteOrder.{numbers_in_order}
+use Rattle.shard_format.specs.WriteOrderLaws.{before_in_range}
 use Rattle.shard_format.proofs.LayingLemmas.{sum_more, sum_same, sum_grows_to}
 
 -- the data part of a shard has room for all that follows the index
@@ -63,6 +65,7 @@ pub encoding_of_compaction : (inner_written index_written : List (List ℕ) → 
     → ((k : ℕ) → k < count_of (grid_of g.shape sub) → StandsAt inner_written (layout_of sub location order size g) old (subchunk g.shape sub a k) (slot_at (length old) numbers k))
     → (r : IsCompaction index_written (layout_of sub location order size g) old numbers new)
     → IsEncodingBy inner_written index_written (layout_of sub location C size g) a new r.numbers
+unfolding numbers_in_order
 encoding_of_compaction inner_written index_written sub location order size g a old numbers new stand r =
     let n : ℕ = count_of (grid_of g.shape sub) in
     let start : ℕ = data_start location size in
@@ -86,7 +89,8 @@ encoding_of_compaction inner_written index_written sub location order size g a o
       apart = λ j k earlier below.
           apart_begun (start + before j) (start + before k) (is j) (is k) (begins j (omega arith)) (begins k below) (omega (arith, sized j (omega arith), ends j k earlier));
       filled = omega (arith, sums n (omega arith), r.long);
-      in_order = λ _ k below. subst (λ p. BeginsAt (start + p) (is k)) (sym (sums k (omega arith))) (begins k below);
+      in_order = λ _ k below.
+          subst (λ p. BeginsAt (start + p) (is k)) (sym (ap (sum_by (λ j. slot_size (is j))) (before_in_range n k below) ∙ sums k (omega arith))) (begins k below);
     }
 
 some_same : (x y : List ℕ) → Some x ≡ Some y → x ≡ y
@@ -131,5 +135,5 @@ pub scratch_of_compacted : (index : Meaning) (inner_written : List (List ℕ) �
     → IsCompacted index (layout_of sub location order size g) old new
     → new ≡ scratch inner_encoding index_encoding (layout_of sub location order size g) a
 scratch_of_compacted index inner_written inner_encoding index_encoding sub location order size g a old new divides array inner_law index_law h c =
-    scratch_of_encoding inner_written index.written inner_encoding index_encoding sub location C size g a new divides array refl inner_law index_law
+    scratch_of_encoding inner_written index.written inner_encoding index_encoding sub location size g a new divides array inner_law index_law
     (encoding_of_compacted index inner_written sub location order size g a old new h c)

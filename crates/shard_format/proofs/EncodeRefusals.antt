@@ -1,5 +1,5 @@
 -- A refusal of an array is one that the codec laws allow, and comes in the order of the tests.
-use Rattle.std.proofs.Common.{◌≡◌, ℕ, ◌+◌, ◌*◌, ◌^◌, ◌<◌, ◌≤◌, ◌⊎◌, inl, inr, Option, Some, Result, Ok, Err, IfErr, List, length, map, get_or, refl, sym, ap, ◌∙◌, subst, arith}
+use Rattle.std.proofs.Common.{◌≡◌, ℕ, ◌+◌, ◌*◌, ◌^◌, ◌<◌, ◌≤◌, ◌⊎◌, inl, inr, Option, Some, Result, Ok, Err, IfErr, List, length, map, get_or, refl, sym, ap, ◌∙◌, subst, arith, IsPermutation}
 use Rattle.std.specs.List.{All, range_with_len, sum_by}
 use Rattle.std.proofs.lemmas.List.{length-map}
 use Rattle.std.proofs.lemmas.List.Elements.{All-map}
@@ -19,12 +19,12 @@ use Rattle.codec_laws.specs.declared.representation.BytesRepresentation.TheVaria
 use Rattle.shard_format.specs.Cells.{Layout}
 use Rattle.shard_format.specs.Index.{index_geo, element_of_number}
 use Rattle.shard_format.specs.Encoding.{slot_size}
-use Rattle.shard_format.specs.Laying.{IsLaidOut, IsIndexOf}
+use Rattle.shard_format.specs.Laying.{IsLaid, IsLaidOut, IsIndexOf}
 use Rattle.shard_format.specs.Laws.{count-append_two}
 use Rattle.shard_format.specs.Serves.{fixed_size, ShardEncodable, ShardFits, IsStoredPart}
 use Rattle.shard_format.specs.EncodeTests.{RefusesToEncode, StoreTests, SomeTotal, RefusesIndex, EncodeTests}
 use Rattle.shard_format.specs.Packing.{slice_of}
-use Rattle.shard_format.proofs.LayingLemmas.{sum_same, encoding_laid, length_laid}
+use Rattle.shard_format.proofs.LayingLemmas.{sum_same, sum_of_order, laid_number, encoding_laid, length_laid}
 use Rattle.shard_format.specs.declared.slot.Slot.{Slot}
 use Rattle.shard_format.specs.declared.slot.Slot.TheVariants.{Bad}
 
@@ -78,17 +78,25 @@ module _ (inner index : Meaning) (l : Layout) (kind : DataTypeSize) (array : Arr
         | inr tests ↦ inr (inr (same, inr (counted, elim tests [ inl one ↦ inl one | inr nothing ↦ absurd nothing.1 ])))
       ]
 
-  module _ (bytes : List ℕ) (slots : List Slot) (laid : IsLaidOut inner.written l.fill l.shape l.sub array.elements bytes slots (count_of (grid_of l.shape l.sub))) where
+  module _ (bytes : List ℕ) (slots : List Slot) (order : List ℕ) (permutes : IsPermutation (range_with_len 0 (count_of (grid_of l.shape l.sub))) order)
+      (laid : IsLaidOut inner.written l.fill l.shape l.sub array.elements bytes slots order (count_of (grid_of l.shape l.sub))) where
+    abbrev many : ℕ
+    many = count_of (grid_of l.shape l.sub)
+
+    laid_at : (k : ℕ) → k < many → IsLaid inner.written l.fill (subchunk l.shape l.sub array.elements k) bytes (get_or slots k Bad)
+    laid_at k below = laid_number inner.written l.fill l.shape l.sub array.elements bytes slots order many k permutes laid below
+
     abbrev part_at : ℕ → List ℕ
     part_at k = slice_of bytes (get_or slots k Bad)
 
     encoding_at : (k : ℕ) → k < count_of (grid_of l.shape l.sub) → IsStoredPart inner.written l.fill (subchunk l.shape l.sub array.elements k) (part_at k)
-    encoding_at k below = encoding_laid inner.written l.fill (subchunk l.shape l.sub array.elements k) (get_or slots k Bad) bytes (laid.laid k below)
+    encoding_at k below = encoding_laid inner.written l.fill (subchunk l.shape l.sub array.elements k) (get_or slots k Bad) bytes (laid_at k below)
 
     total_at : sum_by (λ k. length (part_at k)) (range_with_len 0 (count_of (grid_of l.shape l.sub))) ≡ length bytes
     total_at =
         sum_same (λ k. length (part_at k)) (λ k. slot_size (get_or slots k Bad)) (count_of (grid_of l.shape l.sub))
-        (λ k below. length_laid inner.written l.fill (subchunk l.shape l.sub array.elements k) (get_or slots k Bad) bytes (laid.laid k below))
+        (λ k below. length_laid inner.written l.fill (subchunk l.shape l.sub array.elements k) (get_or slots k Bad) bytes (laid_at k below))
+        ∙ sym (sum_of_order (λ k. slot_size (get_or slots k Bad)) many order permutes)
         ∙ laid.filled
 
     some_total : (P : ℕ → Type 0) → P (l.index_size + length bytes) → SomeTotal inner.written l array.elements P

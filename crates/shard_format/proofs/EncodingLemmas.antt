@@ -1,9 +1,10 @@
 -- An index and slices laid end to end are an encoding of a shard.
-use Rattle.std.proofs.Common.{◌≡◌, ℕ, ◌+◌, ◌-◌, ◌*◌, ◌<◌, ◌≤◌, inl, inr, false, eqb, List, ◌++◌, length, map, get_or, take, drop, refl, sym, ap, ◌∙◌, subst, arith, length-append, length-drop}
+use Rattle.std.proofs.Common.{◌≡◌, ℕ, ◌+◌, ◌-◌, ◌*◌, ◌<◌, ◌≤◌, inl, inr, false, eqb, List, ◌++◌, length, map, get_or, take, drop, refl, sym, ap, ◌∙◌, subst, arith, IsPermutation, length-append, length-drop}
 use Rattle.std.specs.List.{range_with_len, sum_by}
 use Rattle.std.proofs.Math.Seq.{take-append_seam, drop-append_seam, drop-append-add}
 use Rattle.std.proofs.lemmas.List.{take-append-le, drop-append-le}
-use Rattle.std.proofs.lemmas.Bool.{le-leb}
+use Rattle.std.proofs.lemmas.Bool.{le-leb, cases_lt}
+use Rattle.std.proofs.lemmas.List.Sums.{sum_by_more}
 use Rattle.std.proofs.lemmas.Bool.Decides.{eqb_tells}
 use Rattle.zarr_parts.specs.Geo.{Geo}
 use Rattle.zarr_parts.specs.Numbering.{count_of}
@@ -11,9 +12,11 @@ use Rattle.zarr_parts.specs.Grid.{grid_of, subchunk}
 use Rattle.shard_format.specs.Cells.{Layout}
 use Rattle.shard_format.specs.Index.{absent_number, slot_of_pair, slot_at, index_part, data_start, data_end, element_of_number}
 use Rattle.shard_format.specs.Encoding.{StandsAt, AreApart, slot_size, BeginsAt, IsEncoding}
-use Rattle.shard_format.specs.Laying.{IsLaid, taken, IsLaidOut, offset_number, size_number, EndsBelow, IsIndexOf, whole_shard}
+use Rattle.shard_format.specs.Laying.{IsLaid, taken_by, IsLaidOut, offset_number, size_number, EndsBelow, IsIndexOf, whole_shard}
 use Rattle.shard_format.specs.Serves.{layout_of}
-use Rattle.shard_format.proofs.LayingLemmas.{sum_more, sum_same, sum_grows_to}
+use Rattle.shard_format.specs.WriteOrder.{numbers_in_order, numbers_before}
+use Rattle.shard_format.specs.WriteOrderLaws.{order_permutes, order_counted, order_below, order_has, before_at}
+use Rattle.shard_format.proofs.LayingLemmas.{sum_take_same, sum_take_grows, sum_of_order, laid_number}
 use Rattle.shard_format.specs.declared.slot.Slot.{Slot}
 use Rattle.shard_format.specs.declared.slot.Slot.TheVariants.{Absent, InRange, Bad}
 use Rattle.shard_format.specs.declared.order.SubchunkWriteOrder.{SubchunkWriteOrder}
@@ -85,6 +88,18 @@ apart_shifted start p q (InRange o n) (InRange r m) h k below = λ i from before
 apart_shifted start p q (InRange o n) Bad h k below = tt
 apart_shifted start p q Bad t h k below = tt
 
+-- two slots are apart whichever is named first
+apart_turned : (s t : Slot) → AreApart s t → AreApart t s
+apart_turned Absent Absent h = tt
+apart_turned Absent (InRange p m) h = tt
+apart_turned Absent Bad h = tt
+apart_turned (InRange o n) Absent h = tt
+apart_turned (InRange o n) (InRange p m) h = λ i from before after inside. h i after inside from before
+apart_turned (InRange o n) Bad h = tt
+apart_turned Bad Absent h = tt
+apart_turned Bad (InRange p m) h = tt
+apart_turned Bad Bad h = tt
+
 pub size_shifted : (start : ℕ) (s : Slot) → slot_size (shifted start s) ≡ slot_size s
 size_shifted start Absent = refl
 size_shifted start (InRange o n) = refl
@@ -95,9 +110,29 @@ begins_shifted start p Absent h = tt
 begins_shifted start p (InRange o n) h = ap (λ (x : ℕ). start + x) h
 begins_shifted start p Bad h = tt
 
+-- the slots of two places of an order are apart
+module _ (inner_written : List (List ℕ) → List ℕ → Type 0) (fill shape sub : List ℕ) (a : List (List ℕ)) (bytes : List ℕ) (slots : List Slot) (order : List ℕ) (n start : ℕ)
+    (counted : length order ≡ n) (h : IsLaidOut inner_written fill shape sub a bytes slots order n) where
+  abbrev slot_of_place : ℕ → Slot
+  slot_of_place i = shifted start (get_or slots (get_or order i 0) Bad)
+
+  apart_in_order : (i j : ℕ) → i < j → j < n → AreApart (slot_of_place i) (slot_of_place j)
+  apart_in_order i j before below =
+      let f : ℕ → ℕ = λ m. slot_size (get_or slots m Bad) in
+      apart_shifted start (taken_by slots (take i order)) (taken_by slots (take j order)) (get_or slots (get_or order i 0) Bad) (get_or slots (get_or order j 0) Bad)
+      (h.begins i (omega arith)) (h.begins j below)
+      (omega (arith, sum_by_more f order i 0 (omega arith), sum_take_grows f order (i + 1) j (omega arith)))
+
+  pub apart_places : (i j : ℕ) → i < n → j < n → ¬ (i ≡ j) → AreApart (slot_of_place i) (slot_of_place j)
+  apart_places i j i_below j_below other =
+      elim (cases_lt i j) [
+        | inl less ↦ apart_in_order i j less j_below
+        | inr more ↦ apart_turned (slot_of_place j) (slot_of_place i) (apart_in_order j i (omega arith) i_below)
+      ]
+
 -- the shard is an encoding of the array
 pub encoded_shard : (inner_written index_written : List (List ℕ) → List ℕ → Type 0) (sub : List ℕ) (location : ShardingIndexLocation) (order : SubchunkWriteOrder) (size : ℕ) (g : Geo) (a : List (List ℕ)) (bytes index all : List ℕ) (slots : List Slot)
-    → IsLaidOut inner_written g.fill g.shape sub a bytes slots (count_of (grid_of g.shape sub))
+    → IsLaidOut inner_written g.fill g.shape sub a bytes slots (numbers_in_order order (grid_of g.shape sub)) (count_of (grid_of g.shape sub))
     → IsIndexOf index_written (data_start location size) slots index
     → length index ≡ size → size + length bytes < absent_number → all ≡ whole_shard location index bytes
     → IsEncoding inner_written index_written (layout_of sub location order size g) a all
@@ -105,35 +140,53 @@ unfolding slot_at
 encoded_shard inner_written index_written sub location order size g a bytes index all slots h i sized small is =
     let l : Layout = layout_of sub location order size g in
     let n : ℕ = count_of (grid_of g.shape sub) in
+    let numbers : List ℕ = numbers_in_order order (grid_of g.shape sub) in
+    let permutes : IsPermutation (range_with_len 0 n) numbers = order_permutes order (grid_of g.shape sub) in
+    let counted : length numbers ≡ n = order_counted n numbers permutes in
     let start : ℕ = data_start location size in
     let w : Whole location size index bytes all = subst (Whole location size index bytes) (sym is) (whole_of location size index bytes sized) in
-    let in_slots : (k : ℕ) → k < n → k < length slots = λ k below. omega (arith, below, h.counted) in
+    let in_slots : (k : ℕ) → k < n → k < length slots = λ k below. omega (arith, below, h.counted, counted) in
+    let laid : (k : ℕ) → k < n → IsLaid inner_written g.fill (subchunk g.shape sub a k) bytes (get_or slots k Bad) =
+    λ k below. laid_number inner_written g.fill g.shape sub a bytes slots numbers n k permutes h below in
     let at : (k : ℕ) → k < n → slot_at (length all) i.numbers k ≡ shifted start (get_or slots k Bad) =
     λ k below. rw (i.are.offsets k (in_slots k below), i.are.sizes k (in_slots k below))
-    (shifted_pair inner_written g.fill (subchunk g.shape sub a k) bytes start (length all) (get_or slots k Bad) (h.laid k below)
+    (shifted_pair inner_written g.fill (subchunk g.shape sub a k) bytes start (length all) (get_or slots k Bad) (laid k below)
     (omega (arith, w.len, w.start_small)) (omega (arith, small, w.start_small))) in
-    let sums : (k : ℕ) → k ≤ n → sum_by (λ j. slot_size (slot_at (length all) i.numbers j)) (range_with_len 0 k) ≡ taken slots k =
-    λ k upto. sum_same (λ j. slot_size (slot_at (length all) i.numbers j)) (λ j. slot_size (get_or slots j Bad)) k
-    (λ j below. ap slot_size (at j (omega arith)) ∙ size_shifted start (get_or slots j Bad)) in
+    let size_of : ℕ → ℕ = λ j. slot_size (slot_at (length all) i.numbers j) in
+    let sized_as : (j : ℕ) → j < n → size_of j ≡ slot_size (get_or slots j Bad) =
+    λ j below. ap slot_size (at j below) ∙ size_shifted start (get_or slots j Bad) in
+    let sums : (k : ℕ) → k ≤ n → sum_by size_of (take k numbers) ≡ taken_by slots (take k numbers) =
+    λ k upto. sum_take_same size_of (λ j. slot_size (get_or slots j Bad)) numbers k (omega (arith, counted))
+    (λ j below. sized_as (get_or numbers j 0) (order_below n numbers j permutes (omega arith))) in
     record {
       numbers = i.numbers;
       holds = record {
         long_enough = omega (arith, w.len);
-        counted = i.are.counted ∙ ap (λ m. 2 * m) h.counted;
+        counted = i.are.counted ∙ ap (λ m. 2 * m) (h.counted ∙ counted);
         below = i.below;
         index = subst (index_written (map element_of_number i.numbers)) (sym w.index_is) i.written;
         stand = λ k below. subst (StandsAt inner_written l all (subchunk g.shape sub a k)) (sym (at k below))
-            (stands_shifted inner_written l (subchunk g.shape sub a k) index bytes all (get_or slots k Bad) w (h.laid k below));
+            (stands_shifted inner_written l (subchunk g.shape sub a k) index bytes all (get_or slots k Bad) w (laid k below));
         apart = λ j k before below.
             let j_in : j < n = omega arith in
+            let of_j = order_has n numbers j permutes j_in in
+            let of_k = order_has n numbers k permutes below in
+            let other : ¬ (of_j.place ≡ of_k.place) = λ same. omega (arith, of_j.is, of_k.is, ap (λ m. get_or numbers m 0) same) in
             subst (λ s. AreApart s (slot_at (length all) i.numbers k)) (sym (at j j_in))
             (subst (λ t. AreApart (shifted start (get_or slots j Bad)) t) (sym (at k below))
-            (apart_shifted start (taken slots j) (taken slots k) (get_or slots j Bad) (get_or slots k Bad) (h.begins j j_in) (h.begins k below)
-            (omega (arith, sum_more (λ (i : ℕ). slot_size (get_or slots i Bad)) j, sum_grows_to (λ (i : ℕ). slot_size (get_or slots i Bad)) (j + 1) k (omega arith)))));
-        filled = omega (arith, sums n (omega arith), h.filled, w.len);
+            (subst (λ m. AreApart (shifted start (get_or slots j Bad)) (shifted start (get_or slots m Bad))) of_k.is
+            (subst (λ m. AreApart (shifted start (get_or slots m Bad)) (shifted start (get_or slots (get_or numbers of_k.place 0) Bad))) of_j.is
+            (apart_places inner_written g.fill g.shape sub a bytes slots numbers n start counted h of_j.place of_k.place
+            (omega (arith, of_j.inside)) (omega (arith, of_k.inside)) other))));
+        filled = omega (arith, sum_of_order size_of n numbers permutes, sums n (omega arith), h.filled, w.len);
         in_order = λ ordered k below.
-            subst (λ p. BeginsAt (start + p) (slot_at (length all) i.numbers k)) (sym (sums k (omega arith)))
-            (subst (BeginsAt (start + taken slots k)) (sym (at k below)) (begins_shifted start (taken slots k) (get_or slots k Bad) (h.begins k below)));
+            let found = order_has n numbers k permutes below in
+            let inside : found.place < n = omega (arith, found.inside) in
+            let before : numbers_before k numbers ≡ take found.place numbers = before_at n numbers found.place k permutes inside found.is in
+            let begins : BeginsAt (taken_by slots (take found.place numbers)) (get_or slots k Bad) =
+            subst (λ m. BeginsAt (taken_by slots (take found.place numbers)) (get_or slots m Bad)) found.is (h.begins found.place inside) in
+            subst (λ p. BeginsAt (start + p) (slot_at (length all) i.numbers k)) (sym (ap (sum_by size_of) before ∙ sums found.place (omega arith)))
+            (subst (BeginsAt (start + taken_by slots (take found.place numbers))) (sym (at k below)) (begins_shifted start (taken_by slots (take found.place numbers)) (get_or slots k Bad) begins));
       };
     }
 
@@ -148,9 +201,10 @@ ends_laid inner_written fill e bytes start Absent h small = tt
 ends_laid inner_written fill e bytes start (InRange o n) h small = omega (arith, h.2, small)
 ends_laid inner_written fill e bytes start Bad h small = absurd h
 
-pub room_laid : (inner_written : List (List ℕ) → List ℕ → Type 0) (fill shape sub : List ℕ) (a : List (List ℕ)) (bytes : List ℕ) (slots : List Slot) (n size : ℕ) (location : ShardingIndexLocation)
-    → IsLaidOut inner_written fill shape sub a bytes slots n → size + length bytes < absent_number
+pub room_laid : (inner_written : List (List ℕ) → List ℕ → Type 0) (fill shape sub : List ℕ) (a : List (List ℕ)) (bytes : List ℕ) (slots : List Slot) (order : List ℕ) (n size : ℕ) (location : ShardingIndexLocation)
+    → IsPermutation (range_with_len 0 n) order → IsLaidOut inner_written fill shape sub a bytes slots order n → size + length bytes < absent_number
     → (k : ℕ) → k < length slots → EndsBelow (data_start location size) (get_or slots k Bad)
-room_laid inner_written fill shape sub a bytes slots n size location h small k below =
-    ends_laid inner_written fill (subchunk shape sub a k) bytes (data_start location size) (get_or slots k Bad) (h.laid k (omega (arith, below, h.counted)))
+room_laid inner_written fill shape sub a bytes slots order n size location permutes h small k below =
+    ends_laid inner_written fill (subchunk shape sub a k) bytes (data_start location size) (get_or slots k Bad)
+    (laid_number inner_written fill shape sub a bytes slots order n k permutes h (omega (arith, below, h.counted, order_counted n order permutes)))
     (omega (arith, small, start_small location size))

@@ -1,22 +1,28 @@
 -- Slices laid end to end make a shard.
-use Rattle.std.proofs.Common.{◌≡◌, ℕ, zero, suc, ◌+◌, ◌-◌, ◌<◌, ◌≤◌, inl, inr, Bool, true, false, List, [], ◌∷◌, ◌++◌, length, get_or, drop, refl, sym, ap, ◌∙◌, subst, arith, length-append, length-drop, length-take}
+use Rattle.std.proofs.Common.{◌≡◌, ℕ, zero, suc, ◌+◌, ◌-◌, ◌<◌, ◌≤◌, inl, inr, Bool, true, false, List, [], ◌∷◌, ◌++◌, length, get_or, set, take, drop, refl, sym, ap, ◌∙◌, subst, arith, IsPermutation, length-append, length-drop, length-take}
 use Rattle.std.specs.List.{range_with_len, sum_by}
 use Rattle.std.proofs.Math.ListN.{get_or-append}
 use Rattle.std.proofs.Math.Seq.{drop-append_seam, take-length}
-use Rattle.std.proofs.lemmas.List.{get_or_push, length_push, map-id, take-append-le, drop-append-le}
-use Rattle.std.proofs.lemmas.List.FromFn.{sum_by-map-range_with_len_more}
+use Rattle.std.proofs.lemmas.List.{get_or_push, length_push, get_or-set_same, get_or-set_other, length-set, map-id, take_all, take-take, take-append-le, drop-append-le}
+use Rattle.std.proofs.lemmas.List.Sums.{sum_by_more, sum_by-take-le}
+use Rattle.std.proofs.lemmas.List.Sorted.{sum_by-IsPermutation}
+use Rattle.std.proofs.lemmas.List.FromFn.{length-range_with_len, get_or-range_with_len, sum_by-map-range_with_len_more}
 use borrow.Author.Count.{below_more}
 use Rattle.zarr_parts.specs.Order.{done, RefusedBy}
 use Rattle.zarr_parts.specs.CodecError.{CodecError}
 use Rattle.zarr_parts.specs.Grid.{subchunk}
 use Rattle.codec_laws.specs.Meanings.{Meaning}
 use Rattle.shard_format.specs.Serves.{IsStoredPart}
-use Rattle.shard_format.specs.EncodeTests.{RefusesToStore, StoreTests}
+use Rattle.shard_format.specs.EncodeTests.{RefusesToStore, HasPart, StoreTests}
 use Rattle.shard_format.specs.Encoding.{slot_size, BeginsAt}
 use Rattle.shard_format.specs.Packing.{slice_of}
-use Rattle.shard_format.specs.Laying.{IsStored, placed_slot, IsLaid, taken, IsLaidOut}
+use Rattle.shard_format.specs.Laying.{IsStored, placed_slot, IsLaid, taken_by, taken, IsLaidOut}
+use Rattle.shard_format.specs.WriteOrderLaws.{order_counted, order_below, order_has, order_differs, take-range}
 use Rattle.shard_format.specs.declared.slot.Slot.{Slot}
 use Rattle.shard_format.specs.declared.slot.Slot.TheVariants.{Absent, InRange, Bad}
+
+plain : (k : ℕ) → 0 + k ≡ k
+plain k = omega arith
 
 one_more : (k : ℕ) → k + 1 ≡ suc k
 one_more k = omega arith
@@ -79,13 +85,102 @@ laid_stays inner_written fill e (InRange offset size) bytes more h = (
 )
 laid_stays inner_written fill e Bad bytes more h = absurd h
 
+-- sums over the first numbers of a list
+pub sum_take_same : (f h : ℕ → ℕ) (xs : List ℕ) (k : ℕ) → k ≤ length xs → ((j : ℕ) → j < k → f (get_or xs j 0) ≡ h (get_or xs j 0))
+    → sum_by f (take k xs) ≡ sum_by h (take k xs)
+sum_take_same f h xs zero upto each = refl
+sum_take_same f h xs (suc k) upto each =
+    subst (λ m. sum_by f (take m xs) ≡ sum_by h (take m xs)) (one_more k)
+    (omega (
+      arith,
+      sum_by_more f xs k 0 (omega arith),
+      sum_by_more h xs k 0 (omega arith),
+      sum_take_same f h xs k (omega arith) (λ j below. each j (omega arith)),
+      each k (omega arith),
+    ))
+
+pub sum_take_grows : (f : ℕ → ℕ) (xs : List ℕ) (j k : ℕ) → j ≤ k → sum_by f (take j xs) ≤ sum_by f (take k xs)
+sum_take_grows f xs j k below = omega (arith, sum_by-take-le f (take k xs) j, ap (sum_by f) (take-take j k xs below))
+
+-- the sum over all numbers of an order is that over the ascending ones
+pub sum_of_order : (f : ℕ → ℕ) (n : ℕ) (order : List ℕ) → IsPermutation (range_with_len 0 n) order
+    → sum_by f (take n order) ≡ sum_by f (range_with_len 0 n)
+sum_of_order f n order h =
+    ap (sum_by f) (take_all n order (omega (arith, order_counted n order h))) ∙ sum_by-IsPermutation f (range_with_len 0 n) order h
+
 -- one subchunk more is laid out, stored or absent
-pub one_more_laid : (inner_written : List (List ℕ) → List ℕ → Type 0) (fill shape sub : List ℕ) (a : List (List ℕ)) (bytes more all : List ℕ) (slots grown : List Slot) (k : ℕ) (present : Bool)
-    → IsLaidOut inner_written fill shape sub a bytes slots k
+pub one_more_laid : (inner_written : List (List ℕ) → List ℕ → Type 0) (fill shape sub : List ℕ) (a : List (List ℕ)) (bytes more all : List ℕ) (slots grown : List Slot) (order : List ℕ) (n i k : ℕ) (present : Bool)
+    → IsPermutation (range_with_len 0 n) order → i < n → get_or order i 0 ≡ k
+    → IsLaidOut inner_written fill shape sub a bytes slots order i
+    → IsStored inner_written fill (subchunk shape sub a k) present more
+    → all ≡ bytes ++ more → grown ≡ set slots k (placed_slot present (length bytes) (length more))
+    → IsLaidOut inner_written fill shape sub a all grown order (i + 1)
+one_more_laid inner_written fill shape sub a bytes more all slots grown order n i k present permutes below number h stored is put =
+    let new : Slot = placed_slot present (length bytes) (length more) in
+    let counted : length order ≡ n = order_counted n order permutes in
+    let at : ℕ → ℕ = λ j. get_or order j 0 in
+    let k_below : k < length slots = omega (arith, number, order_below n order i permutes below, h.counted, counted) in
+    let here : get_or grown (at i) Bad ≡ new = rw number (ap (λ (xs : List Slot). get_or xs k Bad) put ∙ get_or-set_same slots k new Bad k_below) in
+    let before : (j : ℕ) → j < i → get_or grown (at j) Bad ≡ get_or slots (at j) Bad =
+    λ j lt. ap (λ (xs : List Slot). get_or xs (at j) Bad) put
+    ∙ get_or-set_other slots k (at j) new Bad (λ same. order_differs n order j i permutes lt below (same ∙ sym number)) in
+    let sums : (j : ℕ) → j ≤ i → taken_by grown (take j order) ≡ taken_by slots (take j order) =
+    λ j upto. sum_take_same (λ m. slot_size (get_or grown m Bad)) (λ m. slot_size (get_or slots m Bad)) order j (omega (arith, counted))
+    (λ m lt. ap slot_size (before m (omega arith))) in
+    let stored_here : IsStored inner_written fill (subchunk shape sub a (at i)) present more = rw number stored in
+    record {
+      counted = ap length put ∙ length-set slots k new ∙ h.counted;
+      laid = below_more (λ j. IsLaid inner_written fill (subchunk shape sub a (at j)) all (get_or grown (at j) Bad)) i
+          (λ j lt. rw (is, before j lt) (laid_stays inner_written fill (subchunk shape sub a (at j)) (get_or slots (at j) Bad) bytes more (h.laid j lt)))
+          (rw (is, here) (laid_placed inner_written fill (subchunk shape sub a (at i)) present bytes more stored_here));
+      begins = below_more (λ j. BeginsAt (taken_by grown (take j order)) (get_or grown (at j) Bad)) i
+          (λ j lt. rw (sums j (omega arith), before j lt) (h.begins j lt))
+          (rw (sums i (omega arith), here, h.filled) (begins_placed present (length bytes) (length more)));
+      filled = sum_by_more (λ m. slot_size (get_or grown m Bad)) order i 0 (omega (arith, counted))
+          ∙ omega (
+            arith,
+            sums i (omega arith),
+            h.filled,
+            ap slot_size here,
+            size_placed inner_written fill (subchunk shape sub a (at i)) present (length bytes) more stored_here,
+            ap length is,
+            length-append bytes more,
+          );
+    }
+
+-- nothing is laid out yet
+pub none_laid : (inner_written : List (List ℕ) → List ℕ → Type 0) (fill shape sub : List ℕ) (a : List (List ℕ)) (bytes : List ℕ) (slots : List Slot) (order : List ℕ)
+    → length slots ≡ length order → bytes ≡ [] → IsLaidOut inner_written fill shape sub a bytes slots order 0
+none_laid inner_written fill shape sub a bytes slots order counted nothing = record {
+  counted = counted;
+  laid = λ j below. absurd (omega arith);
+  begins = λ j below. absurd (omega arith);
+  filled = sym (ap length nothing);
+}
+
+-- subchunk k is laid out where all are
+pub laid_number : (inner_written : List (List ℕ) → List ℕ → Type 0) (fill shape sub : List ℕ) (a : List (List ℕ)) (bytes : List ℕ) (slots : List Slot) (order : List ℕ) (n k : ℕ)
+    → IsPermutation (range_with_len 0 n) order → IsLaidOut inner_written fill shape sub a bytes slots order n → k < n
+    → IsLaid inner_written fill (subchunk shape sub a k) bytes (get_or slots k Bad)
+laid_number inner_written fill shape sub a bytes slots order n k permutes h below =
+    let found = order_has n order k permutes below in
+    subst (λ m. IsLaid inner_written fill (subchunk shape sub a m) bytes (get_or slots m Bad)) found.is
+    (h.laid found.place (omega (arith, found.inside, order_counted n order permutes)))
+
+-- ---- in ascending order, a slot at a time
+-- the first k subchunks are laid out, and there are as many slots
+pub record IsLaidUpTo (inner_written : List (List ℕ) → List ℕ → Type 0) (fill shape sub : List ℕ) (a : List (List ℕ)) (bytes : List ℕ) (slots : List Slot) (k : ℕ) : Type 0 where
+  pub counted : length slots ≡ k
+  pub laid : (j : ℕ) → j < k → IsLaid inner_written fill (subchunk shape sub a j) bytes (get_or slots j Bad)
+  pub begins : (j : ℕ) → j < k → BeginsAt (taken slots j) (get_or slots j Bad)
+  pub filled : taken slots k ≡ length bytes
+
+pub next_laid : (inner_written : List (List ℕ) → List ℕ → Type 0) (fill shape sub : List ℕ) (a : List (List ℕ)) (bytes more all : List ℕ) (slots grown : List Slot) (k : ℕ) (present : Bool)
+    → IsLaidUpTo inner_written fill shape sub a bytes slots k
     → IsStored inner_written fill (subchunk shape sub a k) present more
     → all ≡ bytes ++ more → grown ≡ slots ++ placed_slot present (length bytes) (length more) ∷ []
-    → IsLaidOut inner_written fill shape sub a all grown (k + 1)
-one_more_laid inner_written fill shape sub a bytes more all slots grown k present h stored is grows =
+    → IsLaidUpTo inner_written fill shape sub a all grown (k + 1)
+next_laid inner_written fill shape sub a bytes more all slots grown k present h stored is grows =
     let new : Slot = placed_slot present (length bytes) (length more) in
     let here : get_or grown k Bad ≡ new = ap (λ (xs : List Slot). get_or xs k Bad) grows ∙ get_or_push slots new Bad k h.counted in
     let before : (j : ℕ) → j < k → get_or grown j Bad ≡ get_or slots j Bad =
@@ -104,6 +199,19 @@ one_more_laid inner_written fill shape sub a bytes more all slots grown k presen
           ∙ omega (arith, sums k (omega arith), h.filled, ap slot_size here, size_placed inner_written fill (subchunk shape sub a k) present (length bytes) more stored, ap length is, length-append bytes more);
     }
 
+-- all subchunks are laid out
+pub all_laid : (inner_written : List (List ℕ) → List ℕ → Type 0) (fill shape sub : List ℕ) (a : List (List ℕ)) (bytes : List ℕ) (slots : List Slot) (n : ℕ)
+    → IsLaidUpTo inner_written fill shape sub a bytes slots n
+    → IsLaidOut inner_written fill shape sub a bytes slots (range_with_len 0 n) n
+all_laid inner_written fill shape sub a bytes slots n h =
+    let number : (j : ℕ) → j < n → j ≡ get_or (range_with_len 0 n) j 0 = λ j below. sym (get_or-range_with_len 0 n j 0 below ∙ plain j) in
+    record {
+      counted = h.counted ∙ sym (length-range_with_len 0 n);
+      laid = λ j below. subst (λ m. IsLaid inner_written fill (subchunk shape sub a m) bytes (get_or slots m Bad)) (number j below) (h.laid j below);
+      begins = λ j below. rw (take-range n j (omega arith)) (subst (λ m. BeginsAt (taken slots j) (get_or slots m Bad)) (number j below) (h.begins j below));
+      filled = ap (taken_by slots) (take-range n n (omega arith)) ∙ h.filled;
+    }
+
 pub encoding_laid : (inner_written : List (List ℕ) → List ℕ → Type 0) (fill : List ℕ) (e : List (List ℕ)) (s : Slot) (bytes : List ℕ)
     → IsLaid inner_written fill e bytes s → IsStoredPart inner_written fill e (slice_of bytes s)
 encoding_laid inner_written fill e Absent bytes h = inl (h, refl)
@@ -116,20 +224,19 @@ length_laid inner_written fill e Absent bytes h = refl
 length_laid inner_written fill e (InRange offset size) bytes h = omega (arith, h.2, length-take size (drop offset bytes), length-drop offset bytes)
 length_laid inner_written fill e Bad bytes h = absurd h
 
--- the first subchunk that is refused
-pub one_not_stored : (inner : Meaning) (fill shape sub : List ℕ) (a : List (List ℕ)) (bytes : List ℕ) (slots : List Slot) (n k : ℕ) (s : List (List ℕ)) (e : CodecError)
-    → k < n → IsLaidOut inner.written fill shape sub a bytes slots k → s ≡ subchunk shape sub a k
-    → RefusedBy (RefusesToStore inner.encodable inner.fits fill s) e
-    → RefusedBy (StoreTests inner fill (subchunk shape sub a) n done) e
-one_not_stored inner fill shape sub a bytes slots n k s e below h same refused =
+-- the lowest subchunk that is refused: those below it have parts
+pub lowest_not_stored : (inner : Meaning) (fill : List ℕ) (subchunks : ℕ → List (List ℕ)) (n k : ℕ) (e : CodecError)
+    → k < n → ((j : ℕ) → j < k → HasPart inner.written fill (subchunks j))
+    → RefusedBy (RefusesToStore inner.encodable inner.fits fill (subchunks k)) e
+    → RefusedBy (StoreTests inner fill subchunks n done) e
+lowest_not_stored inner fill subchunks n k e below parts refused =
     elim refused [
       | inl memory ↦ inl memory
-      | inr r ↦ inr (inl (
-        k,
-        (
-          below,
-          (λ j before. (slice_of bytes (get_or slots j Bad), encoding_laid inner.written fill (subchunk shape sub a j) (get_or slots j Bad) bytes (h.laid j before))),
-          rw same at r,
-        ),
-      ))
+      | inr r ↦ inr (inl (k, (below, parts, r)))
     ]
+
+-- what is to be stored of a subchunk is a part of it
+pub part_stored : (inner_written : List (List ℕ) → List ℕ → Type 0) (fill : List ℕ) (e : List (List ℕ)) (present : Bool) (bytes : List ℕ)
+    → IsStored inner_written fill e present bytes → IsStoredPart inner_written fill e bytes
+part_stored inner_written fill e true bytes h = inr h
+part_stored inner_written fill e false bytes h = inl h

@@ -4,9 +4,9 @@ use Rattle.std.specs.List.{All, range_with_len, sum_by}
 use Rattle.zarr_parts.specs.Words.{CellsOf, Written}
 use Rattle.zarr_parts.specs.Order.{◌or◌then◌, Each}
 use Rattle.zarr_parts.specs.Numbering.{count_of}
-use Rattle.zarr_parts.specs.Grid.{Divides, grid_of}
+use Rattle.zarr_parts.specs.Grid.{grid_of}
 use Rattle.zarr_parts.specs.CodecError.{CodecError}
-use Rattle.zarr_parts.specs.CodecError.TheVariants.{IncompatibleDimensionality, InvalidSubchunkShape, TooLarge, BadIndexEntry}
+use Rattle.zarr_parts.specs.CodecError.TheVariants.{TooLarge, BadIndexEntry}
 use Rattle.codec_laws.specs.Meanings.{Meaning}
 use Rattle.shard_format.specs.Index.{slot_at, slice_at, index_part, data_start, element_of_number, numbers_in_index}
 use Rattle.shard_format.specs.Cells.{Layout}

@@ -1,12 +1,12 @@
 -- When bytes are an encoding of a shard.
-use Rattle.std.specs.Prelude.{◌≡◌, ◌≤◌, ◌<◌, ◌^◌, ℕ, ◌+◌, ◌*◌, List, map, length}
+use Rattle.std.specs.Prelude.{◌≡◌, ◌≤◌, ◌<◌, ◌^◌, ℕ, ◌+◌, ◌*◌, IsTrue, List, map, length}
 use Rattle.std.specs.List.{All, range_with_len, sum_by}
 use Rattle.zarr_parts.specs.Words.{Written}
 use Rattle.zarr_parts.specs.Numbering.{count_of}
 use Rattle.zarr_parts.specs.Grid.{grid_of, subchunk}
 use Rattle.shard_format.specs.Index.{slot_at, slice_at, index_part, data_start, data_end, element_of_number}
 use Rattle.shard_format.specs.Cells.{Layout}
-use Rattle.shard_format.specs.declared.order.SubchunkWriteOrder.TheVariants.{C}
+use Rattle.shard_format.specs.WriteOrder.{is_ordered, numbers_in_order, numbers_before}
 use Rattle.shard_format.specs.declared.slot.Slot.{Slot}
 use Rattle.shard_format.specs.declared.slot.Slot.TheVariants.{Absent, InRange, Bad}
 
@@ -41,8 +41,8 @@ BeginsAt place (InRange offset size) = offset ≡ place
 BeginsAt place Bad = Unit {0}
 
 -- the bytes are an encoding of the array, by these numbers of the index: the index is an encoding of the numbers; each
--- subchunk stands where its pair says; no two share a byte; together they fill the data part; and in order `C` each begins
--- where the one before, by number, ends
+-- subchunk stands where its pair says; no two share a byte; together they fill the data part; and in an order that leaves one
+-- place for each, as `C` and `Morton` do, each begins where those before it in this order end
 pub record IsEncodingBy (inner_written : Written) (index_written : Written)
     (l : Layout) (a : List (List ℕ)) (bytes : List ℕ) (numbers : List ℕ) : Type 0 where
   pub long_enough : l.index_size ≤ length bytes
@@ -55,8 +55,9 @@ pub record IsEncodingBy (inner_written : Written) (index_written : Written)
       → AreApart (slot_at (length bytes) numbers j) (slot_at (length bytes) numbers k)
   pub filled : l.index_size + sum_by (λ k. slot_size (slot_at (length bytes) numbers k))
       (range_with_len 0 (count_of (grid_of l.shape l.sub))) ≡ length bytes
-  pub in_order : l.order ≡ C → (k : ℕ) → k < count_of (grid_of l.shape l.sub)
-      → BeginsAt (data_start l.location l.index_size + sum_by (λ j. slot_size (slot_at (length bytes) numbers j)) (range_with_len 0 k))
+  pub in_order : IsTrue (is_ordered l.order) → (k : ℕ) → k < count_of (grid_of l.shape l.sub)
+      → BeginsAt (data_start l.location l.index_size + sum_by (λ j. slot_size (slot_at (length bytes) numbers j))
+      (numbers_before k (numbers_in_order l.order (grid_of l.shape l.sub))))
       (slot_at (length bytes) numbers k)
 
 -- the bytes are an encoding of the array

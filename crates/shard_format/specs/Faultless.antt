@@ -1,14 +1,14 @@
 -- The tests of `check`, `encode`, `compact` and `recommended_concurrency` refuse nothing as a fault, where those of the inner and the
 -- index codec do not.
-use Rattle.std.specs.Prelude.{◌≡◌, ◌<◌, ℕ, List}
+use Rattle.std.specs.Prelude.{ℕ, List}
 use Rattle.std.proofs.Common.{inl, inr, sym, subst}
 use Rattle.zarr_parts.specs.Words.{CellList, Refusals}
 use Rattle.zarr_parts.specs.Order.{done, Each, EachAs}
 use Rattle.zarr_parts.specs.Geo.{Geo}
 use Rattle.zarr_parts.specs.CodecError.{CodecError}
 use Rattle.zarr_parts.specs.CodecError.TheVariants.{UnsupportedDataType, BadFillValue, IncompatibleDimensionality, InvalidSubchunkShape}
-use Rattle.zarr_parts.specs.CodecError.TheVariants.{TooLarge, VariableIndexSize, OutOfMemory, BadIndexEntry, ShardTooShort, Fault}
-use Rattle.zarr_parts.specs.CodecError.TheVariants.{CannotEncode, WrongElementKind, InvalidNumberOfElements}
+use Rattle.zarr_parts.specs.CodecError.TheVariants.{TooLarge, VariableIndexSize, OutOfMemory, ShardTooShort, Fault}
+use Rattle.zarr_parts.specs.CodecError.TheVariants.{WrongElementKind, InvalidNumberOfElements}
 use Rattle.zarr_parts.specs.Arrays.{Array}
 use Rattle.zarr_parts.specs.DataTypeSize.{DataTypeSize}
 use Rattle.codec_laws.specs.Refusals.{IsNoFault, RefusesUnserved, MayRefuseDecode}

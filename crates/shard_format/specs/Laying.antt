@@ -1,5 +1,5 @@
--- The steps of encoding: the slices of the data part, laid end to end in ascending number, and the index of them.
-use Rattle.std.specs.Prelude.{◌≡◌, ◌≤◌, ◌<◌, ◌^◌, ℕ, ◌+◌, ◌*◌, Bool, true, false, List, [], ◌++◌, length, slice_index, slice_index_or, map}
+-- The steps of encoding: the slices of the data part, laid end to end in an order of the subchunks, and the index of them.
+use Rattle.std.specs.Prelude.{◌≡◌, ◌≤◌, ◌<◌, ◌^◌, ℕ, ◌+◌, ◌*◌, Bool, true, false, List, [], ◌++◌, length, slice_index, slice_index_or, map, take}
 use Rattle.std.specs.List.{All, range_with_len, sum_by}
 use Rattle.zarr_parts.specs.Words.{Written}
 use Rattle.zarr_parts.specs.Grid.{subchunk}
@@ -35,17 +35,22 @@ IsLaid inner_written fill e bytes (InRange offset size) = (¬ (IsAllFill fill e)
     × (offset + size ≤ length bytes)
 IsLaid inner_written fill e bytes Bad = ⊥
 
+-- the bytes that the slots of some subchunks take
+abbrev pub taken_by : List Slot → List ℕ → ℕ
+taken_by slots numbers = sum_by (λ j. slot_size (slice_index_or slots j Bad)) numbers
+
 -- the bytes that the first k slots take
 abbrev pub taken : List Slot → ℕ → ℕ
-taken slots k = sum_by (λ j. slot_size (slice_index_or slots j Bad)) (range_with_len 0 k)
+taken slots k = taken_by slots (range_with_len 0 k)
 
--- the data part holds the first k subchunks, one after the other
+-- there is a slot for each subchunk, and the data part holds the first i subchunks of an order, one after the other
 pub record IsLaidOut (inner_written : Written) (fill shape sub : List ℕ) (a : List (List ℕ)) (bytes : List ℕ)
-    (slots : List Slot) (k : ℕ) : Type 0 where
-  pub counted : length slots ≡ k
-  pub laid : (j : ℕ) → j < k → IsLaid inner_written fill (subchunk shape sub a j) bytes (slice_index_or slots j Bad)
-  pub begins : (j : ℕ) → j < k → BeginsAt (taken slots j) (slice_index_or slots j Bad)
-  pub filled : taken slots k ≡ length bytes
+    (slots : List Slot) (order : List ℕ) (i : ℕ) : Type 0 where
+  pub counted : length slots ≡ length order
+  pub laid : (j : ℕ) → j < i
+      → IsLaid inner_written fill (subchunk shape sub a (slice_index order j)) bytes (slice_index_or slots (slice_index order j) Bad)
+  pub begins : (j : ℕ) → j < i → BeginsAt (taken_by slots (take j order)) (slice_index_or slots (slice_index order j) Bad)
+  pub filled : taken_by slots (take i order) ≡ length bytes
 
 -- the numbers of the index for a slot of the data part, which begins at `start`
 abbrev pub offset_number : ℕ → Slot → ℕ

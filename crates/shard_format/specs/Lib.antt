@@ -1,5 +1,7 @@
 pub mod Index
 pub mod Cells
+pub mod WriteOrder
+pub mod WriteOrderLaws
 pub mod Encoding
 pub mod Grids
 pub mod DecodeTests

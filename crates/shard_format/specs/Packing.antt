@@ -2,8 +2,6 @@
 use Rattle.std.specs.Prelude.{◌≡◌, ◌≤◌, ◌<◌, ◌^◌, ℕ, ◌+◌, ◌*◌, List, [], map, length, slice_index_or}
 use Rattle.std.specs.List.{All}
 use Rattle.zarr_parts.specs.Words.{Written}
-use Rattle.zarr_parts.specs.Numbering.{count_of}
-use Rattle.zarr_parts.specs.Grid.{Divides, grid_of}
 use Rattle.shard_format.specs.Index.{slot_at, slice_at, index_part, data_start, element_of_number}
 use Rattle.shard_format.specs.Compacting.{IsMoved}
 use Rattle.shard_format.specs.Laying.{taken}

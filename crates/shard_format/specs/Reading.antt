@@ -1,5 +1,5 @@
 -- The steps of a read of some cells of a shard: its index, the places of each subchunk in which some are asked, and the cells put together.
-use Rattle.std.specs.Prelude.{◌≡◌, ℕ, ◌-◌, List, Option, Some, None, map, length}
+use Rattle.std.specs.Prelude.{◌≡◌, ℕ, ◌-◌, List, Option, Some, None, map}
 use Rattle.zarr_parts.specs.Words.{CellsOf}
 use Rattle.zarr_parts.specs.Arrays.{Array}
 use Rattle.zarr_parts.specs.CodecError.{CodecError}

@@ -1,12 +1,15 @@
--- An encoding in order `C`, by codecs of which each has one encoding of an array, is the one that is made from scratch.
+-- An encoding in an order that leaves one place for each subchunk, by codecs of which each has one encoding of an array, is the
+-- one shard in this order; in order `C` this is the shard that is made from scratch.
 use Rattle.std.proofs.Common.{◌≡◌, ℕ, zero, suc, ◌+◌, ◌-◌, ◌*◌, ◌<◌, ◌≤◌, Bool, true, false, ◌==◌, ◌&&◌, ◌||◌, nat_le, if◌then◌else◌}
-use Rattle.std.proofs.Common.{IsTrue, Decides, List, [], ◌∷◌, ◌++◌, length, map, get_or, take, drop, refl, sym, ap, ◌∙◌, subst, arith}
+use Rattle.std.proofs.Common.{IsTrue, IsPermutation, Decides, List, [], ◌∷◌, ◌++◌, length, map, get_or, take, drop, refl, sym, ap, ◌∙◌, subst, arith}
 use Rattle.std.proofs.Common.{length-drop, length-take}
-use Rattle.std.specs.List.{flat_map, range_with_len, sum_by}
+use Rattle.std.specs.List.{All, flat_map, range_with_len, sum_by}
 use Rattle.std.specs.Str.{bytes_eq}
 use Rattle.std.proofs.lemmas.List.{take-append-drop, drop-drop, drop-take, take-take}
+use Rattle.std.proofs.lemmas.List.Elements.{All-head, All-tail, All-take, All-from_get_or}
+use Rattle.std.proofs.lemmas.List.Sorted.{sum_by-IsPermutation}
 use Rattle.std.proofs.lemmas.List.Sums.{sum_by-cons}
-use Rattle.std.proofs.lemmas.Bool.{and_parts, eqb-true, false_from_ne_true, false≢true}
+use Rattle.std.proofs.lemmas.Bool.{and_parts, eqb-true, false_from_ne_true}
 use Rattle.std.proofs.lemmas.Bool.Decides.{Decides-by_and}
 use Rattle.std.proofs.lemmas.Slice.Eq.{bytes_eq-Decides}
 use Rattle.zarr_parts.specs.Words.{Written}
@@ -18,22 +21,20 @@ use Rattle.shard_format.specs.Cells.{Layout}
 use Rattle.shard_format.specs.Encoding.{IsAllFill, StandsAt, IsEncoding, slot_size, BeginsAt}
 use Rattle.shard_format.specs.Laying.{whole_shard}
 use Rattle.shard_format.specs.Laws.{IsArrayOf-index, IsArrayOf-subchunk}
-use Rattle.shard_format.specs.Scratch.{is_all_fill, is_ordered, part_of, part_at, pair_at, scratch}
+use Rattle.shard_format.specs.Scratch.{is_all_fill, part_of, part_at, pair_at, ordered_shard, scratch}
+use Rattle.shard_format.specs.WriteOrder.{is_ordered, numbers_in_order, numbers_before}
+use Rattle.shard_format.specs.WriteOrderLaws.{order_permutes, order_counted, order_below, order_has, before_at}
 use Rattle.shard_format.specs.Serves.{sub_geo, layout_of}
 use Rattle.shard_format.specs.declared.slot.Slot.{Slot}
 use Rattle.shard_format.specs.declared.slot.Slot.TheVariants.{Absent, InRange, Bad}
 use Rattle.shard_format.specs.declared.order.SubchunkWriteOrder.{SubchunkWriteOrder}
-use Rattle.shard_format.specs.declared.order.SubchunkWriteOrder.TheVariants.{C, Unordered}
+use Rattle.shard_format.specs.declared.order.SubchunkWriteOrder.TheVariants.{C}
 use Rattle.shard_format.specs.declared.location.ShardingIndexLocation.{ShardingIndexLocation}
 use Rattle.shard_format.specs.declared.location.ShardingIndexLocation.TheVariants.{Start, End}
 
-order_of_ordered : (order : SubchunkWriteOrder) → is_ordered order ≡ true → order ≡ C
-order_of_ordered C h = refl
-order_of_ordered Unordered h = absurd (false≢true h)
-
 -- what makes a sharding codec's encodings one
 pub record IsFunctional (order : SubchunkWriteOrder) (inner_functional index_functional : Bool) : Type 0 where
-  pub ordered : order ≡ C
+  pub ordered : IsTrue (is_ordered order)
   pub inner : IsTrue inner_functional
   pub index : IsTrue index_functional
 
@@ -42,7 +43,10 @@ pub functional_parts : (order : SubchunkWriteOrder) (inner index : Bool) → IsT
 functional_parts order inner index h =
     let parts = and_parts (is_ordered order) (inner && index) h in
     let codecs = and_parts inner index parts.1 in
-    record { ordered = order_of_ordered order parts.0; inner = codecs.0; index = codecs.1 }
+    record { ordered = parts.0; inner = codecs.0; index = codecs.1 }
+
+zero_plus : (k : ℕ) → 0 + k ≡ k
+zero_plus k = omega arith
 
 plus_zero : (s : ℕ) → s + 0 ≡ s
 plus_zero s = omega arith
@@ -51,38 +55,42 @@ plus_next : (s k : ℕ) → s + suc k ≡ s + 1 + k
 plus_next s k = omega arith
 
 -- sums of equal terms
-sums_same : (f h : ℕ → ℕ) (n s : ℕ) → ((k : ℕ) → k < n → f (s + k) ≡ h (s + k))
-    → sum_by f (range_with_len s n) ≡ sum_by h (range_with_len s n)
-sums_same f h zero s each = refl
-sums_same f h (suc n) s each =
-    let here : f s ≡ h s = subst (λ j. f j ≡ h j) (plus_zero s) (each 0 (omega arith)) in
-    let rest = sums_same f h n (s + 1) (λ k below. subst (λ j. f j ≡ h j) (plus_next s k) (each (suc k) (omega arith))) in
-    omega (arith, here, rest, sum_by-cons f s (range_with_len (s + 1) n), sum_by-cons h s (range_with_len (s + 1) n))
+sums_same : (f h : ℕ → ℕ) (xs : List ℕ) → All (λ k. f k ≡ h k) xs → sum_by f xs ≡ sum_by h xs
+sums_same f h [] each = refl
+sums_same f h (x ∷ xs) each =
+    omega (
+      arith,
+      All-head (λ k. f k ≡ h k) x xs each,
+      sums_same f h xs (All-tail (λ k. f k ≡ h k) x xs each),
+      sum_by-cons f x xs,
+      sum_by-cons h x xs,
+    )
 
 empty : (xs : List ℕ) → length xs ≡ 0 → xs ≡ []
 empty [] h = refl
 empty (x ∷ xs) h = absurd (omega arith)
 
--- parts that lie end to end and fill a list are the list
-joined_parts : (part : ℕ → List ℕ) (n s : ℕ) (all : List ℕ)
-    → ((k : ℕ) → k < n → take (length (part (s + k))) (drop (sum_by (λ j. length (part j)) (range_with_len s k)) all) ≡ part (s + k))
-    → length all ≡ sum_by (λ j. length (part j)) (range_with_len s n)
-    → all ≡ flat_map part (range_with_len s n)
-joined_parts part zero s all each filled = empty all filled
-joined_parts part (suc n) s all each filled =
+one_later : (i : ℕ) → suc i ≡ 1 + i
+one_later i = omega arith
+
+-- parts that lie end to end in the order of a list, and fill another one, are this one
+joined_parts : (part : ℕ → List ℕ) (ks : List ℕ) (all : List ℕ)
+    → ((i : ℕ) → i < length ks
+    → take (length (part (get_or ks i 0))) (drop (sum_by (λ j. length (part j)) (take i ks)) all) ≡ part (get_or ks i 0))
+    → length all ≡ sum_by (λ j. length (part j)) ks
+    → all ≡ flat_map part ks
+joined_parts part [] all each filled = empty all filled
+joined_parts part (k ∷ ks) all each filled =
     let len : ℕ → ℕ = λ j. length (part j) in
-    let here : take (length (part s)) all ≡ part s = subst (λ j. take (length (part j)) all ≡ part j) (plus_zero s)
-    (each 0 (omega arith)) in
-    let sums : (k : ℕ) → sum_by len (range_with_len s (suc k)) ≡ len s + sum_by len (range_with_len (s + 1) k) = λ k. sum_by-cons len s
-    (range_with_len (s + 1) k) in
-    let rest : drop (len s) all ≡ flat_map part (range_with_len (s + 1) n) =
-    joined_parts part n (s + 1) (drop (len s) all)
-    (λ k below.
-    subst (λ j. take (length (part j)) (drop (sum_by len (range_with_len (s + 1) k)) (drop (len s) all)) ≡ part j) (plus_next s k)
-    (ap (take (length (part (s + suc k)))) (drop-drop (sum_by len (range_with_len (s + 1) k)) (len s) all
-    ∙ ap (λ m. drop m all) (sym (sums k))) ∙ each (suc k) (omega arith)))
-    (omega (arith, length-drop (len s) all, filled, sums n)) in
-    sym (take-append-drop (len s) all) ∙ ap (λ xs. xs ++ drop (len s) all) here ∙ ap (λ xs. part s ++ xs) rest
+    let here : take (len k) all ≡ part k = each 0 (omega arith) in
+    let rest : drop (len k) all ≡ flat_map part ks =
+    joined_parts part ks (drop (len k) all)
+    (λ i below.
+    let at : ℕ = get_or ks i 0 in
+    ap (take (len at)) (drop-drop (sum_by len (take i ks)) (len k) all ∙ ap (λ m. drop m all) (sym (sum_by-cons len k (take i ks))))
+    ∙ each (suc i) (omega arith))
+    (omega (arith, length-drop (len k) all, filled, sum_by-cons len k ks)) in
+    sym (take-append-drop (len k) all) ∙ ap (λ xs. xs ++ drop (len k) all) here ∙ ap (λ xs. part k ++ xs) rest
 
 two_more : (k : ℕ) → 2 * suc k ≡ suc (suc (2 * k))
 two_more k = omega arith
@@ -203,52 +211,84 @@ pair_of_standing inner_written l b e (InRange o n) place size x y h begins told 
     (cc (told.0, told.1))
 pair_of_standing inner_written l b e Bad place size x y h begins told sized = absurd h
 
--- the encoding is the shard that is made from scratch
-pub scratch_of_encoding : (inner_written index_written : Written)
+-- the encoding is the one shard in its order
+pub ordered_of_encoding : (inner_written index_written : Written)
     (inner_encoding index_encoding : List (List ℕ) → List ℕ)
     (sub : List ℕ) (location : ShardingIndexLocation) (order : SubchunkWriteOrder) (size : ℕ) (g : Geo) (a : List (List ℕ)) (b : List ℕ)
-    → Divides sub g.shape → IsArrayOf g a → order ≡ C
+    → Divides sub g.shape → IsArrayOf g a → IsTrue (is_ordered order)
     → ((e : List (List ℕ)) (bytes : List ℕ) → IsArrayOf (sub_geo sub g) e → inner_written e bytes → bytes ≡ inner_encoding e)
     → ((e : List (List ℕ)) (bytes : List ℕ) → IsArrayOf (index_geo (grid_of g.shape sub)) e → index_written e bytes
     → bytes ≡ index_encoding e)
     → IsEncoding inner_written index_written (layout_of sub location order size g) a b
-    → b ≡ scratch inner_encoding index_encoding (layout_of sub location order size g) a
+    → b ≡ ordered_shard inner_encoding index_encoding (layout_of sub location order size g) a
 unfolding slot_at
-scratch_of_encoding inner_written index_written inner_encoding index_encoding sub location order size g a b divides array ordered
+ordered_of_encoding inner_written index_written inner_encoding index_encoding sub location order size g a b divides array ordered
     inner_law index_law h =
     let l : Layout = layout_of sub location order size g in
     let n : ℕ = count_of (grid_of g.shape sub) in
+    let numbers : List ℕ = numbers_in_order order (grid_of g.shape sub) in
+    let permutes : IsPermutation (range_with_len 0 n) numbers = order_permutes order (grid_of g.shape sub) in
+    let counted : length numbers ≡ n = order_counted n numbers permutes in
     let by = h.holds in
     let slot : ℕ → Slot = λ k. slot_at (length b) h.numbers k in
     let part : ℕ → List ℕ = part_at inner_encoding l a in
     let start : ℕ = data_start location size in
+    let len : ℕ → ℕ = λ j. length (part j) in
     let law : (k : ℕ) → k < n → (bytes : List ℕ) → inner_written (subchunk g.shape sub a k) bytes
     → bytes ≡ inner_encoding (subchunk g.shape sub a k) =
     λ k below bytes written. inner_law (subchunk g.shape sub a k) bytes (IsArrayOf-subchunk sub g a k divides array below) written in
-    let sized : (k : ℕ) → k < n → slot_size (slot k) ≡ length (part k) =
+    let sized : (k : ℕ) → k < n → slot_size (slot k) ≡ len k =
     λ k below. part_of_standing inner_written inner_encoding l b (subchunk g.shape sub a k) (slot k) (law k below) (by.stand k below) in
-    let sums : (k : ℕ) → k ≤ n → sum_by (λ j. slot_size (slot j)) (range_with_len 0 k) ≡ sum_by (λ j. length (part j))
-    (range_with_len 0 k) =
-    λ k upto. sums_same (λ j. slot_size (slot j)) (λ j. length (part j)) k 0 (λ j below. sized (0 + j) (omega arith)) in
-    let begins : (k : ℕ) → k < n → BeginsAt (start + sum_by (λ j. length (part j)) (range_with_len 0 k)) (slot k) =
-    λ k below. subst (λ m. BeginsAt (start + m) (slot k)) (sums k (omega arith)) (by.in_order ordered k below) in
-    let zero_plus : (k : ℕ) → 0 + k ≡ k = λ k. omega arith in
-    let stored : data_part location size b ≡ flat_map part (range_with_len 0 n) =
-    joined_parts part n 0 (data_part location size b)
-    (λ k below. rw (zero_plus k, ← sized k below)
+    let all_sized : All (λ k. slot_size (slot k) ≡ len k) numbers =
+    All-from_get_or (λ k. slot_size (slot k) ≡ len k) numbers 0 (λ i below.
+    sized (get_or numbers i 0) (order_below n numbers i permutes (omega (arith, counted)))) in
+    let sums : (i : ℕ) → sum_by (λ j. slot_size (slot j)) (take i numbers) ≡ sum_by len (take i numbers) =
+    λ i. sums_same (λ j. slot_size (slot j)) len (take i numbers) (All-take (λ k. slot_size (slot k) ≡ len k) i numbers all_sized) in
+    let begins : (i k : ℕ) → i < n → get_or numbers i 0 ≡ k → k < n → BeginsAt (start + sum_by len (take i numbers)) (slot k) =
+    λ i k inside is below.
+    subst (λ m. BeginsAt (start + m) (slot k))
+    (ap (sum_by (λ j. slot_size (slot j))) (before_at n numbers i k permutes inside is) ∙ sums i) (by.in_order ordered k below) in
+    let total : sum_by (λ j. slot_size (slot j)) (range_with_len 0 n) ≡ sum_by len numbers =
+    sym (sum_by-IsPermutation (λ j. slot_size (slot j)) (range_with_len 0 n) numbers permutes)
+    ∙ sums_same (λ j. slot_size (slot j)) len numbers all_sized in
+    let stored : data_part location size b ≡ flat_map part numbers =
+    joined_parts part numbers (data_part location size b)
+    (λ i inside.
+    let i_below : i < n = omega (arith, counted) in
+    let k : ℕ = get_or numbers i 0 in
+    let below : k < n = order_below n numbers i permutes i_below in
+    rw (← sized k below)
     (slice_of_standing inner_written inner_encoding l b (subchunk g.shape sub a k) (slot k)
-    (sum_by (λ j. length (part j)) (range_with_len 0 k)) (law k below) (by.stand k below) (begins k below)))
-    (omega (arith, length-data_part location size b, by.filled, sums n (omega arith))) in
-    let pairs : h.numbers ≡ flat_map (pair_at inner_encoding l a) (range_with_len 0 n) =
-    joined_pairs (pair_at inner_encoding l a) n 0 h.numbers by.counted
-    (λ k below. rw (zero_plus k)
-    (pair_of_standing inner_written l b (subchunk g.shape sub a k) (slot k) (start + sum_by (λ j. length (part j)) (range_with_len 0 k))
-    (length (part k))
-    (get_or h.numbers (2 * k) 0) (get_or h.numbers (2 * k + 1) 0) (by.stand k below) (begins k below)
+    (sum_by len (take i numbers)) (law k below) (by.stand k below) (begins i k i_below refl below)))
+    (omega (arith, length-data_part location size b, by.filled, total)) in
+    let pairs : h.numbers ≡ flat_map (pair_at inner_encoding l numbers a) (range_with_len 0 n) =
+    joined_pairs (pair_at inner_encoding l numbers a) n 0 h.numbers by.counted
+    (λ k below.
+    let found = order_has n numbers k permutes below in
+    let inside : found.place < n = omega (arith, found.inside, counted) in
+    let place : ℕ = start + sum_by len (numbers_before k numbers) in
+    let begun : BeginsAt place (slot k) = rw (before_at n numbers found.place k permutes inside found.is) (begins found.place k inside found.is below) in
+    rw (zero_plus k)
+    (pair_of_standing inner_written l b (subchunk g.shape sub a k) (slot k) place (len k)
+    (get_or h.numbers (2 * k) 0) (get_or h.numbers (2 * k + 1) 0) (by.stand k below) begun
     (pair_of_slot (length b) (get_or h.numbers (2 * k) 0) (get_or h.numbers (2 * k + 1) 0)) (sized k below))) in
     let index : index_part location size b ≡ index_encoding (map element_of_number h.numbers) =
     index_law (map element_of_number h.numbers) (index_part location size b) (IsArrayOf-index sub g h.numbers by.counted) by.index in
     sym (whole_rebuilt location size b)
     ∙ ap (λ d. whole_shard location (index_part location size b) d) stored
-    ∙ ap (λ i. whole_shard location i (flat_map part (range_with_len 0 n)))
+    ∙ ap (λ i. whole_shard location i (flat_map part numbers))
     (index ∙ ap (λ ns. index_encoding (map element_of_number ns)) pairs)
+
+-- in order `C` it is the shard that is made from scratch
+pub scratch_of_encoding : (inner_written index_written : Written)
+    (inner_encoding index_encoding : List (List ℕ) → List ℕ)
+    (sub : List ℕ) (location : ShardingIndexLocation) (size : ℕ) (g : Geo) (a : List (List ℕ)) (b : List ℕ)
+    → Divides sub g.shape → IsArrayOf g a
+    → ((e : List (List ℕ)) (bytes : List ℕ) → IsArrayOf (sub_geo sub g) e → inner_written e bytes → bytes ≡ inner_encoding e)
+    → ((e : List (List ℕ)) (bytes : List ℕ) → IsArrayOf (index_geo (grid_of g.shape sub)) e → index_written e bytes
+    → bytes ≡ index_encoding e)
+    → IsEncoding inner_written index_written (layout_of sub location C size g) a b
+    → b ≡ scratch inner_encoding index_encoding (layout_of sub location C size g) a
+scratch_of_encoding inner_written index_written inner_encoding index_encoding sub location size g a b divides array inner_law index_law h =
+    ordered_of_encoding inner_written index_written inner_encoding index_encoding sub location C size g a b divides array refl
+    inner_law index_law h

@@ -5,4 +5,6 @@ pub enum SubchunkWriteOrder {
     C,
     /// In any order, without gaps.
     Unordered,
+    /// Along the Z-curve (Morton order) of the grid of subchunks, without gaps: neighbours in space lie near one another.
+    Morton,
 }

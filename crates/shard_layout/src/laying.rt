@@ -1,10 +1,11 @@
 // Subchunks laid end to end in the data part of a shard.
-ghost use Rattle.std.specs.Prelude.{◌≡◌, ◌<◌, ◌^◌, IfOk, IfErr, IfSome, length};
+ghost use Rattle.std.specs.Prelude.{◌≡◌, ◌<◌, ◌^◌, IfOk, IfErr, IfSome, length, replicate};
 ghost use Rattle.zarr_parts.specs.Numbering.{count_of};
 ghost use Rattle.zarr_parts.specs.Grid.{Divides, grid_of, subchunk};
 ghost use Rattle.zarr_parts.specs.Types.{size_of, HasElements};
 ghost use Rattle.zarr_parts.specs.CodecError.TheVariants.{OutOfMemory};
 ghost use Rattle.shard_format.specs.Laying.{placed_slot, whole_shard};
+ghost use Rattle.shard_format.specs.declared.slot.Slot.TheVariants.{Absent};
 ghost use Rattle.shard_layout.specs.Rows.{FollowBy};
 
 use shard_format::{ShardingIndexLocation, Slot, subchunk_subset};
@@ -100,6 +101,15 @@ pub fn gather_subchunk<'a>(
     };
     let part = array.extract_array_subset(alloc, &subset, axes, data_type)?;
     Ok(part)
+}
+
+/// So many slots, of which none names a subchunk yet. Refused only as out of memory.
+pub fn absent_slots(alloc: Global, many: usize) -> Result<Vec<Slot>, AllocError>
+    ensures { IfOk result (λ slots. slots.items ≡ replicate many Absent) }
+{
+    let mut slots = Vec::with_capacity(alloc, many)?;
+    slots.resize(many, Slot::Absent)?;
+    Ok(slots)
 }
 
 /// The slot of what is stored.

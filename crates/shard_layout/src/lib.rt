@@ -5,6 +5,8 @@ mod laying;
 mod packing;
 mod storing;
 
-pub use laying::{LaidOut, elements_in_row, gather_subchunk, joined_shard, placed, room_for_next};
+pub use laying::{
+    LaidOut, absent_slots, elements_in_row, gather_subchunk, joined_shard, placed, room_for_next,
+};
 pub use packing::{compact_size, packed};
 pub use storing::store_behind;

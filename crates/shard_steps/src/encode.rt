@@ -16,6 +16,7 @@ use codec_laws::ArrayToBytesCodecTraits;
 use shard_format::{Asked, ShardingIndexLocation};
 use shard_plans::Plan;
 use shard_subchunks::Subchunks;
+use sharding_order::SubchunkSequence;
 use std::alloc::{AllocError, Global};
 use zarr_parts::{ArrayBytes, CodecError, CodecOptions};
 
@@ -101,6 +102,7 @@ impl<I: ArrayToBytesCodecTraits, X: ArrayToBytesCodecTraits> Sharding<'_, I, X> 
             fill_value: asked.fill_value,
             options,
         };
+        let sequence = SubchunkSequence::new(alloc, self.order, &plan.index.grid, plan.subchunks)?;
         let start = shard.len();
         make_room(shard, self.index_codec.location, plan.index.size)?;
         let from = shard.len();
@@ -109,7 +111,7 @@ impl<I: ArrayToBytesCodecTraits, X: ArrayToBytesCodecTraits> Sharding<'_, I, X> 
             array,
             asked.shape,
             &plan.index.grid,
-            plan.subchunks,
+            &sequence,
             shard,
         )?;
         let len = (shard.len() - from) as u64;

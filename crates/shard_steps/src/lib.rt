@@ -14,7 +14,7 @@ pub use shard_format::{
     Asked, PartialDecoderCapability, PartialEncoderCapability, ShardingCodecOptions,
 };
 pub use shard_index::{IndexCodec, IndexPlan, check_pairs, without_pairs};
-pub use shard_layout::{LaidOut, elements_in_row, gather_subchunk, joined_shard, placed};
+pub use shard_layout::{LaidOut, absent_slots, elements_in_row, joined_shard, placed};
 pub use shard_plans::Plan;
 pub use shard_subchunks::{Stored, Subchunks};
 pub use sharding::Sharding;

@@ -1,10 +1,13 @@
 -- Slices laid out behind bytes that are there.
-use Rattle.std.proofs.Common.{◌≡◌, ℕ, ◌+◌, ◌-◌, ◌≤◌, Bool, List, [], ◌∷◌, ◌++◌, length, take, drop, sym, ap, ◌∙◌, arith, length-drop, length-take}
-use Rattle.std.proofs.lemmas.List.{take_all, drop_all, take-take, take-append-le, drop-append-le}
+use Rattle.std.proofs.Common.{◌≡◌, ℕ, ◌+◌, ◌-◌, ◌<◌, ◌≤◌, Bool, List, [], ◌++◌, length, get_or, set, replicate, take, drop, sym, ap, ◌∙◌, arith, IsPermutation, length-drop, length-take}
+use Rattle.std.specs.List.{range_with_len}
+use Rattle.std.proofs.lemmas.List.{length-replicate, take_all, drop_all, take-take, take-append-le, drop-append-le}
 use Rattle.zarr_parts.specs.Grid.{subchunk}
 use Rattle.shard_format.specs.Laying.{IsStored, placed_slot, IsLaidOut}
 use Rattle.shard_format.specs.declared.slot.Slot.{Slot}
-use Rattle.shard_format.proofs.LayingLemmas.{one_more_laid}
+use Rattle.shard_format.specs.declared.slot.Slot.TheVariants.{Absent}
+use Rattle.shard_format.specs.WriteOrderLaws.{order_counted}
+use Rattle.shard_format.proofs.LayingLemmas.{one_more_laid, none_laid}
 
 -- bytes stay where they are
 pub stay_themselves : (old : List ℕ) → take (length old) old ≡ old
@@ -32,12 +35,20 @@ more_behind old bytes more all stay is =
     ap (drop (length old)) is ∙ drop-append-le (length old) bytes more (old_within old bytes stay)
 
 -- one subchunk more is laid out behind them
-pub one_more_behind : (inner_written : List (List ℕ) → List ℕ → Type 0) (fill shape sub : List ℕ) (a : List (List ℕ)) (old bytes more all : List ℕ) (slots grown : List Slot) (k : ℕ) (present : Bool)
+pub one_more_behind : (inner_written : List (List ℕ) → List ℕ → Type 0) (fill shape sub : List ℕ) (a : List (List ℕ)) (old bytes more all : List ℕ) (slots grown : List Slot) (order : List ℕ) (n i k : ℕ) (present : Bool)
+    → IsPermutation (range_with_len 0 n) order → i < n → get_or order i 0 ≡ k
     → take (length old) bytes ≡ old
-    → IsLaidOut inner_written fill shape sub a (drop (length old) bytes) slots k
+    → IsLaidOut inner_written fill shape sub a (drop (length old) bytes) slots order i
     → IsStored inner_written fill (subchunk shape sub a k) present more
-    → all ≡ bytes ++ more → grown ≡ slots ++ placed_slot present (length bytes - length old) (length more) ∷ []
-    → IsLaidOut inner_written fill shape sub a (drop (length old) all) grown (k + 1)
-one_more_behind inner_written fill shape sub a old bytes more all slots grown k present stay laid stored is grows =
-    one_more_laid inner_written fill shape sub a (drop (length old) bytes) more (drop (length old) all) slots grown k present
-    laid stored (more_behind old bytes more all stay is) (rw (length-drop (length old) bytes) grows)
+    → all ≡ bytes ++ more → grown ≡ set slots k (placed_slot present (length bytes - length old) (length more))
+    → IsLaidOut inner_written fill shape sub a (drop (length old) all) grown order (i + 1)
+one_more_behind inner_written fill shape sub a old bytes more all slots grown order n i k present permutes below number stay laid stored is put =
+    one_more_laid inner_written fill shape sub a (drop (length old) bytes) more (drop (length old) all) slots grown order n i k present permutes below number
+    laid stored (more_behind old bytes more all stay is) (rw (length-drop (length old) bytes) put)
+
+-- nothing is laid out behind them yet
+pub none_behind : (inner_written : List (List ℕ) → List ℕ → Type 0) (fill shape sub : List ℕ) (a : List (List ℕ)) (old : List ℕ) (slots : List Slot) (order : List ℕ) (n : ℕ)
+    → IsPermutation (range_with_len 0 n) order → slots ≡ replicate n Absent
+    → IsLaidOut inner_written fill shape sub a (drop (length old) old) slots order 0
+none_behind inner_written fill shape sub a old slots order n permutes is =
+    none_laid inner_written fill shape sub a (drop (length old) old) slots order (ap length is ∙ length-replicate n Absent ∙ sym (order_counted n order permutes)) (nothing_behind old)

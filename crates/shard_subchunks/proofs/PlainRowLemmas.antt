@@ -1,6 +1,7 @@
 -- Rows of the bytes of an array, laid end to end.
-use Rattle.std.proofs.Common.{◌≡◌, ◌↔◌, ℕ, ◌+◌, ◌-◌, ◌*◌, ◌/◌, ◌<◌, ◌≤◌, List, [], ◌∷◌, ◌++◌, length, get_or, take, drop, refl, sym, ap, ◌∙◌, arith, true, false, append_assoc, length-append, length-drop, get_or-take}
-use Rattle.std.specs.List.{All, concat}
+use Rattle.std.proofs.Common.{◌≡◌, ◌↔◌, ℕ, ◌+◌, ◌-◌, ◌*◌, ◌/◌, ◌<◌, ◌≤◌, ◌⊎◌, inl, inr, Bool, Decides, IsPermutation, List, [], ◌∷◌, ◌++◌, length, get_or, set, take, drop, refl, sym, ap, ◌∙◌, arith, true, false, append_assoc, length-append, length-drop, get_or-take}
+use Rattle.std.specs.List.{All, concat, range_with_len}
+use Rattle.std.proofs.lemmas.Bool.{false_from_ne_true}
 use Rattle.std.proofs.Math.Seq.{take-add}
 use Rattle.std.proofs.Math.Nat.{div-eq_of_eq-mul_left}
 use Rattle.std.proofs.lemmas.List.{ext_get_or, take_all, drop-drop, length-take-le}
@@ -22,11 +23,13 @@ use Rattle.codec_laws.specs.Encodings.{IsPlain}
 use Rattle.codec_laws.specs.Meanings.{Meaning}
 use Rattle.shard_format.specs.Laws.{IsArrayOf-subchunk}
 use Rattle.shard_format.specs.Encoding.{IsAllFill}
-use Rattle.shard_format.specs.Laying.{IsLaidOut}
+use Rattle.shard_format.specs.Laying.{placed_slot, IsLaidOut}
+use Rattle.shard_format.specs.WriteOrderLaws.{order_below}
 use Rattle.shard_format.specs.declared.slot.Slot.{Slot}
 use Rattle.shard_format.specs.declared.slot.Slot.TheVariants.{Absent, InRange}
-use Rattle.shard_format.proofs.LayingLemmas.{one_more_laid}
+use Rattle.shard_format.proofs.LayingLemmas.{IsLaidUpTo, next_laid, all_laid}
 use Rattle.shard_layout.specs.Rows.{FollowBy}
+use Rattle.shard_subchunks.proofs.BehindLemmas.{one_more_behind}
 use Rattle.shard_subchunks.specs.PlainRows.{ArePlainRows}
 
 -- elements that are all fill begin as the fill value
@@ -96,7 +99,7 @@ pub record AreRowsLaid (inner_written : Written) (fill shape sub : List ℕ) (a 
     (slices : List ℕ) (slots : List Slot) (copied k : ℕ) : Type 0 where
   pub behind : copied ≤ k * size
   pub short : length slices ≤ copied
-  pub laid : IsLaidOut inner_written fill shape sub a (slices ++ take (k * size - copied) (drop copied bytes)) slots k
+  pub laid : IsLaidUpTo inner_written fill shape sub a (slices ++ take (k * size - copied) (drop copied bytes)) slots k
 
 module _ (inner_written : Written) (fill shape sub : List ℕ) (a : List (List ℕ)) (bytes : List ℕ) (size n : ℕ)
     (rows : ArePlainRows inner_written fill shape sub a bytes size n) where
@@ -131,7 +134,7 @@ module _ (inner_written : Written) (fill shape sub : List ℕ) (a : List (List �
       record {
         behind = omega (arith, so_far.behind);
         short = so_far.short;
-        laid = one_more_laid inner_written fill shape sub a (slices ++ held) (piece size bytes k) (slices ++ take ((k + 1) * size - copied) (drop copied bytes)) slots grown k true
+        laid = next_laid inner_written fill shape sub a (slices ++ held) (piece size bytes k) (slices ++ take ((k + 1) * size - copied) (drop copied bytes)) slots grown k true
             so_far.laid
             (rw (rows.elements k lt) other, rows.written k lt)
             (ap (λ r. slices ++ r) more ∙ sym (append_assoc slices held (piece size bytes k)))
@@ -152,7 +155,7 @@ module _ (inner_written : Written) (fill shape sub : List ℕ) (a : List (List �
       record {
         behind = omega arith;
         short = omega (arith, so_far.behind, so_far.short, held_long, ap length is, length-append slices held);
-        laid = one_more_laid inner_written fill shape sub a (slices ++ held) [] (newer ++ take ((k + 1) * size - (k * size + size)) (drop (k * size + size) bytes)) slots grown k false
+        laid = next_laid inner_written fill shape sub a (slices ++ held) [] (newer ++ take ((k + 1) * size - (k * size + size)) (drop (k * size + size) bytes)) slots grown k false
             so_far.laid
             (rw (rows.elements k lt) blank, refl)
             (rw none (ap (λ r. r ++ []) is))
@@ -161,5 +164,32 @@ module _ (inner_written : Written) (fill shape sub : List ℕ) (a : List (List �
 
   -- all rows, the last of them copied
   pub all_rows : (slices all : List ℕ) (slots : List Slot) (copied : ℕ) → AreRowsLaid inner_written fill shape sub a bytes size slices slots copied n
-      → all ≡ slices ++ take (length bytes - copied) (drop copied bytes) → IsLaidOut inner_written fill shape sub a all slots n
-  all_rows slices all slots copied so_far is = rw (rw rows.counted at is) so_far.laid
+      → all ≡ slices ++ take (length bytes - copied) (drop copied bytes) → IsLaidOut inner_written fill shape sub a all slots (range_with_len 0 n) n
+  all_rows slices all slots copied so_far is = all_laid inner_written fill shape sub a all slots n (rw (rw rows.counted at is) so_far.laid)
+
+  module _ (order : List ℕ) (permutes : IsPermutation (range_with_len 0 n) order) where
+    -- the row of a place
+    pub row_below : (i : ℕ) → i < n → get_or order i 0 < n
+    row_below i lt = order_below n order i permutes lt
+
+    -- one more row along an order, stored or blank
+    pub row_along : (old slices newer run : List ℕ) (slots grown : List Slot) (i k : ℕ) (some_run : Bool) → i < n → get_or order i 0 ≡ k
+        → take (length old) slices ≡ old
+        → IsLaidOut inner_written fill shape sub a (drop (length old) slices) slots order i
+        → (IsAllFill fill (fixed_array (length fill) (piece size bytes k)).elements × (run ≡ [])) ⊎ ((¬ (IsAllFill fill (fixed_array (length fill) (piece size bytes k)).elements)) × (run ≡ piece size bytes k))
+        → newer ≡ slices ++ run
+        → Decides some_run (0 < length run)
+        → grown ≡ set slots k (placed_slot some_run (length slices - length old) (length run))
+        → IsLaidOut inner_written fill shape sub a (drop (length old) newer) grown order (i + 1)
+    row_along old slices newer run slots grown i k some_run lt number stay laid row is test put =
+        let k_lt : k < n = rw (← number) (row_below i lt) in
+        elim row [
+          | inl blank ↦
+              let empty : some_run ≡ false = false_from_ne_true some_run (λ t. omega (arith, test.0 t, ap length blank.1)) in
+              one_more_behind inner_written fill shape sub a old slices run newer slots grown order n i k false permutes lt number stay laid
+              (rw (rows.elements k k_lt) blank.0, blank.1) is (rw empty at put)
+          | inr stored ↦
+              let full : some_run ≡ true = test.1 (omega (arith, ap length stored.1, row_length k k_lt, rows.some)) in
+              one_more_behind inner_written fill shape sub a old slices run newer slots grown order n i k true permutes lt number stay laid
+              (rw (rows.elements k k_lt) stored.0, rw stored.1 (rows.written k k_lt)) is (rw full at put)
+        ]

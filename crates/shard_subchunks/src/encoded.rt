@@ -1,5 +1,6 @@
-// Subchunks of an array, encoded and laid end to end.
-ghost use Rattle.std.specs.Prelude.{◌≡◌, ◌<◌, ◌^◌, IfOk, IfErr, OnErr, IfSome, length, take, drop};
+// Subchunks of an array, encoded and laid end to end in an order.
+ghost use Rattle.std.specs.Prelude.{◌≡◌, ◌<◌, ◌^◌, IfOk, IfErr, OnErr, IfSome, IsPermutation, length, take, drop};
+ghost use Rattle.std.specs.List.{range_with_len};
 ghost use Rattle.zarr_parts.specs.Order.{done, RefusedBy};
 ghost use Rattle.zarr_parts.specs.Numbering.{count_of};
 ghost use Rattle.zarr_parts.specs.Grid.{Divides, grid_of, subchunk};
@@ -14,8 +15,9 @@ use crate::subchunks::Subchunks;
 use codec_laws::ArrayToBytesCodecTraits;
 use shard_format::Slot;
 use shard_layout::{
-    LaidOut, elements_in_row, gather_subchunk, placed, room_for_next, store_behind,
+    absent_slots, elements_in_row, gather_subchunk, placed, room_for_next, store_behind,
 };
+use sharding_order::SubchunkSequence;
 use std::alloc::Global;
 use zarr_parts::{ArrayBytes, ChunkShape, CodecError};
 
@@ -74,8 +76,137 @@ impl<I: ArrayToBytesCodecTraits> Subchunks<'_, I> {
         )
     }
 
-    // Each subchunk of an array that isn't all fill encoded behind bytes that are there, which stay. Where one is refused, those
-    // before it may stand there.
+    /// What is to be stored of the subchunk of an array with a number. Refused as `CannotEncode` or `TooLarge`; or as `OutOfMemory`.
+    pub fn stored_at(
+        &self,
+        alloc: Global,
+        array: &ArrayBytes,
+        number: u64,
+        in_row: Option<u64>,
+        shape: &ChunkShape,
+        grid: &ChunkShape,
+    ) -> Result<Stored, CodecError>
+        requires serves { (inner_meaning I.meaning self.now).serves }
+        requires supported { HasElements self.now.data_type.now }
+        requires kind { array.now.kind ≡ size_of self.now.data_type.now }
+        requires array { IsArrayOf (geo shape.now self.now.data_type.now self.now.fill_value.now) array.now.elements }
+        requires fits { count_of shape.now < 2 ^ 64 }
+        requires axes { length shape.now ≡ length self.now.shape.now }
+        requires divides { Divides self.now.shape.now shape.now }
+        requires grid { grid.now ≡ grid_of shape.now self.now.shape.now }
+        requires below { number < count_of grid.now }
+        requires in_row { IfSome in_row (FollowBy shape.now self.now.shape.now) }
+        ensures stored { let inner = inner_meaning I.meaning self.now in
+            IfOk result (λ stored. IsStored inner.written self.now.fill_value.now
+            (subchunk shape.now self.now.shape.now array.now.elements number) stored.present stored.bytes.items) }
+        ensures refused { let inner = inner_meaning I.meaning self.now in
+            IfErr result (RefusedBy (RefusesToStore inner.encodable inner.fits self.now.fill_value.now
+            (subchunk shape.now self.now.shape.now array.now.elements number))) }
+    {
+        let part = gather_subchunk(
+            alloc,
+            array,
+            number,
+            in_row,
+            shape,
+            grid,
+            self.shape,
+            self.data_type,
+        )?;
+        let stored = self.stored_of(alloc, &part)?;
+        Ok(stored)
+    }
+
+    // The refusal of the lowest subchunk that is refused, where that with a number is refused as `refusal` says. Those below it are
+    // encoded once more, one at a time.
+    fn lowest_refusal(
+        &self,
+        alloc: Global,
+        array: &ArrayBytes,
+        number: u64,
+        in_row: Option<u64>,
+        shape: &ChunkShape,
+        grid: &ChunkShape,
+        refusal: CodecError,
+    ) -> CodecError
+        requires serves { (inner_meaning I.meaning self.now).serves }
+        requires supported { HasElements self.now.data_type.now }
+        requires kind { array.now.kind ≡ size_of self.now.data_type.now }
+        requires array { IsArrayOf (geo shape.now self.now.data_type.now self.now.fill_value.now) array.now.elements }
+        requires fits { count_of shape.now < 2 ^ 64 }
+        requires axes { length shape.now ≡ length self.now.shape.now }
+        requires divides { Divides self.now.shape.now shape.now }
+        requires grid { grid.now ≡ grid_of shape.now self.now.shape.now }
+        requires below { number < count_of grid.now }
+        requires in_row { IfSome in_row (FollowBy shape.now self.now.shape.now) }
+        requires refusal { let inner = inner_meaning I.meaning self.now in
+            RefusedBy (RefusesToStore inner.encodable inner.fits self.now.fill_value.now
+            (subchunk shape.now self.now.shape.now array.now.elements number)) refusal }
+        ensures { let inner = inner_meaning I.meaning self.now in
+            RefusedBy (StoreTests inner self.now.fill_value.now
+            (subchunk shape.now self.now.shape.now array.now.elements) (count_of grid.now) done) result }
+    {
+        if refusal == CodecError::OutOfMemory {
+            return refusal;
+        }
+        for lower in 0..number {
+            if let Err(error) = self.stored_at(alloc, array, lower, in_row, shape, grid) {
+                return error;
+            }
+        }
+        refusal
+    }
+
+    // Puts the encoding of a subchunk that isn't all fill behind bytes that are there, and tells where it stands. A refusal leaves
+    // them, and is that of the lowest subchunk that is refused.
+    fn store_number(
+        &self,
+        alloc: Global,
+        array: &ArrayBytes,
+        number: u64,
+        in_row: Option<u64>,
+        shape: &ChunkShape,
+        grid: &ChunkShape,
+        bytes: &mut Vec<u8>,
+    ) -> Result<Slot, CodecError>
+        requires serves { (inner_meaning I.meaning self.now).serves }
+        requires supported { HasElements self.now.data_type.now }
+        requires kind { array.now.kind ≡ size_of self.now.data_type.now }
+        requires array { IsArrayOf (geo shape.now self.now.data_type.now self.now.fill_value.now) array.now.elements }
+        requires fits { count_of shape.now < 2 ^ 64 }
+        requires axes { length shape.now ≡ length self.now.shape.now }
+        requires divides { Divides self.now.shape.now shape.now }
+        requires grid { grid.now ≡ grid_of shape.now self.now.shape.now }
+        requires below { number < count_of grid.now }
+        requires in_row { IfSome in_row (FollowBy shape.now self.now.shape.now) }
+        ensures stored { let inner = inner_meaning I.meaning self.now in
+            IfOk result (IsStoredBehind inner.written self.now.fill_value.now
+            (subchunk shape.now self.now.shape.now array.now.elements number) bytes.old.items bytes.new.items) }
+        ensures kept { OnErr result (bytes.new.items ≡ bytes.old.items) }
+        ensures refused { let inner = inner_meaning I.meaning self.now in
+            IfErr result (RefusedBy (StoreTests inner self.now.fill_value.now
+            (subchunk shape.now self.now.shape.now array.now.elements) (count_of grid.now) done)) }
+    {
+        let part = gather_subchunk(
+            alloc,
+            array,
+            number,
+            in_row,
+            shape,
+            grid,
+            self.shape,
+            self.data_type,
+        )?;
+        match self.store_behind(alloc, &part, bytes) {
+            Ok(slot) => Ok(slot),
+            Err(refusal) => {
+                Err(self.lowest_refusal(alloc, array, number, in_row, shape, grid, refusal))
+            }
+        }
+    }
+
+    // Each subchunk of an array that isn't all fill encoded behind bytes that are there, which stay, in the order of a sequence. Where
+    // one is refused, those before it may stand there.
     fn lay_out_each(
         &self,
         alloc: Global,
@@ -83,7 +214,7 @@ impl<I: ArrayToBytesCodecTraits> Subchunks<'_, I> {
         in_row: Option<u64>,
         shape: &ChunkShape,
         grid: &ChunkShape,
-        subchunks: u64,
+        sequence: &SubchunkSequence,
         bytes: &mut Vec<u8>,
     ) -> Result<Vec<Slot>, CodecError>
         requires serves { (inner_meaning I.meaning self.now).serves }
@@ -94,50 +225,48 @@ impl<I: ArrayToBytesCodecTraits> Subchunks<'_, I> {
         requires axes { length shape.now ≡ length self.now.shape.now }
         requires divides { Divides self.now.shape.now shape.now }
         requires grid { grid.now ≡ grid_of shape.now self.now.shape.now }
-        requires subchunks { subchunks ≡ count_of grid.now }
+        requires order { IsPermutation (range_with_len 0 (count_of grid.now)) sequence.now }
         requires in_row { IfSome in_row (FollowBy shape.now self.now.shape.now) }
         ensures stay { take (length bytes.old.items) bytes.new.items ≡ bytes.old.items }
         ensures laid { let inner = inner_meaning I.meaning self.now in
             IfOk result (λ slots. IsLaidOut inner.written self.now.fill_value.now shape.now self.now.shape.now array.now.elements
-            (drop (length bytes.old.items) bytes.new.items) slots.items (count_of grid.now)) }
+            (drop (length bytes.old.items) bytes.new.items) slots.items sequence.now (count_of grid.now)) }
         ensures refused { let inner = inner_meaning I.meaning self.now in
             IfErr result (RefusedBy (StoreTests inner self.now.fill_value.now
             (subchunk shape.now self.now.shape.now array.now.elements) (count_of grid.now) done)) }
     {
         let start = bytes.len();
-        let mut slots = Vec::with_capacity(alloc, subchunks as usize)?;
+        let many = sequence.len();
+        let mut slots = absent_slots(alloc, many as usize)?;
         let mut longest = 0;
-        for k in 0..subchunks {
-            room_for_next(bytes, start, k as usize, (subchunks - k) as usize, longest)?;
-            let part = gather_subchunk(
-                alloc,
-                array,
-                k,
-                in_row,
-                shape,
-                grid,
-                self.shape,
-                self.data_type,
+        for place in 0..many {
+            room_for_next(
+                bytes,
+                start,
+                place as usize,
+                (many - place) as usize,
+                longest,
             )?;
+            let number = sequence.number_at(place);
             let from = bytes.len();
-            let slot = self.store_behind(alloc, &part, bytes)?;
+            let slot = self.store_number(alloc, array, number, in_row, shape, grid, bytes)?;
             let (offset, size) = (from - start, bytes.len() - from);
             longest = longest.max(size);
-            slots.push(placed(slot != Slot::Absent, offset as u64, size as u64))?;
+            slots[number as usize] = placed(slot != Slot::Absent, offset as u64, size as u64);
         }
         Ok(slots)
     }
 
-    /// Each subchunk of an array that isn't all fill encoded, one after the other in ascending order, behind bytes that are there,
-    /// which stay; the slots are counted from their end. The lowest that the inner codec refuses gives the refusal, and those
-    /// before it may stand there: `CannotEncode`, `TooLarge`; or `OutOfMemory`.
+    /// Each subchunk of an array that isn't all fill encoded, one after the other in the order of a sequence, behind bytes that are
+    /// there, which stay; the slots, in ascending number, are counted from their end. The lowest that the inner codec refuses gives
+    /// the refusal, and some may stand there: `CannotEncode`, `TooLarge`; or `OutOfMemory`.
     pub fn lay_out_behind(
         &self,
         alloc: Global,
         array: &ArrayBytes,
         shape: &ChunkShape,
         grid: &ChunkShape,
-        subchunks: u64,
+        sequence: &SubchunkSequence,
         bytes: &mut Vec<u8>,
     ) -> Result<Vec<Slot>, CodecError>
         requires serves { (inner_meaning I.meaning self.now).serves }
@@ -148,49 +277,19 @@ impl<I: ArrayToBytesCodecTraits> Subchunks<'_, I> {
         requires axes { length shape.now ≡ length self.now.shape.now }
         requires divides { Divides self.now.shape.now shape.now }
         requires grid { grid.now ≡ grid_of shape.now self.now.shape.now }
-        requires subchunks { subchunks ≡ count_of grid.now }
+        requires order { IsPermutation (range_with_len 0 (count_of grid.now)) sequence.now }
         ensures stay { take (length bytes.old.items) bytes.new.items ≡ bytes.old.items }
         ensures laid { let inner = inner_meaning I.meaning self.now in
             IfOk result (λ slots. IsLaidOut inner.written self.now.fill_value.now shape.now self.now.shape.now array.now.elements
-            (drop (length bytes.old.items) bytes.new.items) slots.items (count_of grid.now)) }
+            (drop (length bytes.old.items) bytes.new.items) slots.items sequence.now (count_of grid.now)) }
         ensures refused { let inner = inner_meaning I.meaning self.now in
             IfErr result (RefusedBy (StoreTests inner self.now.fill_value.now
             (subchunk shape.now self.now.shape.now array.now.elements) (count_of grid.now) done)) }
     {
         let in_row = elements_in_row(shape, self.shape);
-        if let Some(slots) = self.lay_out_rows(alloc, array, in_row, shape, subchunks, bytes)? {
+        if let Some(slots) = self.lay_out_rows(alloc, array, in_row, shape, sequence, bytes)? {
             return Ok(slots);
         }
-        self.lay_out_each(alloc, array, in_row, shape, grid, subchunks, bytes)
-    }
-
-    /// The data part alone, laid out as `lay_out_behind` does.
-    pub fn lay_out(
-        &self,
-        alloc: Global,
-        array: &ArrayBytes,
-        shape: &ChunkShape,
-        grid: &ChunkShape,
-        subchunks: u64,
-    ) -> Result<LaidOut, CodecError>
-        requires serves { (inner_meaning I.meaning self.now).serves }
-        requires supported { HasElements self.now.data_type.now }
-        requires kind { array.now.kind ≡ size_of self.now.data_type.now }
-        requires array { IsArrayOf (geo shape.now self.now.data_type.now self.now.fill_value.now) array.now.elements }
-        requires fits { count_of shape.now < 2 ^ 64 }
-        requires axes { length shape.now ≡ length self.now.shape.now }
-        requires divides { Divides self.now.shape.now shape.now }
-        requires grid { grid.now ≡ grid_of shape.now self.now.shape.now }
-        requires subchunks { subchunks ≡ count_of grid.now }
-        ensures laid { let inner = inner_meaning I.meaning self.now in
-            IfOk result (λ laid. IsLaidOut inner.written self.now.fill_value.now shape.now self.now.shape.now array.now.elements
-            laid.bytes.items laid.slots.items (count_of grid.now)) }
-        ensures refused { let inner = inner_meaning I.meaning self.now in
-            IfErr result (RefusedBy (StoreTests inner self.now.fill_value.now
-            (subchunk shape.now self.now.shape.now array.now.elements) (count_of grid.now) done)) }
-    {
-        let mut bytes: Vec<u8> = Vec::new(alloc);
-        let slots = self.lay_out_behind(alloc, array, shape, grid, subchunks, &mut bytes)?;
-        Ok(LaidOut { bytes, slots })
+        self.lay_out_each(alloc, array, in_row, shape, grid, sequence, bytes)
     }
 }

@@ -1,5 +1,6 @@
 // Subchunks that are rows of an array's bytes, laid end to end where the inner codec stores elements as they are in memory.
-ghost use Rattle.std.specs.Prelude.{◌≡◌, ◌<◌, ◌++◌, OnOk, OnErr, IfOk, IfSome, IfNone, IsTrue, ◌↔◌, length, take, drop};
+ghost use Rattle.std.specs.Prelude.{◌≡◌, ◌<◌, ◌++◌, ◌⊎◌, [], OnOk, OnErr, IfOk, IfSome, IfNone, IsTrue, IsPermutation, ◌↔◌, length, take, drop};
+ghost use Rattle.std.specs.List.{range_with_len};
 ghost use Rattle.zarr_parts.specs.Numbering.{count_of};
 ghost use Rattle.zarr_parts.specs.Grid.{Divides, grid_of};
 ghost use Rattle.zarr_parts.specs.Geo.{geo, IsArrayOf};
@@ -13,7 +14,8 @@ ghost use Rattle.shard_subchunks.specs.PlainRows.{ArePlainRows};
 use crate::subchunks::Subchunks;
 use codec_laws::ArrayToBytesCodecTraits;
 use shard_format::Slot;
-use shard_layout::room_for_next;
+use shard_layout::{absent_slots, placed, room_for_next};
+use sharding_order::SubchunkSequence;
 use std::alloc::{AllocError, Global};
 use std::borrow::CowSlice;
 use zarr_parts::{ArrayBytes, ChunkShape, FillValue};
@@ -35,6 +37,19 @@ fn is_blank(row: &[u8], fill_value: &FillValue) -> bool
         Some(elements) => elements.is_fill_value(fill_value),
         None => unreachable!(),
     }
+}
+
+// What is to be stored of a row: nothing where each element is the fill value.
+fn stored_row<'a>(row: &'a [u8], fill_value: &FillValue) -> &'a [u8]
+    requires whole { IsWhole (length fill_value.now) row.now }
+    requires some { 0 < length row.now }
+    ensures { let elements = (fixed_array (length fill_value.now) row.now).elements in
+        (IsAllFill fill_value.now elements × (result.now ≡ [])) ⊎ ((¬ (IsAllFill fill_value.now elements)) × (result.now ≡ row.now)) }
+{
+    if is_blank(row, fill_value) {
+        return &row[..0];
+    }
+    row
 }
 
 // Puts a run of rows behind the others, which begin at `start`, where some rows are laid out and some are left; one of none takes
@@ -74,7 +89,7 @@ impl<I: ArrayToBytesCodecTraits> Subchunks<'_, I> {
         ensures stay { take (length slices.old.items) slices.new.items ≡ slices.old.items }
         ensures laid { let inner = inner_meaning I.meaning self.now in
             IfOk result (λ slots. IsLaidOut inner.written self.now.fill_value.now _shape.now self.now.shape.now _array.now.elements
-            (drop (length slices.old.items) slices.new.items) slots.items rows) }
+            (drop (length slices.old.items) slices.new.items) slots.items (range_with_len 0 rows) rows) }
     {
         let start = slices.len();
         let mut slots = Vec::with_capacity(alloc, rows)?;
@@ -96,6 +111,40 @@ impl<I: ArrayToBytesCodecTraits> Subchunks<'_, I> {
         Ok(slots)
     }
 
+    // The rows that aren't all fill, one after the other in the order of a sequence, behind the slices that are there, which stay.
+    // Refused only as out of memory, and then some rows may stand there.
+    fn lay_out_along(
+        &self,
+        alloc: Global,
+        bytes: &[u8],
+        size: usize,
+        sequence: &SubchunkSequence,
+        _array: &ArrayBytes,
+        _shape: &ChunkShape,
+        slices: &mut Vec<u8>,
+    ) -> Result<Vec<Slot>, AllocError>
+        requires order { IsPermutation (range_with_len 0 (length sequence.now)) sequence.now }
+        requires rows { let inner = inner_meaning I.meaning self.now in
+            ArePlainRows inner.written self.now.fill_value.now _shape.now self.now.shape.now _array.now.elements bytes.now size (length sequence.now) }
+        ensures stay { take (length slices.old.items) slices.new.items ≡ slices.old.items }
+        ensures laid { let inner = inner_meaning I.meaning self.now in
+            IfOk result (λ slots. IsLaidOut inner.written self.now.fill_value.now _shape.now self.now.shape.now _array.now.elements
+            (drop (length slices.old.items) slices.new.items) slots.items sequence.now (length sequence.now)) }
+    {
+        let start = slices.len();
+        let rows = sequence.len() as usize;
+        let mut slots = absent_slots(alloc, rows)?;
+        for place in 0..rows {
+            let number = sequence.number_at(place as u64) as usize;
+            let first = number * size;
+            let run = stored_row(&bytes[first..first + size], self.fill_value);
+            let offset = slices.len() - start;
+            push_rows(slices, start, place, rows - place, run)?;
+            slots[number] = placed(run.len() > 0, offset as u64, run.len() as u64);
+        }
+        Ok(slots)
+    }
+
     /// The subchunks laid out as `lay_out_behind` does, where they follow one another in the array, as `elements_in_row` tells, and
     /// the inner codec stores their elements as they are in memory. Else `None`, and nothing is put there. Refused only as out of
     /// memory.
@@ -105,18 +154,18 @@ impl<I: ArrayToBytesCodecTraits> Subchunks<'_, I> {
         array: &ArrayBytes,
         in_row: Option<u64>,
         shape: &ChunkShape,
-        subchunks: u64,
+        sequence: &SubchunkSequence,
         slices: &mut Vec<u8>,
     ) -> Result<Option<Vec<Slot>>, AllocError>
         requires array { IsArrayOf (geo shape.now self.now.data_type.now self.now.fill_value.now) array.now.elements }
         requires divides { Divides self.now.shape.now shape.now }
-        requires subchunks { subchunks ≡ count_of (grid_of shape.now self.now.shape.now) }
+        requires order { IsPermutation (range_with_len 0 (count_of (grid_of shape.now self.now.shape.now))) sequence.now }
         requires in_row { IfSome in_row (FollowBy shape.now self.now.shape.now) }
         ensures stay { take (length slices.old.items) slices.new.items ≡ slices.old.items }
         ensures none { IfOk result (λ rows. IfNone rows (slices.new.items ≡ slices.old.items)) }
         ensures laid { let inner = inner_meaning I.meaning self.now in
             IfOk result (λ rows. IfSome rows (λ slots. IsLaidOut inner.written self.now.fill_value.now shape.now self.now.shape.now
-            array.now.elements (drop (length slices.old.items) slices.new.items) slots.items subchunks)) }
+            array.now.elements (drop (length slices.old.items) slices.new.items) slots.items sequence.now (count_of (grid_of shape.now self.now.shape.now)))) }
     {
         let _axes = shape.as_slice();
         let Some(_places) = in_row else {
@@ -131,11 +180,24 @@ impl<I: ArrayToBytesCodecTraits> Subchunks<'_, I> {
         let Some(bytes) = array.fixed_bytes() else {
             return Ok(None);
         };
-        let slots = self.lay_out_bytes(
+        if sequence.is_ascending() {
+            let rows = sequence.len() as usize;
+            let slots = self.lay_out_bytes(
+                alloc,
+                bytes,
+                size as usize,
+                rows,
+                array,
+                shape,
+                slices,
+            )?;
+            return Ok(Some(slots));
+        }
+        let slots = self.lay_out_along(
             alloc,
             bytes,
             size as usize,
-            subchunks as usize,
+            sequence,
             array,
             shape,
             slices,

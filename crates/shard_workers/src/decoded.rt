@@ -15,9 +15,8 @@ use std::alloc::Global;
 use std::thread::Threads;
 use zarr_parts::{ArrayBytes, CodecError};
 
-/// As `Subchunks::decode`: by workers where the options ask for more than one at a time, each of which passes the gate
-/// first, and else in this thread, which passes none. Whichever worker is first, the refusal is that of the lowest refused
-/// subchunk.
+/// As `Subchunks::decode`, by workers, each of which passes the gate first. Whichever worker is first, the refusal is that of the
+/// lowest refused subchunk.
 pub(crate) fn decode_subchunks<
     'a,
     R: Threads + Sync,
@@ -40,10 +39,6 @@ pub(crate) fn decode_subchunks<
     ensures refused { let inner = inner_meaning I.meaning subchunks.now in
         IfErr result (RefusedBy (SubchunkTests inner.decode_tests inner.cells bytes.now (Some index.now.numbers.items) (length index.now.numbers.items / 2) done)) }
 {
-    if subchunks.options.concurrent_target() <= 1 {
-        let found = subchunks.decode(alloc, bytes, index)?;
-        return Ok(found);
-    }
     let results = by_number(
         rt,
         alloc,

@@ -1,5 +1,6 @@
-// Subchunks of an array, encoded by workers and laid end to end.
-ghost use Rattle.std.specs.Prelude.{◌≡◌, ◌<◌, ◌^◌, IfOk, IfErr, length};
+// Subchunks of an array, encoded by workers and laid end to end in an order.
+ghost use Rattle.std.specs.Prelude.{◌≡◌, ◌<◌, ◌^◌, IfOk, IfErr, IfSome, IsPermutation, length};
+ghost use Rattle.std.specs.List.{range_with_len};
 ghost use Rattle.zarr_parts.specs.CodecError.TheVariants.{OutOfMemory};
 ghost use Rattle.zarr_parts.specs.Order.{done, RefusedBy};
 ghost use Rattle.zarr_parts.specs.Numbering.{count_of};
@@ -9,73 +10,47 @@ ghost use Rattle.zarr_parts.specs.Types.{size_of, HasElements};
 ghost use Rattle.shard_format.specs.Laying.{IsStored, IsLaidOut};
 ghost use Rattle.shard_format.specs.EncodeTests.{RefusesToStore, StoreTests};
 ghost use Rattle.shard_steps.specs.Inner.{inner_meaning};
+ghost use Rattle.shard_steps.specs.Rows.{FollowBy};
 ghost use Rattle.shard_workers.specs.Storing.{CanStore, AreStored};
 
 use crate::gate::Gate;
 use codec_laws::ArrayToBytesCodecTraits;
 use numbered_work::{by_number, in_order};
-use shard_steps::{LaidOut, Stored, Subchunks, elements_in_row, gather_subchunk, placed};
+use shard_steps::{LaidOut, Stored, Subchunks, absent_slots, elements_in_row, placed};
+use sharding_order::SubchunkSequence;
 use std::alloc::Global;
 use std::thread::Threads;
 use zarr_parts::{ArrayBytes, ChunkShape, CodecError};
 
-// What is to be stored of a subchunk of an array.
-fn stored_by_number<I: ArrayToBytesCodecTraits>(
-    alloc: Global,
-    subchunks: &Subchunks<I>,
-    array: &ArrayBytes,
-    number: u64,
-    shape: &ChunkShape,
-    grid: &ChunkShape,
-) -> Result<Stored, CodecError>
-    requires { CanStore I.meaning subchunks.now array.now shape.now grid.now number }
-    ensures stored { let inner = inner_meaning I.meaning subchunks.now in
-        IfOk result (λ stored. IsStored inner.written subchunks.now.fill_value.now
-        (subchunk shape.now subchunks.now.shape.now array.now.elements number) stored.present stored.bytes.items) }
-    ensures refused { let inner = inner_meaning I.meaning subchunks.now in
-        IfErr result (RefusedBy (RefusesToStore inner.encodable inner.fits subchunks.now.fill_value.now
-        (subchunk shape.now subchunks.now.shape.now array.now.elements number))) }
-{
-    let part = gather_subchunk(
-        alloc,
-        array,
-        number,
-        elements_in_row(shape, subchunks.shape),
-        shape,
-        grid,
-        subchunks.shape,
-        subchunks.data_type,
-    )?;
-    let stored = subchunks.stored_of(alloc, &part)?;
-    Ok(stored)
-}
-
-// What is stored of the subchunks of an array, one after the other.
+// What is stored of the subchunks of an array, one after the other in the order of a sequence.
 fn laid_in_order<I: ArrayToBytesCodecTraits>(
     alloc: Global,
     stored: &[Stored],
+    sequence: &SubchunkSequence,
     _subchunks: &Subchunks<I>,
     _array: &ArrayBytes,
     _shape: &ChunkShape,
 ) -> Result<LaidOut, CodecError>
-    requires { AreStored (inner_meaning I.meaning _subchunks.now).written _subchunks.now.fill_value.now _shape.now _subchunks.now.shape.now _array.now.elements stored.now }
+    requires order { IsPermutation (range_with_len 0 (length stored.now)) sequence.now }
+    requires stored { AreStored (inner_meaning I.meaning _subchunks.now).written _subchunks.now.fill_value.now _shape.now _subchunks.now.shape.now _array.now.elements stored.now }
     ensures laid { IfOk result (λ laid. IsLaidOut (inner_meaning I.meaning _subchunks.now).written _subchunks.now.fill_value.now _shape.now
-        _subchunks.now.shape.now _array.now.elements laid.bytes.items laid.slots.items (length stored.now)) }
+        _subchunks.now.shape.now _array.now.elements laid.bytes.items laid.slots.items sequence.now (length stored.now)) }
     ensures refused { IfErr result (λ e. e ≡ OutOfMemory) }
 {
     let mut bytes: Vec<u8> = Vec::new(alloc);
-    let mut slots = Vec::with_capacity(alloc, stored.len())?;
-    for part in stored {
+    let mut slots = absent_slots(alloc, stored.len())?;
+    for place in 0..stored.len() {
+        let number = sequence.number_at(place as u64) as usize;
+        let part = &stored[number];
         let slot = placed(part.present, bytes.len() as u64, part.bytes.len() as u64);
         bytes.extend_from_slice(&part.bytes)?;
-        slots.push(slot)?;
+        slots[number] = slot;
     }
     Ok(LaidOut { bytes, slots })
 }
 
-/// As `Subchunks::lay_out`: by workers where the options ask for more than one at a time, each of which passes the gate
-/// first, and else in this thread, which passes none. Whichever worker is first, the slices lie in ascending order, and the
-/// refusal is that of the lowest refused subchunk.
+/// As `Subchunks::lay_out_behind`, the data part alone: by workers, each of which passes the gate first. Whichever worker is first,
+/// the slices lie in the order of the sequence, and the refusal is that of the lowest refused subchunk.
 pub(crate) fn lay_out_subchunks<
     R: Threads + Sync,
     I: ArrayToBytesCodecTraits + Sync,
@@ -87,7 +62,7 @@ pub(crate) fn lay_out_subchunks<
     array: &ArrayBytes,
     shape: &ChunkShape,
     grid: &ChunkShape,
-    count: u64,
+    sequence: &SubchunkSequence,
     gate: &G,
 ) -> Result<LaidOut, CodecError>
     requires serves { (inner_meaning I.meaning subchunks.now).serves }
@@ -98,24 +73,21 @@ pub(crate) fn lay_out_subchunks<
     requires axes { length shape.now ≡ length subchunks.now.shape.now }
     requires divides { Divides subchunks.now.shape.now shape.now }
     requires grid { grid.now ≡ grid_of shape.now subchunks.now.shape.now }
-    requires count { count ≡ count_of grid.now }
+    requires order { IsPermutation (range_with_len 0 (count_of grid.now)) sequence.now }
     ensures laid { let inner = inner_meaning I.meaning subchunks.now in
         IfOk result (λ laid. IsLaidOut inner.written subchunks.now.fill_value.now shape.now subchunks.now.shape.now array.now.elements
-        laid.bytes.items laid.slots.items (count_of grid.now)) }
+        laid.bytes.items laid.slots.items sequence.now (count_of grid.now)) }
     ensures refused { let inner = inner_meaning I.meaning subchunks.now in
         IfErr result (RefusedBy (StoreTests inner subchunks.now.fill_value.now
         (subchunk shape.now subchunks.now.shape.now array.now.elements) (count_of grid.now) done)) }
 {
-    if subchunks.options.concurrent_target() <= 1 {
-        let laid = subchunks.lay_out(alloc, array, shape, grid, count)?;
-        return Ok(laid);
-    }
+    let in_row = elements_in_row(shape, subchunks.shape);
     let results = by_number(
         rt,
         alloc,
-        count,
+        sequence.len(),
         |number: u64| -> Result<Stored, CodecError>
-            requires { CanStore I.meaning subchunks.now array.now shape.now grid.now number }
+            requires { CanStore I.meaning subchunks.now array.now shape.now grid.now number × IfSome in_row (FollowBy shape.now subchunks.now.shape.now) }
             ensures stored { let inner = inner_meaning I.meaning subchunks.entry.now in
                 IfOk result (λ stored. IsStored inner.written subchunks.entry.now.fill_value.now
                 (subchunk shape.entry.now subchunks.entry.now.shape.now array.entry.now.elements number) stored.present stored.bytes.items) }
@@ -124,10 +96,10 @@ pub(crate) fn lay_out_subchunks<
                 (subchunk shape.entry.now subchunks.entry.now.shape.now array.entry.now.elements number))) }
         {
             gate.pass(number);
-            stored_by_number(alloc, subchunks, array, number, shape, grid)
+            subchunks.stored_at(alloc, array, number, in_row, shape, grid)
         },
     )?;
     let stored = in_order(alloc, results)?;
-    let laid = laid_in_order(alloc, &stored, subchunks, array, shape)?;
+    let laid = laid_in_order(alloc, &stored, sequence, subchunks, array, shape)?;
     Ok(laid)
 }

@@ -13,6 +13,7 @@ use crate::encoded::lay_out_subchunks;
 use crate::gate::Gate;
 use codec_laws::ArrayToBytesCodecTraits;
 use shard_steps::{Asked, Plan, Sharding, Subchunks, gathered, joined_shard};
+use sharding_order::SubchunkSequence;
 use std::alloc::Global;
 use std::thread::Threads;
 use zarr_parts::{ArrayBytes, CodecError, CodecOptions};
@@ -55,6 +56,7 @@ fn encode_planned_by_workers<
         fill_value: asked.fill_value,
         options,
     };
+    let sequence = SubchunkSequence::new(alloc, sharding.order, &plan.index.grid, plan.subchunks)?;
     let laid = lay_out_subchunks(
         rt,
         alloc,
@@ -62,7 +64,7 @@ fn encode_planned_by_workers<
         array,
         asked.shape,
         &plan.index.grid,
-        plan.subchunks,
+        &sequence,
         gate,
     )?;
     let len = laid.bytes.len() as u64;
@@ -77,8 +79,7 @@ fn encode_planned_by_workers<
 }
 
 /// As `encode`, by workers where the options' concurrent target is above 1: each encodes subchunks of its own, after it
-/// passed the gate with the number of the subchunk. Otherwise this thread encodes them in ascending order, and the gate
-/// isn't called. Whichever worker is first, the shard and the refusals are those of `encode`: refused as `check` refuses,
+/// passed the gate with the number of the subchunk. Otherwise this call is `encode`, and the gate isn't called. Whichever worker is first, the shard and the refusals are those of `encode`: refused as `check` refuses,
 /// then as `WrongElementKind`, `InvalidNumberOfElements`, as the inner codec refuses the lowest refused subchunk
 /// (`CannotEncode`, `TooLarge`), as `TooLarge` where the shard would reach `usize::MAX` bytes, and as the index codec
 /// refuses; or as `OutOfMemory`.
@@ -109,13 +110,22 @@ pub fn encode_by_workers<
         m.serves or_as RefusesUnserved m then
         m.encode_tests bytes.now)) }
 {
+    if options.concurrent_target() <= 1 {
+        return sharding.encode(
+            alloc,
+            bytes,
+            asked.shape,
+            asked.data_type,
+            asked.fill_value,
+            options,
+        );
+    }
     let plan = sharding.prepared(alloc, asked)?;
     encode_planned_by_workers(rt, alloc, sharding, bytes, asked, &plan, gate, options)
 }
 
 /// As `decode`, by workers where the options' concurrent target is above 1: each decodes subchunks of its own, after it
-/// passed the gate with the number of the subchunk. Otherwise this thread decodes them in ascending order, and the gate
-/// isn't called. Whichever worker is first, the array and the refusals are those of `decode`: refused as `check` refuses,
+/// passed the gate with the number of the subchunk. Otherwise this call is `decode`, and the gate isn't called. Whichever worker is first, the array and the refusals are those of `decode`: refused as `check` refuses,
 /// then as `ShardTooShort`, as `Damaged` where the index does not decode, as the lowest refused subchunk is
 /// (`BadIndexEntry` with its number, `Damaged`, `TooLarge`), and as `TooLarge` where the lengths of the cells pass
 /// `usize::MAX`; or as `OutOfMemory`.
@@ -146,6 +156,16 @@ pub fn decode_by_workers<
         m.serves or_as RefusesUnserved m then
         m.decode_tests bytes.now)) }
 {
+    if options.concurrent_target() <= 1 {
+        return sharding.decode(
+            alloc,
+            bytes,
+            asked.shape,
+            asked.data_type,
+            asked.fill_value,
+            options,
+        );
+    }
     let plan = sharding.prepared(alloc, asked)?;
     let index = sharding
         .index_codec

@@ -30,6 +30,7 @@ pub use Rattle.shard_format.specs.Decoding
 pub use Rattle.shard_format.specs.Reading
 pub use Rattle.shard_format.specs.Serves
 pub use Rattle.shard_format.specs.declared.order.SubchunkWriteOrder
+pub use Rattle.shard_format.specs.declared.location.ShardingIndexLocation
 pub use Rattle.sharding_core.specs.Grouping
 pub use Rattle.sharding_core.specs.Gathering
 pub use Rattle.sharding_core.specs.ShardMetadata

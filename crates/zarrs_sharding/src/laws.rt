@@ -12,6 +12,7 @@ ghost use Rattle.codec_laws.specs.Refusals.{RefusesUnserved, MayRefuseEncode, Ma
 ghost use Rattle.shard_format.specs.Index.{index_geo};
 ghost use Rattle.shard_format.specs.Holding.{Holds};
 ghost use Rattle.shard_format.specs.Compacting.{IsCompact};
+ghost use Rattle.shard_format.specs.Scratch.{scratch};
 ghost use Rattle.shard_format.specs.Serves.{sub_geo};
 ghost use Rattle.sharding_core.specs.Meanings.{layout_in};
 ghost use Rattle.shard_format.specs.DecodeTests.{IsLowestBad};
@@ -80,9 +81,9 @@ pub fn decode_served<'a, I: ArrayToBytesCodecTraits, X: ArrayToBytesCodecTraits>
     codec.decode(alloc, shard, shape, data_type, fill_value, options)
 }
 
-/// Encodes an array by a codec of which each array has one encoding (`is_functional`): the encoding is the shard that is
-/// made from scratch, with the encodings of the subchunks that are not wholly the fill value in ascending number, laid end
-/// to end. Refused as `encode` refuses.
+/// Encodes an array by a codec of which each array has one encoding (`is_functional`): the encoding is the one shard with the
+/// encodings of the subchunks that are not wholly the fill value laid end to end in the codec's order. Refused as `encode`
+/// refuses.
 pub fn encode_functional<I: FunctionalCodec, X: FunctionalCodec>(
     codec: &ShardingCodec<I, X>,
     alloc: Global,
@@ -93,7 +94,7 @@ pub fn encode_functional<I: FunctionalCodec, X: FunctionalCodec>(
     options: &CodecOptions,
 ) -> Result<Vec<u8>, CodecError>
     requires functional { IsTrue (⟦<ShardingCodec<I, X> as FunctionalCodec>⟧.functional codec.now) }
-    ensures scratch { let g = geo shape.now data_type.now fill_value.now in
+    ensures one { let g = geo shape.now data_type.now fill_value.now in
         IfOk result (λ shard. shard.items ≡ ⟦<ShardingCodec<I, X> as FunctionalCodec>⟧.encoding codec.now g array.now.elements) }
     ensures lawful { let sharding = ⟦<ShardingCodec<I, X> as ArrayToBytesCodecTraits>⟧ in let g = geo shape.now data_type.now fill_value.now in
         IfErr result (λ e. (sharding.meaning codec.now g).serves → array.now.kind ≡ size_of data_type.now → IsArrayOf g array.now.elements
@@ -107,9 +108,9 @@ pub fn encode_functional<I: FunctionalCodec, X: FunctionalCodec>(
 }
 
 /// Compacts a shard that holds an array, in whatever order and with whatever gaps, by codecs of which each has one encoding
-/// of an array (`is_functional`): the answer is a compaction of the shard, and the shard that is made from scratch, as
-/// `encode_functional` makes it. `None` exactly where nothing is to be gained, as for each encoding. Refused as `compact`
-/// refuses.
+/// of an array (`is_functional`): the answer is a compaction of the shard, and the shard that is made from scratch: whatever the
+/// codec's order, the slices are in ascending number. `None` exactly where nothing is to be gained, as for each encoding. Refused
+/// as `compact` refuses.
 pub fn compact_encoded<I: FunctionalCodec, X: FunctionalCodec>(
     codec: &ShardingCodec<I, X>,
     alloc: Global,
@@ -126,8 +127,9 @@ pub fn compact_encoded<I: FunctionalCodec, X: FunctionalCodec>(
         let inner_written = (I.meaning s.inner (sub_geo s.subchunk_shape g)).written in let index_cells = (X.meaning s.index_codec (index_geo (grid_of g.shape s.subchunk_shape))).cells in
         Holds inner_written index_cells (layout_in s (X.meaning s.index_codec (index_geo (grid_of g.shape s.subchunk_shape))) g) array.now.elements encoded.now }
     requires functional { let s = codec.now in IsTrue (I.functional s.inner && X.functional s.index_codec) }
-    ensures scratch { let g = geo shape.now data_type.now fill_value.now in
-        IfOk result (λ answer. IfSome answer (λ new. new.items ≡ ⟦<ShardingCodec<I, X> as FunctionalCodec>⟧.encoding codec.now g array.now.elements)) }
+    ensures scratch { let g = geo shape.now data_type.now fill_value.now in let s = codec.now in let index_g = index_geo (grid_of g.shape s.subchunk_shape) in
+        IfOk result (λ answer. IfSome answer (λ new. new.items ≡ scratch (I.encoding s.inner (sub_geo s.subchunk_shape g)) (X.encoding s.index_codec index_g)
+        (layout_in s (X.meaning s.index_codec index_g) g) array.now.elements)) }
     ensures compacted { let g = geo shape.now data_type.now fill_value.now in
         IfOk result (λ answer. IfSome answer (λ new. (⟦<ShardingCodec<I, X> as ArrayToBytesCodecTraits>⟧.meaning codec.now g).compacted encoded.now new.items)) }
     ensures kept { let g = geo shape.now data_type.now fill_value.now in let s = codec.now in

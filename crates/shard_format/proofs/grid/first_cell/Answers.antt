@@ -1,5 +1,4 @@
 use Rattle.std.proofs.Common.{◌≡◌, ◌*◌, ◌∙◌, length, arith}
-use Rattle.std.proofs.lemmas.Grind.{common_steps}
 use Rattle.zarr_boxes.specs.Numbering.{point_of}
 use Rattle.zarr_boxes.proofs.NumberingLaws.{length-point_of}
 use Rattle.shard_format.proofs.BoxLemmas.{zip_with-from_each, product_fits}

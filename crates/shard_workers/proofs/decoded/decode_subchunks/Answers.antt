@@ -16,7 +16,7 @@ use Rattle.shard_workers.proofs.decoded.decode_subchunks.Goals as goal
 
 pub returns-clause-counted : goal.returns-clause-counted
 returns-clause-counted g c =
-    taken_counted _ c.subchunks.result c.in_ok-results.results.items c.in_ok-found-2.found.items c.in_ok-results.ensures c.in_ok-found-2.ensures.taken
+    taken_counted _ c.subchunks.result c.in_ok-results.results.items c.in_ok-found.found.items c.in_ok-results.ensures c.in_ok-found.ensures.taken
     ∙ c.subchunks.ensures
 
 pub returns-clause-decoded : goal.returns-clause-decoded
@@ -31,10 +31,10 @@ returns-clause-decoded g c = λ k below.
     let results = c.in_ok-results.results.items in
     let all : AllZip Gives (range_with_len 0 c.subchunks.result) results =
     AllZip-weaken _ Gives (λ k r p. (p.0, p.1)) _ _ c.in_ok-results.ensures in
-    (taken_at Gives c.subchunks.result results c.in_ok-found-2.found.items all c.in_ok-found-2.ensures.taken k None below).0
+    (taken_at Gives c.subchunks.result results c.in_ok-found.found.items all c.in_ok-found.ensures.taken k None below).0
 
-pub returns-in_err-found-2-clause-refused : goal.returns-in_err-found-2-clause-refused
-returns-in_err-found-2-clause-refused g c =
+pub returns-in_err-found-clause-refused : goal.returns-in_err-found-clause-refused
+returns-in_err-found-clause-refused g c =
     let a = c.args in
     let sub_g = subchunk_geo a.subchunks.now in
     let inner = g.I.ArrayToBytesCodecTraits.meaning a.subchunks.now.codec.now sub_g in
@@ -46,9 +46,9 @@ returns-in_err-found-2-clause-refused g c =
     let n = c.subchunks.result in
     let all : AllZip Gives (range_with_len 0 n) results =
     AllZip-weaken _ Gives (λ k r p. (p.0, p.1)) _ _ c.in_ok-results.ensures in
-    let e = c.in_err-found-2.field-0.0 in
-    passed_on _ e _ c.from_residual-in_err-found-2.ensures.1
-    (elim c.in_err-found-2.ensures.refused [
+    let e = c.in_err-found.field-0.0 in
+    passed_on _ e _ c.from_residual-in_err-found.ensures.1
+    (elim c.in_err-found.ensures.refused [
       | inl memory ↦ inl memory
       | inr first ↦ one_refused inner.decode_tests inner.cells sub_g b numbers first.before (length numbers / 2) (length first.before) e
           (omega (arith, refused_below Gives n results e all first, c.subchunks.ensures))

@@ -7,22 +7,40 @@ use Rattle.zarr_parts.specs.CodecError.{CodecError}
 use Rattle.zarr_parts.specs.Order.{RefusedBy}
 use Rattle.zarr_parts.specs.Grid.{subchunk}
 use Rattle.codec_laws.specs.RefusalLaws.{passed_on}
+use Rattle.zarr_parts.specs.Numbering.{count_of}
+use Rattle.shard_format.specs.WriteOrderLaws.{order_counted}
 use Rattle.shard_format.specs.Laying.{IsStored}
-use Rattle.shard_format.specs.Serves.{IsStoredPart}
+use Rattle.shard_format.proofs.LayingLemmas.{part_stored}
 use Rattle.shard_format.specs.EncodeTests.{RefusesToStore}
 use Rattle.shard_steps.specs.Inner.{inner_meaning}
 use Rattle.shard_steps.specs.Stored.{Stored}
 use Rattle.numbered_work.proofs.OrderLemmas.{taken_counted, taken_at, each_before, refused_below, refused_at}
 use Rattle.shard_workers.proofs.encoded.lay_out_subchunks.Goals as goal
 
--- what is to be stored is stored
-part_stored : (inner_written : Written) (fill : List ℕ) (e : List (List ℕ)) (present : Bool) (bytes : List ℕ)
-    → IsStored inner_written fill e present bytes → IsStoredPart inner_written fill e bytes
-part_stored inner_written fill e true bytes h = inr h
-part_stored inner_written fill e false bytes h = inl h
+pub by_number-requires-after_bounds : goal.by_number-requires-after_bounds
+by_number-requires-after_bounds g c = λ κs within k below. (
+  record {
+    serves = c.requires.serves;
+    supported = c.requires.supported;
+    kind = c.requires.kind;
+    array = c.requires.array;
+    fits = c.requires.fits;
+    axes = c.requires.axes;
+    divides = c.requires.divides;
+    cut = c.requires.grid;
+    below = omega (arith, below, c.len.ensures, order_counted (count_of c.args.grid.now) c.args.sequence.now c.requires.order);
+  },
+  c.elements_in_row-in_row.ensures,
+)
 
-pub laid_in_order-requires : goal.laid_in_order-requires
-laid_in_order-requires g c =
+pub laid_in_order-requires-clause-order : goal.laid_in_order-requires-clause-order
+laid_in_order-requires-clause-order g c =
+    let order = c.args.sequence.now in
+    let counted = taken_counted _ c.len.result c.in_ok-results.results.items c.in_ok-stored.stored.items c.in_ok-results.ensures c.in_ok-stored.ensures.taken in
+    rw (c.deref.ensures.value, counted, c.len.ensures, order_counted (count_of c.args.grid.now) order c.requires.order) c.requires.order
+
+pub laid_in_order-requires-clause-stored : goal.laid_in_order-requires-clause-stored
+laid_in_order-requires-clause-stored g c =
     let s = c.args.subchunks.now in
     let inner = inner_meaning g.I.ArrayToBytesCodecTraits.meaning s in
     let fill = s.fill_value.now in
@@ -30,14 +48,14 @@ laid_in_order-requires g c =
     let Gives : ℕ → Result Stored CodecError → Type 0 = λ k r. IfOk r (λ stored. IsStored inner.written fill (part k) stored.present stored.bytes.items)
     × IfErr r (RefusedBy (RefusesToStore inner.encodable inner.fits fill (part k))) in
     let results = c.in_ok-results.results.items in
-    let n = c.args.count in
+    let n = c.len.result in
     let all : AllZip Gives (range_with_len 0 n) results = AllZip-weaken _ Gives (λ k r p. (p.0, p.1)) _ _ c.in_ok-results.ensures in
     rw c.deref.ensures.value (λ k d below. (taken_at Gives n results c.in_ok-stored.stored.items all c.in_ok-stored.ensures.taken k d below).0)
 
 pub returns-clause-laid : goal.returns-clause-laid
 returns-clause-laid g c =
-    let counted = taken_counted _ c.args.count c.in_ok-results.results.items c.in_ok-stored.stored.items c.in_ok-results.ensures c.in_ok-stored.ensures.taken in
-    rw (c.deref.ensures.value, counted ∙ c.requires.count) at c.in_ok-laid-2.ensures.laid
+    let counted = taken_counted _ c.len.result c.in_ok-results.results.items c.in_ok-stored.stored.items c.in_ok-results.ensures c.in_ok-stored.ensures.taken in
+    rw (c.deref.ensures.value, counted ∙ c.len.ensures ∙ order_counted (count_of c.args.grid.now) c.args.sequence.now c.requires.order) at c.in_ok-laid.ensures.laid
 
 pub returns-in_err-stored-clause-refused : goal.returns-in_err-stored-clause-refused
 returns-in_err-stored-clause-refused g c =
@@ -48,7 +66,7 @@ returns-in_err-stored-clause-refused g c =
     let Gives : ℕ → Result Stored CodecError → Type 0 = λ k r. IfOk r (λ stored. IsStored inner.written fill (part k) stored.present stored.bytes.items)
     × IfErr r (RefusedBy (RefusesToStore inner.encodable inner.fits fill (part k))) in
     let results = c.in_ok-results.results.items in
-    let n = c.args.count in
+    let n = c.len.result in
     let all : AllZip Gives (range_with_len 0 n) results = AllZip-weaken _ Gives (λ k r p. (p.0, p.1)) _ _ c.in_ok-results.ensures in
     let e = c.in_err-stored.field-0.0 in
     passed_on _ e _ c.from_residual-in_err-stored.ensures.1
@@ -59,7 +77,7 @@ returns-in_err-stored-clause-refused g c =
         | inr refuses ↦ inr (inl (
           length first.before,
           (
-            omega (arith, refused_below Gives n results e all first, c.requires.count),
+            omega (arith, refused_below Gives n results e all first, c.len.ensures, order_counted (count_of c.args.grid.now) c.args.sequence.now c.requires.order),
             (λ j before.
                 let earlier = each_before Gives n results e all first j before in
                 let stored : Stored = earlier.0 in

@@ -1,4 +1,4 @@
-use Rattle.std.proofs.Common.{◌≡◌, ◌<◌, ◌+◌, arith, rules, length, inr}
+use Rattle.std.proofs.Common.{◌≡◌, ◌∙◌, ◌<◌, ◌+◌, arith, rules, length, inr}
 use Rattle.zarr_parts.specs.Numbering.{count_of}
 use Rattle.zarr_parts.specs.Grid.{grid_of}
 use Rattle.shard_steps.specs.Plans.{asked_geo}
@@ -8,9 +8,32 @@ use Rattle.shard_format.specs.Laying.{IsIndexOf}
 use Rattle.shard_format.specs.Serves.{sub_geo, fixed_size}
 use Rattle.shard_steps.specs.Meanings.{layout_in}
 use Rattle.codec_laws.specs.RefusalLaws.{passed_on}
-use Rattle.shard_format.proofs.EncodingLemmas.{encoded_shard}
+use Rattle.shard_format.specs.WriteOrder.{numbers_in_order}
+use Rattle.shard_format.specs.WriteOrderLaws.{order_permutes, order_counted}
+use Rattle.shard_format.proofs.EncodingLemmas.{encoded_shard, room_laid}
 use Rattle.shard_format.proofs.EncodeRefusals.{store_next, total_next, index_next, index_length}
 use Rattle.shard_workers.proofs.whole.encode_planned_by_workers.Goals as goal
+
+pub lay_out_subchunks-requires-clause-order : goal.lay_out_subchunks-requires-clause-order
+lay_out_subchunks-requires-clause-order g c = λ κs within. rw c.in_ok-sequence.ensures (order_permutes c.args.sharding.now.order c.args.plan.now.index.grid)
+
+pub encode-requires-clause-counted : goal.encode-requires-clause-counted
+encode-requires-clause-counted g c =
+    let s = c.args.sharding.now in
+    let grid = grid_of c.args.asked.now.shape.now s.subchunk_shape.now in
+    let laid = rw (c.in_ok-sequence.ensures, c.requires.plan.grid) at c.in_ok-laid.ensures.laid in
+    rw (c.deref.ensures.value, c.requires.plan.grid) (laid.counted ∙ order_counted (count_of grid) (numbers_in_order s.order grid) (order_permutes s.order grid))
+
+pub encode-requires-clause-room : goal.encode-requires-clause-room
+encode-requires-clause-room g c =
+    let s = c.args.sharding.now in
+    let asked = asked_geo c.args.asked.now in
+    let inner = g.I.ArrayToBytesCodecTraits.meaning s.inner.now (sub_geo s.subchunk_shape.now asked) in
+    let grid = grid_of c.args.asked.now.shape.now s.subchunk_shape.now in
+    let laid = rw (c.in_ok-sequence.ensures, c.requires.plan.grid) at c.in_ok-laid.ensures.laid in
+    rw c.deref.ensures.value (room_laid inner.written asked.fill asked.shape s.subchunk_shape.now c.args.array.now.elements c.in_ok-laid.laid.bytes.items c.in_ok-laid.laid.slots.items
+    (numbers_in_order s.order grid) (count_of grid) c.args.plan.now.index.size s.index_codec.location (order_permutes s.order grid) laid
+    (omega (arith, c.if-plan-len.false, c.len-len.ensures, c.in_ok-laid.laid.bytes.ok.0)))
 
 pub returns-in_err-laid-clause-refused : goal.returns-in_err-laid-clause-refused
 returns-in_err-laid-clause-refused g c =
@@ -21,7 +44,7 @@ returns-in_err-laid-clause-refused g c =
     let kind : c.args.array.now.kind ≡ size_of c.args.asked.now.data_type.now = search rules in
     let counted : length c.args.array.now.elements ≡ count_of c.args.asked.now.shape.now = omega (arith, c.requires.plan.cells) in
     let e = c.in_err-laid.field-0.0 in
-    passed_on _ e _ c.from_residual.ensures.1 (store_next inner index (layout_in s index asked) (size_of c.args.asked.now.data_type.now) c.args.array.now e kind counted (rw c.requires.plan.grid at c.in_err-laid.ensures.refused))
+    passed_on _ e _ c.from_residual-in_err-laid.ensures.1 (store_next inner index (layout_in s index asked) (size_of c.args.asked.now.data_type.now) c.args.array.now e kind counted (rw c.requires.plan.grid at c.in_err-laid.ensures.refused))
 
 pub returns-then-plan-len-clause-refused : goal.returns-then-plan-len-clause-refused
 returns-then-plan-len-clause-refused g c =
@@ -31,9 +54,11 @@ returns-then-plan-len-clause-refused g c =
     let index = g.X.ArrayToBytesCodecTraits.meaning s.index_codec.codec.now (index_geo (grid_of asked.shape s.subchunk_shape.now)) in
     let kind : c.args.array.now.kind ≡ size_of c.args.asked.now.data_type.now = search rules in
     let counted : length c.args.array.now.elements ≡ count_of c.args.asked.now.shape.now = omega (arith, c.requires.plan.cells) in
-    let laid = rw c.requires.plan.grid at c.in_ok-laid.ensures.laid in
+    let order = numbers_in_order s.order (grid_of c.args.asked.now.shape.now s.subchunk_shape.now) in
+    let permutes = order_permutes s.order (grid_of c.args.asked.now.shape.now s.subchunk_shape.now) in
+    let laid = rw (c.in_ok-sequence.ensures, c.requires.plan.grid) at c.in_ok-laid.ensures.laid in
     let room = rw c.requires.plan.grid at c.requires.plan.index.size in
-    inr (total_next inner index (layout_in s index asked) (size_of c.args.asked.now.data_type.now) c.args.array.now c.in_ok-laid.laid.bytes.items c.in_ok-laid.laid.slots.items laid kind counted
+    inr (total_next inner index (layout_in s index asked) (size_of c.args.asked.now.data_type.now) c.args.array.now c.in_ok-laid.laid.bytes.items c.in_ok-laid.laid.slots.items order permutes laid kind counted
     (omega (arith, c.if-plan-len.true, c.len-len.ensures, c.in_ok-laid.laid.bytes.ok.0, room)))
 
 pub returns-in_err-index-clause-refused : goal.returns-in_err-index-clause-refused
@@ -44,11 +69,13 @@ returns-in_err-index-clause-refused g c =
     let index = g.X.ArrayToBytesCodecTraits.meaning s.index_codec.codec.now (index_geo (grid_of asked.shape s.subchunk_shape.now)) in
     let kind : c.args.array.now.kind ≡ size_of c.args.asked.now.data_type.now = search rules in
     let counted : length c.args.array.now.elements ≡ count_of c.args.asked.now.shape.now = omega (arith, c.requires.plan.cells) in
-    let laid = rw c.requires.plan.grid at c.in_ok-laid.ensures.laid in
+    let order = numbers_in_order s.order (grid_of c.args.asked.now.shape.now s.subchunk_shape.now) in
+    let permutes = order_permutes s.order (grid_of c.args.asked.now.shape.now s.subchunk_shape.now) in
+    let laid = rw (c.in_ok-sequence.ensures, c.requires.plan.grid) at c.in_ok-laid.ensures.laid in
     let room = rw c.requires.plan.grid at c.requires.plan.index.size in
     let e = c.in_err-index.field-0.0 in
     passed_on _ e _ c.from_residual-in_err-index.ensures.1
-    (index_next inner index (layout_in s index asked) (size_of c.args.asked.now.data_type.now) c.args.array.now c.in_ok-laid.laid.bytes.items c.in_ok-laid.laid.slots.items laid e kind counted
+    (index_next inner index (layout_in s index asked) (size_of c.args.asked.now.data_type.now) c.args.array.now c.in_ok-laid.laid.bytes.items c.in_ok-laid.laid.slots.items order permutes laid e kind counted
     (omega (arith, c.if-plan-len.false, c.len-len.ensures, c.in_ok-laid.laid.bytes.ok.0, room))
     (rw c.requires.plan.grid at c.in_err-index.ensures.refused))
 
@@ -66,11 +93,13 @@ returns-clause-written g c =
     let room = rw c.requires.plan.grid at c.requires.plan.index.size in
     let small : fixed_size representation + length bytes < absent_number =
     omega (arith, c.if-plan-len.false, c.len-len.ensures, c.in_ok-laid.laid.bytes.ok.0, room) in
-    let laid = rw c.requires.plan.grid at c.in_ok-laid.ensures.laid in
+    let order = numbers_in_order s.order (grid_of c.args.asked.now.shape.now s.subchunk_shape.now) in
+    let permutes = order_permutes s.order (grid_of c.args.asked.now.shape.now s.subchunk_shape.now) in
+    let laid = rw (c.in_ok-sequence.ensures, c.requires.plan.grid) at c.in_ok-laid.ensures.laid in
     let index : IsIndexOf (outer.meaning s.index_codec.codec.now (index_geo grid)).written (data_start s.index_codec.location (fixed_size representation)) slots c.in_ok-index.index.items =
     rw (c.deref.ensures.value, c.requires.plan.index.size, c.requires.plan.grid) at c.in_ok-index.ensures.index in
     let laws = g.met.X.ArrayToBytesCodecTraits g.world.𝓛 g.world.𝓜 g.world.𝓡 ((λ s x. x), (λ x. x), (λ x. x), λ x. x) in
     let sized = index_length (outer.meaning s.index_codec.codec.now (index_geo grid)).written representation grid (data_start s.index_codec.location (fixed_size representation)) slots c.in_ok-index.index.items
-    laid.counted served.fixed (λ x y array written. (laws.lawful s.index_codec.codec.now (index_geo grid)).bounded x y served.served array written) index in
+    (laid.counted ∙ order_counted _ order permutes) served.fixed (λ x y array written. (laws.lawful s.index_codec.codec.now (index_geo grid)).bounded x y served.served array written) index in
     encoded_shard (inner.meaning s.inner.now (sub_geo s.subchunk_shape.now asked)).written (outer.meaning s.index_codec.codec.now (index_geo grid)).written s.subchunk_shape.now s.index_codec.location s.order (fixed_size representation) asked
     c.args.array.now.elements bytes c.in_ok-index.index.items c.in_ok-shard.shard.items slots laid index sized small c.in_ok-shard.ensures.bytes

@@ -4,8 +4,7 @@ use Rattle.zarr_parts.specs.Grid.{grid_of}
 use Rattle.codec_laws.specs.Cells.{all_there}
 use Rattle.shard_format.specs.Index.{index_geo}
 use Rattle.shard_format.specs.Encoding.{IsEncoding}
-use Rattle.shard_format.specs.Scratch.{scratch}
-use Rattle.shard_format.specs.ScratchLaws.{scratch_of_encoding, IsFunctional, functional_parts}
+use Rattle.shard_format.specs.ScratchLaws.{ordered_of_encoding, IsFunctional, functional_parts}
 use Rattle.shard_format.specs.Serves.{sub_geo, layout, ShardServes}
 use Rattle.zarrs_sharding.proofs.laws.encode_functional.Goals as goal
 
@@ -14,8 +13,8 @@ answered : {V E : Type 0} (P Q : Type 0) (W Told : V → Type 0) (r : Result V E
 answered P Q W Told (Ok v) p q w told = told p q v w
 answered P Q W Told (Err e) p q w told = tt
 
-pub returns-clause-scratch : goal.returns-clause-scratch
-returns-clause-scratch g c =
+pub returns-clause-one : goal.returns-clause-one
+returns-clause-one g c =
     let s = c.args.codec.now in
     let asked = geo c.args.shape.now c.args.data_type.now c.args.fill_value.now in
     let inner_g = sub_geo s.subchunk_shape asked in
@@ -25,7 +24,7 @@ returns-clause-scratch g c =
     let parts : IsFunctional s.order (inner.functional s.inner) (index.functional s.index_codec) = functional_parts s.order (inner.functional s.inner) (index.functional s.index_codec) c.requires.functional in
     answered _ _ _ _ c.encode.result c.encode.ensures.serves c.encode.ensures.array c.encode.ensures.written
     (λ serves array shard written.
-    scratch_of_encoding _ _ (inner.encoding s.inner inner_g) (index.encoding s.index_codec index_g) s.subchunk_shape s.location s.order _ asked c.args.array.now.elements shard.items
+    ordered_of_encoding _ _ (inner.encoding s.inner inner_g) (index.encoding s.index_codec index_g) s.subchunk_shape s.location s.order _ asked c.args.array.now.elements shard.items
     serves.divides array.1 parts.ordered
     (λ x y of written. g.met.I.FunctionalCodec.one_encoding s.inner inner_g x y parts.inner serves.inner_served of written)
     (λ x y of written. g.met.X.FunctionalCodec.one_encoding s.index_codec index_g x y parts.index serves.index_served.served of written)

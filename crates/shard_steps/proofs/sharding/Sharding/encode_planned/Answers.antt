@@ -6,12 +6,37 @@ use Rattle.codec_laws.specs.RefusalLaws.{passed_on}
 use Rattle.shard_format.specs.Index.{absent_number, index_geo, data_start}
 use Rattle.shard_format.specs.Laying.{IsIndexOf}
 use Rattle.shard_format.specs.Serves.{sub_geo, fixed_size, layout}
-use Rattle.shard_format.proofs.EncodingLemmas.{encoded_shard}
+use Rattle.shard_format.specs.WriteOrder.{numbers_in_order}
+use Rattle.shard_format.specs.WriteOrderLaws.{order_permutes, order_counted}
+use Rattle.shard_format.proofs.EncodingLemmas.{encoded_shard, room_laid}
 use Rattle.shard_format.proofs.EncodeRefusals.{store_next, total_next, index_next, index_length}
 use Rattle.shard_subchunks.proofs.BehindLemmas.{old_within}
 use Rattle.shard_plans.specs.Plans.{asked_geo}
 use Rattle.shard_steps.proofs.RoomLemmas.{stay_in_front, room_of_index}
 use Rattle.shard_steps.proofs.sharding.Sharding.encode_planned.Goals as goal
+
+pub lay_out_behind-requires-clause-order : goal.lay_out_behind-requires-clause-order
+lay_out_behind-requires-clause-order g c = rw c.in_ok-sequence.ensures (order_permutes c.args.self.now.order c.args.plan.now.index.grid)
+
+pub encode-requires-clause-counted : goal.encode-requires-clause-counted
+encode-requires-clause-counted g c =
+    let s = c.args.self.now in
+    let grid = grid_of c.args.asked.now.shape.now s.subchunk_shape.now in
+    let laid = rw (c.in_ok-sequence.ensures, c.requires.plan.grid) at c.in_ok-slots.ensures.laid in
+    rw (c.deref.ensures.value, c.requires.plan.grid) (laid.counted ∙ order_counted (count_of grid) (numbers_in_order s.order grid) (order_permutes s.order grid))
+
+pub encode-requires-clause-room : goal.encode-requires-clause-room
+encode-requires-clause-room g c =
+    let s = c.args.self.now in
+    let asked = asked_geo c.args.asked.now in
+    let inner = g.I.ArrayToBytesCodecTraits.meaning s.inner.now (sub_geo s.subchunk_shape.now asked) in
+    let grid = grid_of c.args.asked.now.shape.now s.subchunk_shape.now in
+    let laid = rw (c.in_ok-sequence.ensures, c.requires.plan.grid) at c.in_ok-slots.ensures.laid in
+    let room = c.make_room.new.bytes in
+    let all = c.lay_out_behind.new.bytes in
+    rw c.deref.ensures.value (room_laid inner.written asked.fill asked.shape s.subchunk_shape.now c.args.array.now.elements (drop (length room.items) all.items) c.in_ok-slots.slots.items
+    (numbers_in_order s.order grid) (count_of grid) c.args.plan.now.index.size s.index_codec.location (order_permutes s.order grid) laid
+    (omega (arith, c.if-plan-len.false, c.len-2.ensures, all.ok.0, c.len-from.ensures, room.ok.0, length-drop (length room.items) all.items)))
 
 pub returns-in_err-slots-clause-stay : goal.returns-in_err-slots-clause-stay
 returns-in_err-slots-clause-stay g c =
@@ -36,11 +61,13 @@ returns-then-plan-len-clause-refused g c =
     let index = g.X.ArrayToBytesCodecTraits.meaning s.index_codec.codec.now (index_geo (grid_of asked.shape s.subchunk_shape.now)) in
     let kind : c.args.array.now.kind ≡ size_of c.args.asked.now.data_type.now = search rules in
     let counted : length c.args.array.now.elements ≡ count_of c.args.asked.now.shape.now = omega (arith, c.requires.plan.cells) in
-    let laid = rw c.requires.plan.grid at c.in_ok-slots.ensures.laid in
+    let order = numbers_in_order s.order (grid_of c.args.asked.now.shape.now s.subchunk_shape.now) in
+    let permutes = order_permutes s.order (grid_of c.args.asked.now.shape.now s.subchunk_shape.now) in
+    let laid = rw (c.in_ok-sequence.ensures, c.requires.plan.grid) at c.in_ok-slots.ensures.laid in
     let size = rw c.requires.plan.grid at c.requires.plan.index.size in
     let room = c.make_room.new.bytes in
     let all = c.lay_out_behind.new.bytes in
-    inr (total_next inner index (layout s.subchunk_shape.now s.index_codec.location s.order index.representation asked) (size_of c.args.asked.now.data_type.now) c.args.array.now (drop (length room.items) all.items) c.in_ok-slots.slots.items laid kind counted
+    inr (total_next inner index (layout s.subchunk_shape.now s.index_codec.location s.order index.representation asked) (size_of c.args.asked.now.data_type.now) c.args.array.now (drop (length room.items) all.items) c.in_ok-slots.slots.items order permutes laid kind counted
     (omega (arith, c.if-plan-len.true, c.len-2.ensures, all.ok.0, c.len-from.ensures, room.ok.0, length-drop (length room.items) all.items, size)))
 
 pub returns-in_err-index-clause-stay : goal.returns-in_err-index-clause-stay
@@ -55,13 +82,15 @@ returns-in_err-index-clause-refused g c =
     let index = g.X.ArrayToBytesCodecTraits.meaning s.index_codec.codec.now (index_geo (grid_of asked.shape s.subchunk_shape.now)) in
     let kind : c.args.array.now.kind ≡ size_of c.args.asked.now.data_type.now = search rules in
     let counted : length c.args.array.now.elements ≡ count_of c.args.asked.now.shape.now = omega (arith, c.requires.plan.cells) in
-    let laid = rw c.requires.plan.grid at c.in_ok-slots.ensures.laid in
+    let order = numbers_in_order s.order (grid_of c.args.asked.now.shape.now s.subchunk_shape.now) in
+    let permutes = order_permutes s.order (grid_of c.args.asked.now.shape.now s.subchunk_shape.now) in
+    let laid = rw (c.in_ok-sequence.ensures, c.requires.plan.grid) at c.in_ok-slots.ensures.laid in
     let size = rw c.requires.plan.grid at c.requires.plan.index.size in
     let room = c.make_room.new.bytes in
     let all = c.lay_out_behind.new.bytes in
     let e = c.in_err-index.field-0.0 in
     passed_on _ e _ c.from_residual-in_err-index.ensures.1
-    (index_next inner index (layout s.subchunk_shape.now s.index_codec.location s.order index.representation asked) (size_of c.args.asked.now.data_type.now) c.args.array.now (drop (length room.items) all.items) c.in_ok-slots.slots.items laid e kind counted
+    (index_next inner index (layout s.subchunk_shape.now s.index_codec.location s.order index.representation asked) (size_of c.args.asked.now.data_type.now) c.args.array.now (drop (length room.items) all.items) c.in_ok-slots.slots.items order permutes laid e kind counted
     (omega (arith, c.if-plan-len.false, c.len-2.ensures, all.ok.0, c.len-from.ensures, room.ok.0, length-drop (length room.items) all.items, size))
     (rw c.requires.plan.grid at c.in_err-index.ensures.refused))
 
@@ -72,12 +101,14 @@ put_index-requires g c =
     let grid = grid_of c.args.asked.now.shape.now s.subchunk_shape.now in
     let representation = (outer.meaning s.index_codec.codec.now (index_geo grid)).representation in
     let served = c.requires.serves.index_served in
-    let laid = rw c.requires.plan.grid at c.in_ok-slots.ensures.laid in
+    let order = numbers_in_order s.order (grid_of c.args.asked.now.shape.now s.subchunk_shape.now) in
+    let permutes = order_permutes s.order (grid_of c.args.asked.now.shape.now s.subchunk_shape.now) in
+    let laid = rw (c.in_ok-sequence.ensures, c.requires.plan.grid) at c.in_ok-slots.ensures.laid in
     let size = rw c.requires.plan.grid at c.requires.plan.index.size in
     let index : IsIndexOf (outer.meaning s.index_codec.codec.now (index_geo grid)).written (data_start s.index_codec.location (fixed_size representation)) c.in_ok-slots.slots.items c.in_ok-index.index.items =
     rw (c.deref.ensures.value, c.requires.plan.index.size, c.requires.plan.grid) at c.in_ok-index.ensures.index in
     let sized = index_length (outer.meaning s.index_codec.codec.now (index_geo grid)).written representation grid (data_start s.index_codec.location (fixed_size representation)) c.in_ok-slots.slots.items c.in_ok-index.index.items
-    laid.counted served.fixed (λ x y array written. (g.met.X.ArrayToBytesCodecTraits.lawful s.index_codec.codec.now (index_geo grid)).bounded x y served.served array written) index in
+    (laid.counted ∙ order_counted _ order permutes) served.fixed (λ x y array written. (g.met.X.ArrayToBytesCodecTraits.lawful s.index_codec.codec.now (index_geo grid)).bounded x y served.served array written) index in
     let old = c.args.shard.now in
     let room = c.make_room.new.bytes.items in
     let all = c.lay_out_behind.new.bytes.items in
@@ -113,11 +144,13 @@ returns-clause-written g c =
     let size = rw c.requires.plan.grid at c.requires.plan.index.size in
     let small : fixed_size representation + length bytes < absent_number =
     omega (arith, c.if-plan-len.false, c.len-2.ensures, all.ok.0, c.len-from.ensures, room.ok.0, length-drop (length room.items) all.items, size) in
-    let laid = rw c.requires.plan.grid at c.in_ok-slots.ensures.laid in
+    let order = numbers_in_order s.order (grid_of c.args.asked.now.shape.now s.subchunk_shape.now) in
+    let permutes = order_permutes s.order (grid_of c.args.asked.now.shape.now s.subchunk_shape.now) in
+    let laid = rw (c.in_ok-sequence.ensures, c.requires.plan.grid) at c.in_ok-slots.ensures.laid in
     let index : IsIndexOf (outer.meaning s.index_codec.codec.now (index_geo grid)).written (data_start s.index_codec.location (fixed_size representation)) slots c.in_ok-index.index.items =
     rw (c.deref.ensures.value, c.requires.plan.index.size, c.requires.plan.grid) at c.in_ok-index.ensures.index in
     let sized = index_length (outer.meaning s.index_codec.codec.now (index_geo grid)).written representation grid (data_start s.index_codec.location (fixed_size representation)) slots c.in_ok-index.index.items
-    laid.counted served.fixed (λ x y array written. (g.met.X.ArrayToBytesCodecTraits.lawful s.index_codec.codec.now (index_geo grid)).bounded x y served.served array written) index in
+    (laid.counted ∙ order_counted _ order permutes) served.fixed (λ x y array written. (g.met.X.ArrayToBytesCodecTraits.lawful s.index_codec.codec.now (index_geo grid)).bounded x y served.served array written) index in
     let start : c.len-start.result ≡ length old.items = omega (arith, c.len-start.ensures, old.ok.0) in
     let fits = room_of_index s.index_codec.location c.args.plan.now.index.size old.items room.items c.in_ok-index.index.items c.in_ok-make_room.ensures.behind (sized ∙ sym size) in
     encoded_shard (inner.meaning s.inner.now (sub_geo s.subchunk_shape.now asked)).written (outer.meaning s.index_codec.codec.now (index_geo grid)).written s.subchunk_shape.now s.index_codec.location s.order (fixed_size representation) asked

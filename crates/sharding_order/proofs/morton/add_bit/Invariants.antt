@@ -1,0 +1,11 @@
+-- The axes from `axis` on have the new bit.
+use Rattle.std.proofs.Common.{◌≡◌, drop}
+use Rattle.row_major.specs.Numbering.{count_of}
+use Rattle.sharding_order.specs.Reached.{AreReached}
+use Rattle.sharding_order.proofs.morton.add_bit.Given as goal
+
+abbrev pub invariant-loop-axis : goal.invariant-loop-axis
+invariant-loop-axis l = record {
+  stride_is : l.stride ≡ count_of (drop l.axis l.grid);
+  reached : AreReached l.grid l.bit l.axis l.numbers.items;
+}
