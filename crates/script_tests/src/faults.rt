@@ -1,12 +1,12 @@
 // Readers that are interrupted, end late or fail, and writers that fail.
 use crate::compared::{same, same_at};
-use shard_script::run_script;
+use shard_script::{MAX_INPUT, MAX_READS, read_input, run_script};
 use std::alloc::{AllocError, Global};
 use std::io;
 use std::io::{ErrorKind, Read, Write};
 use std::test::Fail;
 
-// Gives so many whole buffers of a line that is no command's, and then ends or fails.
+// Gives a number of whole buffers of a line that is no command's, and then ends or fails.
 #[derive(Drop)]
 struct Buffers {
     left: usize,
@@ -111,6 +111,34 @@ fn a_script_has_a_greatest_length(rt: HostRuntime) -> Result<(), Fail> {
         same_at(&rt, left, answered.as_str(), expected);
     }
     Ok(())
+}
+
+// How many bytes are read of a reader that has three, one a call, in at most `most_reads` calls; none, where it stops before their end.
+fn read_in(alloc: Global, most_reads: u32) -> Option<usize> {
+    let mut reader = Drops {
+        text: b"-\n-",
+        rests: true,
+        fails: false,
+    };
+    match read_input(alloc, &mut reader, most_reads) {
+        Ok(bytes) => Some(bytes.len()),
+        Err(_) => None,
+    }
+}
+
+// Each byte takes two calls, of which the second is interrupted, and the end takes one.
+#[test]
+fn a_script_is_read_in_so_many_calls(rt: HostRuntime) {
+    for (most_reads, want) in [
+        (0, None),
+        (3, None),
+        (6, None),
+        (7, Some(3)),
+        (100, Some(3)),
+    ] {
+        same_at(&rt, most_reads, read_in(rt.alloc(), most_reads), want);
+    }
+    same(&rt, (MAX_READS, MAX_INPUT), (33_554_432, 16_777_216));
 }
 
 // The status of a script whose answers are not taken.

@@ -46,6 +46,7 @@ fn write_mistake<W: Write>(out: &mut W, mistake: Mistake) -> io::Result<()> {
         Mistake::NoShape => "has a 0, and is no shape",
         Mistake::NoElementType => "is no type of elements",
         Mistake::NoLocation => "is neither start nor end",
+        Mistake::NoOrder => "is no order: c, unordered or morton",
         Mistake::NoRange => "is no range a..b",
         Mistake::Backwards => "has a range whose start passes its end",
         Mistake::OtherAxes => "has another number of axes than the first coordinate",

@@ -25,6 +25,8 @@ pub enum Mistake {
     NoElementType,
     /// Neither `start` nor `end`.
     NoLocation,
+    /// Neither `c` nor `unordered` nor `morton`.
+    NoOrder,
     /// Not `x` and two digits for each byte.
     NoBytes,
     /// Not `a..b`.

@@ -1,2 +1,3 @@
 mod OptionLaws
 mod OpenLaws
+mod ReshardLaws

@@ -1,33 +1,27 @@
 -- The codec that a script's configuration makes.
-use Rattle.std.specs.Prelude.{◌≡◌, Option, Ok, codes}
+use Rattle.std.specs.Prelude.{◌≡◌, Ok, codes}
 use Rattle.zarr_parts.specs.Words.{Bytes, Refusals}
 use Rattle.zarr_parts.specs.Order.{RefusedBy}
 use Rattle.serde_json.specs.Read.{read as read_text}
-use Rattle.zarr_codecs.specs.Endianness.{Endianness}
 use Rattle.zarr_codecs.specs.CreateErrors.{Reading, RefusedAs, or_refused, and_then, bad_field}
 use Rattle.zarr_codecs.specs.BytesMetadata.{is_bytes_name, bytes_configured}
-use Rattle.zarr_codecs.specs.DefaultArrayToBytesCodec.{DefaultArrayToBytesCodec}
 use Rattle.zarr_codecs.specs.DefaultMetadata.{is_default_name, default_configured}
 use Rattle.zarrs_sharding.specs.CodecLists.{codec_in_list}
 use Rattle.zarrs_sharding.specs.Configuration.{configuration_in}
-use Rattle.zarrs_sharding.specs.ShardingCodec.{ShardingCodec}
 use Rattle.zarrs_sharding.specs.ShardMetadata.{shard_of}
-use Rattle.zarrs_sharding.specs.SubchunkWriteOrder.TheVariants.{C}
+use Rattle.zarrs_sharding.specs.SubchunkWriteOrder.{SubchunkWriteOrder}
+use Rattle.shard_script.specs.Shards.{ScriptCodec}
 use Rattle.shard_script.specs.declared.configure.ConfigureError.{ConfigureError}
 use Rattle.shard_script.specs.declared.configure.ConfigureError.TheVariants.{Create, Codec}
 
--- the codecs of a script's shards: the default codec inside, whole numbers in the index
-abbrev pub ScriptCodec : Type 0
-ScriptCodec = ShardingCodec DefaultArrayToBytesCodec (Option Endianness)
-
--- the codec of a text of JSON, which is a configuration; it writes subchunks in order
-abbrev pub configured_by : Bytes → Reading ScriptCodec
-configured_by text =
+-- the codec of a text of JSON, which is a configuration, with the order in which it writes subchunks: no configuration tells it
+abbrev pub configured_by : SubchunkWriteOrder → Bytes → Reading ScriptCodec
+configured_by order text =
     or_refused (read_text text) (bad_field (codes "configuration")) (λ d.
     and_then (configuration_in d) (λ c.
     and_then (shard_of (codec_in_list (codes "codecs") is_default_name default_configured)
     (codec_in_list (codes "index_codecs") is_bytes_name (λ name. bytes_configured)) c) (λ codec.
-    Ok (record codec { order = C }))))
+    Ok (record codec { order = order }))))
 
 -- a configuration is refused as it is read, and then by the codec that was read
 abbrev pub IsRefusal : Reading ScriptCodec → (ScriptCodec → Refusals) → ConfigureError → Type 0

@@ -6,12 +6,10 @@ use zarr_parts::ArrayBytes;
 pub enum Answer<'a> {
     /// It was done.
     Done,
-    /// An object of so many bytes was stored.
-    Stored(usize),
+    /// It was done, and the object has so many bytes; `None` where there is none.
+    Stored(Option<usize>),
     /// The object was compacted to so many bytes; `None` where it stayed.
     Compacted(Option<usize>),
-    /// There is no object any more.
-    Erased,
     /// There is no object.
     NoObject,
     /// The numbers of the object's index.

@@ -6,7 +6,7 @@ use script_words::{
 };
 use std::alloc::Global;
 use zarr_parts::{ArrayBytes, ArraySubset, ChunkShape, Coordinates, FillValue};
-use zarrs_sharding::ShardingIndexLocation;
+use zarrs_sharding::{ShardingIndexLocation, SubchunkWriteOrder};
 
 /// What a shard is to be: the words of the command `shard`.
 #[derive(Debug, Drop)]
@@ -18,7 +18,7 @@ pub struct Settings {
     pub location: ShardingIndexLocation,
 }
 
-/// What is done with the object of a shard.
+/// What is done with a shard: with its object, or with its codec.
 #[derive(Debug, Drop)]
 pub enum Work {
     /// Encodes elements; the encoding is the object then.
@@ -35,6 +35,10 @@ pub enum Work {
     Read(ArraySubset),
     /// Reads the cells at coordinates.
     Cells(Coordinates),
+    /// Encodes the object anew, with subchunks of this shape and the index at this place.
+    Reshard(ChunkShape, ShardingIndexLocation),
+    /// Takes another order in which subchunks are written.
+    Order(SubchunkWriteOrder),
 }
 
 /// What is told of the object of a shard.
@@ -55,7 +59,7 @@ pub enum Command<'a> {
     Shard(Settings),
     /// Takes the codec of this configuration, a text of JSON, for the same arrays; there is no object then.
     Configure(&'a str),
-    /// Works on the object; only this can change it.
+    /// Works on the shard.
     Work(Work),
     /// Tells of the object.
     Look(Look),
@@ -102,6 +106,16 @@ fn parse_location<'a>(word: &'a [u8]) -> Result<ShardingIndexLocation, Stop<'a>>
         b"start" => Ok(ShardingIndexLocation::Start),
         b"end" => Ok(ShardingIndexLocation::End),
         _ => Err(Stop::malformed(Mistake::NoLocation, word)),
+    }
+}
+
+// The order in which subchunks are written.
+fn parse_order<'a>(word: &'a [u8]) -> Result<SubchunkWriteOrder, Stop<'a>> {
+    match word {
+        b"c" => Ok(SubchunkWriteOrder::C),
+        b"unordered" => Ok(SubchunkWriteOrder::Unordered),
+        b"morton" => Ok(SubchunkWriteOrder::Morton),
+        _ => Err(Stop::malformed(Mistake::NoOrder, word)),
     }
 }
 
@@ -206,6 +220,13 @@ fn parse_cells<'a>(alloc: Global, words: &mut Pieces<'a>) -> Result<Command<'a>,
     Ok(Command::Work(Work::Cells(coordinates)))
 }
 
+// The words behind `reshard`.
+fn parse_reshard<'a>(alloc: Global, words: &mut Pieces<'a>) -> Result<Command<'a>, Stop<'a>> {
+    let subchunk_shape = parse_shape(alloc, next_word(words)?)?;
+    let location = parse_location(next_word(words)?)?;
+    Ok(Command::Work(Work::Reshard(subchunk_shape, location)))
+}
+
 // A command that asks for a shard.
 #[derive(Clone, Copy)]
 enum Name {
@@ -219,6 +240,8 @@ enum Name {
     Erase,
     Read,
     Cells,
+    Reshard,
+    Order,
 }
 
 impl Name {
@@ -235,6 +258,8 @@ impl Name {
             b"erase" => Some(Name::Erase),
             b"read" => Some(Name::Read),
             b"cells" => Some(Name::Cells),
+            b"reshard" => Some(Name::Reshard),
+            b"order" => Some(Name::Order),
             _ => None,
         }
     }
@@ -258,6 +283,8 @@ fn parse_for_shard<'a>(
         Name::Erase => Ok(Command::Work(Work::Erase)),
         Name::Read => parse_read(alloc, words),
         Name::Cells => parse_cells(alloc, words),
+        Name::Reshard => parse_reshard(alloc, words),
+        Name::Order => Ok(Command::Work(Work::Order(parse_order(next_word(words)?)?))),
     }
 }
 

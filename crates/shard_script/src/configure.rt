@@ -6,7 +6,7 @@ ghost use Rattle.zarr_codecs.specs.CreateErrors.{RefusedAs, refusal_of, bad_fiel
 ghost use Rattle.zarr_codecs.specs.PluginCreateError.TheVariants.{OutOfMemory};
 ghost use Rattle.shard_script.specs.Configured.{configured_by};
 
-use crate::shard::Codec;
+use crate::codec::Codec;
 use serde_json::Value;
 use std::alloc::Global;
 use zarr_codecs::PluginCreateError;
@@ -56,14 +56,18 @@ fn value_in(alloc: Global, text: &str) -> Result<Value, PluginCreateError>
     }
 }
 
-/// The codec that a text of JSON configures, which writes subchunks in the order `C`. Refused as `BadField` where the text is no
+/// The codec that a text of JSON configures, with an order in which it writes subchunks. Refused as `BadField` where the text is no
 /// JSON, and then as `ShardingCodecConfiguration::from_value` and `new_with_configuration` refuse; or as `OutOfMemory`.
-pub fn codec_in(alloc: Global, text: &str) -> Result<Codec, PluginCreateError>
-    ensures made { IfOk result (λ codec. configured_by text.now ≡ Ok codec) }
-    ensures refused { IfErr result (RefusedAs (configured_by text.now)) }
+pub fn codec_in(
+    alloc: Global,
+    text: &str,
+    order: SubchunkWriteOrder,
+) -> Result<Codec, PluginCreateError>
+    ensures made { IfOk result (λ codec. configured_by order text.now ≡ Ok codec) }
+    ensures refused { IfErr result (RefusedAs (configured_by order text.now)) }
 {
     let value = value_in(alloc, text)?;
     let configuration = ShardingCodecConfiguration::from_value(alloc, &value)?;
     let codec: Codec = ShardingCodec::new_with_configuration(alloc, &configuration)?;
-    Ok(codec.with_subchunk_write_order(SubchunkWriteOrder::C))
+    Ok(codec.with_subchunk_write_order(order))
 }

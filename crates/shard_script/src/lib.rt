@@ -1,7 +1,8 @@
-// Scripts: lines of text that make shards, encode, decode and compact them, and tell their index and bytes.
+// Scripts: lines of text that make shards, encode, decode, compact and reshard them, and tell their index and bytes.
 #![tactic(auto)]
 
 mod answer;
+mod codec;
 mod command;
 mod configure;
 mod print;
@@ -9,4 +10,4 @@ mod script;
 mod shard;
 mod tool;
 
-pub use script::{run_script, run_script_explained};
+pub use script::{MAX_INPUT, MAX_READS, read_input, run_script, run_script_explained};

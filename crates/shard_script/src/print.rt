@@ -86,10 +86,10 @@ fn write_answer<W: Write>(out: &mut W, answer: &Answer) -> io::Result<()>
 {
     match answer {
         Answer::Done => out.write_all(b"ok\n"),
-        Answer::Stored(len) => writeln!(out, "ok {len}"),
+        Answer::Stored(Some(len)) => writeln!(out, "ok {len}"),
+        Answer::Stored(None) => out.write_all(b"ok none\n"),
         Answer::Compacted(Some(len)) => writeln!(out, "compact {len}"),
         Answer::Compacted(None) => out.write_all(b"compact none\n"),
-        Answer::Erased => out.write_all(b"ok none\n"),
         Answer::NoObject => out.write_all(b"none\n"),
         Answer::Index(numbers) => write_index(out, numbers),
         Answer::Cells(cells) => write_cells(out, cells),

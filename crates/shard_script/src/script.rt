@@ -10,21 +10,26 @@ use std::alloc::Global;
 use std::io;
 use std::io::{BufWriter, ErrorKind, Read, Write};
 
-// The most bytes that are read, and the most calls that read them.
-const MAX_INPUT: usize = 16_777_216;
+/// The most bytes of a script.
+pub const MAX_INPUT: usize = 16_777_216;
 
-const MAX_READS: u32 = 33_554_432;
+/// The most calls that read a script.
+pub const MAX_READS: u32 = 33_554_432;
 
-// The bytes of a reader to its end. `Failed` where a read fails, where there are more bytes than `MAX_INPUT` or the
-// end is not met in `MAX_READS` calls, and where memory is refused.
-fn read_input<R: Read>(alloc: Global, reader: &mut R) -> Result<Vec<u8>, Stop<'static>>
+/// The bytes of a reader to its end. `Failed` where a read fails, where there are more bytes than `MAX_INPUT` or the
+/// end is not met in so many calls, and where memory is refused.
+pub fn read_input<R: Read>(
+    alloc: Global,
+    reader: &mut R,
+    most_reads: u32,
+) -> Result<Vec<u8>, Stop<'static>>
     ensures bounded { IfOk result (λ input. vec_len input ≤ MAX_INPUT) }
     ensures failed { IfErr result (λ stop. stop ≡ Failed) }
     ensures whole { IfOk result (λ input. IfSome (R.remaining reader.old) (λ bytes. input.items ≡ bytes)) }
 {
     let mut input: Vec<u8> = Vec::new(alloc);
     let mut part = [0u8; 4096];
-    for _ in 0..MAX_READS {
+    for _ in 0..most_reads {
         match reader.read(&mut part) {
             Ok(0) => return Ok(input),
             Ok(len) => {
@@ -117,7 +122,7 @@ pub fn run_script_explained<R: Read + Drop, W: Write + Drop, M: Write + Drop>(
 ) -> u8
     ensures { result ≤ 2 }
 {
-    let input = match read_input(alloc, &mut reader) {
+    let input = match read_input(alloc, &mut reader, MAX_READS) {
         Ok(input) => input,
         Err(stop) => return stop.status(),
     };

@@ -1,4 +1,6 @@
 // A shard of one codec, for arrays of one shape and type, and its object.
+mod resharding;
+
 ghost use Rattle.std.specs.Prelude.{◌≡◌, ◌≤◌, ◌<◌, ◌^◌, ◌*◌, Some, None, Ok, IfOk, IfErr, IfSome, IfNone, IsSomeAnd, OnOk, OnErr, length, map, vec_len};
 ghost use Rattle.zarr_parts.specs.Grid.{grid_of};
 ghost use Rattle.zarr_parts.specs.Geo.{geo};
@@ -22,6 +24,7 @@ ghost use Rattle.shard_script.specs.Shards.{codec_of, asked_by, geo_of, state_of
 ghost use Rattle.shard_script.specs.Answers.{AreShort};
 ghost use Rattle.shard_script.specs.Configured.{configured_by, IsRefusal};
 
+use crate::codec::{Codec, built_codec};
 use crate::command::Settings;
 use crate::configure::{ConfigureError, codec_in};
 use script_words::ElementType;
@@ -30,12 +33,7 @@ use zarr_codecs::{ArrayToBytesCodecTraits, BytesCodec, DefaultArrayToBytesCodec,
 use zarr_parts::{
     ArrayBytes, ArraySubset, ChunkShape, CodecError, CodecOptions, DataType, FillValue, Indexer,
 };
-use zarrs_sharding::{
-    ShardingCodec, ShardingCodecBuilder, SubchunkWriteOrder, calculate_chunks_per_shard,
-};
-
-/// The codec of a script's shards.
-pub type Codec = ShardingCodec<DefaultArrayToBytesCodec, BytesCodec>;
+use zarrs_sharding::{SubchunkWriteOrder, calculate_chunks_per_shard};
 
 /// A shard of one shape and type, and its object once something was stored.
 #[derive(Drop)]
@@ -81,10 +79,12 @@ impl Shard {
             location,
         } = settings;
         let data_type = element_type.data_type();
-        let codec = ShardingCodecBuilder::new(subchunk_shape, &data_type)
-            .index_location(location)
-            .build()
-            .with_subchunk_write_order(SubchunkWriteOrder::C);
+        let codec = built_codec(
+            subchunk_shape,
+            element_type,
+            location,
+            SubchunkWriteOrder::C,
+        );
         let chunks_per_shard = served_grid(alloc, &codec, &shape, &data_type, &fill_value)?;
         Ok(Shard {
             codec,
@@ -96,17 +96,17 @@ impl Shard {
         })
     }
 
-    /// Takes the codec of a configuration, a text of JSON, for the same arrays; there is no object then. Where that is refused
-    /// everything stays as it was. Refused as the text is refused, and then as the codec's `check` refuses.
+    /// Takes the codec of a configuration, a text of JSON, for the same arrays, with the order of subchunks that stands; there is
+    /// no object then. Where that is refused everything stays as it was. Refused as the text is refused, and then as the codec's `check` refuses.
     pub fn configure(&mut self, alloc: Global, text: &str) -> Result<(), ConfigureError>
-        ensures configured { OnOk result (configured_by text.now ≡ Ok self.new.codec) }
+        ensures configured { OnOk result (configured_by self.old.codec.order text.now ≡ Ok self.new.codec) }
         ensures serves { OnOk result (⟦<Codec as ArrayToBytesCodecTraits>⟧.meaning self.new.codec (geo_of self.new)).serves }
         ensures same { OnOk result (state_of self.new ≡ record { codec = self.new.codec; geo = geo_of self.old; grid = grid_of self.old.shape self.new.codec.subchunk_shape; object = None }) }
         ensures kept { OnErr result (state_of self.new ≡ state_of self.old) }
         ensures refused { let codec = ⟦<Codec as ArrayToBytesCodecTraits>⟧ in
-            IfErr result (IsRefusal (configured_by text.now) (λ c. RefusesUnserved (codec.meaning c (geo_of self.old)))) }
+            IfErr result (IsRefusal (configured_by self.old.codec.order text.now) (λ c. RefusesUnserved (codec.meaning c (geo_of self.old)))) }
     {
-        let codec = codec_in(alloc, text)?;
+        let codec = codec_in(alloc, text, self.codec.order)?;
         let data_type = self.element_type.data_type();
         let grid = match served_grid(alloc, &codec, &self.shape, &data_type, &self.fill_value) {
             Ok(grid) => grid,
@@ -116,6 +116,13 @@ impl Shard {
         self.chunks_per_shard = grid;
         self.object = None;
         Ok(())
+    }
+
+    /// Takes another order in which subchunks are written; the object stays.
+    pub fn set_order(&mut self, order: SubchunkWriteOrder)
+        ensures { state_of self.new ≡ record (state_of self.old) { codec = record self.old.codec { order = order } } }
+    {
+        self.codec.order = order;
     }
 
     /// Stores the encoding of these elements, and answers its length. Where that is refused the object stays.

@@ -10,9 +10,10 @@ ghost use Rattle.script_words.specs.declared.reason.Reason.{Reason};
 ghost use Rattle.script_words.specs.declared.stop.Stop.TheVariants.{Malformed};
 
 use crate::answer::{Answer, Outcome};
+use crate::codec::Codec;
 use crate::command::{Command, Look, Settings, Work};
 use crate::print::{write_answered, write_configured};
-use crate::shard::{Codec, Shard};
+use crate::shard::Shard;
 use script_words::{ElementType, Mistake, Stop};
 use std::alloc::Global;
 use std::io;
@@ -21,7 +22,7 @@ use zarr_codecs::ArrayToBytesCodecTraits;
 use zarr_parts::CodecError;
 
 impl Shard {
-    // Does a work on the object. Where it is refused everything stays as it was.
+    // Does a work on the shard. Where it is refused everything stays as it was.
     fn work(&mut self, alloc: Global, work: Work) -> Result<Answer<'static>, CodecError>
         ensures short { IfOk result HasShortCells }
         ensures kept { OnErr result (state_of self.new ≡ state_of self.old) }
@@ -29,9 +30,9 @@ impl Shard {
         match work {
             Work::Encode(elements) => {
                 let len = self.encode(alloc, &elements)?;
-                Ok(Answer::Stored(len))
+                Ok(Answer::Stored(Some(len)))
             }
-            Work::Store(bytes) => Ok(Answer::Stored(self.store(bytes))),
+            Work::Store(bytes) => Ok(Answer::Stored(Some(self.store(bytes)))),
             Work::Compact => {
                 let answer = self.compact(alloc)?;
                 Ok(Answer::Compacted(answer))
@@ -39,13 +40,21 @@ impl Shard {
             Work::Write(subset, elements) => {
                 self.write(alloc, &subset, &elements)?;
                 match &self.object {
-                    Some(object) => Ok(Answer::Stored(object.len())),
-                    None => Ok(Answer::Erased),
+                    Some(object) => Ok(Answer::Stored(Some(object.len()))),
+                    None => Ok(Answer::Stored(None)),
                 }
             }
             Work::Erase => {
                 self.erase(alloc)?;
-                Ok(Answer::Erased)
+                Ok(Answer::Stored(None))
+            }
+            Work::Reshard(subchunk_shape, location) => {
+                let answer = self.reshard(alloc, subchunk_shape, location)?;
+                Ok(Answer::Stored(answer))
+            }
+            Work::Order(order) => {
+                self.set_order(order);
+                Ok(Answer::Done)
             }
             Work::Read(subset) => {
                 let cells = self.read(alloc, &subset)?;
@@ -78,7 +87,7 @@ impl Shard {
         }
     }
 
-    // Does a work on the object, and writes the answer; tells whether it was refused, and then everything stays.
+    // Does a work on the shard, and writes the answer; tells whether it was refused, and then everything stays.
     fn run_work<W: Write>(&mut self, alloc: Global, work: Work, out: &mut W) -> io::Result<Outcome>
         ensures { IfOk result (λ outcome. outcome ≡ Refused → state_of self.new ≡ state_of self.old) }
     {

@@ -9,3 +9,4 @@ pub use Rattle.shard_records.specs.Recorded
 pub use Rattle.shard_records.specs.SharedRecords
 pub use Rattle.shard_records.specs.Receipts
 pub use Rattle.shard_records.specs.Closing
+pub use Rattle.session_reshard.specs.Resharding

@@ -1,0 +1,38 @@
+// An array that is encoded anew by another codec.
+ghost use Rattle.std.specs.Prelude.{IfOk, IfErr, OnOk};
+ghost use Rattle.zarr_parts.specs.Order.{RefusedBy};
+ghost use Rattle.zarr_parts.specs.Geo.{geo};
+ghost use Rattle.session_reshard.specs.Resharding.{IsResharded, MayRefuseReshard, ReshardTests};
+
+use codec_laws::ArrayToBytesCodecTraits;
+use std::alloc::Global;
+use zarr_parts::{ChunkShape, CodecError, CodecOptions, DataType, FillValue};
+
+/// Encodes anew, by the codec `to`, the array that bytes are by the codec `from`: one of another subchunk shape, place of the
+/// index, order or nesting (Zarr V3 core, "Codecs"). What the old bytes had beside the array is not kept. Refused, in this
+/// order, as `check` of `from` refuses, as `check` of `to` does, as `from` refuses to decode the bytes, and as `to` refuses
+/// to encode the array that they are; or as `OutOfMemory`.
+pub fn reshard<C: ArrayToBytesCodecTraits, D: ArrayToBytesCodecTraits>(
+    alloc: Global,
+    from: &C,
+    to: &D,
+    encoded: &[u8],
+    shape: &ChunkShape,
+    data_type: &DataType,
+    fill_value: &FillValue,
+) -> Result<Vec<u8>, CodecError>
+    ensures from_serves { OnOk result (C.meaning from.now (geo shape.now data_type.now fill_value.now)).serves }
+    ensures to_serves { OnOk result (D.meaning to.now (geo shape.now data_type.now fill_value.now)).serves }
+    ensures resharded { let g = geo shape.now data_type.now fill_value.now in
+        IfOk result (λ new. IsResharded g (C.meaning from.now g) (D.meaning to.now g) encoded.now new.items) }
+    ensures lawful { let g = geo shape.now data_type.now fill_value.now in let m = C.meaning from.now g in let n = D.meaning to.now g in
+        IfErr result (λ e. m.serves → n.serves → MayRefuseReshard m n encoded.now e) }
+    ensures refused { let g = geo shape.now data_type.now fill_value.now in
+        IfErr result (RefusedBy (ReshardTests g (C.meaning from.now g) (D.meaning to.now g) encoded.now)) }
+{
+    let options = CodecOptions::default();
+    from.check(alloc, shape, data_type, fill_value)?;
+    to.check(alloc, shape, data_type, fill_value)?;
+    let array = from.decode(alloc, encoded, shape, data_type, fill_value, &options)?;
+    to.encode(alloc, &array, shape, data_type, fill_value, &options)
+}
