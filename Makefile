@@ -1,31 +1,43 @@
-# make run    proves shard_tool and what it stands on, builds it, and feeds it the example script
-# make try    runs the same script with no proof
-# make refuse refuses each allocation of an example in turn: whichever is refused, the answers stay (two minutes, no proof)
-# make install PREFIX=DIR  proves shard_tool and zarr_shard, and puts them into DIR/bin
-# make test   the whole gate: every proof, the must-fail edits, the tests and the programs
-.PHONY: run try refuse test install
+# make run                   a first look, in about a minute and without proofs: zarr_shard on example arrays, shard_tool on a script
+# make install PREFIX=DIR    proves zarr_shard and shard_tool, and installs them in DIR/bin (half an hour the first time)
+# make test                  the merge gate: lint, every proof, the must-fail edits, the tests and the programs
+# make check CRATE=NAME      proves one crate, over what earlier checks kept; ONLY=path::of::a_function proves that one alone
+# make lint                  the rules that no compiler checks, in seconds
+# make reference             writes docs/REFERENCE.md from the sources
+# make readme                runs the commands that README.md shows, and writes what they print into it
+# make wrap                  wraps the paragraphs of all pages
+# make refuse                refuses each allocation of a program in turn: the answers must stay (two minutes, no proof)
+export PYTHONDONTWRITEBYTECODE := 1
+.PHONY: help run install test check lint reference readme wrap refuse
 
-SCRIPT := $(CURDIR)/crates/shard_tool/stdin
+help:
+	@sed -n 's/^# //p' Makefile
 
 run:
-	@echo "Proving shard_tool and the crates that it stands on, then building it."
-	@echo "The first time this takes some minutes; what it says of each function comes as it goes."
-	@cd crates/shard_tool && rt run < $(SCRIPT)
+	@python3 tools/run.py
 
-try:
-	@echo "Running the example script with no proof."
-	@cd crates/shard_tool && rt try < $(SCRIPT)
+PREFIX ?= /usr/local
+install:
+	@python3 tools/prove.py install $(PREFIX)
+
+test: lint
+	rt ci
+
+check:
+	@test -n "$(CRATE)" || { echo "make check CRATE=NAME [ONLY=path]: the names are those of crates/"; exit 2; }
+	@cd crates/$(CRATE) && rt check $(if $(ONLY),--only $(ONLY))
+
+lint:
+	@python3 tools/lint.py
+
+reference:
+	@python3 tools/reference.py
+
+readme:
+	@python3 tools/run.py --readme
+
+wrap:
+	@python3 tools/wrap.py
 
 refuse:
 	@crates/refused_memory/refuse_each.sh
-
-test:
-	rt ci
-
-PREFIX ?= /usr/local
-
-install:
-	@cd crates/shard_tool && rt run < $(SCRIPT) > /dev/null
-	@cd crates/zarr_shard && rt run -- --help > /dev/null
-	@mkdir -p $(PREFIX)/bin
-	@cp crates/shard_tool/out/shard_tool crates/zarr_shard/out/zarr_shard $(PREFIX)/bin

@@ -3,7 +3,7 @@ use std::alloc::Global;
 use zarr_codecs::{ByteRange, LendsSlice, part_of};
 use zarr_parts::CodecError;
 
-/// Bytes, and how many ranges of them were read.
+/// Bytes, and how many byte ranges of them were read.
 #[derive(Drop)]
 pub struct Counted {
     pub bytes: Vec<u8>,

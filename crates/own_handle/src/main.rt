@@ -1,4 +1,4 @@
-// A handle of one's own, through which three cells of a shard in a shard are read.
+// A handle of your own, through which three elements of a shard in a shard are read.
 #![tactic(auto)]
 
 mod counted;
@@ -13,14 +13,14 @@ use zarrs_sharding::{ShardingCodec, ShardingIndexLocation, ShardingPartialDecode
 
 type Inner = ShardingCodec<BytesCodec, BytesCodec>;
 
-// Three cells, and how many ranges were read for them.
+// Three elements, and how many byte ranges were read for them.
 type Found = (ArrayBytes<'static>, u64);
 
 fn shape(alloc: Global, axes: &[u64]) -> Result<ChunkShape, CodecError> {
     ChunkShape::new(alloc, axes)?.ok_or(CodecError::InvalidSubchunkShape)
 }
 
-// Shards of 4 by 4 cells, whose subchunks are shards of 2 by 2.
+// Subchunks of 4 by 4 elements that are shards themselves, with subchunks of 2 by 2.
 fn codec(alloc: Global) -> Result<ShardingCodec<Inner, BytesCodec>, CodecError> {
     let inner = ShardingCodec::new(
         shape(alloc, &[2, 2])?,
@@ -33,7 +33,7 @@ fn codec(alloc: Global) -> Result<ShardingCodec<Inner, BytesCodec>, CodecError> 
     Ok(ShardingCodec::new(outer, inner, BytesCodec::big(), end))
 }
 
-// The numbers 0 to 63 of 16 bits, as an array of 8 by 8 in a codec's bytes.
+// The 16-bit numbers 0 to 63, an array of 8 by 8, encoded by a codec.
 fn store<C: ArrayToBytesCodecTraits>(alloc: Global, codec: &C) -> Result<Vec<u8>, CodecError> {
     let numbers: Vec<u16> = (0..64u16).collect(alloc)?;
     let cells = ArrayBytes::from_numbers(alloc, &numbers)?;
@@ -61,7 +61,7 @@ fn read<I: ArrayToBytesCodecTraits, X: ArrayToBytesCodecTraits>(
     Ok((cells?, reads))
 }
 
-// Three cells of an array in the bytes of a codec.
+// Three elements of an array that a codec encoded.
 fn read_through<I: ArrayToBytesCodecTraits, X: ArrayToBytesCodecTraits>(
     alloc: Global,
     codec: &ShardingCodec<I, X>,
@@ -76,7 +76,7 @@ fn read_through<I: ArrayToBytesCodecTraits, X: ArrayToBytesCodecTraits>(
     }
 }
 
-// Three cells of the stored array.
+// Three elements of the stored array.
 fn read_stored<I: ArrayToBytesCodecTraits, X: ArrayToBytesCodecTraits>(
     alloc: Global,
     codec: &ShardingCodec<I, X>,

@@ -1,5 +1,5 @@
-// Stores numbers as a shard, opens it through a handle, and reads a box and three cells of them: of the object only the index
-// and the slices in which they lie are read.
+// Stores numbers as a shard, opens it through a handle, and reads a subset and three coordinates. Of the object only the index
+// and the slices that these need are read.
 #![tactic(auto)]
 
 use std::alloc::Global;
@@ -15,7 +15,7 @@ fn shape(alloc: Global, axes: &[u64]) -> Result<ChunkShape, CodecError> {
     ChunkShape::new(alloc, axes)?.ok_or(CodecError::InvalidSubchunkShape)
 }
 
-// Shards of subchunks of 4 by 4.
+// A codec with subchunks of 4 by 4 elements.
 fn codec(alloc: Global) -> Result<ShardingCodec<BytesCodec, BytesCodec>, CodecError> {
     let (inner, index) = (BytesCodec::little(), BytesCodec::little());
     let subchunk = shape(alloc, &[4, 4])?;
@@ -32,14 +32,14 @@ fn store(alloc: Global) -> Result<Vec<u8>, CodecError> {
     codec(alloc)?.encode(alloc, &cells, &shape, &DataType::UInt16, &fill, &options)
 }
 
-// Those of a box of 2 by 3.
+// The elements of a subset of 2 by 3.
 fn read_box(alloc: Global, decoder: &mut Decoder) -> Result<Vec<u16>, CodecError> {
     let asked = ArraySubset::from_ranges(alloc, &[1..3, 3..6])?;
     let cells = decoder.partial_decode(alloc, &asked, &CodecOptions::default())?;
     cells.to_numbers(alloc)
 }
 
-// Those of three cells.
+// The elements at three coordinates.
 fn read_three(alloc: Global, decoder: &mut Decoder) -> Result<Vec<u16>, CodecError> {
     let asked = Coordinates::new(2, 3, [7, 7, 0, 0, 7, 7].to_vec(alloc)?);
     let asked = asked.ok_or(CodecError::IncompatibleDimensionality)?;
@@ -47,7 +47,7 @@ fn read_three(alloc: Global, decoder: &mut Decoder) -> Result<Vec<u16>, CodecErr
     cells.to_numbers(alloc)
 }
 
-// Both of a stored shard.
+// Both, read from a stored shard.
 fn read(alloc: Global, shard: Vec<u8>) -> Result<[Vec<u16>; 2], CodecError> {
     let codec = codec(alloc)?;
     let shape = shape(alloc, &[8, 8])?;

@@ -1,4 +1,4 @@
-// A shard that is a file: written, read by boxes, written into, compacted and erased; and files that no handle reads.
+// A shard that is a file: written, read in part, written in part, compacted and erased; and files that no handle reads.
 #![tactic(auto)]
 
 mod shards;
@@ -28,7 +28,7 @@ fn exists(rt: &HostRuntime, shards: &Shards) -> Result<bool, CodecError> {
     opened(rt, shards)?.exists()
 }
 
-// Writes numbers over a box, in a session of its own.
+// Writes numbers to a subset, in a session of its own.
 fn store(
     rt: &HostRuntime,
     shards: &Shards,
@@ -39,7 +39,7 @@ fn store(
     write(rt.alloc(), &mut session, ranges, numbers)
 }
 
-// Reads a box in a session of its own.
+// Reads a subset, in a session of its own.
 fn load(
     rt: &HostRuntime,
     shards: &Shards,
@@ -49,7 +49,7 @@ fn load(
     read(rt.alloc(), &mut session, ranges)
 }
 
-// Prints a box of the shard, and how long its file is.
+// Prints a subset of the shard, and the length of its file.
 fn show(rt: &HostRuntime, shards: &Shards, ranges: [Range<u64>; 2]) -> anyhow::Result<()> {
     let numbers = load(rt, shards, ranges)?;
     let length = length_of(file_of(rt, SHARD)?)?;
@@ -73,7 +73,7 @@ fn erase(rt: &HostRuntime, shards: &Shards) -> Result<Vec<u16>, CodecError> {
     erase_and_read(rt.alloc(), &mut session)
 }
 
-// What a handle over a path says of its length, how often it failed, and why.
+// The length that a handle over a path gives, how often it failed, and why.
 fn refuse(rt: &HostRuntime, path: &str) -> anyhow::Result<()> {
     let mut file = file_of(rt, path)?;
     let length = file.len();
@@ -85,7 +85,7 @@ fn refuse(rt: &HostRuntime, path: &str) -> anyhow::Result<()> {
     Ok(())
 }
 
-// Whether bytes are refused while a file stands beside the one that they are to replace.
+// Whether a replacement is refused while the file with `.replacing` after its name is there.
 fn replace_twice(rt: &HostRuntime) -> anyhow::Result<()> {
     let mut beside = file_of(rt, "folder/other.replacing")?;
     beside.partial_encode_many(rt.alloc(), &[(2, b"ab".as_slice())])?;

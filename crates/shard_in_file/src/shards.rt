@@ -1,4 +1,4 @@
-// Shards of 8 by 8 whole numbers in four subchunks, with the fill value 0, in a file.
+// A shard of 8 by 8 numbers in four subchunks, with the fill value 0, in a file.
 use file_handles::FileHandle;
 use std::alloc::Global;
 use std::ops::Range;
@@ -49,7 +49,7 @@ impl Shards {
         )
     }
 
-    // Puts a file in the place of one that has dead bytes, and says whether there were any.
+    // Replaces a file that has dead bytes by one without, and says whether there were any.
     pub fn compact(&self, alloc: Global, file: &mut File) -> Result<bool, CodecError> {
         let Some(bytes) = copy_range(file, alloc, ByteRange::FromStart(0, None))? else {
             return Ok(false);
@@ -73,7 +73,7 @@ impl Shards {
     }
 }
 
-// The numbers of a box.
+// The numbers of a subset.
 pub fn read(
     alloc: Global,
     session: &mut Session,
@@ -84,7 +84,7 @@ pub fn read(
     cells.to_numbers(alloc)
 }
 
-// Writes numbers over those of a box.
+// Writes numbers to a subset.
 pub fn write(
     alloc: Global,
     session: &mut Session,
@@ -96,7 +96,7 @@ pub fn write(
     session.partial_encode(alloc, &written, &cells, &CodecOptions::default())
 }
 
-// The length of a file, or `None` where there is none.
+// The length of a file, or `None` if there is none.
 pub fn length_of(mut file: File) -> Result<Option<u64>, CodecError> {
     file.len()
 }

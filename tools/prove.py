@@ -1,0 +1,91 @@
+#!/usr/bin/env python3
+"""Installs the programs: proves all that they stand on, with one line a crate, and the prover's own lines in a log.
+
+    python3 tools/prove.py install DIR    proves zarr_shard and shard_tool with all that they stand on, and copies them to DIR/bin
+"""
+import os
+import shutil
+import signal
+import subprocess
+import sys
+import time
+
+TOP = os.path.dirname(os.path.dirname(os.path.abspath(__file__)))
+PROGRAMS = ["shard_tool", "zarr_shard"]
+BEGAN = time.time()
+
+
+def say(text):
+    seconds = int(time.time() - BEGAN)
+    print(f"[{seconds // 60:2}:{seconds % 60:02}] {text}", flush=True)
+
+
+def libraries():
+    """The crates of crates.txt, each with the crates of this repository that it uses."""
+    found = {}
+    with open(f"{TOP}/crates.txt", encoding="utf-8") as file:
+        for line in file:
+            name, _, below = line.split("#")[0].partition(":")
+            if name.strip():
+                found[name.split()[0]] = below.split()
+    return {name: [it for it in below if it in found] for name, below in found.items()}
+
+
+def below_first(names, known, found=None):
+    found = [] if found is None else found
+    for name in names:
+        if name not in found:
+            below_first(known[name], known, found)
+            found.append(name)
+    return found
+
+
+def lines_of(words, folder, log, **how):
+    """The lines that a command writes, each also into the log; its status comes last."""
+    try:
+        child = subprocess.Popen(words, cwd=folder, stdout=subprocess.PIPE, stderr=subprocess.STDOUT, **how)
+    except FileNotFoundError:
+        sys.exit("rt, the command of Rattle's kit, is not on the path")
+    try:
+        for line in child.stdout:
+            log.write(line)
+            log.flush()
+            yield line.decode(errors="replace")
+        yield child.wait()
+    finally:
+        if child.poll() is None:
+            child.terminate()
+            child.wait()
+
+
+def opened(name):
+    os.makedirs(f"{TOP}/out", exist_ok=True)
+    say(f"the prover's own lines go to out/{name}")
+    return open(f"{TOP}/out/{name}", "wb")
+
+
+def install(to):
+    names, known = below_first(PROGRAMS, libraries()), libraries()
+    say(f"proving {len(names)} crates, which takes half an hour or more the first time")
+    with opened("install.log") as log:
+        for number, name in enumerate(names, 1):
+            say(f"proving {number} of {len(names)}: {name}")
+            words = ["rt", "run", "--", "--help"] if name in PROGRAMS else ["rt", "lib"]
+            *said, status = lines_of(words, f"{TOP}/crates/{name}", log, stdin=subprocess.DEVNULL)
+            if status:
+                print("".join(said[-40:]), end="")
+                say(f"{name} did not pass; all that the prover said is in out/install.log")
+                return status
+    os.makedirs(f"{to}/bin", exist_ok=True)
+    for name in PROGRAMS:
+        shutil.copy(f"{TOP}/crates/{name}/out/{name}", f"{to}/bin/{name}")
+    say(f"installed {' and '.join(PROGRAMS)} in {to}/bin")
+    return 0
+
+
+if __name__ == "__main__":
+    for number in (signal.SIGTERM, signal.SIGHUP):
+        signal.signal(number, lambda number, _: sys.exit(128 + number))
+    if sys.argv[1:2] == ["install"] and len(sys.argv) == 3:
+        sys.exit(install(os.path.expanduser(sys.argv[2])))
+    sys.exit(__doc__)
