@@ -66,7 +66,7 @@ def opened(name):
 
 def install(to):
     names, known = below_first(PROGRAMS, libraries()), libraries()
-    say(f"proving {len(names)} crates, which takes half an hour or more the first time")
+    say(f"proving {len(names)} crates; what was proved before is kept")
     with opened("install.log") as log:
         for number, name in enumerate(names, 1):
             say(f"proving {number} of {len(names)}: {name}")
