@@ -1,5 +1,6 @@
 -- The steps of encoding: the slices of the data part, laid end to end in an order of the subchunks, and the index of them.
-use Rattle.std.specs.Prelude.{◌≡◌, ◌≤◌, ◌<◌, ◌^◌, ℕ, ◌+◌, ◌*◌, Bool, true, false, List, [], ◌++◌, length, slice_index, slice_index_or, map, take}
+use Rattle.std.specs.Prelude.{◌≡◌, ◌≤◌, ◌<◌, ◌^◌, ℕ, ◌+◌, ◌*◌, Bool, true, false}
+use Rattle.std.specs.Prelude.{List, [], ◌++◌, length, slice_index, slice_index_or, map, take}
 use Rattle.std.specs.List.{All, range_with_len, sum_by}
 use Rattle.zarr_parts.specs.Words.{Written}
 use Rattle.zarr_parts.specs.Grid.{subchunk}

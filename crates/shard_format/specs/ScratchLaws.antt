@@ -1,7 +1,8 @@
 -- An encoding in an order that leaves one place for each subchunk, by codecs of which each has one encoding of an array, is the
 -- one shard in this order; in order `C` this is the shard that is made from scratch.
 use Rattle.std.proofs.Common.{◌≡◌, ℕ, zero, suc, ◌+◌, ◌-◌, ◌*◌, ◌<◌, ◌≤◌, Bool, true, false, ◌==◌, ◌&&◌, ◌||◌, nat_le, if◌then◌else◌}
-use Rattle.std.proofs.Common.{IsTrue, IsPermutation, Decides, List, [], ◌∷◌, ◌++◌, length, map, get_or, take, drop, refl, sym, ap, ◌∙◌, subst, arith}
+use Rattle.std.proofs.Common.{IsTrue, IsPermutation, Decides, List, [], ◌∷◌, ◌++◌, length, map, get_or, take, drop}
+use Rattle.std.proofs.Common.{refl, sym, ap, ◌∙◌, subst, arith}
 use Rattle.std.proofs.Common.{length-drop, length-take}
 use Rattle.std.specs.List.{All, flat_map, range_with_len, sum_by}
 use Rattle.std.specs.Str.{bytes_eq}
@@ -267,7 +268,8 @@ ordered_of_encoding inner_written index_written inner_encoding index_encoding su
     let found = order_has n numbers k permutes below in
     let inside : found.place < n = omega (arith, found.inside, counted) in
     let place : ℕ = start + sum_by len (numbers_before k numbers) in
-    let begun : BeginsAt place (slot k) = rw (before_at n numbers found.place k permutes inside found.is) (begins found.place k inside found.is below) in
+    let begun : BeginsAt place (slot k) =
+    rw (before_at n numbers found.place k permutes inside found.is) (begins found.place k inside found.is below) in
     rw (zero_plus k)
     (pair_of_standing inner_written l b (subchunk g.shape sub a k) (slot k) place (len k)
     (get_or h.numbers (2 * k) 0) (get_or h.numbers (2 * k + 1) 0) (by.stand k below) begun

@@ -1,12 +1,14 @@
 -- In each order every number stands once, so that sums and places are those of the ascending order.
-use Rattle.std.proofs.Common.{◌≡◌, inl, inr, ℕ, ◌+◌, ◌<◌, ◌≤◌, Bool, true, false, not, eqb, ◌==◌, if◌then◌else◌, List, [], ◌∷◌, length, get_or, take, sym, ap, ◌∙◌, arith, IsPermutation}
+use Rattle.std.proofs.Common.{◌≡◌, inl, inr, ℕ, ◌+◌, ◌<◌, ◌≤◌, Bool, true, false, not, eqb, ◌==◌, if◌then◌else◌}
+use Rattle.std.proofs.Common.{List, [], ◌∷◌, length, get_or, take, sym, ap, ◌∙◌, arith, IsPermutation}
 use Rattle.std.specs.List.{All, Contains, range_with_len, IsDistinct}
 use Rattle.std.proofs.lemmas.Bool.{false≢true}
 use Rattle.std.proofs.lemmas.Bool.Decides.{eqb_tells}
 use Rattle.std.proofs.lemmas.List.{get_or_default, map-id}
 use Rattle.std.proofs.lemmas.List.FromFn.{length-range_with_len, get_or-range_with_len, take-map-range_with_len}
 use Rattle.std.proofs.lemmas.List.Elements.{All-from_get_or, All-get_or}
-use Rattle.std.proofs.lemmas.List.Sorted.{IsPermutation-refl, IsPermutation-cons, IsPermutation-trans, IsPermutation-middle, length_permutation, All-permutation, Contains-permutation}
+use Rattle.std.proofs.lemmas.List.Sorted.{IsPermutation-refl, IsPermutation-cons, IsPermutation-trans, IsPermutation-middle}
+use Rattle.std.proofs.lemmas.List.Sorted.{length_permutation, All-permutation, Contains-permutation}
 use Rattle.std.proofs.lemmas.List.Sums.{prefix_len_is}
 use Rattle.std.proofs.lemmas.Map.Keys.{IsDistinct-from_apart, IsDistinct-IsPermutation, apart_from_distinct}
 use Rattle.std.proofs.lemmas.Cmp.{nat_eq_equiv}
@@ -31,7 +33,8 @@ sorted_by_permutes before (k ∷ ks) =
     (IsPermutation-cons k ks (sorted_by before ks) (sorted_by_permutes before ks)) (put_in_permutes before k (sorted_by before ks))
 
 -- an order has each number below the count of the grid
-pub order_permutes : (order : SubchunkWriteOrder) (grid : List ℕ) → IsPermutation (range_with_len 0 (count_of grid)) (numbers_in_order order grid)
+pub order_permutes : (order : SubchunkWriteOrder) (grid : List ℕ) →
+    IsPermutation (range_with_len 0 (count_of grid)) (numbers_in_order order grid)
 unfolding numbers_in_order
 order_permutes C grid = IsPermutation-refl (range_with_len 0 (count_of grid))
 order_permutes Unordered grid = IsPermutation-refl (range_with_len 0 (count_of grid))
@@ -47,7 +50,8 @@ range_distinct n =
     let j_in : j < n = omega (arith, length-range_with_len 0 n) in
     let here = get_or-range_with_len 0 n i d (omega arith) in
     let there = get_or-range_with_len 0 n j d j_in in
-    elim (eqb_tells (get_or (range_with_len 0 n) i d) (get_or (range_with_len 0 n) j d)) [ inl same ↦ absurd (omega (arith, same.1, here, there)) | inr other ↦ other.0 ])
+    elim (eqb_tells (get_or (range_with_len 0 n) i d) (get_or (range_with_len 0 n) j d))
+    [ inl same ↦ absurd (omega (arith, same.1, here, there)) | inr other ↦ other.0 ])
 
 pub order_counted : (n : ℕ) (order : List ℕ) → IsPermutation (range_with_len 0 n) order → length order ≡ n
 order_counted n order h = length_permutation (range_with_len 0 n) order h ∙ length-range_with_len 0 n
@@ -56,7 +60,8 @@ pub order_below : (n : ℕ) (order : List ℕ) (i : ℕ) → IsPermutation (rang
 order_below n order i h below =
     let each : All (λ k. k < n) (range_with_len 0 n) = All-from_get_or (λ k. k < n) (range_with_len 0 n) 0 (λ j lt.
     omega (arith, get_or-range_with_len 0 n j 0 (omega (arith, length-range_with_len 0 n)), length-range_with_len 0 n)) in
-    All-get_or (λ k. k < n) order i 0 (omega (arith, order_counted n order h)) (All-permutation (λ k. k < n) (range_with_len 0 n) order h each)
+    All-get_or (λ k. k < n) order i 0 (omega (arith, order_counted n order h))
+    (All-permutation (λ k. k < n) (range_with_len 0 n) order h each)
 
 plain : (k : ℕ) → 0 + k ≡ k
 plain k = omega arith
@@ -69,7 +74,8 @@ pub record StandsIn (order : List ℕ) (k : ℕ) : Type 0 where
 
 pub order_has : (n : ℕ) (order : List ℕ) (k : ℕ) → IsPermutation (range_with_len 0 n) order → k < n → StandsIn order k
 order_has n order k h below =
-    let in_range : Contains (range_with_len 0 n) k = (k, omega (arith, length-range_with_len 0 n), get_or-range_with_len 0 n k k below ∙ plain k) in
+    let in_range : Contains (range_with_len 0 n) k =
+    (k, omega (arith, length-range_with_len 0 n), get_or-range_with_len 0 n k k below ∙ plain k) in
     let found = Contains-permutation (range_with_len 0 n) order k h in_range in
     record { place = found.0; inside = found.1; is = get_or_default order found.0 0 k found.1 ∙ found.2 }
 
@@ -77,7 +83,8 @@ order_has n order k h below =
 pub order_differs : (n : ℕ) (order : List ℕ) (i j : ℕ) → IsPermutation (range_with_len 0 n) order → i < j → j < n
     → ¬ (get_or order i 0 ≡ get_or order j 0)
 order_differs n order i j h before below same =
-    let apart = apart_from_distinct eqb order i j 0 (IsDistinct-IsPermutation eqb eqb_flips (range_with_len 0 n) order h (range_distinct n)) before
+    let apart = apart_from_distinct eqb order i j 0
+    (IsDistinct-IsPermutation eqb eqb_flips (range_with_len 0 n) order h (range_distinct n)) before
     (omega (arith, order_counted n order h)) in
     elim (eqb_tells (get_or order i 0) (get_or order j 0)) [ inl equal ↦ false≢true (sym apart ∙ equal.0) | inr other ↦ other.1 same ]
 
@@ -86,7 +93,8 @@ pub before_at : (n : ℕ) (order : List ℕ) (i k : ℕ) → IsPermutation (rang
     → numbers_before k order ≡ take i order
 before_at n order i k h below is =
     ap (λ m. take m order) (prefix_len_is (λ j. not (j == k)) order i 0 (omega (arith, order_counted n order h))
-    (λ j lt. elim (eqb_tells (get_or order j 0) k) [ inl same ↦ absurd (order_differs n order j i h lt below (same.1 ∙ sym is)) | inr other ↦ ap not other.0 ])
+    (λ j lt. elim (eqb_tells (get_or order j 0) k)
+    [ inl same ↦ absurd (order_differs n order j i h lt below (same.1 ∙ sym is)) | inr other ↦ ap not other.0 ])
     (λ inside. elim (eqb_tells (get_or order i 0) k) [ inl same ↦ ap not same.0 | inr other ↦ absurd (other.1 is) ]))
 
 pub take-range : (n k : ℕ) → k ≤ n → take k (range_with_len 0 n) ≡ range_with_len 0 k

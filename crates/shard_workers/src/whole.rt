@@ -79,7 +79,8 @@ fn encode_planned_by_workers<
 }
 
 /// As `encode`, by workers where the options' concurrent target is above 1: each encodes subchunks of its own, after it
-/// passed the gate with the number of the subchunk. Otherwise this call is `encode`, and the gate isn't called. Whichever worker is first, the shard and the refusals are those of `encode`: refused as `check` refuses,
+/// passed the gate with the number of the subchunk. Otherwise this call is `encode`, and the gate isn't called. Whichever
+/// worker is first, the shard and the refusals are those of `encode`: refused as `check` refuses,
 /// then as `WrongElementKind`, `InvalidNumberOfElements`, as the inner codec refuses the lowest refused subchunk
 /// (`CannotEncode`, `TooLarge`), as `TooLarge` where the shard would reach `usize::MAX` bytes, and as the index codec
 /// refuses; or as `OutOfMemory`.
@@ -125,7 +126,8 @@ pub fn encode_by_workers<
 }
 
 /// As `decode`, by workers where the options' concurrent target is above 1: each decodes subchunks of its own, after it
-/// passed the gate with the number of the subchunk. Otherwise this call is `decode`, and the gate isn't called. Whichever worker is first, the array and the refusals are those of `decode`: refused as `check` refuses,
+/// passed the gate with the number of the subchunk. Otherwise this call is `decode`, and the gate isn't called. Whichever
+/// worker is first, the array and the refusals are those of `decode`: refused as `check` refuses,
 /// then as `ShardTooShort`, as `Damaged` where the index does not decode, as the lowest refused subchunk is
 /// (`BadIndexEntry` with its number, `Damaged`, `TooLarge`), and as `TooLarge` where the lengths of the cells pass
 /// `usize::MAX`; or as `OutOfMemory`.
