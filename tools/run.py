@@ -13,8 +13,7 @@ import time
 
 from session import README, TOP, commands, parts_of_readme, shown, words_of
 
-USUAL = 60  # seconds, on four idle cores
-BEGAN = time.time()
+USUAL = {"zarr_shard": 75, "shard_tool": 45}  # seconds that a build takes, on four idle cores
 
 
 def say(text):
@@ -24,15 +23,14 @@ def say(text):
 class Try:
     """One `rt try`, which builds a program without proofs and runs it, in a thread of its own."""
 
-    def __init__(self, crate, words, stdin=None, nice=0):
-        self.crate, self.words, self.stdin, self.nice = crate, words, stdin, nice
+    def __init__(self, crate, words, stdin=None):
+        self.crate, self.words, self.stdin = crate, words, stdin
+        self.began = time.time()
         self.thread = threading.Thread(target=self.work, daemon=True)
         self.thread.start()
 
     def work(self):
         how = {"cwd": f"{TOP}/crates/{self.crate}", "stdin": self.stdin or subprocess.DEVNULL, "capture_output": True}
-        if self.nice:
-            how["preexec_fn"] = lambda: os.nice(self.nice)
         try:
             self.ran = subprocess.run(["rt", "try", *self.words], **how)
         except FileNotFoundError:
@@ -43,8 +41,8 @@ class Try:
         last = 0
         while self.thread.is_alive():
             self.thread.join(0.2)
-            now = int(time.time() - BEGAN)
-            text = f"  building {self.crate}: {now} s (about {USUAL} s on four idle cores)"
+            now = int(time.time() - self.began)
+            text = f"  building {self.crate}: {now} s (about {USUAL[self.crate]} s on four idle cores)"
             if sys.stderr.isatty():
                 print(f"\r{text}", end="", file=sys.stderr, flush=True)
             elif now >= last + 10:
@@ -99,13 +97,12 @@ def write_readme(folder):
 def run(folder):
     say("Building zarr_shard and shard_tool without proofs, to show them at work on the arrays in examples/.")
     array = try_commands(folder)
+    answers = list(sessions(array.output()))
+    for command, answer in answers:
+        say(f"\n$ {command}\n{answer}".rstrip("\n"))
+    say(f"\n  answered after {time.time() - array.began:.0f} s\n")
     with open(f"{TOP}/crates/shard_tool/stdin", "rb") as script:
-        tool = Try("shard_tool", [], script, nice=19)
-        answers = list(sessions(array.output()))
-        for command, answer in answers:
-            say(f"\n$ {command}\n{answer}".rstrip("\n"))
-        say(f"\n  first answer after {time.time() - BEGAN:.0f} s\n")
-        answer = tool.output()
+        answer = Try("shard_tool", [], script).output()
     say(f"$ shard_tool < crates/shard_tool/stdin\n{answer}")
     if answers != [tuple(it) for it in commands()]:
         say("note: README.md shows other answers; make readme writes these into it")
