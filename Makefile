@@ -21,7 +21,7 @@ install:
 	@python3 tools/prove.py install $(PREFIX)
 
 test: lint
-	rt ci
+	@python3 tools/prove.py test
 
 check:
 	@test -n "$(CRATE)" || { echo "make check CRATE=NAME [ONLY=path]: the names are those of crates/"; exit 2; }

@@ -1,9 +1,11 @@
 #!/usr/bin/env python3
-"""Installs the programs: proves all that they stand on, with one line a crate, and the prover's own lines in a log.
+"""Proves with one line a crate, and the prover's own lines in a log.
 
+    python3 tools/prove.py test           runs `rt ci`, the merge gate
     python3 tools/prove.py install DIR    proves zarr_shard and shard_tool with all that they stand on, and copies them to DIR/bin
 """
 import os
+import re
 import shutil
 import signal
 import subprocess
@@ -40,18 +42,21 @@ def below_first(names, known, found=None):
     return found
 
 
-def lines_of(words, folder, log, **how):
-    """The lines that a command writes, each also into the log; its status comes last."""
+def run(words, folder, log, tell=lambda line: None):
+    """The status of a command, and its lines, of which each goes to the log and is told."""
+    said = []
+    how = {"stdin": subprocess.DEVNULL, "stdout": subprocess.PIPE, "stderr": subprocess.STDOUT}
     try:
-        child = subprocess.Popen(words, cwd=folder, stdout=subprocess.PIPE, stderr=subprocess.STDOUT, **how)
+        child = subprocess.Popen(words, cwd=folder, **how)
     except FileNotFoundError:
         sys.exit("rt, the command of Rattle's kit, is not on the path")
     try:
         for line in child.stdout:
             log.write(line)
             log.flush()
-            yield line.decode(errors="replace")
-        yield child.wait()
+            said.append(line.decode(errors="replace"))
+            tell(said[-1])
+        return child.wait(), said
     finally:
         if child.poll() is None:
             child.terminate()
@@ -64,6 +69,23 @@ def opened(name):
     return open(f"{TOP}/out/{name}", "wb")
 
 
+def test():
+    names, proved = libraries(), set()
+
+    def tell(line):
+        found = re.match(r"rt: (\w+) (proved|is kept)", line)
+        if found and found[1] in names and found[1] not in proved:
+            proved.add(found[1])
+            say(f"{len(proved)} of {len(names)}: {found[1]} {found[2]}")
+        elif line.startswith("rt: "):
+            say(line[4:].rstrip("\n"))
+
+    with opened("test.log") as log:
+        status, said = run(["rt", "ci"], TOP, log, tell)
+    print("".join(said[-400:] if status else said[-1:]), end="", flush=True)
+    return status
+
+
 def install(to):
     names, known = below_first(PROGRAMS, libraries()), libraries()
     say(f"proving {len(names)} crates; what was proved before is kept")
@@ -71,7 +93,7 @@ def install(to):
         for number, name in enumerate(names, 1):
             say(f"proving {number} of {len(names)}: {name}")
             words = ["rt", "run", "--", "--help"] if name in PROGRAMS else ["rt", "lib"]
-            *said, status = lines_of(words, f"{TOP}/crates/{name}", log, stdin=subprocess.DEVNULL)
+            status, said = run(words, f"{TOP}/crates/{name}", log)
             if status:
                 print("".join(said[-40:]), end="")
                 say(f"{name} did not pass; all that the prover said is in out/install.log")
@@ -86,6 +108,8 @@ def install(to):
 if __name__ == "__main__":
     for number in (signal.SIGTERM, signal.SIGHUP):
         signal.signal(number, lambda number, _: sys.exit(128 + number))
+    if sys.argv[1:] == ["test"]:
+        sys.exit(test())
     if sys.argv[1:2] == ["install"] and len(sys.argv) == 3:
         sys.exit(install(os.path.expanduser(sys.argv[2])))
     sys.exit(__doc__)
