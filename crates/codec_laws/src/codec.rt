@@ -340,8 +340,8 @@ pub trait ArrayToBytesCodecTraits {
         target.copy_from(&read)
     }
 
-    /// Reads the cells that an indexer asks, as `partial_decode_into`, into a target that nobody looks at where it is refused: its
-    /// subset may then have any elements, all others stay. By default a refusal leaves the target. Refused as
+    /// Reads the requested elements into a target, as `partial_decode_into`, except that after a refusal the target's subset has
+    /// unspecified elements; nothing outside the subset changes. By default a refusal leaves the target. Refused as
     /// `partial_decode_into`.
     fn partial_decode_into_fresh<H: BytesPartialDecoderTraits, N: Indexer>(
         &self,

@@ -57,7 +57,7 @@ fn element_asked<'a>(
     element_of(&parts[group], rank, kind, fill)
 }
 
-// Tests that a number can say how many bytes the asked elements have together.
+// Tests that the requested elements take fewer than 2^64 bytes together.
 fn check_total<'a>(
     groups: &Grouping,
     parts: &'a [Option<ArrayBytes<'static>>],

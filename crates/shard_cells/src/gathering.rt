@@ -41,9 +41,8 @@ fn bytes_in(subchunk: &Option<ArrayBytes>, places: u64, fill: &[u8]) -> Option<u
     }
 }
 
-/// Tests, where elements have lengths of their own, that a number can say how many bytes those of all decoded subchunks
-/// have together, and answers it, or 0 where elements have one size. Each subchunk has so many places, and is looked at once.
-/// Refused only as `TooLarge`.
+/// The bytes that the variable-length elements of all decoded subchunks take together, or 0 if elements have a fixed size. Each
+/// subchunk has `places` elements. Refused only as `TooLarge`, if they take 2^64 bytes or more.
 pub fn check_lengths(
     subchunks: &[Option<ArrayBytes>],
     places: u64,

@@ -13,9 +13,9 @@ use std::alloc::{AllocError, Global};
 use zarr_parts::{ArrayBytes, ChunkShape, CodecError, DataType};
 use zarr_selections::subchunks_follow;
 
-/// Makes room behind the slices of a shard, which begin at `start`, for so many bytes more, where some of the subchunks are laid out
-/// and some are left: as many as are there, but no more than the rest will have if it is like the others, and a sixteenth. So they
-/// are moved seldom, and few places stay empty. Refused only as out of memory; that leaves the room as it was.
+/// Reserves room for at least `more` bytes after the slices of a shard, which begin at `start`. Doubles the capacity, but reserves
+/// at most what the `left` subchunks will need if they are like the `laid` ones that are written, plus 1/16. Refused only as out of
+/// memory, which leaves the capacity as it was.
 pub fn room_for_next(
     bytes: &mut Vec<u8>,
     start: usize,

@@ -24,7 +24,7 @@ use zarr_parts::{
 };
 
 impl<I: ArrayToBytesCodecTraits> Subchunks<'_, I> {
-    /// Whether the elements have one size, and a number can say how many bytes so many have together.
+    /// Whether the type has a fixed size and `count` elements of it take fewer than 2^64 bytes.
     pub fn has_room(&self, count: u64) -> bool
         requires fill { FitsKind (size_of self.now.data_type.now) self.now.fill_value.now }
         ensures fixed { IsTrue result → size_of self.now.data_type.now ≡ Fixed (length self.now.fill_value.now) }

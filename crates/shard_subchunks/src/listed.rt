@@ -114,7 +114,7 @@ impl<I: ArrayToBytesCodecTraits> Subchunks<'_, I> {
     }
 
     /// The cells with these row-major numbers, in their order, of a shard that stands in an interval of an object and has this
-    /// index; their elements have one size, and a number can say how many bytes they have together. Refused as the lowest
+    /// index; their elements have one size, and together take fewer than 2^64 bytes. Refused as the lowest
     /// subchunk in which cells are asked is (`BadIndexEntry` with its number, `Damaged`, `TooLarge`); or as `Fault`, where the
     /// handle failed, or `OutOfMemory`.
     pub fn read_listed<H: BytesPartialDecoderTraits>(

@@ -275,8 +275,8 @@ impl<I: ArrayToBytesCodecTraits, X: ArrayToBytesCodecTraits> ArrayToBytesCodecTr
         )
     }
 
-    /// Reads the index and the asked cells as `partial_decode` into a target that nobody looks at where it is refused. Where the
-    /// inner codec stores elements as they are in memory, the cells of a box go from each slice to the target with no copy between.
+    /// Reads the index and the requested elements, as `partial_decode`, into a target, whose subset has unspecified elements after
+    /// a refusal. If the inner codec stores elements as they are in memory, those of a subset are copied once, from each slice.
     fn partial_decode_into_fresh<H: BytesPartialDecoderTraits, N: Indexer>(
         &self,
         alloc: Global,

@@ -16,8 +16,8 @@ use zarr_parts::{
     check_selection,
 };
 
-/// Lays elements that have lengths of their own one after the other, each behind its length, behind their count: numbers of
-/// four bytes, the least significant first. It serves the type `Bytes`.
+/// The codec of variable-length elements: a 4-byte count, then each element preceded by its 4-byte length. Count and lengths are
+/// little endian. It serves the type `Bytes`.
 #[derive(Debug, Clone, Copy, PartialEq, Eq)]
 pub struct VlenCodec;
 
