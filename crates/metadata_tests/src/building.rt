@@ -5,6 +5,7 @@ use std::alloc::Global;
 use std::borrow::CowSlice;
 use std::sync::Arc;
 use std::test::Fail;
+use test_codecs::InvertedCodec;
 use zarr_codecs::{
     ArrayToBytesCodecTraits, BytesCodec, BytesRepresentation, CodecTraitsV3,
     DefaultArrayToBytesCodec,
@@ -112,6 +113,22 @@ fn a_codec_is_built_part_by_part(rt: HostRuntime) {
     same(&rt, index_first(rt.alloc()).map(start_of), Ok((32, 40)));
     same(&rt, with_checksums(rt.alloc()).map(start_of), Ok((1, 52)));
     same(&rt, replaced(rt.alloc()).map(start_of), Ok((0, 40)));
+}
+
+// Each byte taken from 255 before it is stored.
+fn inverted(alloc: Global) -> Result<Vec<u8>, CodecError> {
+    let builder = pairs(alloc)?.array_to_array_codecs(InvertedCodec);
+    encoded(alloc, &builder.build())
+}
+
+// The cells 1 to 4, inverted, and the index of two slices of four bytes.
+#[test]
+fn a_codec_of_arrays_stands_before_the_inner_codec(rt: HostRuntime) {
+    let mut want = [0; 40];
+    want[..8].copy_from_slice(&[254, 255, 253, 255, 252, 255, 251, 255]);
+    (want[16], want[24], want[32]) = (4, 4, 4);
+    let found = inverted(rt.alloc());
+    assert!(rt; found.is_ok_and(|shard| shard.as_slice() == want.as_slice()));
 }
 
 type Shared = Arc<ShardingCodec<DefaultArrayToBytesCodec, BytesCodec>>;
