@@ -1,2 +1,3 @@
 mod CompactLemmas
 mod PlaceLemmas
+mod PlanLemmas

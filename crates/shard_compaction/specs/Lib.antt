@@ -1,1 +1,3 @@
 pub mod Layouts
+pub mod CompactionPlans
+pub use Rattle.shard_layout.specs.Repacking

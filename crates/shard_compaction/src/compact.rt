@@ -1,60 +1,40 @@
-// The compaction of a shard, after the tests of its shape.
-ghost use Rattle.std.specs.Prelude.{IfOk, IfErr, IfSome, IfNone, OnOk};
+// The compaction of a shard.
+ghost use Rattle.std.specs.Prelude.{◌≡◌, IfOk, IfErr, IfSome, IfNone, OnOk, length};
 ghost use Rattle.zarr_parts.specs.Order.{RefusedBy};
 ghost use Rattle.zarr_parts.specs.Numbering.{AllPositive};
 ghost use Rattle.zarr_parts.specs.Grid.{grid_of};
 ghost use Rattle.shard_format.specs.Compacting.{IsCompact, IsCompacted, CompactTests};
 ghost use Rattle.shard_format.specs.Serves.{HasPlan};
 ghost use Rattle.shard_index.specs.Indexes.{index_meaning};
-ghost use Rattle.shard_plans.specs.Plans.{IsPlan};
 ghost use Rattle.shard_compaction.specs.Layouts.{OfEachLayout};
+ghost use Rattle.shard_compaction.specs.CompactionPlans.{executed};
 
-use crate::rewritten::rewritten;
+use crate::plan::{CompactionPlan, plan_compaction};
 use codec_laws::ArrayToBytesCodecTraits;
+use shard_format::ShardingIndexLocation;
 use shard_index::IndexCodec;
-use shard_layout::compact_size;
-use shard_plans::Plan;
-use std::alloc::Global;
+use shard_layout::push_slices;
+use std::alloc::{AllocError, Global};
 use zarr_parts::{ChunkShape, CodecError, CodecOptions};
 
-// The compaction of a shard whose plan is known, or nothing where it has as many bytes as the shard.
-fn compacted_by<X: ArrayToBytesCodecTraits>(
-    alloc: Global,
-    index_codec: &IndexCodec<'_, X>,
-    bytes: &[u8],
-    plan: &Plan,
-    options: &CodecOptions,
-    _shape: &ChunkShape,
-    _subchunk_shape: &ChunkShape,
-) -> Result<Option<Vec<u8>>, CodecError>
-    requires plan { IsPlan (index_meaning X.meaning index_codec.now.codec.now) _shape.now _subchunk_shape.now plan.now }
-    requires served { let index = index_meaning X.meaning index_codec.now.codec.now (grid_of _shape.now _subchunk_shape.now) in
-        HasPlan index _shape.now _subchunk_shape.now 0 }
-    ensures compacted { let index = index_meaning X.meaning index_codec.now.codec.now (grid_of _shape.now _subchunk_shape.now) in
-        OfEachLayout _shape.now _subchunk_shape.now index_codec.now.location index (λ l.
-        IfOk result (λ answer. IfSome answer (λ new. IsCompacted index l bytes.now new.items))) }
-    ensures kept { let index = index_meaning X.meaning index_codec.now.codec.now (grid_of _shape.now _subchunk_shape.now) in
-        OfEachLayout _shape.now _subchunk_shape.now index_codec.now.location index (λ l.
-        IfOk result (λ answer. IfNone answer (IsCompact index.cells l bytes.now))) }
-    ensures refused { let index = index_meaning X.meaning index_codec.now.codec.now (grid_of _shape.now _subchunk_shape.now) in
-        OfEachLayout _shape.now _subchunk_shape.now index_codec.now.location index (λ l.
-        IfErr result (RefusedBy (CompactTests index l bytes.now))) }
+// The shard that a plan makes of the shard that it was made for.
+fn execute(alloc: Global, plan: &CompactionPlan, bytes: &[u8]) -> Result<Vec<u8>, AllocError>
+    requires { length bytes.now ≡ plan.now.old_index.len }
+    ensures { IfOk result (λ shard. shard.items ≡ executed plan.now bytes.now) }
 {
-    let index = index_codec.decode(alloc, bytes, &plan.index, options)?;
-    let total = compact_size(&index, plan.index.size)?;
-    if total == bytes.len() as u64 {
-        return Ok(None);
+    let (old_index, new_index) = plan.parts();
+    let mut shard = Vec::with_capacity(alloc, plan.len() as usize)?;
+    match plan.index_location() {
+        ShardingIndexLocation::Start => {
+            shard.extend_from_slice(new_index)?;
+            push_slices(bytes, old_index, &mut shard)?;
+        }
+        ShardingIndexLocation::End => {
+            push_slices(bytes, old_index, &mut shard)?;
+            shard.extend_from_slice(new_index)?;
+        }
     }
-    let shard = rewritten(
-        alloc,
-        index_codec,
-        bytes,
-        index.numbers,
-        total,
-        &plan.index,
-        options,
-    )?;
-    Ok(Some(shard))
+    Ok(shard)
 }
 
 /// The index and the present slices of a shard, ascending and without gaps, or nothing where that has as many bytes. Refused, in this
@@ -81,14 +61,17 @@ pub fn compacted<X: ArrayToBytesCodecTraits>(
         OfEachLayout shape.now subchunk_shape.now index_codec.now.location index (λ l.
         IfErr result (RefusedBy (CompactTests index l bytes.now))) }
 {
-    let plan = Plan::new(alloc, index_codec, shape, subchunk_shape, 0)?;
-    compacted_by(
+    let len = bytes.len() as u64;
+    match plan_compaction(
         alloc,
         index_codec,
         bytes,
-        &plan,
-        options,
+        len,
         shape,
         subchunk_shape,
-    )
+        options,
+    )? {
+        Some(plan) => Ok(Some(execute(alloc, &plan, bytes)?)),
+        None => Ok(None),
+    }
 }

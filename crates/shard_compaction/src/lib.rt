@@ -2,6 +2,7 @@
 #![tactic(auto)]
 
 mod compact;
-mod rewritten;
+mod plan;
 
 pub use compact::compacted;
+pub use plan::{CompactionPlan, plan_compaction};

@@ -1,54 +1,48 @@
--- The pairs of an index, written over where their slices are packed.
-use Rattle.std.proofs.Common.{◌≡◌, ◌≢◌, ℕ, ◌+◌, ◌*◌, ◌/◌, ◌<◌, ◌≤◌, Bool, true, false, ◌==◌, ◌&&◌, ◌||◌, nat_le, if◌then◌else◌, List, [], ◌∷◌, ◌++◌, length, get_or, refl, sym, ap, ◌∙◌, arith}
-use Rattle.std.proofs.Math.ListN.{get_or-append}
-use Rattle.std.proofs.lemmas.Bool.{eqb-true, leb-true}
-use Rattle.std.proofs.lemmas.List.{get_or_push}
-use Rattle.std.proofs.lemmas.List.FromFn.{length-map-range_with_len, get_or-map-range_with_len}
+-- The slices that the pairs of an index name, packed, and the pairs that name them there.
+use Rattle.std.proofs.Common.{◌≡◌, ◌≢◌, ℕ, zero, suc, ◌+◌, ◌*◌, ◌/◌, ◌^◌, ◌<◌, ◌≤◌, inl, inr, Bool, true, false, ◌==◌, ◌&&◌, ◌||◌, nat_le, if◌then◌else◌, List, [], ◌∷◌, ◌++◌, length, get_or, refl, sym, ap, ◌∙◌, subst, arith}
+use Rattle.std.specs.List.{flat_map, range_with_len}
+use Rattle.std.proofs.lemmas.Bool.{eqb-true, eqb-false, leb-true}
+use Rattle.std.proofs.lemmas.Bool.Decides.{eqb_tells}
+use Rattle.std.proofs.lemmas.List.{append_assoc, flat_map_more, map-id}
+use Rattle.std.proofs.lemmas.List.FromFn.{length-map-range_with_len, get_or-map-range_with_len, map-range_with_len_more}
 use borrow.Author.Count.{below_more}
 use Rattle.shard_format.specs.Index.{absent_number, slot_of_pair, slot_at}
 use Rattle.shard_format.specs.Encoding.{slot_size}
 use Rattle.shard_format.specs.Laying.{taken, offset_number, size_number, AreNumbersOf}
 use Rattle.shard_format.specs.Compacting.{IsGood, present_size}
-use Rattle.shard_format.specs.Packing.{LiesInShard, AreSlots, slice_of, moved_slot}
+use Rattle.shard_format.specs.Packing.{LiesInShard, AreSlots, slice_of, moved_slot, IsPacked}
 use Rattle.shard_format.specs.declared.slot.Slot.{Slot}
 use Rattle.shard_format.specs.declared.slot.Slot.TheVariants.{Absent, InRange, Bad}
-use Rattle.shard_format.proofs.LayingLemmas.{sum_same}
+use Rattle.shard_format.proofs.LayingLemmas.{sum_more, sum_same, sum_grows_to}
 use Rattle.shard_format.proofs.PackingLemmas.{one_more_packed}
-use Rattle.shard_layout.specs.Repacking.{slots_of, IsRepacked}
+use Rattle.shard_layout.specs.Repacking.{slots_of, slices_of, packed_slots}
 
 -- what is known of a pair that isn't bad
 pub record GoodPair (len x y : ℕ) (s : Slot) : Type 0 where
-  pub offset : offset_number 0 s ≡ x
-  pub size : size_number s ≡ y
+  pub absent : x ≡ absent_number → (s ≡ Absent) × (y ≡ absent_number)
+  pub present : x ≢ absent_number → s ≡ InRange x y
   pub inside : LiesInShard len s
 
-good_by_tests : (x_absent y_absent inside : Bool) (len x y : ℕ) → (x_absent ≡ true → x ≡ absent_number) → (y_absent ≡ true → y ≡ absent_number) → (inside ≡ true → x + y ≤ len)
+good_by_tests : (x_absent y_absent inside : Bool) (len x y : ℕ) → (x_absent ≡ true → x ≡ absent_number) → (x_absent ≡ false → x ≢ absent_number)
+    → (y_absent ≡ true → y ≡ absent_number) → (inside ≡ true → x + y ≤ len)
     → (s : Slot) → s ≡ (if x_absent && y_absent then Absent else (if x_absent || y_absent then Bad else (if inside then InRange x y else Bad)))
     → IsGood s → GoodPair len x y s
-good_by_tests true true inside len x y hx hy h s is good = rw is (record { offset = sym (hx refl); size = sym (hy refl); inside = tt })
-good_by_tests true false inside len x y hx hy h s is good = absurd (rw is at good)
-good_by_tests false true inside len x y hx hy h s is good = absurd (rw is at good)
-good_by_tests false false true len x y hx hy h s is good = rw is (record { offset = omega arith; size = refl; inside = h refl })
-good_by_tests false false false len x y hx hy h s is good = absurd (rw is at good)
+good_by_tests true true inside len x y hx nx hy h s is good = rw is (record { absent = λ same. (refl, hy refl); present = λ other. absurd (other (hx refl)); inside = tt })
+good_by_tests true false inside len x y hx nx hy h s is good = absurd (rw is at good)
+good_by_tests false true inside len x y hx nx hy h s is good = absurd (rw is at good)
+good_by_tests false false true len x y hx nx hy h s is good = rw is (record { absent = λ same. absurd (nx refl same); present = λ other. refl; inside = h refl })
+good_by_tests false false false len x y hx nx hy h s is good = absurd (rw is at good)
 
 pub good_pair : (len x y : ℕ) (s : Slot) → s ≡ slot_of_pair len x y → IsGood s → GoodPair len x y s
 good_pair len x y s is good =
-    good_by_tests (x == absent_number) (y == absent_number) (nat_le (x + y) len) len x y (λ t. eqb-true x absent_number t) (λ t. eqb-true y absent_number t)
-    (λ t. leb-true (x + y) len t) s is good
+    good_by_tests (x == absent_number) (y == absent_number) (nat_le (x + y) len) len x y (λ t. eqb-true x absent_number t) (λ f. eqb-false x absent_number f)
+    (λ t. eqb-true y absent_number t) (λ t. leb-true (x + y) len t) s is good
 
-pub good_inside : (len : ℕ) (numbers : List ℕ) (k : ℕ) → IsGood (slot_at len numbers k) → LiesInShard len (slot_at len numbers k)
+-- the pair of a subchunk that isn't bad
+pub good_at : (len : ℕ) (numbers : List ℕ) (k : ℕ) → IsGood (slot_at len numbers k)
+    → GoodPair len (get_or numbers (2 * k) 0) (get_or numbers (2 * k + 1) 0) (slot_at len numbers k)
 unfolding slot_at
-good_inside len numbers k good = (good_pair len (get_or numbers (2 * k) 0) (get_or numbers (2 * k + 1) 0) (slot_at len numbers k) refl good).inside
-
--- the slot that was told of a pair
-pub slot_told : (len : ℕ) (numbers : List ℕ) (k : ℕ) (s : Slot) → s ≡ slot_of_pair len (get_or numbers (2 * k) 0) (get_or numbers (2 * k + 1) 0) → slot_at len numbers k ≡ s
-unfolding slot_at
-slot_told len numbers k s is = sym is
-
-same_slot : (len : ℕ) (numbers others : List ℕ) (k : ℕ) → get_or numbers (2 * k) 0 ≡ get_or others (2 * k) 0
-    → get_or numbers (2 * k + 1) 0 ≡ get_or others (2 * k + 1) 0 → slot_at len numbers k ≡ slot_at len others k
-unfolding slot_at
-same_slot len numbers others k offset size = rw (offset, size) refl
+good_at len numbers k good = good_pair len (get_or numbers (2 * k) 0) (get_or numbers (2 * k + 1) 0) (slot_at len numbers k) refl good
 
 -- the slots of an index
 pub slot_in : (len : ℕ) (numbers : List ℕ) (k : ℕ) → k < length numbers / 2 → get_or (slots_of len numbers) k Bad ≡ slot_at len numbers k
@@ -59,55 +53,140 @@ pub are_slots : (len : ℕ) (numbers : List ℕ) (n : ℕ) → n ≡ length numb
 are_slots len numbers n is good = record {
   counted = length-map-range_with_len (slot_at len numbers) 0 (length numbers / 2) ∙ sym is;
   are = λ k below. slot_in len numbers k (omega (arith, is, below));
-  inside = λ k below. rw (slot_in len numbers k (omega (arith, is, below))) (good_inside len numbers k (good k below));
+  inside = λ k below. rw (slot_in len numbers k (omega (arith, is, below))) ((good_at len numbers k (good k below)).inside);
 }
 
-pub taken_present : (len : ℕ) (numbers : List ℕ) (n : ℕ) → n ≡ length numbers / 2 → taken (slots_of len numbers) n ≡ present_size (slot_at len numbers) n
+pub taken_present : (len : ℕ) (numbers : List ℕ) (n : ℕ) → n ≤ length numbers / 2 → taken (slots_of len numbers) n ≡ present_size (slot_at len numbers) n
 taken_present len numbers n is =
     sum_same (λ j. slot_size (get_or (slots_of len numbers) j Bad)) (λ j. slot_size (slot_at len numbers j)) n
     (λ j below. ap slot_size (slot_in len numbers j (omega (arith, is, below))))
 
--- the pair that comes next is still as it was
-pub next_slot : (start : ℕ) (old old_numbers bytes numbers : List ℕ) (k : ℕ) → IsRepacked start old old_numbers bytes numbers k
-    → slot_at (length old) numbers k ≡ slot_at (length old) old_numbers k
-next_slot start old old_numbers bytes numbers k h =
-    same_slot (length old) numbers old_numbers k (h.later (2 * k) (omega arith)) (h.later (2 * k + 1) (omega arith))
+-- one slice more
+pub slices_more : (bytes : List ℕ) (slots : ℕ → Slot) (k : ℕ) → slices_of bytes slots (k + 1) ≡ slices_of bytes slots k ++ slice_of bytes (slots k)
+slices_more bytes slots k =
+    let f = λ (j : ℕ). slice_of bytes (slots j) in
+    let range : range_with_len 0 (k + 1) ≡ range_with_len 0 k ++ k ∷ [] =
+    sym (map-id (range_with_len 0 (k + 1))) ∙ map-range_with_len_more (λ (j : ℕ). j) 0 k k (omega arith) ∙ ap (λ xs. xs ++ k ∷ []) (map-id (range_with_len 0 k)) in
+    ap (flat_map f) range ∙ sym (flat_map_more f [] (range_with_len 0 k) k)
 
--- one pair more
-pub one_more_repacked : (start : ℕ) (old old_numbers bytes all numbers new : List ℕ) (k : ℕ) → k < length old_numbers / 2
-    → IsRepacked start old old_numbers bytes numbers k → IsGood (slot_at (length old) numbers k)
-    → all ≡ bytes ++ slice_of old (slot_at (length old) numbers k)
-    → get_or new (2 * k) 0 ≡ offset_number start (moved_slot (slot_at (length old) numbers k) (length bytes))
-    → get_or new (2 * k + 1) 0 ≡ size_number (moved_slot (slot_at (length old) numbers k) (length bytes))
-    → ((j : ℕ) → j ≢ 2 * k → get_or new j 0 ≡ get_or numbers j 0)
-    → IsRepacked start old old_numbers all new (k + 1)
-one_more_repacked start old old_numbers bytes all numbers new k below h good is offset size others =
-    let s : Slot = slot_at (length old) numbers k in
-    let is_next : get_or (slots_of (length old) old_numbers) k Bad ≡ s =
-    slot_in (length old) old_numbers k below ∙ sym (next_slot start old old_numbers bytes numbers k h) in
-    let t : Slot = moved_slot s (length bytes) in
-    let grown : List Slot = h.places ++ t ∷ [] in
-    let here : get_or grown k Bad ≡ t = get_or_push h.places t Bad k h.packed.counted in
-    let before : (j : ℕ) → j < k → get_or grown j Bad ≡ get_or h.places j Bad =
-    λ j earlier. get_or-append h.places (t ∷ []) Bad j (omega (arith, earlier, h.packed.counted)) in
+pub pushed_more : (before all bytes : List ℕ) (slots : ℕ → Slot) (new : List ℕ) (k : ℕ) → all ≡ before ++ slices_of bytes slots k
+    → new ≡ all ++ slice_of bytes (slots k) → new ≡ before ++ slices_of bytes slots (k + 1)
+pushed_more before all bytes slots new k so_far is =
+    is ∙ ap (λ xs. xs ++ slice_of bytes (slots k)) so_far ∙ append_assoc before (slices_of bytes slots k) (slice_of bytes (slots k)) ∙ ap (λ xs. before ++ xs) (sym (slices_more bytes slots k))
+
+-- the slots of packed slices
+pub packed_in : (slots : ℕ → Slot) (n k : ℕ) → k < n → get_or (packed_slots slots n) k Bad ≡ moved_slot (slots k) (present_size slots k)
+packed_in slots n k below = get_or-map-range_with_len (λ (j : ℕ). moved_slot (slots j) (present_size slots j)) 0 n k k Bad below (omega arith)
+
+pub length-packed : (slots : ℕ → Slot) (n : ℕ) → length (packed_slots slots n) ≡ n
+length-packed slots n = length-map-range_with_len (λ (j : ℕ). moved_slot (slots j) (present_size slots j)) 0 n
+
+packed_slots_more : (slots : ℕ → Slot) (k : ℕ) → packed_slots slots (k + 1) ≡ packed_slots slots k ++ moved_slot (slots k) (present_size slots k) ∷ []
+packed_slots_more slots k = map-range_with_len_more (λ (j : ℕ). moved_slot (slots j) (present_size slots j)) 0 k k (omega arith)
+
+none : (j : ℕ) → ¬ (j < 0)
+none j below = omega (arith, below)
+
+-- the slices of good pairs, one after the other, are packed
+module _ (old numbers : List ℕ) (good : (k : ℕ) → k < length numbers / 2 → IsGood (slot_at (length old) numbers k)) where
+  packed_up_to : (k : ℕ) → k ≤ length numbers / 2
+      → IsPacked old (slots_of (length old) numbers) (slices_of old (slot_at (length old) numbers) k) (packed_slots (slot_at (length old) numbers) k) k
+  packed_up_to zero upto = record { counted = refl; moved = λ j below. absurd (none j below); filled = refl }
+  packed_up_to (suc k) upto =
+      let slots = slots_of (length old) numbers in
+      let slot : ℕ → Slot = slot_at (length old) numbers in
+      let h = packed_up_to k (omega (arith, upto)) in
+      let is : get_or slots k Bad ≡ slot k = slot_in (length old) numbers k (omega (arith, upto)) in
+      let here : present_size slot k ≡ length (slices_of old slot k) = sym (taken_present (length old) numbers k (omega (arith, upto))) ∙ h.filled in
+      let one : k + 1 ≡ suc k = omega arith in
+      subst (λ m. IsPacked old slots (slices_of old slot m) (packed_slots slot m) m) one
+      (one_more_packed old (slices_of old slot k) (slices_of old slot (k + 1)) slots (packed_slots slot k) (packed_slots slot (k + 1)) k h
+      (rw is ((good_at (length old) numbers k (good k (omega (arith, upto)))).inside))
+      (rw is (slices_more old slot k)) (rw (is, sym here) (packed_slots_more slot k)))
+
+  pub packed_slices : IsPacked old (slots_of (length old) numbers) (slices_of old (slot_at (length old) numbers) (length numbers / 2))
+      (packed_slots (slot_at (length old) numbers) (length numbers / 2)) (length numbers / 2)
+  packed_slices = packed_up_to (length numbers / 2) (omega arith)
+
+-- the number of a packed slice's place, and of its size, by the pair
+offset_of_good : (len x y start place : ℕ) (s : Slot) (new : ℕ) → GoodPair len x y s → (x ≡ absent_number → new ≡ absent_number) → (x ≢ absent_number → new ≡ start + place)
+    → new ≡ offset_number start (moved_slot s place)
+offset_of_good len x y start place s new pair absent present =
+    elim (eqb_tells x absent_number) [
+      | inl same ↦ rw (pair.absent same.1).0 (absent same.1)
+      | inr other ↦ rw (pair.present other.1) (present other.1)
+    ]
+
+size_of_good : (len x y place : ℕ) (s : Slot) → GoodPair len x y s → y ≡ size_number (moved_slot s place)
+size_of_good len x y place s pair =
+    elim (eqb_tells x absent_number) [
+      | inl same ↦ rw (pair.absent same.1).0 ((pair.absent same.1).1)
+      | inr other ↦ rw (pair.present other.1) refl
+    ]
+
+size_by_offset : (len x y : ℕ) (s : Slot) → GoodPair len x y s → (x ≡ absent_number → slot_size s ≡ 0) × (x ≢ absent_number → slot_size s ≡ y)
+size_by_offset len x y s pair = (λ same. ap slot_size (pair.absent same).0, λ other. ap slot_size (pair.present other))
+
+-- the loop that places slices
+pub record IsPlaced (len start : ℕ) (old numbers : List ℕ) (place k : ℕ) : Type 0 where
+  pub counted : length numbers ≡ length old
+  pub place_is : place ≡ start + present_size (slot_at len old) k
+  pub offsets : (j : ℕ) → j < k → get_or numbers (2 * j) 0 ≡ offset_number start (moved_slot (slot_at len old j) (present_size (slot_at len old) j))
+  pub later : (j : ℕ) → k ≤ j → get_or numbers (2 * j) 0 ≡ get_or old (2 * j) 0
+  pub sizes : (j : ℕ) → get_or numbers (2 * j + 1) 0 ≡ get_or old (2 * j + 1) 0
+
+pub none_placed : (len start : ℕ) (old : List ℕ) → IsPlaced len start old old start 0
+none_placed len start old = record {
+  counted = refl;
+  place_is = omega arith;
+  offsets = λ j below. omega (arith, below);
+  later = λ j from. refl;
+  sizes = λ j. refl;
+}
+
+-- the next place fits
+pub room_to_place : (len start : ℕ) (old numbers : List ℕ) (place k n : ℕ) → k < n → IsGood (slot_at len old k) → IsPlaced len start old numbers place k
+    → start + present_size (slot_at len old) n < 2 ^ 64 → get_or numbers (2 * k) 0 ≢ absent_number → place + get_or numbers (2 * k + 1) 0 < 2 ^ 64
+room_to_place len start old numbers place k n below good h small other =
+    let slot : ℕ → Slot = slot_at len old in
+    let pair = good_at len old k good in
+    let size : slot_size (slot k) ≡ get_or old (2 * k + 1) 0 =
+    (size_by_offset len (get_or old (2 * k) 0) (get_or old (2 * k + 1) 0) (slot k) pair).1 (λ same. other (h.later k (omega arith) ∙ same)) in
+    omega (arith, size, h.sizes k, h.place_is, sum_more (λ j. slot_size (slot j)) k, sum_grows_to (λ j. slot_size (slot j)) (k + 1) n (omega (arith, below)), small)
+
+pub one_more_placed : (len start : ℕ) (old numbers new : List ℕ) (place next k : ℕ) → IsGood (slot_at len old k) → IsPlaced len start old numbers place k
+    → (get_or numbers (2 * k) 0 ≡ absent_number → (next ≡ place) × (get_or new (2 * k) 0 ≡ absent_number))
+    → (get_or numbers (2 * k) 0 ≢ absent_number → (next ≡ place + get_or numbers (2 * k + 1) 0) × (get_or new (2 * k) 0 ≡ place))
+    → ((j : ℕ) → j ≢ 2 * k → get_or new j 0 ≡ get_or numbers j 0) → length new ≡ length numbers
+    → IsPlaced len start old new next (k + 1)
+one_more_placed len start old numbers new place next k good h absent present others counted =
+    let slot : ℕ → Slot = slot_at len old in
+    let x : ℕ = get_or old (2 * k) 0 in
+    let y : ℕ = get_or old (2 * k + 1) 0 in
+    let pair : GoodPair len x y (slot k) = good_at len old k good in
+    let same_x : get_or numbers (2 * k) 0 ≡ x = h.later k (omega arith) in
+    let more = sum_more (λ j. slot_size (slot j)) k in
+    let size = size_by_offset len x y (slot k) pair in
     record {
-      places = grown;
-      packed = one_more_packed old bytes all (slots_of (length old) old_numbers) h.places grown k h.packed
-          (rw is_next (good_inside (length old) numbers k good)) (rw is_next is) (rw is_next refl);
-      offsets = below_more (λ j. get_or new (2 * j) 0 ≡ offset_number start (get_or grown j Bad)) k
-          (λ j earlier. others (2 * j) (λ same. omega (arith, same, earlier)) ∙ h.offsets j earlier ∙ ap (offset_number start) (sym (before j earlier)))
-          (offset ∙ ap (offset_number start) (sym here));
-      sizes = below_more (λ j. get_or new (2 * j + 1) 0 ≡ size_number (get_or grown j Bad)) k
-          (λ j earlier. others (2 * j + 1) (λ same. omega (arith, same, earlier)) ∙ h.sizes j earlier ∙ ap size_number (sym (before j earlier)))
-          (size ∙ ap size_number (sym here));
-      later = λ j from. others j (λ same. omega (arith, same, from)) ∙ h.later j (omega (arith, from));
+      counted = counted ∙ h.counted;
+      place_is = elim (eqb_tells x absent_number) [
+        | inl same ↦ omega (arith, (absent (same_x ∙ same.1)).0, h.place_is, more, size.0 same.1)
+        | inr other ↦ omega (arith, (present (λ same. other.1 (sym same_x ∙ same))).0, h.place_is, h.sizes k, more, size.1 other.1)
+      ];
+      offsets = below_more (λ j. get_or new (2 * j) 0 ≡ offset_number start (moved_slot (slot j) (present_size slot j))) k
+          (λ j earlier. others (2 * j) (λ same. omega (arith, same, earlier)) ∙ h.offsets j earlier)
+          (offset_of_good len x y start (present_size slot k) (slot k) (get_or new (2 * k) 0) pair
+          (λ same. (absent (same_x ∙ same)).1) (λ other. (present (λ same. other (sym same_x ∙ same))).1 ∙ h.place_is));
+      later = λ j from. others (2 * j) (λ same. omega (arith, same, from)) ∙ h.later j (omega (arith, from));
+      sizes = λ j. others (2 * j + 1) (λ same. omega (arith, same)) ∙ h.sizes j;
     }
 
--- the pairs are those of the places
-pub numbers_repacked : (start : ℕ) (old old_numbers bytes numbers : List ℕ) (n : ℕ) (h : IsRepacked start old old_numbers bytes numbers n)
-    → length numbers ≡ 2 * n → AreNumbersOf start h.places numbers (length h.places)
-numbers_repacked start old old_numbers bytes numbers n h counted = record {
-  counted = omega (arith, counted, h.packed.counted);
-  offsets = λ j below. h.offsets j (omega (arith, below, h.packed.counted));
-  sizes = λ j below. h.sizes j (omega (arith, below, h.packed.counted));
+pub all_placed : (len start : ℕ) (old numbers : List ℕ) (place n : ℕ) → length old ≡ 2 * n → ((k : ℕ) → k < n → IsGood (slot_at len old k))
+    → IsPlaced len start old numbers place n → AreNumbersOf start (packed_slots (slot_at len old) n) numbers n
+all_placed len start old numbers place n pairs good h = record {
+  counted = h.counted ∙ pairs;
+  offsets = λ j below. h.offsets j below ∙ ap (offset_number start) (sym (packed_in (slot_at len old) n j below));
+  sizes = λ j below.
+      h.sizes j ∙ size_of_good len (get_or old (2 * j) 0) (get_or old (2 * j + 1) 0) (present_size (slot_at len old) j) (slot_at len old j) (good_at len old j (good j below))
+      ∙ ap size_number (sym (packed_in (slot_at len old) n j below));
 }

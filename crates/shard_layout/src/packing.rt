@@ -1,16 +1,16 @@
-// The present slices of a shard, copied together.
+// The present slices of a shard, one after the other: how many bytes they are, the pairs that name them there, and their bytes.
 ghost use Rattle.std.specs.Prelude.{◌≡◌, ◌≢◌, ◌<◌, ◌^◌, ◌+◌, ◌*◌, ◌/◌, ◌++◌, ℕ, IfOk, IfErr, OnOk, length, slice_index};
 ghost use Rattle.zarr_parts.specs.Order.{◌or◌then◌, Each, done};
-ghost use Rattle.zarr_parts.specs.CodecError.TheVariants.{OutOfMemory, TooLarge, BadIndexEntry};
-ghost use Rattle.shard_format.specs.Index.{slot_at};
+ghost use Rattle.zarr_parts.specs.CodecError.TheVariants.{TooLarge, BadIndexEntry};
+ghost use Rattle.shard_format.specs.Index.{slot_at, absent_number};
 ghost use Rattle.shard_format.specs.Encoding.{slot_size};
-ghost use Rattle.shard_format.specs.Laying.{taken, offset_number, size_number};
+ghost use Rattle.shard_format.specs.Laying.{AreNumbersOf};
 ghost use Rattle.shard_format.specs.Compacting.{IsGood, present_size};
-ghost use Rattle.shard_format.specs.Packing.{slice_of, moved_slot};
-ghost use Rattle.shard_layout.specs.Repacking.{slots_of, IsRepacked};
+ghost use Rattle.shard_format.specs.Packing.{slice_of};
+ghost use Rattle.shard_layout.specs.Repacking.{slices_of, packed_slots};
 
 use byte_rows::push_front;
-use shard_format::{ShardIndex, Slot, slot_of};
+use shard_format::{ShardIndex, Slot};
 use std::alloc::{AllocError, Global};
 use zarr_parts::CodecError;
 
@@ -53,59 +53,84 @@ pub fn compact_size(index: &ShardIndex, index_size: u64) -> Result<u64, CodecErr
     }
 }
 
-// Copies a subchunk's slice behind others, and writes where it stands now into its pair.
+// Writes a place as the offset of a subchunk's slice, unless this is absent, and tells where the next slice is to stand.
 #[inline(always)]
-fn move_slice(
-    bytes: &[u8],
-    numbers: &mut [u64],
-    subchunk: usize,
-    start: u64,
-    slices: &mut Vec<u8>,
-) -> Result<(), AllocError>
+fn place_slice(numbers: &mut [u64], subchunk: usize, place: u64) -> u64
     requires inside { 2 * subchunk + 1 < length numbers.old }
-    requires good { IsGood (slot_at (length bytes.now) numbers.old subchunk) }
-    requires small { start + length slices.old.items < 2 ^ 64 }
-    ensures copied { OnOk result (slices.new.items ≡ slices.old.items ++ slice_of bytes.now (slot_at (length bytes.now) numbers.old subchunk)) }
-    ensures offset { OnOk result (slice_index numbers.new (2 * subchunk)
-        ≡ offset_number start (moved_slot (slot_at (length bytes.now) numbers.old subchunk) (length slices.old.items))) }
-    ensures size { OnOk result (slice_index numbers.new (2 * subchunk + 1)
-        ≡ size_number (moved_slot (slot_at (length bytes.now) numbers.old subchunk) (length slices.old.items))) }
+    requires room { slice_index numbers.old (2 * subchunk) ≢ absent_number → place + slice_index numbers.old (2 * subchunk + 1) < 2 ^ 64 }
+    ensures absent { slice_index numbers.old (2 * subchunk) ≡ absent_number
+        → (result ≡ place) × (slice_index numbers.new (2 * subchunk) ≡ absent_number) }
+    ensures present { slice_index numbers.old (2 * subchunk) ≢ absent_number
+        → (result ≡ place + slice_index numbers.old (2 * subchunk + 1)) × (slice_index numbers.new (2 * subchunk) ≡ place) }
     ensures others { (j : ℕ) → j ≢ 2 * subchunk → slice_index numbers.new j ≡ slice_index numbers.old j }
+    ensures counted { length numbers.new ≡ length numbers.old }
 {
-    let place = start + slices.len() as u64;
-    let slot = slot_of(
-        bytes.len() as u64,
-        numbers[2 * subchunk],
-        numbers[2 * subchunk + 1],
-    );
-    match slot {
-        Slot::InRange { offset, size } => {
-            push_front(slices, &bytes[offset as usize..], size as usize)?;
-            numbers[2 * subchunk] = place;
-            Ok(())
-        }
-        Slot::Absent => Ok(()),
-        Slot::Bad => unreachable!(),
+    if numbers[2 * subchunk] == u64::MAX {
+        return place;
+    }
+    numbers[2 * subchunk] = place;
+    place + numbers[2 * subchunk + 1]
+}
+
+// Writes over the offsets of an index where its slices stand, packed in a data part that begins at `start`.
+fn place_slices(numbers: &mut [u64], start: u64, _len: u64)
+    requires pairs { length numbers.old ≡ 2 * (length numbers.old / 2) }
+    requires good { (k : ℕ) → k < length numbers.old / 2 → IsGood (slot_at _len numbers.old k) }
+    requires small { start + present_size (slot_at _len numbers.old) (length numbers.old / 2) < 2 ^ 64 }
+    ensures { let count = length numbers.old / 2 in AreNumbersOf start (packed_slots (slot_at _len numbers.old) count) numbers.new count }
+{
+    let mut place = start;
+    for k in 0..numbers.len() / 2 {
+        place = place_slice(numbers, k, place);
     }
 }
 
-/// The slices that the pairs of an index name, one after the other in a vector with this room. The pairs then say where the slices
-/// stand, in a shard whose data part begins at `start`.
-pub fn packed(
-    alloc: Global,
-    bytes: &[u8],
-    numbers: &mut [u64],
-    start: u64,
-    room: usize,
-) -> Result<Vec<u8>, CodecError>
-    requires good { (k : ℕ) → k < length numbers.old / 2 → IsGood (slot_at (length bytes.now) numbers.old k) }
-    requires small { start + taken (slots_of (length bytes.now) numbers.old) (length numbers.old / 2) < 2 ^ 64 }
-    ensures packed { IfOk result (λ slices. IsRepacked start bytes.now numbers.old slices.items numbers.new (length numbers.old / 2)) }
-    ensures refused { IfErr result (λ e. e ≡ OutOfMemory) }
+/// The numbers of an index whose slices are packed in a data part that begins at `start`. Refused only as out of memory.
+pub fn packed_numbers(alloc: Global, index: &ShardIndex, start: u64) -> Result<Vec<u64>, AllocError>
+    requires pairs { let count = length index.now.numbers.items / 2 in length index.now.numbers.items ≡ 2 * count }
+    requires good { let count = length index.now.numbers.items / 2 in
+        (k : ℕ) → k < count → IsGood (slot_at index.now.len index.now.numbers.items k) }
+    requires small { let count = length index.now.numbers.items / 2 in
+        start + present_size (slot_at index.now.len index.now.numbers.items) count < 2 ^ 64 }
+    ensures { let count = length index.now.numbers.items / 2 in let slot = slot_at index.now.len index.now.numbers.items in
+        IfOk result (λ numbers. AreNumbersOf start (packed_slots slot count) numbers.items count) }
 {
-    let mut slices = Vec::with_capacity(alloc, room)?;
-    for k in 0..numbers.len() / 2 {
-        move_slice(bytes, numbers, k, start, &mut slices)?;
+    let mut numbers = Vec::from_slice(alloc, &index.numbers)?;
+    place_slices(&mut numbers, start, index.len);
+    Ok(numbers)
+}
+
+// Puts the slice that a pair names behind others.
+#[inline(always)]
+fn push_slice(
+    bytes: &[u8],
+    index: &ShardIndex,
+    subchunk: usize,
+    shard: &mut Vec<u8>,
+) -> Result<(), AllocError>
+    requires inside { 2 * subchunk + 1 < length index.now.numbers.items }
+    requires whole { length bytes.now ≡ index.now.len }
+    ensures { OnOk result (shard.new.items ≡ shard.old.items ++ slice_of bytes.now (slot_at index.now.len index.now.numbers.items subchunk)) }
+{
+    match index.slot(subchunk) {
+        Slot::InRange { offset, size } => push_front(
+            shard,
+            &bytes[offset as usize..],
+            size as usize,
+        ),
+        Slot::Absent | Slot::Bad => Ok(()),
     }
-    Ok(slices)
+}
+
+/// Puts the slices that the pairs of a shard's index name behind bytes that are there, one after the other. Refused only as out of
+/// memory.
+pub fn push_slices(bytes: &[u8], index: &ShardIndex, shard: &mut Vec<u8>) -> Result<(), AllocError>
+    requires whole { length bytes.now ≡ index.now.len }
+    ensures { let count = length index.now.numbers.items / 2 in
+        OnOk result (shard.new.items ≡ shard.old.items ++ slices_of bytes.now (slot_at index.now.len index.now.numbers.items) count) }
+{
+    for k in 0..index.subchunks() {
+        push_slice(bytes, index, k, shard)?;
+    }
+    Ok(())
 }

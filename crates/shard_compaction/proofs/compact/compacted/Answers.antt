@@ -1,0 +1,24 @@
+use Rattle.std.proofs.Common.{[], refl, sym, subst}
+use Rattle.zarr_parts.specs.Grid.{grid_of}
+use Rattle.codec_laws.specs.Meanings.{Meaning}
+use Rattle.codec_laws.specs.RefusalLaws.{passed_on}
+use Rattle.shard_format.specs.Cells.{Layout}
+use Rattle.shard_format.specs.Compacting.{IsCompacted}
+use Rattle.shard_format.specs.Serves.{fixed_size}
+use Rattle.shard_format.specs.declared.order.SubchunkWriteOrder.TheVariants.{Unordered}
+use Rattle.shard_index.specs.Indexes.{index_meaning}
+use Rattle.shard_compaction.proofs.compact.compacted.Goals as goal
+
+pub returns-in_err-plan-clause-refused : goal.returns-in_err-plan-clause-refused
+returns-in_err-plan-clause-refused g c = λ fill order.
+    passed_on _ c.in_err-plan.field-0.0 _ c.from_residual.ensures.1 (c.in_err-plan.ensures.refused fill order c.args.bytes.now refl refl)
+
+pub execute-requires : goal.execute-requires
+execute-requires g c = sym ((rw c.in-Some.is at (c.in_ok-plan.ensures.planned [] Unordered c.args.bytes.now refl refl)).0.old_len)
+
+pub returns-in_ok-execute-in-Some-clause-compacted : goal.returns-in_ok-execute-in-Some-clause-compacted
+returns-in_ok-execute-in-Some-clause-compacted g c = λ fill order.
+    let planned = rw c.in-Some.is at (c.in_ok-plan.ensures.planned fill order c.args.bytes.now refl refl) in
+    let index : Meaning = index_meaning g.X.ArrayToBytesCodecTraits.meaning c.args.index_codec.now.codec.now (grid_of c.args.shape.now c.args.subchunk_shape.now) in
+    let l : Layout = record { shape = c.args.shape.now; sub = c.args.subchunk_shape.now; fill = fill; location = c.args.index_codec.now.location; index_size = fixed_size index.representation; order = order } in
+    subst (IsCompacted index l c.args.bytes.now) (sym c.in_ok-execute-in-Some.ensures) planned.1
