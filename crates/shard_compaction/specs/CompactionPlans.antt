@@ -1,5 +1,5 @@
 -- The plan of a compaction: what it makes of an object, and of which objects a plan is one that looks at their index alone.
-use Rattle.std.specs.Prelude.{◌≡◌, ℕ, ◌*◌, ◌/◌, List, Option, Some, None, length}
+use Rattle.std.specs.Prelude.{◌≡◌, ◌<◌, ℕ, ◌*◌, ◌/◌, List, Option, Some, None, length}
 use Rattle.zarr_parts.specs.Numbering.{count_of}
 use Rattle.zarr_parts.specs.Grid.{grid_of}
 use Rattle.object_handles.specs.declared.bytes.Interval.{Interval}
@@ -7,6 +7,7 @@ use Rattle.codec_laws.specs.Meanings.{Meaning}
 use Rattle.shard_format.specs.Cells.{Layout}
 use Rattle.shard_format.specs.Index.{slot_at, index_part}
 use Rattle.shard_format.specs.Laying.{whole_shard}
+use Rattle.shard_format.specs.Compacting.{IsGood}
 use Rattle.shard_format.specs.declared.location.ShardingIndexLocation.{ShardingIndexLocation}
 use Rattle.shard_format.specs.declared.slot.Slot.{Slot}
 use Rattle.shard_format.specs.declared.slot.Slot.TheVariants.{Absent, InRange, Bad}
@@ -26,12 +27,13 @@ executed plan old =
     let slot = slot_at plan.old_index.len plan.old_index.numbers.items in
     whole_shard plan.location plan.new_index.items (slices_of old slot (length plan.old_index.numbers.items / 2))
 
--- a plan is one for an object of so many bytes, by a layout
+-- a plan is one for an object of so many bytes, by a layout: no pair of the index is bad
 pub record IsPlanFor (l : Layout) (len : ℕ) (plan : CompactionPlan) : Type 0 where
   pub old_len : plan.old_index.len ≡ len
   pub subchunks : length plan.old_index.numbers.items ≡ 2 * count_of (grid_of l.shape l.sub)
   pub location : plan.location ≡ l.location
   pub index : length plan.new_index.items ≡ l.index_size
+  pub good : (k : ℕ) → k < count_of (grid_of l.shape l.sub) → IsGood (slot_at len plan.old_index.numbers.items k)
 
 -- it holds of each object of so many bytes that has the index which these bytes begin or end with, and of each of its layouts
 abbrev pub OfEachObject : (shape sub : List ℕ) → ShardingIndexLocation → (index : Meaning) → List ℕ → ℕ → (Layout → List ℕ → Type 0) → Type 0

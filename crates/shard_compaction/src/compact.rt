@@ -1,9 +1,10 @@
 // The compaction of a shard.
-ghost use Rattle.std.specs.Prelude.{◌≡◌, IfOk, IfErr, IfSome, IfNone, OnOk, length};
+ghost use Rattle.std.specs.Prelude.{◌≡◌, ◌<◌, ◌/◌, ℕ, IfOk, IfErr, IfSome, IfNone, OnOk, length};
 ghost use Rattle.zarr_parts.specs.Order.{RefusedBy};
 ghost use Rattle.zarr_parts.specs.Numbering.{AllPositive};
 ghost use Rattle.zarr_parts.specs.Grid.{grid_of};
-ghost use Rattle.shard_format.specs.Compacting.{IsCompact, IsCompacted, CompactTests};
+ghost use Rattle.shard_format.specs.Compacting.{IsGood, IsCompact, IsCompacted, CompactTests};
+ghost use Rattle.shard_format.specs.Index.{slot_at};
 ghost use Rattle.shard_format.specs.Serves.{HasPlan};
 ghost use Rattle.shard_index.specs.Indexes.{index_meaning};
 ghost use Rattle.shard_compaction.specs.Layouts.{OfEachLayout};
@@ -19,20 +20,20 @@ use zarr_parts::{ChunkShape, CodecError, CodecOptions};
 
 // The shard that a plan makes of the shard that it was made for.
 fn execute(alloc: Global, plan: &CompactionPlan, bytes: &[u8]) -> Result<Vec<u8>, AllocError>
-    requires { length bytes.now ≡ plan.now.old_index.len }
+    requires whole { length bytes.now ≡ plan.now.old_index.len }
+    requires good { let old = plan.now.old_index in
+        (k : ℕ) → k < length old.numbers.items / 2 → IsGood (slot_at (length bytes.now) old.numbers.items k) }
     ensures { IfOk result (λ shard. shard.items ≡ executed plan.now bytes.now) }
 {
-    let (old_index, new_index) = plan.parts();
+    let (numbers, new_index) = plan.parts();
     let mut shard = Vec::with_capacity(alloc, plan.len() as usize)?;
-    match plan.index_location() {
-        ShardingIndexLocation::Start => {
-            shard.extend_from_slice(new_index)?;
-            push_slices(bytes, old_index, &mut shard)?;
-        }
-        ShardingIndexLocation::End => {
-            push_slices(bytes, old_index, &mut shard)?;
-            shard.extend_from_slice(new_index)?;
-        }
+    let is_first = plan.index_location() == ShardingIndexLocation::Start;
+    if is_first {
+        shard.extend_from_slice(new_index)?;
+    }
+    push_slices(bytes, numbers, &mut shard)?;
+    if !is_first {
+        shard.extend_from_slice(new_index)?;
     }
     Ok(shard)
 }

@@ -75,12 +75,12 @@ impl CompactionPlan {
         }
     }
 
-    // The parts that the compaction of a whole shard is put together from.
-    pub(crate) fn parts(&self) -> (&ShardIndex, &[u8])
-        ensures old { result.0.now ≡ self.now.old_index }
+    // The old index's numbers, and the bytes of the new index.
+    pub(crate) fn parts(&self) -> (&[u64], &[u8])
+        ensures old { result.0.now ≡ self.now.old_index.numbers.items }
         ensures new { result.1.now ≡ self.now.new_index.items }
     {
-        (&self.old_index, &self.new_index)
+        (&self.old_index.numbers, &self.new_index)
     }
 }
 

@@ -190,3 +190,15 @@ all_placed len start old numbers place n pairs good h = record {
       h.sizes j ∙ size_of_good len (get_or old (2 * j) 0) (get_or old (2 * j + 1) 0) (present_size (slot_at len old) j) (slot_at len old j) (good_at len old j (good j below))
       ∙ ap size_number (sym (packed_in (slot_at len old) n j below));
 }
+
+-- where the offset of a good pair isn't the absent number, the pair names a slice that ends within the shard
+pub in_range : (len : ℕ) (numbers : List ℕ) (k : ℕ) → IsGood (slot_at len numbers k) → get_or numbers (2 * k) 0 ≢ absent_number
+    → slot_at len numbers k ≡ InRange (get_or numbers (2 * k) 0) (get_or numbers (2 * k + 1) 0)
+in_range len numbers k good other = (good_at len numbers k good).present other
+
+pub ends_in_shard : (len : ℕ) (numbers : List ℕ) (k : ℕ) → IsGood (slot_at len numbers k) → get_or numbers (2 * k) 0 ≢ absent_number
+    → get_or numbers (2 * k) 0 + get_or numbers (2 * k + 1) 0 ≤ len
+ends_in_shard len numbers k good other = rw (in_range len numbers k good other) at ((good_at len numbers k good).inside)
+
+pub is_absent : (len : ℕ) (numbers : List ℕ) (k : ℕ) → IsGood (slot_at len numbers k) → get_or numbers (2 * k) 0 ≡ absent_number → slot_at len numbers k ≡ Absent
+is_absent len numbers k good same = ((good_at len numbers k good).absent same).0

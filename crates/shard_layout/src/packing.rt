@@ -104,33 +104,34 @@ pub fn packed_numbers(alloc: Global, index: &ShardIndex, start: u64) -> Result<V
 #[inline(always)]
 fn push_slice(
     bytes: &[u8],
-    index: &ShardIndex,
+    numbers: &[u64],
     subchunk: usize,
     shard: &mut Vec<u8>,
 ) -> Result<(), AllocError>
-    requires inside { 2 * subchunk + 1 < length index.now.numbers.items }
-    requires whole { length bytes.now ≡ index.now.len }
-    ensures { OnOk result (shard.new.items ≡ shard.old.items ++ slice_of bytes.now (slot_at index.now.len index.now.numbers.items subchunk)) }
+    requires inside { 2 * subchunk + 1 < length numbers.now }
+    requires good { IsGood (slot_at (length bytes.now) numbers.now subchunk) }
+    ensures { OnOk result (shard.new.items ≡ shard.old.items ++ slice_of bytes.now (slot_at (length bytes.now) numbers.now subchunk)) }
 {
-    match index.slot(subchunk) {
-        Slot::InRange { offset, size } => push_front(
-            shard,
-            &bytes[offset as usize..],
-            size as usize,
-        ),
-        Slot::Absent | Slot::Bad => Ok(()),
+    let offset = numbers[2 * subchunk];
+    if offset == u64::MAX {
+        return Ok(());
     }
+    push_front(
+        shard,
+        &bytes[offset as usize..],
+        numbers[2 * subchunk + 1] as usize,
+    )
 }
 
-/// Puts the slices that the pairs of a shard's index name behind bytes that are there, one after the other. Refused only as out of
+/// Puts the slices that the numbers of a shard's index name behind bytes that are there, one after the other. Refused only as out of
 /// memory.
-pub fn push_slices(bytes: &[u8], index: &ShardIndex, shard: &mut Vec<u8>) -> Result<(), AllocError>
-    requires whole { length bytes.now ≡ index.now.len }
-    ensures { let count = length index.now.numbers.items / 2 in
-        OnOk result (shard.new.items ≡ shard.old.items ++ slices_of bytes.now (slot_at index.now.len index.now.numbers.items) count) }
+pub fn push_slices(bytes: &[u8], numbers: &[u64], shard: &mut Vec<u8>) -> Result<(), AllocError>
+    requires good { (k : ℕ) → k < length numbers.now / 2 → IsGood (slot_at (length bytes.now) numbers.now k) }
+    ensures { let count = length numbers.now / 2 in
+        OnOk result (shard.new.items ≡ shard.old.items ++ slices_of bytes.now (slot_at (length bytes.now) numbers.now) count) }
 {
-    for k in 0..index.subchunks() {
-        push_slice(bytes, index, k, shard)?;
+    for k in 0..numbers.len() / 2 {
+        push_slice(bytes, numbers, k, shard)?;
     }
     Ok(())
 }

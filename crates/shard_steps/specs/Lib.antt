@@ -7,6 +7,8 @@ pub use Rattle.shard_cells.specs.Updates
 pub use Rattle.shard_cells.specs.Grouping
 pub use Rattle.shard_cells.specs.Gathering
 pub use Rattle.shard_layout.specs.Rows
+pub use Rattle.shard_compaction.specs.CompactionPlans
+pub use Rattle.shard_compaction.specs.declared.plan.CompactionPlan
 pub use Rattle.shard_subchunks.specs.Inner
 pub use Rattle.shard_subchunks.specs.declared.encoded.Stored
 pub use Rattle.shard_subchunks.specs.declared.subchunks.Subchunks

@@ -10,6 +10,7 @@ mod read_into;
 mod sharding;
 
 pub use shard_cells::{check_asked, check_update, filled, gathered};
+pub use shard_compaction::{CompactionPlan, plan_compaction};
 pub use shard_format::{
     Asked, PartialDecoderCapability, PartialEncoderCapability, ShardingCodecOptions,
 };

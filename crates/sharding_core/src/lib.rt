@@ -3,6 +3,7 @@
 
 mod capabilities;
 mod codec;
+mod compaction;
 mod configuration;
 mod functional;
 mod index;
@@ -16,6 +17,8 @@ pub use codec::ShardingCodec;
 pub use locked::ShardingPartialEncoder;
 pub use partial_decoder::ShardingPartialDecoder;
 pub use shard_configuration::{ShardingCodecConfiguration, ShardingCodecConfigurationV1};
-pub use shard_steps::{PartialDecoderCapability, PartialEncoderCapability, ShardingCodecOptions};
+pub use shard_steps::{
+    CompactionPlan, PartialDecoderCapability, PartialEncoderCapability, ShardingCodecOptions,
+};
 pub use shard_workers::{Gate, NoGate};
 pub use state::ShardState;

@@ -1,4 +1,4 @@
-use Rattle.std.proofs.Common.{[], refl, sym, subst}
+use Rattle.std.proofs.Common.{[], refl, sym, subst, arith}
 use Rattle.zarr_parts.specs.Grid.{grid_of}
 use Rattle.codec_laws.specs.Meanings.{Meaning}
 use Rattle.codec_laws.specs.RefusalLaws.{passed_on}
@@ -13,8 +13,13 @@ pub returns-in_err-plan-clause-refused : goal.returns-in_err-plan-clause-refused
 returns-in_err-plan-clause-refused g c = λ fill order.
     passed_on _ c.in_err-plan.field-0.0 _ c.from_residual.ensures.1 (c.in_err-plan.ensures.refused fill order c.args.bytes.now refl refl)
 
-pub execute-requires : goal.execute-requires
-execute-requires g c = sym ((rw c.in-Some.is at (c.in_ok-plan.ensures.planned [] Unordered c.args.bytes.now refl refl)).0.old_len)
+pub execute-requires-clause-whole : goal.execute-requires-clause-whole
+execute-requires-clause-whole g c = sym ((rw c.in-Some.is at (c.in_ok-plan.ensures.planned [] Unordered c.args.bytes.now refl refl)).0.old_len)
+
+pub execute-requires-clause-good : goal.execute-requires-clause-good
+execute-requires-clause-good g c =
+    let planned = rw c.in-Some.is at (c.in_ok-plan.ensures.planned [] Unordered c.args.bytes.now refl refl) in
+    λ k below. planned.0.good k (omega (arith, below, planned.0.subchunks))
 
 pub returns-in_ok-execute-in-Some-clause-compacted : goal.returns-in_ok-execute-in-Some-clause-compacted
 returns-in_ok-execute-in-Some-clause-compacted g c = λ fill order.

@@ -99,8 +99,9 @@ returns-clause-planned g c = λ fill order object long same.
     let total : c.in_ok-len.len ≡ compact_size l (slot_at (length object) numbers) = rw (len, many, plan.index.size, plan.grid) at c.in_ok-len.ensures.size in
     let new = c.in_ok-new_index.new_index.items in
     let new_sized : length new ≡ l.index_size = c.in_ok-new_index.ensures.size ∙ sized in
-    let index_is = rw (len, plan.index.size, plan.grid) at c.in_ok-new_index.ensures.index in (
-      record { old_len = c.in_ok-old_index.ensures.len; subchunks = counted; location = refl; index = new_sized },
+    let index_is = rw (len, plan.index.size, plan.grid) at c.in_ok-new_index.ensures.index in
+    let good_pairs : (k : ℕ) → k < count_of (grid_of l.shape l.sub) → IsGood (slot_at a.stored.now.len numbers k) = rw (c.in_ok-old_index.ensures.len, many) at c.in_ok-len.ensures.good in (
+      record { old_len = c.in_ok-old_index.ensures.len; subchunks = counted; location = refl; index = new_sized; good = good_pairs },
       rw len (executed_compacted index l object numbers there counted good new new_sized
           (omega (arith, total, c.in_ok-len.ensures.small)) (λ as_long. c.if-len-stored.false (total ∙ as_long ∙ long)) index_is),
       rw len (executed_long index l object numbers there counted good new new_sized ∙ sym total),
