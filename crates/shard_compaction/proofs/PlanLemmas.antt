@@ -41,7 +41,7 @@ module _ (index : Meaning) (l : Layout) (object numbers : List ℕ) (there : num
       (packed_slots (slot_at (length object) numbers) (length numbers / 2)) (length numbers / 2)
   packed = packed_slices object numbers (λ k below. good k (omega (arith, below, counted)))
 
-  -- so many bytes are the slices
+  -- how many bytes the slices are
   pub slices_sized : length (slices_of object (slot_at (length object) numbers) (length numbers / 2)) ≡ present_size (slot_at (length object) numbers) (count_of (grid_of l.shape l.sub))
   slices_sized =
       let n = length numbers / 2 in

@@ -27,7 +27,7 @@ executed plan old =
     let slot = slot_at plan.old_index.len plan.old_index.numbers.items in
     whole_shard plan.location plan.new_index.items (slices_of old slot (length plan.old_index.numbers.items / 2))
 
--- a plan is one for an object of so many bytes, by a layout: no pair of the index is bad
+-- a plan is one for an object of this length, by a layout: no entry of the index is bad
 pub record IsPlanFor (l : Layout) (len : ℕ) (plan : CompactionPlan) : Type 0 where
   pub old_len : plan.old_index.len ≡ len
   pub subchunks : length plan.old_index.numbers.items ≡ 2 * count_of (grid_of l.shape l.sub)
@@ -35,8 +35,9 @@ pub record IsPlanFor (l : Layout) (len : ℕ) (plan : CompactionPlan) : Type 0 w
   pub index : length plan.new_index.items ≡ l.index_size
   pub good : (k : ℕ) → k < count_of (grid_of l.shape l.sub) → IsGood (slot_at len plan.old_index.numbers.items k)
 
--- it holds of each object of so many bytes that has the index which these bytes begin or end with, and of each of its layouts
-abbrev pub OfEachObject : (shape sub : List ℕ) → ShardingIndexLocation → (index : Meaning) → List ℕ → ℕ → (Layout → List ℕ → Type 0) → Type 0
+-- it holds of each object of this length that has the index which these bytes begin or end with, and of each of its layouts
+abbrev pub OfEachObject : (shape sub : List ℕ) → ShardingIndexLocation → (index : Meaning) → List ℕ → ℕ → (Layout → List ℕ → Type 0)
+    → Type 0
 OfEachObject shape sub location index index_bytes len Holds =
     OfEachLayout shape sub location index (λ l. (object : List ℕ) → length object ≡ len
     → index_part l.location l.index_size object ≡ index_part l.location l.index_size index_bytes → Holds l object)

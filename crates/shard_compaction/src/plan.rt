@@ -183,8 +183,8 @@ fn planned<X: ArrayToBytesCodecTraits>(
     }))
 }
 
-/// The plan of the compaction of a shard of so many bytes, by bytes that begin or end with its index, as it stands there; or nothing
-/// where the index and the present slices have as many bytes as the shard. Refused, in this order, as `Plan::new` refuses the shape,
+/// The plan of the compaction of a shard of this length, by bytes that begin or end with its index, as it stands there; or nothing
+/// if the index and the present slices have as many bytes as the shard. Refused, in this order, as `Plan::new` refuses the shape,
 /// as `ShardTooShort` where the shard or `index` has fewer bytes than an index, as `Damaged` where the index does not decode, as
 /// `BadIndexEntry` for the lowest bad pair, as `TooLarge` where no shard can have as many bytes, and as the index codec refuses; or
 /// as `OutOfMemory`.

@@ -6,7 +6,7 @@ use Rattle.shard_format.specs.Compacting.{present_size}
 use Rattle.shard_format.specs.Packing.{slice_of, moved_slot}
 use Rattle.shard_format.specs.declared.slot.Slot.{Slot}
 
--- what the pairs of an index say of a shard of so many bytes
+-- what the entries of an index say of a shard of this length
 abbrev pub slots_of : ℕ → List ℕ → List Slot
 slots_of len numbers = map (slot_at len numbers) (range_with_len 0 (length numbers / 2))
 
