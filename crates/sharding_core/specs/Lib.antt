@@ -8,7 +8,7 @@ pub mod ShardMetadata
 pub mod ShardMetadataLaws
 pub use Rattle.shard_steps.specs.Updates
 pub use Rattle.shard_steps.specs.CompactionPlans
-pub use Rattle.shard_steps.specs.declared.plan.CompactionPlan
+pub use Rattle.shard_steps.specs.CompactionPlan
 pub use Rattle.shard_steps.specs.DataPart
 pub use Rattle.shard_steps.specs.Grouping
 pub use Rattle.shard_steps.specs.Gathering

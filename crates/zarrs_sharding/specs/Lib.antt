@@ -32,7 +32,7 @@ pub use Rattle.shard_format.specs.Serves
 pub use Rattle.shard_format.specs.declared.order.SubchunkWriteOrder
 pub use Rattle.shard_format.specs.declared.location.ShardingIndexLocation
 pub use Rattle.sharding_core.specs.CompactionPlans
-pub use Rattle.sharding_core.specs.declared.plan.CompactionPlan
+pub use Rattle.sharding_core.specs.CompactionPlan
 pub use Rattle.sharding_core.specs.Grouping
 pub use Rattle.sharding_core.specs.Gathering
 pub use Rattle.sharding_core.specs.ShardMetadata
