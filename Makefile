@@ -1,12 +1,12 @@
 # make run                   a first look, without proofs: after 75 seconds zarr_shard on example arrays, then shard_tool on a script
 # make install PREFIX=DIR    proves zarr_shard and shard_tool, and installs them in DIR/bin
-# make test                  the merge gate: lint, every proof, the must-fail edits, the tests and the programs
+# make test                  the merge gate: lint, every proof, the must-fail edits, the tests, the programs, and make refuse
 # make check CRATE=NAME      proves one crate, over what earlier checks kept; ONLY=path::of::a_function proves that one alone
 # make lint                  the rules that no compiler checks, in seconds
 # make reference             writes docs/REFERENCE.md from the sources
 # make readme                runs the commands that README.md shows, and writes what they print into it
 # make wrap                  wraps the paragraphs of all pages
-# make refuse                refuses each allocation of a program in turn: the answers must stay (two minutes, no proof)
+# make refuse                refuses each allocation of a program in turn: the answers must stay (no proof)
 export PYTHONDONTWRITEBYTECODE := 1
 .PHONY: help run install test check lint reference readme wrap refuse
 
