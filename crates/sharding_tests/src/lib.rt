@@ -22,6 +22,8 @@ mod nested;
 #[cfg(test)]
 mod options;
 #[cfg(test)]
+mod plans;
+#[cfg(test)]
 mod reads;
 #[cfg(test)]
 mod refusals;
