@@ -9,6 +9,7 @@ ghost use Rattle.array_metadata.specs.FillValues.{number_in, number_of};
 
 use crate::error::MetadataError;
 use crate::fields::Placed;
+use escaped_text::escaped;
 use serde_json::Value;
 use std::alloc::Global;
 use zarr_parts::{DataType, DataTypeSize, FillValue};
@@ -23,6 +24,7 @@ pub fn data_type_in(alloc: Global, named: &Placed) -> Result<DataType, MetadataE
     };
     match DataType::from_name(name) {
         Some(DataType::Bytes) | None => {
+            let name = escaped(alloc, name)?;
             let sentence = format!(in alloc;
                 "elements of the data type {name} are not read, only bool, int8 to int64 and uint8 to uint64"
             )?;

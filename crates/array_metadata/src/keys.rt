@@ -8,6 +8,7 @@ ghost use Rattle.array_metadata.specs.KeyEncodings.{encoding_name, default_separ
 
 use crate::error::MetadataError;
 use crate::fields::Placed;
+use escaped_text::escaped;
 use std::alloc::{AllocError, Global};
 
 /// How a chunk's key is made (Zarr V3 core, "Chunk key encoding").
@@ -61,6 +62,7 @@ pub fn keys_in(alloc: Global, named: &Placed) -> Result<ChunkKeys, MetadataError
         "default" => KeyEncoding::Default,
         "v2" => KeyEncoding::V2,
         _ => {
+            let name = escaped(alloc, name)?;
             let sentence = format!(in alloc;
                 "the chunk key encoding {name} is not served, only default and v2"
             )?;

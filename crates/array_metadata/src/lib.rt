@@ -5,10 +5,11 @@ mod codecs;
 mod error;
 mod fields;
 mod fill;
+mod json;
 mod keys;
 mod metadata;
 
 pub use codecs::{ArrayCodec, ElementCodec, IndexCodec, InnerCodec};
-pub use error::MetadataError;
+pub use error::{LONGEST_TEXT, MetadataError};
 pub use keys::{ChunkKeys, KeyEncoding};
-pub use metadata::ArrayMetadata;
+pub use metadata::{ArrayMetadata, MOST_AXES};

@@ -1,5 +1,5 @@
 // An array's metadata.
-ghost use Rattle.std.specs.Prelude.{◌≡◌, Some, None, Ok, IfOk, OnOk, IsTrue, codes, length, option_and_then, option_map, unwrap_or, vec_len};
+ghost use Rattle.std.specs.Prelude.{◌≡◌, ◌≤◌, Some, None, Ok, IfOk, OnOk, IsTrue, codes, length, option_and_then, option_map, unwrap_or, vec_len};
 ghost use Rattle.serde_json.specs.Data.{no_items};
 ghost use Rattle.serde_json.specs.Find.{as_str, as_array, get};
 ghost use Rattle.serde_json.specs.Read.{read as read_text};
@@ -13,15 +13,20 @@ ghost use Rattle.sharding_core.specs.Configuration.{shape_in};
 ghost use Rattle.zarr_parts.specs.Types.{size_of, type_name, HasElements};
 ghost use Rattle.zarr_parts.specs.DataTypeSize.TheVariants.{Fixed};
 
-use crate::codecs::{ArrayCodec, array_codec};
+use crate::codecs::{ArrayCodec, InnerCodec, array_codec};
 use crate::error::MetadataError;
 use crate::fields::Placed;
 use crate::fill::{data_type_in, fill_value_in};
+use crate::json::value_in;
 use crate::keys::{ChunkKeys, keys_in};
+use escaped_text::escaped;
 use serde_json::{Map, Value};
 use std::alloc::Global;
 use zarr_codecs::PluginCreateError;
 use zarr_parts::{ChunkShape, DataType, FillValue};
+
+/// How many axes an array may have whose metadata is read. The codecs know no such bound.
+pub const MOST_AXES: usize = 64;
 
 /// The metadata of an array whose chunks are shards (Zarr V3 core, "Array metadata").
 #[derive(Drop)]
@@ -39,20 +44,6 @@ pub struct ArrayMetadata {
     pub codec: ArrayCodec,
     /// The value of `codecs`, as it stands in the text.
     pub codecs: String,
-}
-
-// The value that a text is. Refused as `BadField` where it is no JSON.
-fn value_in(alloc: Global, text: &str) -> Result<Value, MetadataError>
-    ensures { IfOk result (λ value. read_text text.now ≡ Some (view value)) }
-{
-    match Value::from_str(alloc, text) {
-        Ok(value) => Ok(value),
-        Err(error) if error.is_memory() => Err(MetadataError::OutOfMemory),
-        Err(_) => {
-            let error = PluginCreateError::bad_field(alloc, "zarr.json");
-            Err(MetadataError::refused(alloc, error, "zarr.json", "the text is no JSON"))
-        }
-    }
 }
 
 // Whether a member of the metadata is known, or says that it need not be.
@@ -127,6 +118,7 @@ fn shard_in(alloc: Global, grid: &Placed, axes: usize) -> Result<ChunkShape, Met
 {
     let name = grid.extension_name(alloc)?;
     if name != "regular" {
+        let name = escaped(alloc, name)?;
         let sentence = format!(in alloc; "the chunk grid {name} is not served, only regular")?;
         return Err(grid.bad(alloc, sentence.as_str()));
     }
@@ -144,6 +136,22 @@ struct Cells {
     shard: ChunkShape,
 }
 
+// How many cells an array has along each axis. Refused as `BadField` where these are no whole numbers, or more than `MOST_AXES`.
+fn axes_in(alloc: Global, shape: &Placed) -> Result<Vec<u64>, MetadataError>
+    ensures read { IfOk result (λ axes. whole_numbers_in (view shape.now.value.now) ≡ Some axes.items) }
+    ensures few { IfOk result (λ axes. vec_len axes ≤ 64) }
+{
+    let axes = shape.numbers(alloc)?;
+    let many = axes.len();
+    if many > MOST_AXES {
+        let sentence = format!(in alloc;
+            "arrays of more than {MOST_AXES} axes are not read, and this has {many}"
+        )?;
+        return Err(shape.bad(alloc, sentence.as_str()));
+    }
+    Ok(axes)
+}
+
 // The cells of an array. Refused for `shape`, `data_type` and `chunk_grid` in turn.
 fn cells_in(alloc: Global, whole: &Placed) -> Result<Cells, MetadataError>
     ensures shape_read { IfOk result (λ cells. option_and_then whole_numbers_in (get (codes "shape") (view whole.now.value.now)) ≡ Some cells.shape.items) }
@@ -151,10 +159,11 @@ fn cells_in(alloc: Global, whole: &Placed) -> Result<Cells, MetadataError>
     ensures shard_read { IfOk result (λ cells.
         option_and_then whole_numbers_in (option_and_then (configured_in (codes "chunk_shape")) (get (codes "chunk_grid") (view whole.now.value.now))) ≡ Some cells.shard) }
     ensures grid_read { OnOk result (option_and_then name_in (get (codes "chunk_grid") (view whole.now.value.now)) ≡ Some (codes "regular")) }
+    ensures few { IfOk result (λ cells. vec_len cells.shape ≤ 64) }
     ensures shard { IfOk result (λ cells. length cells.shard ≡ vec_len cells.shape) }
     ensures elements { IfOk result (λ cells. HasElements cells.data_type) }
 {
-    let shape = whole.required(alloc, "shape")?.numbers(alloc)?;
+    let shape = axes_in(alloc, &whole.required(alloc, "shape")?)?;
     let data_type = data_type_in(alloc, &whole.required(alloc, "data_type")?)?;
     let shard = shard_in(alloc, &whole.required(alloc, "chunk_grid")?, shape.len())?;
     Ok(Cells {
@@ -172,6 +181,49 @@ fn fill_in(alloc: Global, whole: &Placed, data_type: DataType) -> Result<FillVal
 {
     let fill = whole.required(alloc, "fill_value")?;
     fill_value_in(alloc, &fill, data_type)
+}
+
+// Whether a shape is cut into parts of another shape, with no axis left over.
+fn is_even(shape: &[u64], part: &[u64]) -> bool {
+    shape
+        .iter()
+        .zip(part)
+        .all(|(axis, length)| axis.checked_rem(*length) == Some(0))
+}
+
+// Tests that subchunks divide a shard evenly. Refused as `BadField` with both shapes.
+fn test_division(
+    alloc: Global,
+    place: &str,
+    shard: &ChunkShape,
+    subchunk: &ChunkShape,
+) -> Result<(), MetadataError> {
+    let (shard, subchunk) = (shard.as_slice(), subchunk.as_slice());
+    if is_even(shard, subchunk) {
+        return Ok(());
+    }
+    let sentence = format!(in alloc;
+        "subchunks of the shape {subchunk:?} do not divide a shard of the shape {shard:?} evenly"
+    )?;
+    let error = PluginCreateError::bad_field(alloc, "chunk_shape");
+    Err(MetadataError::refused(alloc, error, place, sentence.as_str()))
+}
+
+// Tests that subchunks divide the shards of an array evenly, and those of a subchunk that is a shard this. Refused as `BadField`.
+fn test_subchunks(
+    alloc: Global,
+    shard: &ChunkShape,
+    codec: &ArrayCodec,
+) -> Result<(), MetadataError> {
+    let place = "codecs[0].configuration.chunk_shape";
+    test_division(alloc, place, shard, &codec.subchunk_shape)?;
+    match &codec.inner {
+        InnerCodec::Second(inner) => {
+            let place = "codecs[0].configuration.codecs[0].configuration.chunk_shape";
+            test_division(alloc, place, &codec.subchunk_shape, &inner.subchunk_shape)
+        }
+        InnerCodec::First(_) => Ok(()),
+    }
 }
 
 // The metadata of an array, but for its codecs: these cells, and their fill value. Refused for `codecs`.
@@ -201,6 +253,7 @@ fn with_codecs(
         shard,
     } = cells;
     let codec = array_codec(alloc, &codecs, data_type, shape.len())?;
+    test_subchunks(alloc, &shard, &codec)?;
     Ok(ArrayMetadata {
         subchunk: codec.subchunk_shape.try_clone(alloc)?,
         codecs: codecs.value.to_string(alloc)?,
@@ -215,7 +268,8 @@ fn with_codecs(
 
 impl ArrayMetadata {
     /// The metadata that a `zarr.json` holds (Zarr V3 core, "Array metadata"). Refused, in this order, where the text is no JSON,
-    /// no object, of another `zarr_format` than 3, of another `node_type` than `array`, has an unknown member that must be
+    /// nests deeper than is read, has a number past the range of a
+    /// float, is no object, of another `zarr_format` than 3, of another `node_type` than `array`, has an unknown member that must be
     /// understood, or `storage_transformers`; and then for `shape` (whole numbers), `data_type` (`bool`, `int8` to `int64`,
     /// `uint8` to `uint64`), `chunk_grid` (`regular`), `chunk_key_encoding` (`default` or `v2`), `fill_value` (an element of the
     /// type) and `codecs` (`sharding_indexed` alone, with `bytes`, `bytes` and `crc32c`, or `sharding_indexed` once more inside)
@@ -241,6 +295,7 @@ impl ArrayMetadata {
             option_and_then shape_in (option_and_then (configured_in (codes "chunk_shape")) (option_and_then chunks_in (member_in (codes "codecs") text.now))) ≡ Some metadata.subchunk) }
         ensures codecs_read { IfOk result (λ metadata.
             option_map (shards_in subchunks_in) (option_and_then chunks_in (member_in (codes "codecs") text.now)) ≡ Some (Ok metadata.codec)) }
+        ensures few { IfOk result (λ metadata. vec_len metadata.shape ≤ 64) }
         ensures shard { IfOk result (λ metadata. length metadata.shard ≡ vec_len metadata.shape) }
         ensures subchunk { IfOk result (λ metadata. length metadata.subchunk ≡ vec_len metadata.shape) }
         ensures codec { IfOk result (λ metadata. metadata.codec.subchunk_shape ≡ metadata.subchunk) }

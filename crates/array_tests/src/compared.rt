@@ -6,3 +6,13 @@ use std::process::Abort;
 pub fn same<R: Abort, T: PartialEq + Debug + Drop>(rt: &R, found: T, want: T) {
     assert_eq!(rt; found, want);
 }
+
+// The same, and says for which case.
+pub fn same_at<R: Abort, P: Debug + Drop, T: PartialEq + Debug + Drop>(
+    rt: &R,
+    case: P,
+    found: T,
+    want: T,
+) {
+    assert_eq!(rt; found, want, "{case:?}");
+}

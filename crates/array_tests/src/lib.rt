@@ -4,7 +4,11 @@
 #[cfg(test)]
 mod compared;
 #[cfg(test)]
+mod escapes;
+#[cfg(test)]
 mod examples;
+#[cfg(test)]
+mod limits;
 #[cfg(test)]
 mod metadata;
 #[cfg(test)]

@@ -18,6 +18,10 @@ const TEXTS: &[(&str, &str)] = &[
         "4 BadField zarr.json: in zarr.json: the text is JSON, but no object",
     ),
     (
+        r#"{"x": 1e400}"#,
+        "4 BadField zarr.json: in zarr.json: a number near line 1, column 12 is past the range of a 64-bit float",
+    ),
+    (
         "{}",
         "3 MissingField zarr_format: in zarr.json: the key zarr_format is missing",
     ),
@@ -130,6 +134,26 @@ const MEMBERS: &[(&str, &str)] = &[
         "4 BadField fill_value: in fill_value: this is no element of bool",
     ),
     (
+        r#""\u001b[31m\n": 1"#,
+        r"4 BadField \u{1b}[31m\n: in \u{1b}[31m\n: the key is not known, and must be understood",
+    ),
+    (
+        r#""data_type": "a\tb\u202ec""#,
+        r"4 BadField data_type: in data_type: elements of the data type a\tb\u{202e}c are not read, only bool, int8 to int64 and uint8 to uint64",
+    ),
+    (
+        r#""chunk_grid": {"name": "\u0085"}"#,
+        r"4 BadField chunk_grid: in chunk_grid: the chunk grid \u{85} is not served, only regular",
+    ),
+    (
+        r#""chunk_key_encoding": {"name": "\r"}"#,
+        r"4 BadField chunk_key_encoding: in chunk_key_encoding: the chunk key encoding \r is not served, only default and v2",
+    ),
+    (
+        r#""chunk_grid": {"name": "regular", "configuration": {"chunk_shape": [4, 3]}}"#,
+        "4 BadField chunk_shape: in codecs[0].configuration.chunk_shape: subchunks of the shape [2, 2] do not divide a shard of the shape [4, 3] evenly",
+    ),
+    (
         r#""codecs": {}"#,
         "4 BadField codecs: in codecs: this is no list of codecs",
     ),
@@ -156,6 +180,16 @@ const INNER_CODECS: &[(&str, &str)] = &[
     (
         r#"[{"name": "x"}]"#,
         "2 UnsupportedCodec x: in codecs[0].configuration.codecs[0]: this program does not know this codec",
+    ),
+    (
+        r#"[{"name": "\u001b]0;x\u0007"}]"#,
+        r"2 UnsupportedCodec \u{1b}]0;x\u{7}: in codecs[0].configuration.codecs[0]: this program does not know this codec",
+    ),
+    (
+        r#"[{"name": "sharding_indexed", "configuration": {"chunk_shape": [1, 3],
+            "codecs": [{"name": "bytes", "configuration": {"endian": "little"}}],
+            "index_codecs": [{"name": "bytes", "configuration": {"endian": "little"}}]}}]"#,
+        "4 BadField chunk_shape: in codecs[0].configuration.codecs[0].configuration.chunk_shape: subchunks of the shape [1, 3] do not divide a shard of the shape [2, 2] evenly",
     ),
     (
         "[7]",

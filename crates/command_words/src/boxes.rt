@@ -1,4 +1,5 @@
 // Boxes as they stand on a command line.
+use escaped_text::escaped;
 use std::alloc::{AllocError, AllocFailed, Global};
 use std::ops::Range;
 use thiserror::Error;
@@ -10,8 +11,8 @@ pub enum BoxError {
     /// A growth was refused.
     #[error("out of memory")]
     OutOfMemory,
-    /// It is no list of ranges, or a start passes its end.
-    #[error("a box is a range for each axis, as in 0..2,3..5, and {0:?} is none")]
+    /// It is no list of ranges, or a start passes its end: the text, escaped for a terminal.
+    #[error("a box is a range for each axis, as in 0..2,3..5, and \"{0}\" is none")]
     Malformed(String),
     /// It has another number of axes.
     #[error("the box has {asked} axes, and the array has {axes}")]
@@ -78,7 +79,7 @@ fn check_box(alloc: Global, asked: &ArraySubset, shape: &[u64]) -> Result<(), Bo
 // The box of an array of a shape that a text is.
 fn parse_box(alloc: Global, text: &str, shape: &[u64]) -> Result<ArraySubset, BoxError> {
     let Some(asked) = parse(alloc, text)? else {
-        return Err(BoxError::Malformed(String::from_str(alloc, text)?));
+        return Err(BoxError::Malformed(escaped(alloc, text)?));
     };
     check_box(alloc, &asked, shape)?;
     Ok(asked)

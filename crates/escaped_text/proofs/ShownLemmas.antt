@@ -1,4 +1,4 @@
--- Texts with printed characters behind them.
+-- Texts with printed characters after them.
 use Rattle.std.proofs.Common.{◌≡◌, ◌≢◌, ◌+◌, ℕ, List, [], ◌∷◌, ◌++◌, length, IsUtf8, chars, refl, sym, ap, ◌∙◌, subst, arith, append_assoc, append-nil, length-append}
 use Rattle.std.proofs.lemmas.List.{get_or-append-add}
 use Rattle.std.specs.List.{All}
@@ -22,7 +22,7 @@ all_one c printed = All-cons IsPrinted c [] printed (none IsPrinted)
 
 pub shown_char : (old new : List ℕ) (c : ℕ) → IsUtf8 old → IsUtf8 new → IsPrinted c → new ≡ old ++ encode c → IsShown (c ∷ []) old new
 shown_char old new c utf8 new_utf8 printed is = record {
-  behind = c ∷ [];
+  added = c ∷ [];
   is = pushed_char old new c utf8 new_utf8 is;
   printed = all_one c printed;
   same = λ all. refl;
@@ -31,7 +31,7 @@ shown_char old new c utf8 new_utf8 printed is = record {
 -- another character in the place of one that is not printed
 pub shown_mark : (old new : List ℕ) (c mark : ℕ) → IsPrinted mark → (IsPrinted c → mark ≡ c) → IsShown (mark ∷ []) old new → IsShown (c ∷ []) old new
 shown_mark old new c mark printed is h = record {
-  behind = h.behind;
+  added = h.added;
   is = h.is;
   printed = h.printed;
   same = λ all. h.same (all_one mark printed) ∙ ap (λ x. x ∷ []) (is (all 0 0 (omega arith)));
@@ -39,10 +39,10 @@ shown_mark old new c mark printed is h = record {
 
 -- anything in the place of what is not printed
 pub shown_escape : (old new text : List ℕ) (c : ℕ) → ¬ (IsPrinted c) → IsShown text old new → IsShown (c ∷ []) old new
-shown_escape old new text c hidden h = record { behind = h.behind; is = h.is; printed = h.printed; same = λ all. absurd (hidden (all 0 0 (omega arith))) }
+shown_escape old new text c hidden h = record { added = h.added; is = h.is; printed = h.printed; same = λ all. absurd (hidden (all 0 0 (omega arith))) }
 
 pub shown_none : (text : List ℕ) → IsShown [] text text
-shown_none text = record { behind = []; is = sym (append-nil (chars text)); printed = none IsPrinted; same = λ all. refl }
+shown_none text = record { added = []; is = sym (append-nil (chars text)); printed = none IsPrinted; same = λ all. refl }
 
 all_left : (xs ys : List ℕ) → All IsPrinted (xs ++ ys) → All IsPrinted xs
 all_left xs ys all = λ k d below. subst IsPrinted (get_or-append xs ys d k below) (all k d (omega (arith, below, length-append xs ys)))
@@ -50,13 +50,13 @@ all_left xs ys all = λ k d below. subst IsPrinted (get_or-append xs ys d k belo
 all_right : (xs ys : List ℕ) → All IsPrinted (xs ++ ys) → All IsPrinted ys
 all_right xs ys all = λ k d below. subst IsPrinted (get_or-append-add xs ys k d) (all (length xs + k) d (omega (arith, below, length-append xs ys)))
 
--- more behind them
+-- more after them
 pub shown_more : (xs ys old mid new : List ℕ) → IsShown xs old mid → IsShown ys mid new → IsShown (xs ++ ys) old new
 shown_more xs ys old mid new h g = record {
-  behind = h.behind ++ g.behind;
-  is = g.is ∙ ap (λ cs. cs ++ g.behind) h.is ∙ append_assoc (chars old) h.behind g.behind;
-  printed = All-append IsPrinted h.behind g.behind h.printed g.printed;
-  same = λ all. ap (λ cs. cs ++ g.behind) (h.same (all_left xs ys all)) ∙ ap (λ cs. xs ++ cs) (g.same (all_right xs ys all));
+  added = h.added ++ g.added;
+  is = g.is ∙ ap (λ cs. cs ++ g.added) h.is ∙ append_assoc (chars old) h.added g.added;
+  printed = All-append IsPrinted h.added g.added h.printed g.printed;
+  same = λ all. ap (λ cs. cs ++ g.added) (h.same (all_left xs ys all)) ∙ ap (λ cs. xs ++ cs) (g.same (all_right xs ys all));
 }
 
 -- the next character of a text
@@ -73,8 +73,8 @@ pub no_more : (text rest done : List ℕ) → length rest ≡ 0 → chars text �
 no_more text [] done empty split = split ∙ ap (λ cs. done ++ cs) (sym (chars_from_encodes [] [] IsUtf8-nil refl)) ∙ append-nil done
 no_more text (b ∷ rest) done empty split = absurd (some b rest empty)
 
-pub shown_all : (new cs : List ℕ) (h : IsShown cs [] new) → chars new ≡ h.behind
-shown_all new cs h = h.is ∙ ap (λ xs. xs ++ h.behind) (sym (chars_from_encodes [] [] IsUtf8-nil refl))
+pub shown_all : (new cs : List ℕ) (h : IsShown cs [] new) → chars new ≡ h.added
+shown_all new cs h = h.is ∙ ap (λ xs. xs ++ h.added) (sym (chars_from_encodes [] [] IsUtf8-nil refl))
 
 -- the whole text is printed
 pub shown_whole : (new : List ℕ) (text : List ℕ) → IsShown (chars text) [] new → All IsPrinted (chars text) → chars new ≡ chars text
@@ -83,9 +83,9 @@ shown_whole new text h all = shown_all new (chars text) h ∙ h.same all
 pub all_printed : (new cs : List ℕ) → IsShown cs [] new → All IsPrinted (chars new)
 all_printed new cs h = subst (All IsPrinted) (sym (shown_all new cs h)) h.printed
 
--- more behind what is printed
+-- more after what is printed
 pub all_more : (old new cs : List ℕ) → All IsPrinted (chars old) → IsShown cs old new → All IsPrinted (chars new)
-all_more old new cs all h = subst (All IsPrinted) (sym h.is) (All-append IsPrinted (chars old) h.behind all h.printed)
+all_more old new cs all h = subst (All IsPrinted) (sym h.is) (All-append IsPrinted (chars old) h.added all h.printed)
 
 -- texts of the same characters are the same
 pub same_bytes : (a b : List ℕ) → IsUtf8 a → IsUtf8 b → chars a ≡ chars b → a ≡ b

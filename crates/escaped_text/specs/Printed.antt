@@ -15,14 +15,15 @@ IsDirection c = (c ≡ 0x61C) ⊎ (IsBetween 0x200E 0x200F c ⊎ (IsBetween 0x20
 
 -- it has no width
 abbrev pub IsUnseen : ℕ → Type 0
-IsUnseen c = (c ≡ 0xAD) ⊎ (IsBetween 0x200B 0x200D c ⊎ (IsBetween 0x2060 0x206F c ⊎ ((c ≡ 0xFEFF) ⊎ (IsBetween 0xFFF9 0xFFFB c ⊎ IsBetween 0xE0000 0xE0FFF c))))
+IsUnseen c = (c ≡ 0xAD) ⊎ (IsBetween 0x200B 0x200D c ⊎ (IsBetween 0x2060 0x206F c ⊎ ((c ≡ 0xFEFF)
+    ⊎ (IsBetween 0xFFF9 0xFFFB c ⊎ IsBetween 0xE0000 0xE0FFF c))))
 
 abbrev pub IsPrinted : ℕ → Type 0
 IsPrinted c = (¬ (IsControl c)) × ((¬ (IsDirection c)) × (¬ (IsUnseen c)))
 
--- the new text is the old one with printed characters behind it: with these ones, where all of them are printed
+-- the new text is the old one with printed characters after it: with these ones, where all of them are printed
 pub record IsShown (characters old new : List ℕ) : Type 0 where
-  pub behind : List ℕ
-  pub is : chars new ≡ chars old ++ behind
-  pub printed : All IsPrinted behind
-  pub same : All IsPrinted characters → behind ≡ characters
+  pub added : List ℕ
+  pub is : chars new ≡ chars old ++ added
+  pub printed : All IsPrinted added
+  pub same : All IsPrinted characters → added ≡ characters

@@ -17,7 +17,7 @@ fn marked(c: char) -> char
     if is_printed(c) { c } else { '?' }
 }
 
-// Puts a character behind others.
+// Puts a character after others.
 fn push_printed(shown: &mut String, c: char) -> Result<(), AllocError>
     requires { IsPrinted c }
     ensures { OnOk result (IsShown (c ∷ []) (string_bytes shown.old) (string_bytes shown.new)) }
@@ -26,7 +26,7 @@ fn push_printed(shown: &mut String, c: char) -> Result<(), AllocError>
     Ok(())
 }
 
-// Puts a text behind another, with question marks in the place of what a terminal does not show.
+// Puts a text after another, with question marks in the place of what a terminal does not show.
 fn push_text(shown: &mut String, text: &str) -> Result<(), AllocError>
     ensures { OnOk result (IsShown (chars text.now) (string_bytes shown.old) (string_bytes shown.new)) }
 {
@@ -46,7 +46,7 @@ fn escape_of(alloc: Global, c: char) -> Result<String, AllocError> {
     }
 }
 
-// Puts a character behind others, or an escape in its place where a terminal does not show it.
+// Puts a character after others, or an escape in its place where a terminal does not show it.
 fn push_escaped(alloc: Global, shown: &mut String, c: char) -> Result<(), AllocError>
     ensures { OnOk result (IsShown (c ∷ []) (string_bytes shown.old) (string_bytes shown.new)) }
 {

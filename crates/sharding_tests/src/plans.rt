@@ -32,11 +32,17 @@ fn index_of(alloc: Global, numbers: &[u64; 4]) -> Result<Vec<u8>, CodecError> {
 }
 
 // The plan of the compaction of a shard.
-fn planned(alloc: Global, shard: &Shard) -> Result<Option<CompactionPlan>, CodecError> {
+fn plan_of(alloc: Global, shard: &Shard) -> Result<Option<CompactionPlan>, CodecError> {
     let codec = plain(alloc, &[2], shard.location)?;
     let index = index_of(alloc, &shard.numbers)?;
     let options = CodecOptions::default();
-    codec.plan_compaction(alloc, &index, shard.length, &shape_of(alloc, &[4])?, &options)
+    codec.plan_compaction(
+        alloc,
+        &index,
+        shard.length,
+        &shape_of(alloc, &[4])?,
+        &options,
+    )
 }
 
 // Whether a plan is this.
@@ -52,7 +58,7 @@ fn says(alloc: Global, plan: &CompactionPlan, want: &Planned) -> Result<bool, Co
 
 // Whether this is planned of a shard, or nothing is.
 fn is_planned(alloc: Global, shard: &Shard, want: Option<Planned>) -> Result<bool, CodecError> {
-    match (planned(alloc, shard)?, want) {
+    match (plan_of(alloc, shard)?, want) {
         (Some(plan), Some(want)) => {
             Ok(plan.index_location() == shard.location && says(alloc, &plan, &want)?)
         }
@@ -70,14 +76,37 @@ const fn slice(offset: u64) -> Option<Interval> {
 fn a_compaction_is_planned(rt: HostRuntime) {
     let end = ShardingIndexLocation::End;
     let start = ShardingIndexLocation::Start;
-    let moved = |len, slices, numbers| Some(Planned { len, slices, numbers });
+    let moved = |len, slices, numbers| Some(Planned {
+        len,
+        slices,
+        numbers,
+    });
     for (location, numbers, length, want) in [
-        (end, [2, 2, 4, 2], 38, moved(36, [slice(2), slice(4)], [0, 2, 2, 2])),
-        (start, [ABSENT, ABSENT, 34, 2], 36, moved(34, [None, slice(34)], [ABSENT, ABSENT, 32, 2])),
-        (end, [0, 2, 0, 2], 34, moved(36, [slice(0), slice(0)], [0, 2, 2, 2])),
+        (
+            end,
+            [2, 2, 4, 2],
+            38,
+            moved(36, [slice(2), slice(4)], [0, 2, 2, 2]),
+        ),
+        (
+            start,
+            [ABSENT, ABSENT, 34, 2],
+            36,
+            moved(34, [None, slice(34)], [ABSENT, ABSENT, 32, 2]),
+        ),
+        (
+            end,
+            [0, 2, 0, 2],
+            34,
+            moved(36, [slice(0), slice(0)], [0, 2, 2, 2]),
+        ),
         (end, [0, 2, 2, 2], 36, None),
     ] {
-        let shard = Shard { location, numbers, length };
+        let shard = Shard {
+            location,
+            numbers,
+            length,
+        };
         same_at(&rt, shard, is_planned(rt.alloc(), &shard, want), Ok(true));
     }
 }
@@ -103,6 +132,11 @@ fn an_index_has_a_place(rt: HostRuntime) {
         (end, 32, Ok(Interval { offset: 0, size })),
         (end, 31, Err(CodecError::ShardTooShort)),
     ] {
-        same_at(&rt, (location, length), index_interval(rt.alloc(), location, length), want);
+        same_at(
+            &rt,
+            (location, length),
+            index_interval(rt.alloc(), location, length),
+            want,
+        );
     }
 }
