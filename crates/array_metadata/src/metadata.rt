@@ -10,6 +10,7 @@ ghost use Rattle.array_metadata.specs.KeyEncodings.{encoding_name, default_separ
 ghost use Rattle.array_metadata.specs.FillValues.{number_in, number_of};
 ghost use Rattle.array_metadata.specs.ArrayCodecs.{chunks_in, shards_in, subchunks_in};
 ghost use Rattle.sharding_core.specs.Configuration.{shape_in};
+ghost use Rattle.zarr_parts.specs.Grid.{Divides};
 ghost use Rattle.zarr_parts.specs.Types.{size_of, type_name, HasElements};
 ghost use Rattle.zarr_parts.specs.DataTypeSize.TheVariants.{Fixed};
 
@@ -183,12 +184,20 @@ fn fill_in(alloc: Global, whole: &Placed, data_type: DataType) -> Result<FillVal
     fill_value_in(alloc, &fill, data_type)
 }
 
-// Whether a shape is cut into parts of another shape, with no axis left over.
-fn is_even(shape: &[u64], part: &[u64]) -> bool {
-    shape
-        .iter()
-        .zip(part)
-        .all(|(axis, length)| axis.checked_rem(*length) == Some(0))
+// Whether subchunks divide a shape with as many axes evenly.
+fn divides(shape: &ChunkShape, part: &ChunkShape) -> bool
+    ensures { IsTrue result → Divides part.now shape.now }
+{
+    let (shape, part) = (shape.as_slice(), part.as_slice());
+    if shape.len() != part.len() {
+        return false;
+    }
+    for axis in 0..shape.len() {
+        if shape[axis] % part[axis] != 0 {
+            return false;
+        }
+    }
+    true
 }
 
 // Tests that subchunks divide a shard evenly. Refused as `BadField` with both shapes.
@@ -197,11 +206,13 @@ fn test_division(
     place: &str,
     shard: &ChunkShape,
     subchunk: &ChunkShape,
-) -> Result<(), MetadataError> {
-    let (shard, subchunk) = (shard.as_slice(), subchunk.as_slice());
-    if is_even(shard, subchunk) {
+) -> Result<(), MetadataError>
+    ensures { OnOk result (Divides subchunk.now shard.now) }
+{
+    if divides(shard, subchunk) {
         return Ok(());
     }
+    let (shard, subchunk) = (shard.as_slice(), subchunk.as_slice());
     let sentence = format!(in alloc;
         "subchunks of the shape {subchunk:?} do not divide a shard of the shape {shard:?} evenly"
     )?;
@@ -214,7 +225,9 @@ fn test_subchunks(
     alloc: Global,
     shard: &ChunkShape,
     codec: &ArrayCodec,
-) -> Result<(), MetadataError> {
+) -> Result<(), MetadataError>
+    ensures { OnOk result (Divides codec.now.subchunk_shape shard.now) }
+{
     let place = "codecs[0].configuration.chunk_shape";
     test_division(alloc, place, shard, &codec.subchunk_shape)?;
     match &codec.inner {
@@ -240,6 +253,7 @@ fn with_codecs(
     ensures keys { IfOk result (λ metadata. metadata.keys ≡ keys) }
     ensures fill_value { IfOk result (λ metadata. metadata.fill_value ≡ fill_value) }
     ensures subchunk { IfOk result (λ metadata. length metadata.subchunk ≡ vec_len metadata.shape) }
+    ensures divides { IfOk result (λ metadata. Divides metadata.subchunk metadata.shard) }
     ensures codec { IfOk result (λ metadata. metadata.codec.subchunk_shape ≡ metadata.subchunk) }
     ensures subchunk_read { IfOk result (λ metadata.
         option_and_then shape_in (option_and_then (configured_in (codes "chunk_shape")) (option_and_then chunks_in (get (codes "codecs") (view whole.now.value.now)))) ≡ Some metadata.subchunk) }
@@ -298,6 +312,7 @@ impl ArrayMetadata {
         ensures few { IfOk result (λ metadata. vec_len metadata.shape ≤ 64) }
         ensures shard { IfOk result (λ metadata. length metadata.shard ≡ vec_len metadata.shape) }
         ensures subchunk { IfOk result (λ metadata. length metadata.subchunk ≡ vec_len metadata.shape) }
+        ensures divides { IfOk result (λ metadata. Divides metadata.subchunk metadata.shard) }
         ensures codec { IfOk result (λ metadata. metadata.codec.subchunk_shape ≡ metadata.subchunk) }
         ensures elements { IfOk result (λ metadata. HasElements metadata.data_type) }
         ensures fill_value { IfOk result (λ metadata. size_of metadata.data_type ≡ Fixed (length metadata.fill_value)) }
