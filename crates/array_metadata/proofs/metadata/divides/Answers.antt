@@ -1,4 +1,4 @@
-use Rattle.std.proofs.Common.{◌∙◌, sym, ap, length, subst, arith}
+use Rattle.std.proofs.Common.{subst, arith}
 use Rattle.zarr_parts.specs.Grid.{Divides}
 use Rattle.shard_format.proofs.QuotientLemmas.{Divides-from_axes}
 use Rattle.array_metadata.proofs.metadata.divides.Goals as goal
