@@ -1,0 +1,159 @@
+// Objects that nobody wrote as a shard, as the bytes of inner shards: in one shard, and in three.
+use crate::compared::same_at;
+use crate::shards::{
+    Answer, Plain, Shards, around, elements_of, location_of, said, shards_of, subset_of,
+};
+use hostile_objects::{ABSENT, HOSTILE_OBJECTS, HostileObject, Wanted, object_of};
+use std::alloc::Global;
+use std::process::Abort;
+use std::test::Fail;
+use std::thread::Threads;
+use zarr_codecs::{ArrayToBytesCodecTraits, BytesCodec};
+use zarr_parts::{CodecError, CodecOptions};
+use zarrs_sharding::ShardingCodec;
+use zarrs_sharding::ShardingIndexLocation::End;
+
+type Twice = ShardingCodec<Plain, BytesCodec>;
+
+type Thrice = ShardingCodec<Twice, BytesCodec>;
+
+// The codec of an object that nobody wrote.
+fn innermost(alloc: Global, at_start: bool) -> Result<Plain, CodecError> {
+    around(alloc, 2, BytesCodec::little(), location_of(at_start))
+}
+
+// Eight elements in two shards.
+fn in_one(alloc: Global, at_start: bool) -> Result<Shards<Plain>, CodecError> {
+    let codec = around(alloc, 4, innermost(alloc, at_start)?, End)?;
+    shards_of(alloc, 8, codec)
+}
+
+// Thirty-two elements in two shards of two shards of two shards.
+fn in_three(alloc: Global, at_start: bool) -> Result<Shards<Thrice>, CodecError> {
+    let twice = around(alloc, 4, innermost(alloc, at_start)?, End)?;
+    let thrice = around(alloc, 8, twice, End)?;
+    let codec = around(alloc, 16, thrice, End)?;
+    shards_of(alloc, 32, codec)
+}
+
+// An object as the first subchunk of a shard, whose second is absent; and that as one of another, n times.
+fn put_deep(alloc: Global, hostile: &HostileObject, n: u8) -> Result<Vec<u8>, CodecError> {
+    let mut object = hostile.object(alloc)?;
+    for _ in 0..n {
+        let index = [0, object.len() as u64, ABSENT, ABSENT];
+        object = object_of(alloc, false, &object, &index)?;
+    }
+    Ok(object)
+}
+
+// An inner shard that is refused is damaged.
+fn wanted(answer: Wanted) -> Wanted {
+    match answer {
+        Ok(elements) => Ok(elements),
+        Err(_) => Err(CodecError::Damaged),
+    }
+}
+
+// What reads of the two elements of a subchunk answer.
+fn one_by_one(half: Wanted) -> [Wanted; 2] {
+    match half {
+        Ok(elements) => [
+            Ok(elements.get(..1).unwrap_or(&[])),
+            Ok(elements.get(1..).unwrap_or(&[])),
+        ],
+        Err(_) => [Err(CodecError::Damaged); 2],
+    }
+}
+
+// The first four elements, where all others are the fill value.
+fn first_four(answer: &Answer) -> Result<&[u8], CodecError> {
+    let elements = said(answer)?;
+    let (Some(first), Some(others)) = (elements.get(..4), elements.get(4..)) else {
+        return Err(CodecError::InvalidNumberOfElements);
+    };
+    if others.iter().all(|element| *element == 0) {
+        Ok(first)
+    } else {
+        Err(CodecError::OutOfBounds)
+    }
+}
+
+fn read<I: ArrayToBytesCodecTraits + Drop>(
+    alloc: Global,
+    shards: &Shards<I>,
+    object: &[u8],
+    element: u64,
+) -> Answer {
+    let asked = subset_of(alloc, &(element..element.saturating_add(1)))?;
+    shards.read(alloc, object, &asked)
+}
+
+// The same in a session.
+fn read_in_session<I: ArrayToBytesCodecTraits + Drop>(
+    alloc: Global,
+    shards: &Shards<I>,
+    object: &[u8],
+    element: u64,
+) -> Answer {
+    let asked = subset_of(alloc, &(element..element.saturating_add(1)))?;
+    match shards.open(alloc, object.to_vec(alloc)?) {
+        Ok(mut session) => {
+            let array = session.partial_decode(alloc, &asked, &CodecOptions::default());
+            elements_of(alloc, array)
+        }
+        Err((_, error)) => Err(error),
+    }
+}
+
+// Reads each element of an object in shards by a decoder and in a session, and decodes all of them, also in parallel.
+fn is_answered<R: Abort + Threads + Sync, I: ArrayToBytesCodecTraits + Drop + Sync>(
+    rt: &R,
+    alloc: Global,
+    hostile: &HostileObject,
+    shards: &Shards<I>,
+    object: &[u8],
+) {
+    for (elements, half) in [[0, 1], [2, 3]].iter().zip(hostile.halves.iter()) {
+        let wanted = one_by_one(*half);
+        for (element, want) in elements.iter().zip(wanted.iter()) {
+            let found = read(alloc, shards, object, *element);
+            same_at(rt, (hostile.name, *element), said(&found), *want);
+            let found = read_in_session(alloc, shards, object, *element);
+            same_at(rt, (hostile.name, *element), said(&found), *want);
+        }
+    }
+    let found = shards.decoded(alloc, object);
+    same_at(
+        rt,
+        hostile.name,
+        first_four(&found),
+        wanted(hostile.elements),
+    );
+    let found = shards.decoded_by_workers(rt, alloc, object, 2);
+    same_at(
+        rt,
+        hostile.name,
+        first_four(&found),
+        wanted(hostile.elements),
+    );
+}
+
+#[test]
+fn one_shard_has_them(rt: HostRuntime) -> Result<(), Fail> {
+    for hostile in HOSTILE_OBJECTS.iter() {
+        let shards = in_one(rt.alloc(), hostile.at_start)?;
+        let object = put_deep(rt.alloc(), hostile, 1)?;
+        is_answered(&rt, rt.alloc(), hostile, &shards, &object);
+    }
+    Ok(())
+}
+
+#[test]
+fn shards_in_shards_have_them(rt: HostRuntime) -> Result<(), Fail> {
+    for hostile in HOSTILE_OBJECTS.iter() {
+        let shards = in_three(rt.alloc(), hostile.at_start)?;
+        let object = put_deep(rt.alloc(), hostile, 3)?;
+        is_answered(&rt, rt.alloc(), hostile, &shards, &object);
+    }
+    Ok(())
+}
