@@ -6,6 +6,8 @@ mod compared;
 #[cfg(test)]
 mod gates;
 #[cfg(test)]
+mod morton;
+#[cfg(test)]
 mod round_trips;
 #[cfg(test)]
 mod shards;

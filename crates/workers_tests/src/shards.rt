@@ -1,4 +1,5 @@
-// Shards for the tests, of cells with the fill value 0, whose subchunks are written in ascending number.
+// Shards for the tests, of cells with the fill value 0, whose subchunks are written in ascending number; or with 255, along the
+// Z-curve.
 use std::alloc::Global;
 use std::borrow::CowSlice;
 use std::thread::Threads;
@@ -50,6 +51,19 @@ impl Shards {
     // Cells of one byte.
     pub(crate) fn of_bytes(alloc: Global, axes: &[u64], sub: &[u64]) -> Result<Self, CodecError> {
         Shards::new(alloc, axes, sub, DataType::UInt8, &[0])
+    }
+
+    // Cells of one byte with the fill value 255, whose subchunks are written along the Z-curve.
+    pub(crate) fn along_the_curve(
+        alloc: Global,
+        axes: &[u64],
+        sub: &[u64],
+    ) -> Result<Self, CodecError> {
+        let mut shards = Shards::new(alloc, axes, sub, DataType::UInt8, &[255])?;
+        shards.codec = shards
+            .codec
+            .with_subchunk_write_order(SubchunkWriteOrder::Morton);
+        Ok(shards)
     }
 
     // Cells of two bytes.
