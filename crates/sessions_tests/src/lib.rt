@@ -14,6 +14,8 @@ mod nested;
 #[cfg(test)]
 mod opening;
 #[cfg(test)]
+mod reopened;
+#[cfg(test)]
 mod sessions;
 #[cfg(test)]
 mod shards;
