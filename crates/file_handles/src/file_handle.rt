@@ -16,20 +16,18 @@ use std::marker::Model;
 use std::rt::Files;
 use zarr_words::CodecError;
 
-/// An object that is a file of the system; where there is no file, there is no object. It never tells its bytes, and each
-/// error of input or output is a `Fault`.
+/// An object that is a regular file of the system, maybe through links; where nothing of that name is there, there is no
+/// object. It never tells its bytes, and each error of input or output is a `Fault`, as is anything else that stands there:
+/// a folder, a FIFO, a device, a link to nothing, also on the way.
 ///
 /// Read is what is asked for, and nothing else. The file is opened by the first call that reads, and stays open until it is
 /// replaced or erased here: so what another process puts in its place meanwhile is not seen. `partial_encode_many` writes
-/// in place, and makes the folders that are missing. `replace` writes a new file beside the old one, with `.replacing`
-/// behind its name, syncs it and renames it over the old one: whoever reads, and whoever looks after a crash, finds the old
-/// object or the new one. It is refused while a file of that name stands there.
+/// in place, and makes the folders that are missing. `replace` makes a `Replacement`: whoever reads, and whoever looks after a
+/// crash, finds the old object or the new one. It is refused while another one stands there.
 #[derive(Drop)]
 pub struct FileHandle<R: Files> {
     files: R,
     path: String,
-    // the name of a new file, before it is renamed
-    beside: String,
     // the file, once it was found
     file: Option<R::File>,
     // what was read last
@@ -59,11 +57,9 @@ impl<R: Files> FileHandle<R> {
         R: Drop,
         ensures { IfOk result (λ handle. handle ≡ record { faults = 0; held = 0 }) }
     {
-        let beside = format!(in alloc; "{path}.replacing")?;
         Ok(FileHandle {
             files,
             path: String::from_str(alloc, path)?,
-            beside,
             file: None,
             room: Vec::new(alloc),
             faults: Count::new(),

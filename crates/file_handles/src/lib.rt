@@ -2,8 +2,12 @@
 #![tactic(auto)]
 
 mod count;
+mod entries;
 mod file_handle;
 mod interval;
+mod replacement;
 mod system;
 
+pub use entries::{check_folder, file_length};
 pub use file_handle::FileHandle;
+pub use replacement::{Replacement, folder_of, path_beside};

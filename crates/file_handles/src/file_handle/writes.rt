@@ -18,9 +18,9 @@ impl<R: Files> BytesPartialEncoderTraits for FileHandle<R> {
         self.noted(written)
     }
 
-    fn replace(&mut self, _alloc: Global, bytes: &[u8]) -> Result<(), CodecError> {
+    fn replace(&mut self, alloc: Global, bytes: &[u8]) -> Result<(), CodecError> {
         self.file = None;
-        let replaced = replace_file(&self.files, self.path.as_str(), self.beside.as_str(), bytes);
+        let replaced = replace_file(alloc, &self.files, self.path.as_str(), bytes);
         self.noted(replaced)
     }
 

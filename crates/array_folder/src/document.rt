@@ -1,0 +1,48 @@
+// The text of an array's metadata.
+use crate::error::FolderError;
+use file_handles::{check_folder, file_length};
+use std::alloc::Global;
+use std::io::{ErrorKind, Read};
+use std::rt::Files;
+use std::{fs, io};
+
+// What the system said of the file or folder at a path, with the path where that was refused.
+fn named<T: Drop>(alloc: Global, path: &str, answer: io::Result<T>) -> Result<T, FolderError> {
+    match answer {
+        Ok(value) => Ok(value),
+        Err(error) => Err(FolderError::system(alloc, path, error)),
+    }
+}
+
+// The length of a regular file that is there.
+fn length_of<R: Files>(rt: &R, path: &str) -> io::Result<u64> {
+    match file_length(rt, path)? {
+        Some(length) => Ok(length),
+        None => Err(io::Error::new(ErrorKind::NotFound, "is not there")),
+    }
+}
+
+// The text of a file, of at most so many bytes.
+fn text_of<R: Files + AllocGlobal>(rt: &R, path: &str, most: u64) -> io::Result<String> {
+    io::read_to_string(rt.alloc(), fs::open(rt, path)?.take(most))
+}
+
+/// The length of the document of a folder that has this path. Refused where the folder is none, or the document is not a regular
+/// file in it.
+pub fn document_length<R: Files + AllocGlobal>(
+    rt: &R,
+    path: &str,
+    document: &str,
+) -> Result<u64, FolderError> {
+    named(rt.alloc(), path, check_folder(rt, path))?;
+    named(rt.alloc(), document, length_of(rt, document))
+}
+
+/// The text of a document, of which no more than the first `most` bytes are read.
+pub fn read_document<R: Files + AllocGlobal>(
+    rt: &R,
+    document: &str,
+    most: u64,
+) -> Result<String, FolderError> {
+    named(rt.alloc(), document, text_of(rt, document, most))
+}

@@ -1,0 +1,14 @@
+// What stands in the folder of an array: its metadata, and the files of its chunks.
+#![tactic(auto)]
+
+mod chunk_files;
+mod chunk_grid;
+mod document;
+mod error;
+mod names;
+
+pub use chunk_files::{ChunkFile, ChunkFiles, list_chunks};
+pub use chunk_grid::ChunkGrid;
+pub use document::{document_length, read_document};
+pub use error::FolderError;
+pub use names::KeyForm;

@@ -1,0 +1,108 @@
+// The names of the files of chunks, and of the folders that they lie in.
+use std::alloc::{AllocError, Global};
+
+/// How the key of a chunk is made (Zarr V3 core, "Chunk key encoding"): whether it begins with `c`, as in the encoding
+/// `default` and not in `v2`, and whether `/` stands between its parts, else `.`.
+#[derive(Debug, Clone, Copy, PartialEq, Eq)]
+pub struct KeyForm {
+    pub begins_with_c: bool,
+    pub slashes: bool,
+}
+
+// The names in a folder that are parts of keys: so much text, and behind it a coordinate for each count, which it is below,
+// with `.` between.
+#[derive(Debug, Drop)]
+pub struct Level<'a> {
+    text: &'static str,
+    counts: &'a [u64],
+}
+
+// The coordinate below a count that a word is, in decimal digits with no zero before them.
+fn coordinate_in(word: &str, count: u64) -> Option<u64> {
+    if word.len() > 1 && word.starts_with('0') {
+        return None;
+    }
+    if !word.bytes().all(|byte| byte.is_ascii_digit()) {
+        return None;
+    }
+    let coordinate: u64 = word.parse().ok()?;
+    if coordinate < count {
+        Some(coordinate)
+    } else {
+        None
+    }
+}
+
+// The coordinates below these counts that a text is, with `.` between.
+fn coordinates_in(
+    alloc: Global,
+    text: &str,
+    counts: &[u64],
+) -> Result<Option<Vec<u64>>, AllocError> {
+    let mut coordinates: Vec<u64> = Vec::new(alloc);
+    let mut words = text.split('.');
+    for count in counts {
+        match words.next().and_then(|word| coordinate_in(word, *count)) {
+            Some(coordinate) => coordinates.push(coordinate)?,
+            None => return Ok(None),
+        }
+    }
+    Ok(if words.next().is_none() {
+        Some(coordinates)
+    } else {
+        None
+    })
+}
+
+impl<'a> Level<'a> {
+    /// The coordinates that a name in the folder has, where it is a part of a key.
+    pub fn coordinates(&self, alloc: Global, name: &str) -> Result<Option<Vec<u64>>, AllocError> {
+        let Some(rest) = name.strip_prefix(self.text) else {
+            return Ok(None);
+        };
+        if self.counts.is_empty() {
+            let coordinates: Vec<u64> = Vec::new(alloc);
+            return Ok(if rest.is_empty() {
+                Some(coordinates)
+            } else {
+                None
+            });
+        }
+        coordinates_in(alloc, rest, self.counts)
+    }
+}
+
+// A folder for each axis.
+fn push_axes<'a>(levels: &mut Vec<Level<'a>>, counts: &'a [u64]) -> Result<(), AllocError> {
+    for count in counts.chunks(1) {
+        levels.push(Level {
+            text: "",
+            counts: count,
+        })?;
+    }
+    Ok(())
+}
+
+/// The folders that the keys of chunks in a grid go through: the array's own folder first, and last that of the files.
+pub fn levels_of<'a>(
+    alloc: Global,
+    form: KeyForm,
+    counts: &'a [u64],
+) -> Result<Vec<Level<'a>>, AllocError> {
+    let mut levels: Vec<Level<'a>> = Vec::new(alloc);
+    match (form.begins_with_c, form.slashes, counts.is_empty()) {
+        (true, _, true) => levels.push(Level { text: "c", counts })?,
+        (false, _, true) => levels.push(Level { text: "0", counts })?,
+        (true, false, _) => levels.push(Level { text: "c.", counts })?,
+        (false, false, _) => levels.push(Level { text: "", counts })?,
+        (true, true, _) => {
+            levels.push(Level {
+                text: "c",
+                counts: &[],
+            })?;
+            push_axes(&mut levels, counts)?;
+        }
+        (false, true, _) => push_axes(&mut levels, counts)?,
+    }
+    Ok(levels)
+}
