@@ -1,13 +1,14 @@
 // An array on disk that is open: its metadata, its shards, and their files.
-use crate::stop::{Place, Refusal, Stop};
-use array_metadata::ArrayMetadata;
-use array_shards::ShardGrid;
+use crate::refusal::{Place, Refusal};
+use crate::stop::Stop;
+use array_folder::{ChunkFiles, ChunkGrid, KeyForm, document_length, list_chunks, read_document};
+use array_metadata::{ArrayMetadata, KeyEncoding, LONGEST_TEXT, MetadataError};
+use escaped_text::escaped;
 use file_handles::FileHandle;
 use shard_format::{SubchunkWriteOrder, calculate_chunks_per_shard, of_stored};
 use sharding_core::{ShardingCodec, ShardingPartialDecoder};
-use std::alloc::Global;
+use std::alloc::{AllocError, Global};
 use std::rt::Files;
-use std::{fs, io};
 use zarr_codecs::{ArrayToBytesCodecTraits, BytesPartialDecoderTraits};
 use zarr_parts::{ArrayBytes, ArraySubset, ChunkShape, CodecError, CodecOptions};
 
@@ -17,50 +18,56 @@ pub type ShardFile<'a, R> = FileHandle<&'a R>;
 /// A shard that is opened to be read.
 pub type Decoder<'a, R, I, X> = ShardingPartialDecoder<'a, I, X, ShardFile<'a, R>>;
 
+/// A shard of an array: the key of its chunk, and the chunk's coordinates in the chunk grid.
+#[derive(Debug, Clone, Copy)]
+pub struct Shard<'s> {
+    pub key: &'s str,
+    pub coordinates: &'s [u64],
+}
+
 /// An array on disk, whose shards are of a codec.
 #[derive(Drop)]
 pub struct Array<'a, R, I, X> {
-    rt: &'a R,
-    path: &'a str,
+    pub rt: &'a R,
+    pub path: &'a str,
     pub metadata: &'a ArrayMetadata,
     /// The codec that the metadata names.
     pub codec: &'a ShardingCodec<I, X>,
-    pub grid: ShardGrid,
+    pub grid: ChunkGrid,
     /// How many subchunks a shard has along each axis.
     pub subchunks: ChunkShape,
 }
 
-// The text of the array's `zarr.json`.
-fn text_of<R: Files + AllocGlobal>(rt: &R, path: &str, document: &str) -> Result<String, Stop> {
-    let alloc = rt.alloc();
-    if let Err(error) = fs::metadata(rt, path) {
-        return Err(Stop::system(alloc, path, error));
-    }
-    match fs::read_to_string(rt, document) {
-        Ok(text) => Ok(text),
-        Err(error) => Err(Stop::system(alloc, document, error)),
-    }
-}
-
-// What the array's `zarr.json`, which has this text, says.
-fn read_metadata(alloc: Global, document: String, text: &str) -> Result<ArrayMetadata, Stop> {
-    match ArrayMetadata::from_text(alloc, text) {
-        Ok(mut metadata) => {
-            metadata.codec.order = SubchunkWriteOrder::C;
-            Ok(metadata)
-        }
+// What was read of the array's `zarr.json`, with its path where that was refused.
+fn named<T: Drop>(
+    alloc: Global,
+    document: &str,
+    read: Result<T, MetadataError>,
+) -> Result<T, Stop> {
+    match read {
+        Ok(value) => Ok(value),
         Err(error) => Err(Stop::Metadata {
-            path: document,
+            path: escaped(alloc, document)?,
             error,
         }),
     }
 }
 
-/// The metadata of the array whose folder has this path.
+// What the array's `zarr.json`, which has this text, says. Shards are written anew in row-major order.
+fn read_metadata(alloc: Global, text: &str) -> Result<ArrayMetadata, MetadataError> {
+    let mut metadata = ArrayMetadata::from_text(alloc, text)?;
+    metadata.codec.order = SubchunkWriteOrder::C;
+    Ok(metadata)
+}
+
+/// The metadata of the array whose folder has this path. How long the text is, is tested before it is read.
 pub fn metadata_of<R: Files + AllocGlobal>(rt: &R, path: &str) -> Result<ArrayMetadata, Stop> {
-    let document = format!(in rt.alloc(); "{path}/zarr.json")?;
-    let text = text_of(rt, path, &document)?;
-    read_metadata(rt.alloc(), document, &text)
+    let alloc = rt.alloc();
+    let document = format!(in alloc; "{path}/zarr.json")?;
+    let length = document_length(rt, path, &document)?;
+    named(alloc, &document, MetadataError::test_length(length))?;
+    let text = read_document(rt, &document, LONGEST_TEXT)?;
+    named(alloc, &document, read_metadata(alloc, &text))
 }
 
 // Tests whether a codec serves the shards of an array.
@@ -105,7 +112,7 @@ fn opened<'c, I: ArrayToBytesCodecTraits, X: ArrayToBytesCodecTraits, H: BytesPa
     )
 }
 
-/// Reads the cells of a box of a shard that is open.
+/// Reads the elements of a subset of a shard that is open.
 pub fn read_cells<
     'd,
     I: ArrayToBytesCodecTraits,
@@ -141,7 +148,7 @@ fn decode_subchunk<I: ArrayToBytesCodecTraits, X>(
     }
 }
 
-/// Reads the bytes of a subchunk of a shard that is open, decodes them, and lets the cells go.
+/// Reads the bytes of a subchunk of a shard that is open, decodes them, and lets the elements go. Says whether it is present.
 pub fn read_through<
     I: ArrayToBytesCodecTraits,
     X: ArrayToBytesCodecTraits,
@@ -152,10 +159,13 @@ pub fn read_through<
     codec: &ShardingCodec<I, X>,
     metadata: &ArrayMetadata,
     subchunk: &[u64],
-) -> Result<(), CodecError> {
+) -> Result<bool, CodecError> {
     match decoder.retrieve_subchunk_encoded(alloc, subchunk)? {
-        Some(bytes) => decode_subchunk(alloc, codec, metadata, &bytes),
-        None => Ok(()),
+        Some(bytes) => {
+            decode_subchunk(alloc, codec, metadata, &bytes)?;
+            Ok(true)
+        }
+        None => Ok(false),
     }
 }
 
@@ -165,34 +175,56 @@ impl<'a, R: Files + AllocGlobal, I, X> Array<'a, R, I, X> {
         self.rt.alloc()
     }
 
-    /// The key of a shard.
-    pub fn key(&self, number: u64) -> Result<String, Stop> {
-        let Some(coordinates) = self.grid.coordinates(self.alloc(), number)? else {
-            return Err(CodecError::OutOfBounds.into());
+    /// The files of the array's chunks.
+    pub fn files(&self) -> Result<ChunkFiles, Stop> {
+        let form = KeyForm {
+            begins_with_c: self.metadata.keys.encoding == KeyEncoding::Default,
+            slashes: self.metadata.keys.slashes,
         };
-        Ok(self.metadata.keys.key_of(self.alloc(), &coordinates)?)
+        Ok(list_chunks(self.rt, self.path, form, &self.grid)?)
+    }
+
+    /// The path of the file with this key.
+    pub fn path_of(&self, key: &str) -> Result<String, AllocError> {
+        format!(in self.alloc(); "{}/{key}", self.path)
     }
 
     /// The file of the shard with this key.
     pub fn file(&self, key: &str) -> Result<ShardFile<'a, R>, Stop> {
-        let path = format!(in self.alloc(); "{}/{key}", self.path)?;
+        let path = self.path_of(key)?;
         Ok(FileHandle::new(self.alloc(), self.rt, &path)?)
     }
 
     /// Why a shard is refused. What no shard is the cause of stops the command: what the system said, and memory.
     pub fn refusal(
         &self,
-        key: &str,
+        shard: &Shard<'_>,
         file: &ShardFile<'a, R>,
         error: CodecError,
         place: Place,
     ) -> Result<Refusal, Stop> {
-        let key = String::from_str(self.alloc(), key)?;
         match (error, file.error()) {
             (CodecError::OutOfMemory, _) => Err(Stop::OutOfMemory),
-            (CodecError::Fault, Some(error)) => Err(Stop::System { path: key, error }),
-            _ => Ok(Refusal { key, error, place }),
+            (CodecError::Fault, Some(error)) => Err(Stop::system(self.alloc(), shard.key, error)),
+            _ => Ok(self.refusal_at(shard, error, place)?),
         }
+    }
+
+    /// The refusal of a place in a shard.
+    pub fn refusal_at(
+        &self,
+        shard: &Shard<'_>,
+        error: CodecError,
+        place: Place,
+    ) -> Result<Refusal, AllocError> {
+        Refusal::new(
+            self.alloc(),
+            self.metadata,
+            &self.subchunks,
+            shard,
+            error,
+            place,
+        )
     }
 }
 
@@ -211,7 +243,7 @@ impl<'a, R: Files + AllocGlobal, I: ArrayToBytesCodecTraits, X: ArrayToBytesCode
     ) -> Result<Self, Stop> {
         let alloc = rt.alloc();
         let subchunks = subchunks_of(alloc, codec, metadata)?;
-        let grid = ShardGrid::new(alloc, &metadata.shape, &metadata.shard)?;
+        let grid = ChunkGrid::new(alloc, &metadata.shape, metadata.shard.as_slice())?;
         Ok(Array {
             rt,
             path,
@@ -222,13 +254,16 @@ impl<'a, R: Files + AllocGlobal, I: ArrayToBytesCodecTraits, X: ArrayToBytesCode
         })
     }
 
-    /// Opens the shard with this key, where it is not refused.
-    pub fn decoder(&self, key: &str) -> Result<Result<Decoder<'a, R, I, X>, Refusal>, Stop> {
-        let file = self.file(key)?;
+    /// Opens the shard that a file holds, where it is not refused.
+    pub fn decoder(
+        &self,
+        shard: &Shard<'_>,
+        file: ShardFile<'a, R>,
+    ) -> Result<Result<Decoder<'a, R, I, X>, Refusal>, Stop> {
         match opened(self.alloc(), self.codec, file, self.metadata) {
             Ok(decoder) => Ok(Ok(decoder)),
             Err((file, error)) => {
-                let refusal = self.refusal(key, &file, error, Place::opening(&error))?;
+                let refusal = self.refusal(shard, &file, error, Place::opening(&error))?;
                 Ok(Err(refusal))
             }
         }

@@ -1,16 +1,51 @@
 // Whether the shards of an array are sound.
-use crate::arrays::{Array, Decoder, ShardFile, read_through};
-use crate::stop::{Place, Refusal, Stop};
+use crate::arrays::{Array, Decoder, Shard, ShardFile, read_through};
+use crate::folder::{Counted, write_folder};
+use crate::refusal::{Place, Refusal};
+use crate::stop::{Ending, Stop, written};
+use array_folder::ChunkFiles;
 use command_words::Progress;
 use sharding_core::ShardingPartialDecoder;
-use std::alloc::AllocError;
 use std::io;
 use std::io::Write;
-use std::rt::Files;
+use std::rt::{Clock, Files};
 use zarr_codecs::{ArrayToBytesCodecTraits, BytesPartialDecoderTraits};
 use zarr_parts::{CodecError, unravel_index};
 
-// Reads a subchunk of a shard.
+/// What was checked so far, and what is refused.
+#[derive(Debug, Clone, Copy, PartialEq, Eq)]
+pub struct Checked {
+    /// Shards, and of these the refused ones.
+    pub shards: u64,
+    pub refused: u64,
+    /// Subchunks that are present.
+    pub subchunks: u64,
+    /// How many shards there are in all.
+    pub all: u64,
+}
+
+// Where a check shows how far it is, and what is refused.
+#[derive(Drop)]
+struct Told<'t, 'm, W, M> {
+    out: &'t mut W,
+    progress: &'t mut Progress<'m, M>,
+}
+
+// Writes a line for a refusal, which is seen at once.
+fn write_refusal<W: Write>(out: &mut W, refusal: &Refusal) -> io::Result<()> {
+    writeln!(out, "{refusal}")?;
+    out.flush()
+}
+
+impl<W: Write, M: Write> Told<'_, '_, W, M> {
+    // Tells a refusal.
+    fn tell(&mut self, refusal: &Refusal) -> Result<(), Stop> {
+        self.progress.clear();
+        written(write_refusal(self.out, refusal), Ending::Refused)
+    }
+}
+
+// Reads a subchunk of a shard, and says whether it is present.
 fn check_subchunk<
     R: Files + AllocGlobal,
     I: ArrayToBytesCodecTraits,
@@ -20,136 +55,246 @@ fn check_subchunk<
     array: &Array<'_, R, I, X>,
     decoder: &mut ShardingPartialDecoder<'_, I, X, H>,
     number: u64,
-) -> Result<(), CodecError> {
+) -> Result<bool, CodecError> {
     let alloc = array.alloc();
     match unravel_index(alloc, number, array.subchunks.as_slice())? {
         Some(subchunk) => read_through(alloc, decoder, array.codec, array.metadata, &subchunk),
-        None => Ok(()),
+        None => Ok(false),
     }
 }
 
-// The refusal of the subchunk with this number.
-fn refused_subchunk<R: Files + AllocGlobal, I, X>(
-    array: &Array<'_, R, I, X>,
-    key: &str,
-    error: CodecError,
-    number: u64,
-) -> Result<Refusal, AllocError> {
-    Ok(Refusal {
-        key: String::from_str(array.alloc(), key)?,
-        error,
-        place: Place::Subchunk(number),
-    })
+// What reading the subchunks of a shard came to.
+#[derive(Debug, Clone, Copy)]
+struct Read {
+    // how many are present
+    present: u64,
+    is_refused: bool,
+    // how many have a bad index entry, and the first of these
+    bad: u64,
+    first_bad: u64,
+    // behind which nothing more could be read, and why
+    last: Option<(u64, CodecError)>,
 }
 
-// Reads each subchunk of a shard, and goes on behind one that is refused. Where nothing more can be read, that subchunk is told,
-// and why.
+impl Read {
+    // Nothing was read.
+    fn nothing() -> Self {
+        Read {
+            present: 0,
+            is_refused: false,
+            bad: 0,
+            first_bad: 0,
+            last: None,
+        }
+    }
+
+    // A subchunk more has a bad index entry.
+    fn add_bad(&mut self, number: u64) {
+        if self.bad == 0 {
+            self.first_bad = number;
+        }
+        self.bad = self.bad.saturating_add(1);
+        self.is_refused = true;
+    }
+}
+
+// Reads each subchunk of a shard, and goes on behind one that is refused.
 fn check_each<
     R: Files + AllocGlobal,
+    W: Write,
     M: Write,
     I: ArrayToBytesCodecTraits,
     X: ArrayToBytesCodecTraits,
     H: BytesPartialDecoderTraits,
 >(
     array: &Array<'_, R, I, X>,
-    shard: u64,
-    key: &str,
+    shard: &Shard<'_>,
+    checked: &Checked,
     decoder: &mut ShardingPartialDecoder<'_, I, X, H>,
-    refusals: &mut Vec<Refusal>,
-    progress: &mut Progress<'_, M>,
-) -> Result<Option<(u64, CodecError)>, Stop> {
+    told: &mut Told<'_, '_, W, M>,
+) -> Result<Read, Stop> {
     let count = array.subchunks.num_elements().unwrap_or(u64::MAX);
-    let before = shard.saturating_mul(count);
-    let all = array.grid.len().saturating_mul(count);
+    let before = checked.shards.saturating_mul(count);
+    let all = checked.all.saturating_mul(count);
+    let mut read = Read::nothing();
     for number in 0..count {
-        progress.step(before.saturating_add(number), all);
+        told.progress.step(before.saturating_add(number), all);
         match check_subchunk(array, decoder, number) {
-            Ok(()) => {}
+            Ok(is_present) => read.present = read.present.saturating_add(is_present as u64),
+            Err(CodecError::BadIndexEntry { number }) => read.add_bad(number),
             Err(error) if matches!(error, CodecError::Fault | CodecError::OutOfMemory) => {
-                return Ok(Some((number, error)));
+                read.last = Some((number, error));
+                break;
             }
-            Err(error) => refusals.push(refused_subchunk(array, key, error, number)?)?,
+            Err(error) => {
+                told.tell(&array.refusal_at(shard, error, Place::Subchunk(number))?)?;
+                read.is_refused = true;
+            }
         }
     }
-    Ok(None)
+    Ok(read)
 }
 
-// Lists the subchunk behind which nothing more could be read of a shard.
-fn list_last<R: Files + AllocGlobal, I, X>(
+// Tells the bad index entries of a shard on one line, if there are some.
+fn tell_bad<R: Files + AllocGlobal, W: Write, M: Write, I, X>(
     array: &Array<'_, R, I, X>,
-    key: &str,
-    file: &ShardFile<'_, R>,
-    last: (u64, CodecError),
-    refusals: &mut Vec<Refusal>,
+    shard: &Shard<'_>,
+    read: &Read,
+    told: &mut Told<'_, '_, W, M>,
 ) -> Result<(), Stop> {
-    let (number, error) = last;
-    let refusal = array.refusal(key, file, error, Place::Subchunk(number))?;
-    refusals.push(refusal)?;
+    if read.bad == 0 {
+        return Ok(());
+    }
+    let number = read.first_bad;
+    let error = CodecError::BadIndexEntry { number };
+    let mut refusal = array.refusal_at(shard, error, Place::Subchunk(number))?;
+    refusal.others = read.bad.saturating_sub(1);
+    told.tell(&refusal)
+}
+
+// Tells the subchunk behind which nothing more could be read of a shard, if there is one.
+fn tell_last<R: Files + AllocGlobal, W: Write, M: Write, I, X>(
+    array: &Array<'_, R, I, X>,
+    shard: &Shard<'_>,
+    file: &ShardFile<'_, R>,
+    last: Option<(u64, CodecError)>,
+    told: &mut Told<'_, '_, W, M>,
+) -> Result<(), Stop> {
+    if let Some((number, error)) = last {
+        told.tell(&array.refusal(shard, file, error, Place::Subchunk(number))?)?;
+    }
     Ok(())
 }
 
 // Reads each subchunk of a shard that is open.
 fn check_opened<
     R: Files + AllocGlobal,
+    W: Write,
     M: Write,
     I: ArrayToBytesCodecTraits,
     X: ArrayToBytesCodecTraits,
 >(
     array: &Array<'_, R, I, X>,
-    shard: u64,
-    key: &str,
+    shard: &Shard<'_>,
+    checked: &mut Checked,
     mut decoder: Decoder<'_, R, I, X>,
-    refusals: &mut Vec<Refusal>,
-    progress: &mut Progress<'_, M>,
+    told: &mut Told<'_, '_, W, M>,
 ) -> Result<(), Stop> {
-    let checked = check_each(array, shard, key, &mut decoder, refusals, progress);
+    let read = check_each(array, shard, checked, &mut decoder, told);
     let file = decoder.close();
-    match checked? {
-        Some(last) => list_last(array, key, &file, last, refusals),
-        None => Ok(()),
-    }
+    let read = read?;
+    tell_bad(array, shard, &read, told)?;
+    tell_last(array, shard, &file, read.last, told)?;
+    checked.subchunks = checked.subchunks.saturating_add(read.present);
+    checked.refused = checked.refused.saturating_add(read.is_refused as u64);
+    Ok(())
 }
 
-// Opens a shard and reads each subchunk.
-fn check_shard<
+// Opens the shard that a file holds, which is there, and reads each subchunk.
+fn check_file<
+    'a,
     R: Files + AllocGlobal,
+    W: Write,
     M: Write,
     I: ArrayToBytesCodecTraits,
     X: ArrayToBytesCodecTraits,
 >(
-    array: &Array<'_, R, I, X>,
-    number: u64,
-    refusals: &mut Vec<Refusal>,
-    progress: &mut Progress<'_, M>,
+    array: &Array<'a, R, I, X>,
+    shard: &Shard<'_>,
+    file: ShardFile<'a, R>,
+    checked: &mut Checked,
+    told: &mut Told<'_, '_, W, M>,
 ) -> Result<(), Stop> {
-    let key = array.key(number)?;
-    match array.decoder(&key)? {
-        Ok(decoder) => check_opened(array, number, &key, decoder, refusals, progress),
+    match array.decoder(shard, file)? {
+        Ok(decoder) => check_opened(array, shard, checked, decoder, told)?,
         Err(refusal) => {
-            refusals.push(refusal)?;
-            Ok(())
+            told.tell(&refusal)?;
+            checked.refused = checked.refused.saturating_add(1);
         }
     }
+    checked.shards = checked.shards.saturating_add(1);
+    Ok(())
 }
 
-/// What is refused in the array: of each shard the index, and each subchunk.
-pub fn check<
+// Opens a shard and reads each subchunk. Where its file is gone, nothing is to be checked.
+fn check_shard<
     R: Files + AllocGlobal,
+    W: Write,
     M: Write,
     I: ArrayToBytesCodecTraits,
     X: ArrayToBytesCodecTraits,
->(array: &Array<'_, R, I, X>, progress: &mut Progress<'_, M>) -> Result<Vec<Refusal>, Stop> {
-    let mut refusals: Vec<Refusal> = Vec::new(array.alloc());
-    for number in 0..array.grid.len() {
-        check_shard(array, number, &mut refusals, progress)?;
+>(
+    array: &Array<'_, R, I, X>,
+    shard: &Shard<'_>,
+    checked: &mut Checked,
+    told: &mut Told<'_, '_, W, M>,
+) -> Result<(), Stop> {
+    let mut file = array.file(shard.key)?;
+    match file.exists() {
+        Ok(true) => check_file(array, shard, file, checked, told),
+        Ok(false) => Ok(()),
+        Err(error) => Err(Stop::Refused(array.refusal(shard, &file, error, Place::Shard)?)),
     }
-    Ok(refusals)
 }
 
-/// Writes a line for each refusal: the shard's key, the number and the name of why, and the subchunk or `index`.
-pub fn write_refusals<W: Write>(out: &mut W, refusals: &[Refusal]) -> io::Result<()> {
-    for refusal in refusals {
-        writeln!(out, "{refusal}")?;
+// Checks the shards in these files.
+fn check_all<
+    R: Files + AllocGlobal,
+    W: Write,
+    M: Write,
+    I: ArrayToBytesCodecTraits,
+    X: ArrayToBytesCodecTraits,
+>(
+    array: &Array<'_, R, I, X>,
+    files: &ChunkFiles,
+    told: &mut Told<'_, '_, W, M>,
+) -> Result<Checked, Stop> {
+    let mut checked = Checked {
+        shards: 0,
+        refused: 0,
+        subchunks: 0,
+        all: files.chunks.len() as u64,
+    };
+    for file in files.chunks.iter() {
+        let shard = Shard {
+            key: &file.key,
+            coordinates: &file.coordinates,
+        };
+        check_shard(array, &shard, &mut checked, told)?;
     }
-    Ok(())
+    told.progress.clear();
+    Ok(checked)
+}
+
+// Writes what was checked.
+fn write_checked<W: Write>(out: &mut W, checked: &Checked) -> io::Result<()> {
+    let shards = Counted(checked.shards, "shard");
+    let subchunks = Counted(checked.subchunks, "subchunk");
+    match checked.refused {
+        0 => writeln!(out, "{shards}, {subchunks}: all sound"),
+        1 => writeln!(out, "{shards}: 1 is refused"),
+        refused => writeln!(out, "{shards}: {refused} are refused"),
+    }
+}
+
+/// Decodes each index and each subchunk of the shards that are there, and writes a line for each that is refused as it comes,
+/// what else stands in the folder, and what was checked.
+pub fn check<
+    R: Files + AllocGlobal + Clock,
+    W: Write,
+    M: Write,
+    I: ArrayToBytesCodecTraits,
+    X: ArrayToBytesCodecTraits,
+>(array: &Array<'_, R, I, X>, out: &mut W, progress: &mut Progress<'_, M>) -> Result<Ending, Stop> {
+    let files = array.files()?;
+    let mut told = Told { out, progress };
+    let checked = check_all(array, &files, &mut told)?;
+    let ending = if checked.refused == 0 {
+        Ending::Done
+    } else {
+        Ending::Refused
+    };
+    written(write_folder(array, told.out, &files), ending)?;
+    written(write_checked(told.out, &checked), ending)?;
+    Ok(ending)
 }

@@ -2,49 +2,36 @@
 ghost use Rattle.std.specs.Prelude.{◌≤◌, IfOk};
 
 use crate::arrays::{Array, metadata_of};
-use crate::check::{check, write_refusals};
+use crate::check::check;
 use crate::compact::compact;
-use crate::info::{is_refused, shards_of, write_info};
+use crate::info::info;
 use crate::read::read_box;
-use crate::stop::Stop;
+use crate::stop::{Ending, Stop, written};
 use array_metadata::ArrayMetadata;
 use clap::ArgMatches;
-use command_words::{Form, Progress, Work, box_of, json_of, program, work_of, write_rows};
+use command_words::{Form, Progress, Work, box_of, program, work_of, write_json, write_rows};
+use escaped_text::escaped;
 use sharding_core::ShardingCodec;
 use std::alloc::Global;
 use std::convert::AsStr;
 use std::io;
 use std::io::{BufWriter, Write};
-use std::rt::Files;
+use std::rt::{Clock, Files};
 use zarr_codecs::ArrayToBytesCodecTraits;
 use zarr_parts::DataType;
 
-// Writes cells as an object of JSON.
-fn write_json<W: Write>(
-    alloc: Global,
-    out: &mut W,
-    data_type: &DataType,
-    cells: &[u8],
-    shape: &[u64],
-) -> Result<(), Stop> {
-    let text = json_of(alloc, data_type, cells, shape)?;
-    writeln!(out, "{text}")?;
-    Ok(())
-}
-
 // Writes cells in a form.
 fn write_cells<W: Write>(
-    alloc: Global,
     out: &mut W,
     form: Form,
     data_type: &DataType,
     cells: &[u8],
     shape: &[u64],
-) -> Result<(), Stop> {
+) -> io::Result<()> {
     match form {
-        Form::Text => Ok(write_rows(out, data_type, cells, shape)?),
-        Form::Raw => Ok(out.write_all(cells)?),
-        Form::Json => write_json(alloc, out, data_type, cells, shape),
+        Form::Text => write_rows(out, data_type, cells, shape),
+        Form::Raw => out.write_all(cells),
+        Form::Json => write_json(out, data_type, cells, shape),
     }
 }
 
@@ -61,17 +48,19 @@ fn run_read<
     form: Form,
     out: &mut W,
     progress: &mut Progress<'_, M>,
-) -> Result<(), Stop> {
-    let (alloc, data_type) = (array.alloc(), &array.metadata.data_type);
-    let subset = box_of(alloc, asked, &array.metadata.shape)?;
+) -> Result<Ending, Stop> {
+    let subset = box_of(array.alloc(), asked, &array.metadata.shape)?;
     let cells = read_box(array, &subset, progress)?;
     progress.clear();
-    write_cells(alloc, out, form, data_type, cells.bytes(), subset.shape())
+    let data_type = &array.metadata.data_type;
+    let wrote = write_cells(out, form, data_type, cells.bytes(), subset.shape());
+    written(wrote, Ending::Done)?;
+    Ok(Ending::Done)
 }
 
-// Does a work, writes its answer, and says whether a shard is refused.
+// Does a work, and writes its answer.
 fn run_work<
-    R: Files + AllocGlobal,
+    R: Files + AllocGlobal + Clock,
     I: ArrayToBytesCodecTraits,
     X: ArrayToBytesCodecTraits,
     W: Write,
@@ -81,31 +70,18 @@ fn run_work<
     work: Work<'_>,
     out: &mut W,
     progress: &mut Progress<'_, M>,
-) -> Result<bool, Stop> {
+) -> Result<Ending, Stop> {
     match work {
-        Work::Info => {
-            let shards = shards_of(array, progress)?;
-            progress.clear();
-            write_info(out, array, &shards)?;
-            Ok(is_refused(&shards))
-        }
-        Work::Check => {
-            let refusals = check(array, progress)?;
-            progress.clear();
-            write_refusals(out, &refusals)?;
-            Ok(!refusals.is_empty())
-        }
-        Work::Read { asked, form } => {
-            run_read(array, asked, form, out, progress)?;
-            Ok(false)
-        }
+        Work::Info => info(array, out, progress),
+        Work::Check => check(array, out, progress),
+        Work::Read { asked, form } => run_read(array, asked, form, out, progress),
         Work::Compact { is_dry } => compact(array, is_dry, out, progress),
     }
 }
 
 // Does a work on an array that is open, and gives the status.
 fn run_opened<
-    R: Files + AllocGlobal,
+    R: Files + AllocGlobal + Clock,
     I: ArrayToBytesCodecTraits,
     X: ArrayToBytesCodecTraits,
     W: Write,
@@ -118,13 +94,15 @@ fn run_opened<
 ) -> Result<u8, Stop>
     ensures { IfOk result (λ status. status ≤ 2) }
 {
-    let is_refused = run_work(array, work, out, progress)?;
-    Ok(if is_refused { 1 } else { 0 })
+    match run_work(array, work, out, progress) {
+        Ok(ending) | Err(Stop::Closed(ending)) => Ok(ending.status()),
+        Err(stop) => Err(stop),
+    }
 }
 
 // Opens an array with its metadata and the codec that this names, and does a work.
 fn run_described<
-    R: Files + AllocGlobal,
+    R: Files + AllocGlobal + Clock,
     I: ArrayToBytesCodecTraits,
     X: ArrayToBytesCodecTraits,
     W: Write,
@@ -145,7 +123,7 @@ fn run_described<
 }
 
 // Reads the metadata of an array, and does a work.
-fn run_array<R: Files + AllocGlobal, W: Write, M: Write>(
+fn run_array<R: Files + AllocGlobal + Clock, W: Write, M: Write>(
     rt: &R,
     path: &str,
     work: Work<'_>,
@@ -159,7 +137,7 @@ fn run_array<R: Files + AllocGlobal, W: Write, M: Write>(
 }
 
 // Does what the words of a command line say.
-fn run_matches<R: Files + AllocGlobal, W: Write, M: Write>(
+fn run_matches<R: Files + AllocGlobal + Clock, W: Write, M: Write>(
     rt: &R,
     matches: &ArgMatches<'_>,
     out: &mut W,
@@ -178,12 +156,27 @@ fn run_matches<R: Files + AllocGlobal, W: Write, M: Write>(
     ran
 }
 
+// Writes what is wrong with a command line, of which a word may be the name of a stranger's file.
+fn tell_wrong<M: Write>(alloc: Global, error: &clap::Error, messages: &mut M) -> Result<(), Stop> {
+    let text = format!(in alloc; "{error}")?;
+    for line in text.lines() {
+        let line = escaped(alloc, line)?;
+        let _ = writeln!(messages, "{line}");
+    }
+    Ok(())
+}
+
 // Writes the help that a command line asks for, or what is wrong with it.
-fn tell<W: Write, M: Write>(error: &clap::Error, out: &mut W, messages: &mut M) -> Result<u8, Stop>
+fn tell<W: Write, M: Write>(
+    alloc: Global,
+    error: &clap::Error,
+    out: &mut W,
+    messages: &mut M,
+) -> Result<u8, Stop>
     ensures { IfOk result (λ status. status ≤ 2) }
 {
     if error.use_stderr() {
-        let _ = write!(messages, "{error}");
+        tell_wrong(alloc, error, messages)?;
         return Ok(2);
     }
     write!(out, "{error}")?;
@@ -191,7 +184,7 @@ fn tell<W: Write, M: Write>(error: &clap::Error, out: &mut W, messages: &mut M) 
 }
 
 // Reads the words of a command line, and does what they say.
-fn run_words<R: Files + AllocGlobal, S: AsStr, W: Write, M: Write>(
+fn run_words<R: Files + AllocGlobal + Clock, S: AsStr, W: Write, M: Write>(
     rt: &R,
     words: &[S],
     out: &mut W,
@@ -202,12 +195,12 @@ fn run_words<R: Files + AllocGlobal, S: AsStr, W: Write, M: Write>(
 {
     match program(rt.alloc())?.try_get_matches_from(words) {
         Ok(matches) => run_matches(rt, &matches, out, messages, shows_progress),
-        Err(error) => tell(&error, out, messages),
+        Err(error) => tell(rt.alloc(), &error, out, messages),
     }
 }
 
 // Runs a command line, and sees that its answer is written.
-fn run_buffered<R: Files + AllocGlobal, S: AsStr, W: Write + Drop, M: Write>(
+fn run_buffered<R: Files + AllocGlobal + Clock, S: AsStr, W: Write + Drop, M: Write>(
     rt: &R,
     words: &[S],
     writer: W,
@@ -218,16 +211,18 @@ fn run_buffered<R: Files + AllocGlobal, S: AsStr, W: Write + Drop, M: Write>(
 {
     let mut out = BufWriter::new(rt.alloc(), writer)?;
     let ran = run_words(rt, words, &mut out, messages, shows_progress);
-    out.flush()?;
-    ran
+    match out.flush() {
+        Err(error) if error.kind() != io::ErrorKind::BrokenPipe => Err(Stop::Output(error)),
+        _ => ran,
+    }
 }
 
 /// Runs a command line, whose first word is the program's name: writes the answer, or one sentence to the messages, and
-/// returns the status for the program to end with. 0 where it was done; 1 where a shard is refused; 2 where it could not be
-/// done, and then nothing is written but what `compact` had done before. A message that is not taken is dropped. Where
-/// `shows_progress` is true, the messages show how far the command is while it runs, and it is blanked before an answer or a
-/// sentence is written.
-pub fn run_command<R: Files + AllocGlobal, S: AsStr, W: Write + Drop, M: Write + Drop>(
+/// returns the status for the program to end with. 0 where it was done; 1 where a shard is refused; 2 where it, or a part of
+/// it, could not be done, and then nothing is written but what `check` and `compact` had said before. A message that is not
+/// taken is dropped, and an answer that nobody reads. Where `shows_progress` is true, the messages show how far the command is
+/// while it runs, and it is blanked before an answer or a sentence is written.
+pub fn run_command<R: Files + AllocGlobal + Clock, S: AsStr, W: Write + Drop, M: Write + Drop>(
     rt: &R,
     words: &[S],
     writer: W,

@@ -1,26 +1,28 @@
 // The compaction of an array's shards.
-use crate::arrays::{Array, ShardFile};
-use crate::stop::{Place, Refusal, Stop};
-use array_metadata::ArrayMetadata;
+use crate::arrays::{Array, Shard, ShardFile};
+use crate::folder::age_of;
+use crate::refusal::{Place, Refusal};
+use crate::rewriting::{Planned, plan_of, replace};
+use crate::stop::{Ending, Stop, written};
 use command_words::Progress;
-use std::alloc::Global;
-use std::io::{ErrorKind, Write};
-use std::rt::Files;
-use zarr_codecs::{
-    ArrayToBytesCodecTraits, ByteRange, BytesPartialDecoderTraits, BytesPartialEncoderTraits,
-    copy_range,
-};
-use zarr_parts::{CodecError, CodecOptions};
+use escaped_text::escaped;
+use file_handles::path_beside;
+use std::io::Write;
+use std::rt::{Clock, Files};
+use std::{fs, io};
+use zarr_codecs::ArrayToBytesCodecTraits;
 
-/// What was gained, and whether a shard is refused.
+/// What was gained, and what was not done.
 #[derive(Debug, Clone, Copy, PartialEq, Eq)]
 pub struct Gained {
     /// Shards that were not compact.
     pub shards: u64,
-    /// The bytes that they had too many.
+    /// Their dead bytes.
     pub bytes: u64,
     /// Whether a shard is refused.
     pub is_refused: bool,
+    /// Whether a shard could not be replaced.
+    pub is_undone: bool,
 }
 
 impl Gained {
@@ -30,6 +32,7 @@ impl Gained {
             shards: 0,
             bytes: 0,
             is_refused: false,
+            is_undone: false,
         }
     }
 
@@ -38,140 +41,156 @@ impl Gained {
         self.shards = self.shards.saturating_add(1);
         self.bytes = self.bytes.saturating_add(bytes);
     }
+
+    // How a command ends that gained this.
+    fn ending(&self) -> Ending {
+        if self.is_undone {
+            Ending::Undone
+        } else if self.is_refused {
+            Ending::Refused
+        } else {
+            Ending::Done
+        }
+    }
 }
 
-// A compact shard.
+// What became of a shard.
 #[derive(Drop)]
-struct Compaction {
-    bytes: Vec<u8>,
-    // how many bytes it has fewer
-    saved: u64,
+enum Outcome {
+    // It is compact.
+    Compact,
+    // Its dead bytes.
+    Saved(u64),
+    // How many bytes more it would have.
+    Longer(u64),
+    Refused(Refusal),
+    // A new file stands at this path already.
+    Busy(String),
 }
 
-// A shard's compaction. `None` where it is compact.
-fn compaction_of<C: ArrayToBytesCodecTraits>(
-    alloc: Global,
-    codec: &C,
-    metadata: &ArrayMetadata,
-    shard: &[u8],
-) -> Result<Option<Compaction>, CodecError> {
-    let made = codec.compact(
-        alloc,
-        shard,
-        &metadata.shard,
-        &metadata.data_type,
-        &metadata.fill_value,
-        &CodecOptions::default(),
-    );
-    match made? {
-        Some(bytes) => {
-            let saved = shard.len().saturating_sub(bytes.len()) as u64;
-            Ok(Some(Compaction { bytes, saved }))
-        }
-        None => Ok(None),
-    }
-}
-
-// The compaction of the shard in a file. `None` where there is no file, or it is compact.
-fn compacted<C: ArrayToBytesCodecTraits, H: BytesPartialDecoderTraits>(
-    alloc: Global,
-    codec: &C,
-    metadata: &ArrayMetadata,
-    file: &mut H,
-) -> Result<Option<Compaction>, CodecError> {
-    match copy_range(file, alloc, ByteRange::FromStart(0, None))? {
-        Some(shard) => compaction_of(alloc, codec, metadata, &shard),
-        None => Ok(None),
-    }
-}
-
-// Puts a compaction in the place of a shard's file. Where that is refused the old file stands.
-fn replace<'a, R: Files + AllocGlobal, I, X>(
+// Compacts a shard to save bytes, if no new file stands beside it.
+fn put<'a, R: Files + AllocGlobal, I, X, W: Write>(
     array: &Array<'a, R, I, X>,
-    key: &str,
+    shard: &Shard<'_>,
     file: &mut ShardFile<'a, R>,
-    bytes: &[u8],
-) -> Result<(), Stop> {
-    let Err(error) = file.replace(array.alloc(), bytes) else {
-        return Ok(());
+    planned: &Planned,
+    is_dry: bool,
+    out: &mut W,
+) -> Result<Outcome, Stop> {
+    let path = array.path_of(shard.key)?;
+    let beside = match path_beside(array.alloc(), array.rt, &path) {
+        Ok(beside) => beside,
+        Err(error) => return Err(Stop::system(array.alloc(), &path, error)),
     };
-    if file
-        .error()
-        .is_some_and(|error| error.kind() == ErrorKind::AlreadyExists)
-    {
-        return Err(Stop::Busy(String::from_str(array.alloc(), key)?));
-    }
-    let refusal = array.refusal(key, file, error, Place::Shard)?;
-    Err(Stop::Refused(refusal))
+    let is_free = if is_dry {
+        fs::symlink_metadata(array.rt, &beside).is_err()
+    } else {
+        replace(array, shard, file, &beside, &planned.plan, out)?
+    };
+    Ok(if is_free {
+        Outcome::Saved(planned.length.saturating_sub(planned.plan.len()))
+    } else {
+        Outcome::Busy(beside)
+    })
 }
 
-// Compacts the shard in a file, and says how many bytes that saves; or why the shard is refused.
-fn compact_file<'a, R: Files + AllocGlobal, I: ArrayToBytesCodecTraits, X: ArrayToBytesCodecTraits>(
+// Compacts the shard in a file.
+fn compact_file<
+    'a,
+    R: Files + AllocGlobal,
+    I: ArrayToBytesCodecTraits,
+    X: ArrayToBytesCodecTraits,
+    W: Write,
+>(
     array: &Array<'a, R, I, X>,
-    key: &str,
+    shard: &Shard<'_>,
     file: &mut ShardFile<'a, R>,
     is_dry: bool,
-) -> Result<Result<Option<u64>, Refusal>, Stop> {
-    match compacted(array.alloc(), array.codec, array.metadata, file) {
-        Ok(Some(compaction)) => {
-            if !is_dry {
-                replace(array, key, file, &compaction.bytes)?;
+    out: &mut W,
+) -> Result<Outcome, Stop> {
+    match plan_of(array.alloc(), array.codec, array.metadata, file) {
+        Ok(Some(planned)) => {
+            let longer = planned.plan.len().saturating_sub(planned.length);
+            if longer > 0 {
+                return Ok(Outcome::Longer(longer));
             }
-            Ok(Ok(Some(compaction.saved)))
+            put(array, shard, file, &planned, is_dry, out)
         }
-        Ok(None) => Ok(Ok(None)),
+        Ok(None) => Ok(Outcome::Compact),
         Err(error) => {
-            let refusal = array.refusal(key, file, error, Place::opening(&error))?;
-            Ok(Err(refusal))
+            let refusal = array.refusal(shard, file, error, Place::opening(&error))?;
+            Ok(Outcome::Refused(refusal))
         }
     }
 }
 
-// Compacts the shard with this key.
-fn compact_shard<R: Files + AllocGlobal, I: ArrayToBytesCodecTraits, X: ArrayToBytesCodecTraits>(
-    array: &Array<'_, R, I, X>,
+// Writes what became of a shard, but of one that is compact.
+fn write_outcome<R: Files + AllocGlobal + Clock, W: Write>(
+    rt: &R,
+    out: &mut W,
     key: &str,
-    is_dry: bool,
-) -> Result<Result<Option<u64>, Refusal>, Stop> {
-    let mut file = array.file(key)?;
-    compact_file(array, key, &mut file, is_dry)
+    outcome: &Outcome,
+) -> io::Result<()> {
+    match outcome {
+        Outcome::Compact => Ok(()),
+        Outcome::Saved(saved) => writeln!(out, "{key}: {saved} bytes saved"),
+        Outcome::Longer(longer) => {
+            writeln!(
+                out,
+                "{key}: {longer} bytes longer if compacted: overlapping slices"
+            )
+        }
+        Outcome::Refused(refusal) => {
+            let reason = refusal.reason();
+            writeln!(out, "{key}: refused: {reason}")
+        }
+        Outcome::Busy(path) => {
+            let age = age_of(rt, path);
+            let path = escaped(rt.alloc(), path)?;
+            writeln!(
+                out,
+                "{key}: not compacted: {path} stands there{age}: a compaction writes it, or was stopped and left it; if none runs, remove it"
+            )
+        }
+    }
 }
 
-// Compacts a shard, and writes a line where that saves bytes or the shard is refused.
+// Compacts a shard, and writes a line where it is not compact.
 fn compact_one<
-    R: Files + AllocGlobal,
+    R: Files + AllocGlobal + Clock,
     I: ArrayToBytesCodecTraits,
     X: ArrayToBytesCodecTraits,
     W: Write,
     M: Write,
 >(
     array: &Array<'_, R, I, X>,
-    number: u64,
+    shard: &Shard<'_>,
     is_dry: bool,
     out: &mut W,
     gained: &mut Gained,
     progress: &mut Progress<'_, M>,
 ) -> Result<(), Stop> {
-    let key = array.key(number)?;
-    match compact_shard(array, &key, is_dry)? {
-        Ok(Some(saved)) => {
-            gained.add(saved);
-            progress.clear();
-            Ok(writeln!(out, "{key}: {saved} bytes saved")?)
-        }
-        Ok(None) => Ok(()),
-        Err(refusal) => {
-            gained.is_refused = true;
-            progress.clear();
-            Ok(writeln!(out, "{key}: refused: {refusal}")?)
-        }
+    let mut file = array.file(shard.key)?;
+    let outcome = compact_file(array, shard, &mut file, is_dry, out)?;
+    match &outcome {
+        Outcome::Saved(saved) => gained.add(*saved),
+        Outcome::Refused(_) => gained.is_refused = true,
+        Outcome::Busy(_) => gained.is_undone = true,
+        Outcome::Compact | Outcome::Longer(_) => {}
     }
+    if !matches!(outcome, Outcome::Compact) {
+        progress.clear();
+    }
+    written(
+        write_outcome(array.rt, out, shard.key, &outcome),
+        gained.ending(),
+    )
 }
 
-/// Compacts each shard that is not compact, and writes a line for each and how many bytes were saved in all. With `is_dry` no
-/// file is written. Says whether a shard is refused.
+/// Compacts each shard that is there, and writes a line for each that is not compact and how many bytes were saved in all. With
+/// `is_dry` no file is written.
 pub fn compact<
-    R: Files + AllocGlobal,
+    R: Files + AllocGlobal + Clock,
     I: ArrayToBytesCodecTraits,
     X: ArrayToBytesCodecTraits,
     W: Write,
@@ -181,22 +200,21 @@ pub fn compact<
     is_dry: bool,
     out: &mut W,
     progress: &mut Progress<'_, M>,
-) -> Result<bool, Stop> {
+) -> Result<Ending, Stop> {
+    let files = array.files()?;
+    let all = files.chunks.len();
     let mut gained = Gained::nothing();
-    for number in 0..array.grid.len() {
-        progress.step(number, array.grid.len());
-        compact_one(array, number, is_dry, out, &mut gained, progress)?;
+    for (number, file) in files.chunks.iter().enumerate() {
+        progress.step(number as u64, all as u64);
+        let shard = Shard {
+            key: &file.key,
+            coordinates: &file.coordinates,
+        };
+        compact_one(array, &shard, is_dry, out, &mut gained, progress)?;
     }
     progress.clear();
-    let Gained {
-        shards,
-        bytes,
-        is_refused,
-    } = gained;
-    writeln!(
-        out,
-        "{bytes} bytes saved in {shards} of {} shards",
-        array.grid.len()
-    )?;
-    Ok(is_refused)
+    let Gained { bytes, shards, .. } = gained;
+    let wrote = writeln!(out, "{bytes} bytes saved in {shards} of {all} shards");
+    written(wrote, gained.ending())?;
+    Ok(gained.ending())
 }

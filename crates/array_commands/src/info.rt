@@ -1,6 +1,9 @@
 // What an array on disk holds, and its shards.
-use crate::arrays::{Array, ShardFile};
-use crate::stop::{Place, Refusal, Stop};
+use crate::arrays::{Array, Shard, ShardFile};
+use crate::folder::{Counted, write_folder};
+use crate::refusal::{Place, Refusal};
+use crate::stop::{Ending, Stop, written};
+use array_folder::ChunkFiles;
 use array_metadata::ArrayMetadata;
 use command_words::{Progress, write_numbers, write_rows};
 use shard_format::{ShardingIndexLocation, sharding_index_shape};
@@ -8,9 +11,9 @@ use sharding_core::ShardingCodec;
 use std::alloc::Global;
 use std::io;
 use std::io::Write;
-use std::rt::Files;
+use std::rt::{Clock, Files};
 use zarr_codecs::{
-    ArrayToBytesCodecTraits, ByteRange, BytesPartialDecoderTraits, BytesRepresentation, copy_range,
+    ArrayToBytesCodecTraits, ByteRange, BytesPartialDecoderTraits, BytesRepresentation, read_range,
 };
 use zarr_parts::{ChunkShape, CodecError, CodecOptions, DataType, FillValue};
 
@@ -25,16 +28,26 @@ pub struct IndexInfo {
     pub dead: u64,
 }
 
-/// A shard that is there.
+/// What is known of a shard that is there.
 #[derive(Debug, Drop)]
 pub struct ShardInfo {
-    pub key: String,
     pub length: u64,
     /// What its index says, or why it is refused.
     pub index: Result<IndexInfo, Refusal>,
 }
 
-// How long the indexes of shards of so many subchunks are.
+// What is known of all shards.
+#[derive(Debug, Clone, Copy, PartialEq, Eq)]
+struct Sums {
+    shards: u64,
+    bytes: u64,
+    present: u64,
+    absent: u64,
+    dead: u64,
+    refused: u64,
+}
+
+// How long the index of a shard with these subchunks along each axis is.
 fn index_representation<X: ArrayToBytesCodecTraits>(
     alloc: Global,
     codec: &X,
@@ -45,7 +58,7 @@ fn index_representation<X: ArrayToBytesCodecTraits>(
     codec.encoded_representation(alloc, &shape, &DataType::UInt64, &absent)
 }
 
-// How many bytes the index of a shard of so many subchunks has.
+// How many bytes the index of a shard with these subchunks along each axis has.
 fn index_size<X: ArrayToBytesCodecTraits>(
     alloc: Global,
     codec: &X,
@@ -117,10 +130,11 @@ fn numbers_of<I: ArrayToBytesCodecTraits, X: ArrayToBytesCodecTraits, H: BytesPa
     range: ByteRange,
     subchunks: &ChunkShape,
 ) -> Result<Vec<u64>, CodecError> {
-    match copy_range(file, alloc, range)? {
-        Some(bytes) => codec.decode_index(alloc, &bytes, subchunks, &CodecOptions::default()),
-        None => Err(CodecError::ShardTooShort),
-    }
+    let mut room: Vec<u8> = Vec::new(alloc);
+    let Some(bytes) = read_range(file, &mut room, alloc, range)? else {
+        return Err(CodecError::ShardTooShort);
+    };
+    codec.decode_index(alloc, bytes, subchunks, &CodecOptions::default())
 }
 
 // What an index of these numbers says, which takes the bytes of an interval of the object.
@@ -159,10 +173,10 @@ fn index_info<I: ArrayToBytesCodecTraits, X: ArrayToBytesCodecTraits, H: BytesPa
     info_of(alloc, &numbers, interval, length)
 }
 
-// What the index of a shard with this key says, or why it is refused.
+// What the index of a shard in a file says, or why it is refused.
 fn index_of<R: Files + AllocGlobal, I: ArrayToBytesCodecTraits, X: ArrayToBytesCodecTraits>(
     array: &Array<'_, R, I, X>,
-    key: &str,
+    shard: &Shard<'_>,
     file: &mut ShardFile<'_, R>,
     length: u64,
     size: u64,
@@ -176,68 +190,78 @@ fn index_of<R: Files + AllocGlobal, I: ArrayToBytesCodecTraits, X: ArrayToBytesC
         size,
     ) {
         Ok(info) => Ok(Ok(info)),
-        Err(error) => Ok(Err(array.refusal(key, file, error, Place::opening(&error))?)),
+        Err(error) => Ok(Err(array.refusal(shard, file, error, Place::opening(&error))?)),
     }
 }
 
-// How long the file of the shard with this key is, and what its index says, where there is a file.
-fn known_of<R: Files + AllocGlobal, I: ArrayToBytesCodecTraits, X: ArrayToBytesCodecTraits>(
-    array: &Array<'_, R, I, X>,
-    key: &str,
-    file: &mut ShardFile<'_, R>,
-    size: u64,
-) -> Result<Option<(u64, Result<IndexInfo, Refusal>)>, Stop> {
-    match file.len() {
-        Ok(Some(length)) => Ok(Some((length, index_of(array, key, file, length, size)?))),
-        Ok(None) => Ok(None),
-        Err(error) => Err(Stop::Refused(array.refusal(key, file, error, Place::Shard)?)),
-    }
-}
-
-// A shard and what its index says, where there is a file.
+// What is known of a shard, where its file is still there.
 fn shard_info<R: Files + AllocGlobal, I: ArrayToBytesCodecTraits, X: ArrayToBytesCodecTraits>(
     array: &Array<'_, R, I, X>,
-    number: u64,
+    shard: &Shard<'_>,
     size: u64,
 ) -> Result<Option<ShardInfo>, Stop> {
-    let key = array.key(number)?;
-    let mut file = array.file(&key)?;
-    match known_of(array, &key, &mut file, size)? {
-        Some((length, index)) => Ok(Some(ShardInfo { key, length, index })),
-        None => Ok(None),
+    let mut file = array.file(shard.key)?;
+    match file.len() {
+        Ok(Some(length)) => {
+            let index = index_of(array, shard, &mut file, length, size)?;
+            Ok(Some(ShardInfo { length, index }))
+        }
+        Ok(None) => Ok(None),
+        Err(error) => Err(Stop::Refused(array.refusal(shard, &file, error, Place::Shard)?)),
     }
 }
 
-// The shards that are there, whose indexes have so many bytes.
+// What is known of the shards in these files, whose indexes have a size; nothing of one whose file is gone.
 fn listed<R: Files + AllocGlobal, I: ArrayToBytesCodecTraits, X: ArrayToBytesCodecTraits, M: Write>(
     array: &Array<'_, R, I, X>,
+    files: &ChunkFiles,
     size: u64,
     progress: &mut Progress<'_, M>,
-) -> Result<Vec<ShardInfo>, Stop> {
-    let mut shards: Vec<ShardInfo> = Vec::new(array.alloc());
-    for number in 0..array.grid.len() {
-        progress.step(number, array.grid.len());
-        if let Some(shard) = shard_info(array, number, size)? {
-            shards.push(shard)?;
-        }
+) -> Result<Vec<Option<ShardInfo>>, Stop> {
+    let mut shards: Vec<Option<ShardInfo>> = Vec::with_capacity(array.alloc(), files.chunks.len())?;
+    for (number, file) in files.chunks.iter().enumerate() {
+        progress.step(number as u64, files.chunks.len() as u64);
+        let shard = Shard {
+            key: &file.key,
+            coordinates: &file.coordinates,
+        };
+        shards.push(shard_info(array, &shard, size)?)?;
     }
     Ok(shards)
 }
 
-/// The shards that are there.
-pub fn shards_of<
-    R: Files + AllocGlobal,
-    I: ArrayToBytesCodecTraits,
-    X: ArrayToBytesCodecTraits,
-    M: Write,
->(array: &Array<'_, R, I, X>, progress: &mut Progress<'_, M>) -> Result<Vec<ShardInfo>, Stop> {
-    let size = index_size(array.alloc(), &array.codec.index_codec, &array.subchunks)?;
-    listed(array, size, progress)
-}
+impl Sums {
+    // Adds a shard.
+    fn add(&mut self, shard: &ShardInfo) {
+        self.shards = self.shards.saturating_add(1);
+        self.bytes = self.bytes.saturating_add(shard.length);
+        match &shard.index {
+            Ok(info) => {
+                self.present = self.present.saturating_add(info.present);
+                self.absent = self.absent.saturating_add(info.absent);
+                self.dead = self.dead.saturating_add(info.dead);
+            }
+            Err(_) => self.refused = self.refused.saturating_add(1),
+        }
+    }
 
-/// Whether a shard is refused.
-pub fn is_refused(shards: &[ShardInfo]) -> bool {
-    shards.iter().any(|shard| shard.index.is_err())
+    // What is known of all these shards.
+    fn of(shards: &[Option<ShardInfo>]) -> Sums {
+        let mut sums = Sums {
+            shards: 0,
+            bytes: 0,
+            present: 0,
+            absent: 0,
+            dead: 0,
+            refused: 0,
+        };
+        for shard in shards {
+            if let Some(shard) = shard {
+                sums.add(shard);
+            }
+        }
+        sums
+    }
 }
 
 // Writes what the metadata says.
@@ -261,8 +285,8 @@ fn write_metadata<W: Write>(out: &mut W, metadata: &ArrayMetadata) -> io::Result
 }
 
 // Writes what is known of a shard.
-fn write_shard<W: Write>(out: &mut W, shard: &ShardInfo) -> io::Result<()> {
-    write!(out, "{}: {} bytes, ", shard.key, shard.length)?;
+fn write_shard<W: Write>(out: &mut W, key: &str, shard: &ShardInfo) -> io::Result<()> {
+    write!(out, "{key}: {} bytes, ", shard.length)?;
     match &shard.index {
         Ok(info) => {
             let IndexInfo {
@@ -272,20 +296,82 @@ fn write_shard<W: Write>(out: &mut W, shard: &ShardInfo) -> io::Result<()> {
             } = *info;
             writeln!(out, "{present} present, {absent} absent, {dead} dead bytes")
         }
-        Err(refusal) => writeln!(out, "refused: {refusal}"),
+        Err(refusal) => {
+            let reason = refusal.reason();
+            writeln!(out, "refused: {reason}")
+        },
     }
 }
 
-/// Writes what the metadata says, how many shards are there, and a line for each.
-pub fn write_info<R: Files + AllocGlobal, I, X, W: Write>(
+// Writes a line for each shard.
+fn write_shards<W: Write>(
     out: &mut W,
-    array: &Array<'_, R, I, X>,
-    shards: &[ShardInfo],
+    files: &ChunkFiles,
+    shards: &[Option<ShardInfo>],
 ) -> io::Result<()> {
-    write_metadata(out, array.metadata)?;
-    writeln!(out, "shards: {} of {}", shards.len(), array.grid.len())?;
-    for shard in shards {
-        write_shard(out, shard)?;
+    for (file, shard) in files.chunks.iter().zip(shards) {
+        if let Some(shard) = shard {
+            write_shard(out, &file.key, shard)?;
+        }
     }
     Ok(())
+}
+
+// Writes what is known of all shards.
+fn write_sums<W: Write>(out: &mut W, sums: &Sums) -> io::Result<()> {
+    let Sums {
+        shards,
+        bytes,
+        present,
+        absent,
+        dead,
+        refused,
+    } = *sums;
+    let shards = Counted(shards, "shard");
+    write!(
+        out,
+        "{shards}: {bytes} bytes, {present} present, {absent} absent, {dead} dead bytes"
+    )?;
+    match refused {
+        0 => writeln!(out),
+        _ => writeln!(out, "; {refused} refused"),
+    }
+}
+
+// Writes what the metadata says, how many shards are there, a line for each, what else stands in the folder, and the sums.
+fn write_info<R: Files + AllocGlobal + Clock, I, X, W: Write>(
+    out: &mut W,
+    array: &Array<'_, R, I, X>,
+    files: &ChunkFiles,
+    shards: &[Option<ShardInfo>],
+    sums: &Sums,
+) -> io::Result<()> {
+    write_metadata(out, array.metadata)?;
+    let possible = array.grid.count(array.alloc())?;
+    writeln!(out, "shards: {} of {possible}", sums.shards)?;
+    write_shards(out, files, shards)?;
+    write_folder(array, out, files)?;
+    write_sums(out, sums)
+}
+
+/// Writes what the metadata says, and what is known of the shards that are there. Of each only the index is read.
+pub fn info<
+    R: Files + AllocGlobal + Clock,
+    I: ArrayToBytesCodecTraits,
+    X: ArrayToBytesCodecTraits,
+    W: Write,
+    M: Write,
+>(array: &Array<'_, R, I, X>, out: &mut W, progress: &mut Progress<'_, M>) -> Result<Ending, Stop> {
+    let size = index_size(array.alloc(), &array.codec.index_codec, &array.subchunks)?;
+    let files = array.files()?;
+    let shards = listed(array, &files, size, progress)?;
+    progress.clear();
+    let sums = Sums::of(&shards);
+    let ending = if sums.refused == 0 {
+        Ending::Done
+    } else {
+        Ending::Refused
+    };
+    written(write_info(out, array, &files, &shards, &sums), ending)?;
+    Ok(ending)
 }

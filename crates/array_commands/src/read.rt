@@ -1,13 +1,14 @@
-// The cells of a box of an array.
-use crate::arrays::{Array, Decoder, read_cells};
-use crate::stop::{Place, Stop};
-use array_shards::{BoxCells, ShardPart};
+// The elements of a subset of an array.
+use crate::arrays::{Array, Decoder, Shard, read_cells, read_through};
+use crate::refusal::Place;
+use crate::stop::Stop;
+use array_shards::{BoxCells, ShardGrid, ShardPart};
 use command_words::Progress;
 use sharding_core::ShardingPartialDecoder;
 use std::io::Write;
 use std::rt::Files;
 use zarr_codecs::{ArrayToBytesCodecTraits, BytesPartialDecoderTraits};
-use zarr_parts::{ArrayBytes, ArraySubset, CodecError};
+use zarr_parts::{ArrayBytes, ArraySubset, CodecError, unravel_index};
 
 // The cells of a box as they are held, or fill values where none are.
 fn held_cells<R: Files + AllocGlobal, I, X>(
@@ -35,6 +36,65 @@ fn put_part<R: Files + AllocGlobal, I, X>(
     Ok(())
 }
 
+// Whether a subchunk of a shape, which has these coordinates in its shard, overlaps a subset of the shard.
+fn overlaps(subset: &ArraySubset, subchunk: &[u64], shape: &[u64]) -> bool {
+    let ranges = subset.start().iter().zip(subset.shape());
+    for ((place, size), (start, count)) in subchunk.iter().zip(shape).zip(ranges) {
+        let first = place.saturating_mul(*size);
+        let ends_before = first.saturating_add(*size) <= *start;
+        if ends_before || first >= start.saturating_add(*count) {
+            return false;
+        }
+    }
+    true
+}
+
+// Whether a subchunk of a shard that is open overlaps a subset of it, and does not decode.
+fn is_damaged<
+    R: Files + AllocGlobal,
+    I: ArrayToBytesCodecTraits,
+    X: ArrayToBytesCodecTraits,
+    H: BytesPartialDecoderTraits,
+>(
+    array: &Array<'_, R, I, X>,
+    subset: &ArraySubset,
+    decoder: &mut ShardingPartialDecoder<'_, I, X, H>,
+    number: u64,
+) -> Result<bool, CodecError> {
+    let alloc = array.alloc();
+    let Some(subchunk) = unravel_index(alloc, number, array.subchunks.as_slice())? else {
+        return Ok(false);
+    };
+    if !overlaps(subset, &subchunk, array.metadata.subchunk.as_slice()) {
+        return Ok(false);
+    }
+    let read = read_through(alloc, decoder, array.codec, array.metadata, &subchunk);
+    Ok(matches!(read, Err(CodecError::Damaged)))
+}
+
+// Where a refusal of a read of a subset of a shard lies, which is open: the lowest subchunk that does not decode.
+fn place_of<
+    R: Files + AllocGlobal,
+    I: ArrayToBytesCodecTraits,
+    X: ArrayToBytesCodecTraits,
+    H: BytesPartialDecoderTraits,
+>(
+    array: &Array<'_, R, I, X>,
+    subset: &ArraySubset,
+    decoder: &mut ShardingPartialDecoder<'_, I, X, H>,
+    error: CodecError,
+) -> Result<Place, CodecError> {
+    if error != CodecError::Damaged {
+        return Ok(Place::reading(&error));
+    }
+    for number in 0..array.subchunks.num_elements().unwrap_or(0) {
+        if is_damaged(array, subset, decoder, number)? {
+            return Ok(Place::Subchunk(number));
+        }
+    }
+    Ok(Place::Shard)
+}
+
 // Reads the part of a box that lies in a shard, which is open, or says how that is refused.
 fn read_open_part<
     R: Files + AllocGlobal,
@@ -57,42 +117,79 @@ fn read_open_part<
     }
 }
 
-// Reads the part of a box that lies in a shard with this key, which is open.
+// Reads the part of a box that lies in a shard, which is open, or says how and where that is refused.
+fn read_placed<
+    R: Files + AllocGlobal,
+    I: ArrayToBytesCodecTraits,
+    X: ArrayToBytesCodecTraits,
+    H: BytesPartialDecoderTraits,
+>(
+    array: &Array<'_, R, I, X>,
+    asked: &ArraySubset,
+    part: &ShardPart,
+    decoder: &mut ShardingPartialDecoder<'_, I, X, H>,
+    cells: &mut Option<BoxCells>,
+) -> Result<Option<(CodecError, Place)>, Stop> {
+    let Some(error) = read_open_part(array, asked, part, decoder, cells)? else {
+        return Ok(None);
+    };
+    let place = match place_of(array, &part.in_shard, decoder, error) {
+        Ok(place) => place,
+        Err(_) => Place::reading(&error),
+    };
+    Ok(Some((error, place)))
+}
+
+// Reads the part of a box that lies in a shard, which is open.
 fn read_opened<R: Files + AllocGlobal, I: ArrayToBytesCodecTraits, X: ArrayToBytesCodecTraits>(
     array: &Array<'_, R, I, X>,
     asked: &ArraySubset,
     part: &ShardPart,
-    key: &str,
+    shard: &Shard<'_>,
     mut decoder: Decoder<'_, R, I, X>,
     cells: &mut Option<BoxCells>,
 ) -> Result<(), Stop> {
-    let refused = read_open_part(array, asked, part, &mut decoder, cells);
+    let refused = read_placed(array, asked, part, &mut decoder, cells);
     let file = decoder.close();
     match refused? {
-        Some(error) => {
-            let refusal = array.refusal(key, &file, error, Place::reading(&error))?;
+        Some((error, place)) => {
+            let refusal = array.refusal(shard, &file, error, place)?;
             Err(Stop::Refused(refusal))
         }
         None => Ok(()),
     }
 }
 
-// Reads the part of a box that lies in a shard.
+// Reads the part of a box that lies in the shard with these coordinates.
 fn read_part<R: Files + AllocGlobal, I: ArrayToBytesCodecTraits, X: ArrayToBytesCodecTraits>(
     array: &Array<'_, R, I, X>,
     asked: &ArraySubset,
     part: &ShardPart,
+    coordinates: &[u64],
     cells: &mut Option<BoxCells>,
 ) -> Result<(), Stop> {
-    let key = array.key(part.shard)?;
-    match array.decoder(&key)? {
-        Ok(decoder) => read_opened(array, asked, part, &key, decoder, cells),
+    let key = array.metadata.keys.key_of(array.alloc(), coordinates)?;
+    let shard = Shard {
+        key: &key,
+        coordinates,
+    };
+    match array.decoder(&shard, array.file(&key)?)? {
+        Ok(decoder) => read_opened(array, asked, part, &shard, decoder, cells),
         Err(refusal) => Err(Stop::Refused(refusal)),
     }
 }
 
-/// The cells of a box, of each shard that it meets; where there is no file, fill values. Memory for them is asked once a part is
-/// read, so that a box in one shard takes less.
+// The shards of an array whose elements have numbers.
+fn shards_of<R: Files + AllocGlobal, I, X>(array: &Array<'_, R, I, X>) -> Result<ShardGrid, Stop> {
+    match ShardGrid::new(array.alloc(), &array.metadata.shape, &array.metadata.shard) {
+        Ok(grid) => Ok(grid),
+        Err(CodecError::TooLarge) => Err(Stop::TooManyElements),
+        Err(error) => Err(error.into()),
+    }
+}
+
+/// The elements of a subset, from each shard that it overlaps, and fill values of those that are absent. Memory for them is
+/// allocated once a part is read, so that a subset in one shard takes less.
 pub fn read_box<
     R: Files + AllocGlobal,
     I: ArrayToBytesCodecTraits,
@@ -103,11 +200,15 @@ pub fn read_box<
     asked: &ArraySubset,
     progress: &mut Progress<'_, M>,
 ) -> Result<BoxCells, Stop> {
-    let parts = array.grid.parts(array.alloc(), asked)?;
+    let grid = shards_of(array)?;
+    let parts = grid.parts(array.alloc(), asked)?;
     let mut cells: Option<BoxCells> = None;
     for (done, part) in parts.iter().enumerate() {
         progress.step(done as u64, parts.len() as u64);
-        read_part(array, asked, part, &mut cells)?;
+        let Some(coordinates) = grid.coordinates(array.alloc(), part.shard)? else {
+            return Err(CodecError::OutOfBounds.into());
+        };
+        read_part(array, asked, part, &coordinates, &mut cells)?;
     }
     Ok(held_cells(array, asked, cells)?)
 }

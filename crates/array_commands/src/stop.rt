@@ -1,61 +1,45 @@
-// Why a command stops, and why a shard is refused.
+// Why a command stops, and how it ends.
 ghost use Rattle.std.specs.Prelude.{◌≡◌, ◌≤◌};
 ghost use Rattle.array_commands.specs.Statuses.{status_of};
 
+use crate::refusal::Refusal;
+use array_folder::FolderError;
 use array_metadata::MetadataError;
 use command_words::BoxError;
 use std::alloc::{AllocError, AllocFailed, Global};
-use std::{fmt, io};
+use std::io;
 use thiserror::Error;
 use zarr_parts::CodecError;
 
-/// Where in a shard something is refused.
+/// How a command ends that does not stop.
 #[derive(Debug, Clone, Copy, PartialEq, Eq)]
-pub enum Place {
-    /// Nowhere in particular.
-    Shard,
-    /// In its index.
-    Index,
-    /// In the subchunk with this number.
-    Subchunk(u64),
+pub enum Ending {
+    /// It was done.
+    Done,
+    /// A shard is refused.
+    Refused,
+    /// A part of it could not be done.
+    Undone,
 }
 
-impl Place {
-    /// Where a refusal of a shard that is opened lies.
-    pub fn opening(error: &CodecError) -> Place {
-        match error {
-            CodecError::BadIndexEntry { number } => Place::Subchunk(*number),
-            CodecError::ShardTooShort => Place::Shard,
-            _ => Place::Index,
-        }
-    }
-
-    /// Where a refusal of a read of some cells lies.
-    pub fn reading(error: &CodecError) -> Place {
-        match error {
-            CodecError::BadIndexEntry { number } => Place::Subchunk(*number),
-            _ => Place::Shard,
+impl Ending {
+    /// The status for the program to end with.
+    pub fn status(self) -> u8
+        ensures { result ≤ 2 }
+    {
+        match self {
+            Ending::Done => 0,
+            Ending::Refused => 1,
+            Ending::Undone => 2,
         }
     }
 }
 
-/// A shard that is refused: its key, why, and where.
-#[derive(Debug, Drop)]
-pub struct Refusal {
-    pub key: String,
-    pub error: CodecError,
-    pub place: Place,
-}
-
-impl fmt::Display for Refusal {
-    fn fmt<W: fmt::Write>(&self, f: &mut fmt::Formatter<W>) -> fmt::Result {
-        let (number, name) = (self.error.number(), self.error.name());
-        write!(f, "{} {number} {name}", self.key)?;
-        match self.place {
-            Place::Shard => Ok(()),
-            Place::Index => write!(f, " index"),
-            Place::Subchunk(number) => write!(f, " {number}"),
-        }
+/// What was written of the answer of a command that ends so, as far as it has come.
+pub fn written(wrote: io::Result<()>, ending: Ending) -> Result<(), Stop> {
+    match wrote {
+        Ok(()) => Ok(()),
+        Err(error) => Err(Stop::output(error, ending)),
     }
 }
 
@@ -68,9 +52,15 @@ pub enum Stop {
     /// The answer could not be written.
     #[error("the answer could not be written: {0}")]
     Output(io::Error),
-    /// What the system said of a file or folder.
+    /// Nobody reads the answer any more; so far it ends so.
+    #[error("nobody reads the answer")]
+    Closed(Ending),
+    /// What the system said of a file or folder. Its path, as each path here, is escaped for a terminal.
     #[error("{path}: {error}")]
     System { path: String, error: io::Error },
+    /// A folder in which a new file cannot be made.
+    #[error("{path}: no new file can be made in this folder: {error}")]
+    Folder { path: String, error: io::Error },
     /// Metadata that is refused.
     #[error("{path}: {error}")]
     Metadata { path: String, error: MetadataError },
@@ -80,26 +70,37 @@ pub enum Stop {
     /// A shard that is refused.
     #[error("{0}")]
     Refused(Refusal),
-    /// A new file that stands beside a shard already.
-    #[error("{0}.replacing is there: another compaction writes it, or one was cut off")]
-    Busy(String),
     /// A box that is refused.
     #[error("{0}")]
     Box(BoxError),
+    /// An array whose chunks have too many elements for their numbers to be told.
+    #[error("the chunks of the array have 2^64 elements or more, and `read` serves fewer")]
+    TooManyElements,
     /// A size that no number here can say.
-    #[error("the box has more cells than this program can hold")]
+    #[error("the box has more elements than this program can hold")]
     TooLarge,
 }
 
 impl Stop {
     /// What the system said of the file or folder at a path, or that memory ran out.
     pub fn system(alloc: Global, path: &str, error: io::Error) -> Stop {
-        if error.kind() == io::ErrorKind::OutOfMemory {
-            return Stop::OutOfMemory;
+        FolderError::system(alloc, path, error).into()
+    }
+
+    /// What the system said where no new file could be made in a folder, or that memory ran out.
+    pub fn folder(alloc: Global, path: &str, error: io::Error) -> Stop {
+        match Stop::system(alloc, path, error) {
+            Stop::System { path, error } => Stop::Folder { path, error },
+            stop => stop,
         }
-        match String::from_str(alloc, path) {
-            Ok(path) => Stop::System { path, error },
-            Err(_) => Stop::OutOfMemory,
+    }
+
+    /// Why an answer could not be written of a command that ends so, as far as it has come.
+    pub fn output(error: io::Error, ending: Ending) -> Stop {
+        if error.kind() == io::ErrorKind::BrokenPipe {
+            Stop::Closed(ending)
+        } else {
+            Stop::Output(error)
         }
     }
 
@@ -124,6 +125,15 @@ impl From<AllocError> for Stop {
 impl<T: Drop> From<AllocFailed<T>> for Stop {
     fn from(_error: AllocFailed<T>) -> Stop {
         Stop::OutOfMemory
+    }
+}
+
+impl From<FolderError> for Stop {
+    fn from(error: FolderError) -> Stop {
+        match error {
+            FolderError::OutOfMemory => Stop::OutOfMemory,
+            FolderError::System { path, error } => Stop::System { path, error },
+        }
     }
 }
 

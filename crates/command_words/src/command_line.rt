@@ -37,10 +37,10 @@ fn info_command<'a>(alloc: Global) -> Result<Command<'a>, AllocError> {
 fn check_command<'a>(alloc: Global) -> Result<Command<'a>, AllocError> {
     Command::new(alloc, "check")
         .about(
-            "Decodes every index and subchunk; a line for each that is refused, and status 1 then",
+            "Decodes every index and subchunk of the shards that are there; a line for each that is refused, and status 1 then",
         )
         .after_help(
-            "Example: zarr_shard check weather/temperature\nA line has the shard's key, the number and name of the refusal, and the subchunk or `index`.",
+            "Example: zarr_shard check weather/temperature\nA line has the shard's key, the number and name of the refusal, and where and why.",
         )
         .arg(path_argument(alloc))
 }
@@ -95,12 +95,16 @@ fn compact_command<'a>(alloc: Global) -> Result<Command<'a>, AllocError> {
         .arg(dry_flag(alloc))
 }
 
+// The version of the program, and the line of the kit that proves it.
+const VERSION: &str = "0.1.0 (rattle-kit-13f logic dac8208d650f15bf)";
+
 // The program without its commands.
 fn bare_program<'a>(alloc: Global) -> Command<'a> {
     Command::new(alloc, "zarr_shard")
         .about("Works on an array on disk whose chunks are shards (Zarr V3, sharding_indexed)")
+        .version(VERSION)
         .after_help(
-            "Example: zarr_shard read weather/temperature 0..2,3..5\nStatus: 0 done; 1 a shard is refused; 2 it could not be done.",
+            "Example: zarr_shard read weather/temperature 0..2,3..5\nStatus: 0 done; 1 a shard is refused; 2 it, or a part of it, could not be done.",
         )
         .subcommand_required(true)
         .arg_required_else_help(true)

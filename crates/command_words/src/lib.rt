@@ -9,4 +9,4 @@ mod text;
 pub use boxes::{BoxError, box_of};
 pub use command_line::{Form, Work, program, work_of};
 pub use progress::Progress;
-pub use text::{json_of, write_numbers, write_rows};
+pub use text::{write_json, write_numbers, write_rows};

@@ -1,8 +1,6 @@
 // Cells as text and as JSON.
 ghost use Rattle.std.specs.Prelude.{◌<◌};
 
-use serde_json::{Value, json};
-use std::alloc::{AllocError, Global};
 use std::io;
 use std::io::Write;
 use zarr_parts::{DataType, DataTypeSize};
@@ -55,12 +53,12 @@ impl Cell {
         }
     }
 
-    // As a value of JSON, where a `bool` is `true` or `false`.
-    fn value(&self) -> Value {
+    // As JSON, where a `bool` is `true` or `false`.
+    fn write_json<W: Write>(&self, out: &mut W) -> io::Result<()> {
         match self {
-            Cell::Bool(is_true) => Value::from(*is_true),
-            Cell::Signed(number) => Value::from(*number),
-            Cell::Unsigned(number) => Value::from(*number),
+            Cell::Bool(true) => out.write_all(b"true"),
+            Cell::Bool(false) => out.write_all(b"false"),
+            number => number.write(out),
         }
     }
 }
@@ -109,29 +107,41 @@ pub fn write_rows<W: Write>(
     Ok(())
 }
 
-// The cells as values of JSON.
-fn values_of(alloc: Global, data_type: &DataType, bytes: &[u8]) -> Result<Vec<Value>, AllocError> {
-    let mut values: Vec<Value> = Vec::new(alloc);
-    for element in bytes.chunks(cell_size(data_type)) {
-        values.push(Cell::of(data_type, element).value())?;
+// Writes cells as a list of JSON.
+fn write_json_cells<W: Write>(out: &mut W, data_type: &DataType, bytes: &[u8]) -> io::Result<()> {
+    out.write_all(b"[")?;
+    for (number, element) in bytes.chunks(cell_size(data_type)).enumerate() {
+        if number > 0 {
+            out.write_all(b",")?;
+        }
+        Cell::of(data_type, element).write_json(out)?;
     }
-    Ok(values)
+    out.write_all(b"]")
 }
 
-/// The cells of a box as an object of JSON: its `shape`, its `data_type`, and its `cells` in row-major order.
-pub fn json_of(
-    alloc: Global,
+// Writes numbers as a list of JSON.
+fn write_json_numbers<W: Write>(out: &mut W, numbers: &[u64]) -> io::Result<()> {
+    out.write_all(b"[")?;
+    let mut before = "";
+    for number in numbers {
+        write!(out, "{before}{number}")?;
+        before = ",";
+    }
+    out.write_all(b"]")
+}
+
+/// Writes the elements of a subset as an object of JSON on a line, with the keys in order: its `cells` in row-major order, its
+/// `data_type`, and its `shape`.
+pub fn write_json<W: Write>(
+    out: &mut W,
     data_type: &DataType,
     bytes: &[u8],
     shape: &[u64],
-) -> Result<String, AllocError> {
-    let cells = Value::Array(values_of(alloc, data_type, bytes)?);
-    let mut axes: Vec<Value> = Vec::new(alloc);
-    for axis in shape {
-        axes.push(Value::from(*axis))?;
-    }
+) -> io::Result<()> {
+    out.write_all(b"{\"cells\":")?;
+    write_json_cells(out, data_type, bytes)?;
     let name = data_type.name().unwrap_or("");
-    let shape = Value::Array(axes);
-    let answer = json!(in alloc; {"shape": shape, "data_type": name, "cells": cells})?;
-    answer.to_string(alloc)
+    write!(out, ",\"data_type\":\"{name}\",\"shape\":")?;
+    write_json_numbers(out, shape)?;
+    out.write_all(b"}\n")
 }

@@ -1,0 +1,215 @@
+// A compact shard that is written in the place of a shard's file.
+use crate::arrays::{Array, Shard, ShardFile};
+use crate::refusal::Place;
+use crate::stop::Stop;
+use array_metadata::ArrayMetadata;
+use file_handles::{Replacement, folder_of};
+use shard_format::ShardingIndexLocation;
+use sharding_core::{CompactionPlan, ShardingCodec};
+use std::alloc::Global;
+use std::io;
+use std::io::{ErrorKind, Write};
+use std::rt::Files;
+use zarr_codecs::{ArrayToBytesCodecTraits, ByteRange, BytesPartialDecoderTraits, read_range};
+use zarr_parts::{CodecError, CodecOptions};
+
+// How many bytes of a slice are held at once.
+const PIECE: usize = 1_048_576;
+
+/// A shard that is not compact: how long it is, and how its compaction is put together.
+#[derive(Drop)]
+pub struct Planned {
+    pub length: u64,
+    pub plan: CompactionPlan,
+}
+
+/// How the shard in a file is compacted, or `None` where there is no file, or it is compact. Only its index is read.
+pub fn plan_of<I, X: ArrayToBytesCodecTraits, H: BytesPartialDecoderTraits>(
+    alloc: Global,
+    codec: &ShardingCodec<I, X>,
+    metadata: &ArrayMetadata,
+    file: &mut H,
+) -> Result<Option<Planned>, CodecError> {
+    let Some(length) = file.len()? else {
+        return Ok(None);
+    };
+    let index = codec.index_interval(alloc, length, &metadata.shard)?;
+    let range = ByteRange::FromStart(index.offset, Some(index.size));
+    let mut room: Vec<u8> = Vec::new(alloc);
+    let Some(index) = read_range(file, &mut room, alloc, range)? else {
+        return Ok(None);
+    };
+    let options = CodecOptions::default();
+    match codec.plan_compaction(alloc, index, length, &metadata.shard, &options)? {
+        Some(plan) => Ok(Some(Planned { length, plan })),
+        None => Ok(None),
+    }
+}
+
+// Why a compact shard is not written: what was said of the old file, or of the new one.
+#[derive(Debug, Clone, Copy)]
+enum Failure {
+    Old(CodecError),
+    New(io::Error),
+}
+
+impl From<CodecError> for Failure {
+    fn from(error: CodecError) -> Failure {
+        Failure::Old(error)
+    }
+}
+
+impl From<io::Error> for Failure {
+    fn from(error: io::Error) -> Failure {
+        Failure::New(error)
+    }
+}
+
+// Appends bytes of an old file to the new one.
+fn copy_piece<H: BytesPartialDecoderTraits, R: Files>(
+    alloc: Global,
+    old: &mut H,
+    offset: u64,
+    size: u64,
+    new: &mut Replacement<R>,
+) -> Result<(), Failure> {
+    let mut room: Vec<u8> = Vec::new(alloc);
+    let range = ByteRange::FromStart(offset, Some(size));
+    let Some(bytes) = read_range(old, &mut room, alloc, range)? else {
+        return Err(Failure::Old(CodecError::Fault));
+    };
+    Ok(new.write(bytes)?)
+}
+
+// Appends a slice of an old file to the new one.
+fn copy_slice<H: BytesPartialDecoderTraits, R: Files>(
+    alloc: Global,
+    old: &mut H,
+    offset: u64,
+    size: u64,
+    new: &mut Replacement<R>,
+) -> Result<(), Failure> {
+    for done in (0..size).step_by(PIECE) {
+        let piece = size.saturating_sub(done).min(PIECE as u64);
+        copy_piece(alloc, old, offset.saturating_add(done), piece, new)?;
+    }
+    Ok(())
+}
+
+// Appends the slices of a plan to the new file.
+fn copy_slices<H: BytesPartialDecoderTraits, R: Files>(
+    alloc: Global,
+    old: &mut H,
+    plan: &CompactionPlan,
+    new: &mut Replacement<R>,
+) -> Result<(), Failure> {
+    for subchunk in 0..plan.subchunks() {
+        if let Some(slice) = plan.slice(subchunk) {
+            copy_slice(alloc, old, slice.offset, slice.size, new)?;
+        }
+    }
+    Ok(())
+}
+
+// Writes what a plan says to the new file.
+fn write_plan<H: BytesPartialDecoderTraits, R: Files>(
+    alloc: Global,
+    old: &mut H,
+    plan: &CompactionPlan,
+    new: &mut Replacement<R>,
+) -> Result<(), Failure> {
+    match plan.index_location() {
+        ShardingIndexLocation::Start => {
+            new.write(plan.index())?;
+            copy_slices(alloc, old, plan, new)
+        }
+        ShardingIndexLocation::End => {
+            copy_slices(alloc, old, plan, new)?;
+            Ok(new.write(plan.index())?)
+        }
+    }
+}
+
+// Writes what a plan says to the new file, and puts it in the place of the old one. Where that is refused the old one stands.
+fn carry_out<H: BytesPartialDecoderTraits, R: Files + Drop>(
+    alloc: Global,
+    old: &mut H,
+    plan: &CompactionPlan,
+    mut new: Replacement<R>,
+) -> Result<(), Failure> {
+    match write_plan(alloc, old, plan, &mut new) {
+        Ok(()) => Ok(new.finish()?),
+        Err(failure) => {
+            new.abandon();
+            Err(failure)
+        }
+    }
+}
+
+// The new file of a shard, or `None` where one stands there already.
+fn begin<'a, R: Files + AllocGlobal, I, X>(
+    array: &Array<'a, R, I, X>,
+    path: &str,
+    beside: &str,
+) -> Result<Option<Replacement<&'a R>>, Stop> {
+    match Replacement::begin(array.alloc(), array.rt, path) {
+        Ok(replacement) => Ok(Some(replacement)),
+        Err(error) if error.kind() == ErrorKind::AlreadyExists => Ok(None),
+        Err(error) => Err(Stop::folder(array.alloc(), folder_of(beside), error)),
+    }
+}
+
+// Tells where a new file has not the owner and the group of the old one.
+fn tell_owner<R: Files, W: Write>(
+    out: &mut W,
+    key: &str,
+    replacement: &Replacement<R>,
+) -> io::Result<()> {
+    if replacement.keeps_owner() {
+        return Ok(());
+    }
+    writeln!(
+        out,
+        "{key}: this program may not give its new file the owner and group of the old one"
+    )?;
+    out.flush()
+}
+
+// Why a shard was not replaced.
+fn stop_of<'a, R: Files + AllocGlobal, I, X>(
+    array: &Array<'a, R, I, X>,
+    shard: &Shard<'_>,
+    old: &ShardFile<'a, R>,
+    beside: &str,
+    failure: Failure,
+) -> Result<Stop, Stop> {
+    match failure {
+        Failure::Old(error) => {
+            let refusal = array.refusal(shard, old, error, Place::Shard)?;
+            Ok(Stop::Refused(refusal))
+        }
+        Failure::New(error) => Ok(Stop::system(array.alloc(), beside, error)),
+    }
+}
+
+/// Puts what a plan says in the place of a shard's file, by a new file that stands at the path `beside` until it is whole; or
+/// says that a file stands there already.
+pub fn replace<'a, R: Files + AllocGlobal, I, X, W: Write>(
+    array: &Array<'a, R, I, X>,
+    shard: &Shard<'_>,
+    old: &mut ShardFile<'a, R>,
+    beside: &str,
+    plan: &CompactionPlan,
+    out: &mut W,
+) -> Result<bool, Stop> {
+    let path = array.path_of(shard.key)?;
+    let Some(new) = begin(array, &path, beside)? else {
+        return Ok(false);
+    };
+    // a line that nobody reads stops nothing
+    let _ = tell_owner(out, shard.key, &new);
+    match carry_out(array.alloc(), old, plan, new) {
+        Ok(()) => Ok(true),
+        Err(failure) => Err(stop_of(array, shard, old, beside, failure)?),
+    }
+}
