@@ -3,7 +3,9 @@ use std::alloc::{Alloc, AllocGlobal, Allocator, Global};
 use std::fs::{Metadata, OpenFile, OpenOptions, Permissions};
 use std::io;
 use std::io::{Read, Seek, SeekFrom, Write};
-use std::rt::Files;
+use std::path::PathBuf;
+use std::rt::{Clock, Files};
+use std::time::Duration;
 
 // How many bytes an open file still takes on a disk that is full.
 const ROOM: usize = 16;
@@ -82,6 +84,25 @@ impl<R: Files> Files for Disk<'_, R> {
 
     fn remove_dir_all<B: Allocator>(&self, alloc: B, path: &str) -> io::Result<()> {
         self.rt.remove_dir_all(alloc, path)
+    }
+
+    fn canonicalize<B: Allocator>(&self, alloc: B, path: &str) -> io::Result<PathBuf<B>> {
+        self.rt.canonicalize(alloc, path)
+    }
+
+    fn lchown(&self, path: &str, uid: Option<u32>, gid: Option<u32>) -> io::Result<()> {
+        self.rt.lchown(path, uid, gid)
+    }
+}
+
+// It has no clock, so that nothing printed depends on the time.
+impl<R> Clock for Disk<'_, R> {
+    fn monotonic(&self) -> io::Result<Duration> {
+        Err(io::ErrorKind::Unsupported.into())
+    }
+
+    fn since_1970(&self) -> io::Result<Duration> {
+        Err(io::ErrorKind::Unsupported.into())
     }
 }
 
