@@ -1,4 +1,4 @@
-# make run                   a first look, without proofs: after 75 seconds zarr_shard on example arrays, then shard_tool on a script
+# make run                   a first look, without proofs: after a minute zarr_shard on example arrays, then shard_tool on a script
 # make install PREFIX=DIR    proves zarr_shard and shard_tool, and installs them in DIR/bin
 # make test                  the merge gate: lint, every proof, the must-fail edits, the tests, the programs, and make refuse
 # make check CRATE=NAME      proves one crate, over what earlier checks kept; ONLY=path::of::a_function proves that one alone

@@ -13,7 +13,7 @@ import time
 
 from session import README, TOP, commands, parts_of_readme, shown, words_of
 
-USUAL = {"zarr_shard": 75, "shard_tool": 45}  # seconds that a build takes, on four idle cores
+USUAL = {"zarr_shard": 60, "shard_tool": 30}  # seconds that a build takes, on four idle cores
 
 
 def say(text):
