@@ -10,11 +10,15 @@ mod differential;
 #[cfg(test)]
 mod faults;
 #[cfg(test)]
+mod hostile;
+#[cfg(test)]
 mod mismatches;
 #[cfg(test)]
 mod orders;
 #[cfg(test)]
 mod rows;
+#[cfg(test)]
+mod run_faults;
 #[cfg(test)]
 mod shards;
 #[cfg(test)]

@@ -18,6 +18,7 @@ pub(crate) enum Order {
 }
 
 // What a command is to reply.
+#[derive(Clone, Copy)]
 pub(crate) enum Answer {
     Done,
     Cells(&'static [u8]),

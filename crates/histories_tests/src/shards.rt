@@ -28,19 +28,28 @@ fn shape_of(alloc: Global, axis: u64) -> Result<ChunkShape, CodecError> {
     ChunkShape::new(alloc, &[axis])?.ok_or(CodecError::OutOfBounds)
 }
 
-// Shards of so many cells.
-pub(crate) fn shards_of(
+// Shards of this number of cells, with their index at this place.
+pub(crate) fn shards_at(
     alloc: Global,
     cells: u64,
+    location: ShardingIndexLocation,
 ) -> Result<Shards<BytesCodec, BytesCodec>, CodecError> {
     let little = BytesCodec::little();
     let sub = shape_of(alloc, 2)?;
     let zero = vec![in alloc; 0u8; 1]?;
     Ok(Shards {
-        codec: ShardingCodec::new(sub, little, little, ShardingIndexLocation::End),
+        codec: ShardingCodec::new(sub, little, little, location),
         shape: shape_of(alloc, cells)?,
         fill: FillValue::new(zero),
     })
+}
+
+// Shards of this number of cells.
+pub(crate) fn shards_of(
+    alloc: Global,
+    cells: u64,
+) -> Result<Shards<BytesCodec, BytesCodec>, CodecError> {
+    shards_at(alloc, cells, ShardingIndexLocation::End)
 }
 
 impl<I: ArrayToBytesCodecTraits, X: ArrayToBytesCodecTraits> Shards<I, X> {
