@@ -15,7 +15,7 @@ pub use shard_format::{
     ShardingIndexLocation, SubchunkWriteOrder, calculate_chunks_per_shard, sharding_index_shape,
 };
 pub use sharding_core::{
-    CompactionPlan, Gate, NoGate, PartialDecoderCapability, PartialEncoderCapability, ShardState, ShardingCodec,
-    ShardingCodecConfiguration, ShardingCodecConfigurationV1, ShardingCodecOptions,
+    CompactionPlan, Gate, NoGate, PartialDecoderCapability, PartialEncoderCapability, ShardState,
+    ShardingCodec, ShardingCodecConfiguration, ShardingCodecConfigurationV1, ShardingCodecOptions,
     ShardingPartialDecoder, ShardingPartialEncoder,
 };
