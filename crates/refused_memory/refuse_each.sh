@@ -1,7 +1,7 @@
 #!/bin/sh
 # Refuses each allocation of this program in turn: each run must print what `stdout` holds. The allocation that is refused has the same
 # number in all runs; the program makes as many before its own as its input has bytes. With no input, none of its own may be refused.
-number=300
+number=80
 cd "$(dirname "$0")" || exit 2
 folder=$(mktemp -d) || exit 2
 trap 'rm -r "$folder"' EXIT
