@@ -83,7 +83,7 @@ def contracts():
     """The clauses of each function, and the ghost members of each trait and type, by name."""
     found, owner, function = {}, None, None
     for path in files(".rt"):
-        for line in read(f"{TOP}/{path}").split("\n") if "_tests/" not in path else []:
+        for line in read(f"{TOP}/{path}").split("\n") if "crates/test_" not in path else []:
             head = re.match(r"(?:pub )?trait (\w+)|(?:impl\b.*?|    for )(\w+)(?:<.*>)? \{$", line)
             owner = head[1] or head[2] if head else owner
             head = re.match(r"\s*(?:pub(?:\([a-z]+\))? )?fn (\w+)", line)
@@ -123,14 +123,14 @@ def check_promises():
 
 
 def check_excerpt():
-    """The code in README.md stands so in crates/read_some_cells, which the gate proves and runs."""
-    source = read(f"{TOP}/crates/read_some_cells/src/main.rt")
+    """The code in README.md stands so in crates/example_read_elements, which the gate proves and runs."""
+    source = read(f"{TOP}/crates/example_read_elements/src/main.rt")
     for block in re.findall(r"(?s)```rust\n(.*?)```", read(f"{TOP}/README.md")):
         for part in block.strip("\n").split("\n\n"):
             if part not in source:
-                say("README.md", 1, f"shows code that is not in crates/read_some_cells: {part.split(chr(10))[0]}")
-    if read(f"{TOP}/crates/read_some_cells/stdout").split("\n")[0] not in read(f"{TOP}/README.md"):
-        say("README.md", 1, "does not show what crates/read_some_cells prints first")
+                say("README.md", 1, f"shows code that is not in crates/example_read_elements: {part.split(chr(10))[0]}")
+    if read(f"{TOP}/crates/example_read_elements/stdout").split("\n")[0] not in read(f"{TOP}/README.md"):
+        say("README.md", 1, "does not show what crates/example_read_elements prints first")
 
 
 def check_crates():
@@ -145,15 +145,15 @@ def check_crates():
 
 
 def check_session():
-    """README.md shows what crates/worked_arrays wants the same commands to print."""
+    """README.md shows what crates/test_worked_arrays wants the same commands to print."""
     wanted = {}
-    for part in read(f"{TOP}/crates/worked_arrays/stdout").split("> zarr_shard ")[1:]:
+    for part in read(f"{TOP}/crates/test_worked_arrays/stdout").split("> zarr_shard ")[1:]:
         command, _, answer = part.partition("\n")
         wanted[command] = re.sub(r"(?m)^status [01]\n", "", answer)
     for command, answer in commands():
         words, dropped = words_of(command)
-        if shown(wanted.get(" ".join(words), "not a command of crates/worked_arrays\n"), dropped) != answer:
-            say("README.md", 1, f"shows another answer than crates/worked_arrays/stdout: {command} (make readme)")
+        if shown(wanted.get(" ".join(words), "not a command of crates/test_worked_arrays\n"), dropped) != answer:
+            say("README.md", 1, f"shows another answer than crates/test_worked_arrays/stdout: {command} (make readme)")
 
 
 def counted():
@@ -165,7 +165,7 @@ def counted():
                 if is_comment(path, line):
                     yield from (("retired words", path, number, word) for word in retired.findall(line))
     for path in files(".rt"):
-        if "_tests/" not in path:
+        if "crates/test_" not in path:
             for item in all_functions(items(read(f"{TOP}/{path}").split("\n"), path)):
                 if item.parameters() > PARAMETERS:
                     yield f"functions of more than {PARAMETERS} parameters", path, item.name, item.parameters()

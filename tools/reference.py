@@ -11,8 +11,8 @@ import textwrap
 from sources import TOP, crate, defined, items, read
 
 PATH = f"{TOP}/docs/REFERENCE.md"
-PUBLIC = ["zarr_parts", "zarr_codecs", "zarrs_sharding", "shard_sessions", "shard_script", "zarr_crc32c", "file_handles"]
-NOTES = {"shard_script": "The program `shard_tool` calls `run_script_explained`."}
+PUBLIC = ["zarr_parts", "zarr_codecs", "zarrs_sharding", "shard_sessions", "tool_script", "codec_crc32c", "storage_files"]
+NOTES = {"tool_script": "The program `shard_tool` calls `run_script_explained`."}
 PLAIN = {"Drop", "Model"}
 WIDTH = 118
 

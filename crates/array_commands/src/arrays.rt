@@ -3,14 +3,17 @@ use crate::refusal::{Place, Refusal};
 use crate::stop::Stop;
 use array_folder::{ChunkFiles, ChunkGrid, KeyForm, document_length, list_chunks, read_document};
 use array_metadata::{ArrayMetadata, KeyEncoding, LONGEST_TEXT, MetadataError};
-use escaped_text::escaped;
-use file_handles::FileHandle;
-use shard_format::{SubchunkWriteOrder, calculate_chunks_per_shard, of_stored};
-use sharding_core::{ShardingCodec, ShardingPartialDecoder};
+use codec_traits::ArrayToBytesCodecTraits;
+use parts_arrays::ArrayBytes;
+use parts_errors::{CodecError, CodecOptions};
+use parts_escaped_text::escaped;
+use parts_subsets::{ArraySubset, ChunkShape};
+use sharding_codec::{ShardingCodec, ShardingPartialDecoder};
+use sharding_format::{SubchunkWriteOrder, calculate_chunks_per_shard, of_stored};
 use std::alloc::{AllocError, Global};
 use std::rt::Files;
-use zarr_codecs::{ArrayToBytesCodecTraits, BytesPartialDecoderTraits};
-use zarr_parts::{ArrayBytes, ArraySubset, ChunkShape, CodecError, CodecOptions};
+use storage_files::FileHandle;
+use storage_handles::BytesPartialDecoderTraits;
 
 /// The file of a shard.
 pub type ShardFile<'a, R> = FileHandle<&'a R>;

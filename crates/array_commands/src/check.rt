@@ -3,14 +3,16 @@ use crate::arrays::{Array, Decoder, Shard, ShardFile, read_through};
 use crate::folder::{Counted, write_folder};
 use crate::refusal::{Place, Refusal};
 use crate::stop::{Ending, Stop, written};
+use array_cli::Progress;
 use array_folder::ChunkFiles;
-use command_words::Progress;
-use sharding_core::ShardingPartialDecoder;
+use codec_traits::ArrayToBytesCodecTraits;
+use parts_errors::CodecError;
+use parts_row_major::unravel_index;
+use sharding_codec::ShardingPartialDecoder;
 use std::io;
 use std::io::Write;
 use std::rt::{Clock, Files};
-use zarr_codecs::{ArrayToBytesCodecTraits, BytesPartialDecoderTraits};
-use zarr_parts::{CodecError, unravel_index};
+use storage_handles::BytesPartialDecoderTraits;
 
 /// What was checked so far, and what is refused.
 #[derive(Debug, Clone, Copy, PartialEq, Eq)]

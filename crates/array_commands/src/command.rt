@@ -5,20 +5,20 @@ use crate::arrays::{Array, metadata_of};
 use crate::check::check;
 use crate::compact::compact;
 use crate::info::info;
-use crate::read::read_box;
+use crate::read::read_subset;
 use crate::stop::{Ending, Stop, written};
+use array_cli::{Form, Progress, Work, program, subset_of, work_of, write_json, write_rows};
 use array_metadata::ArrayMetadata;
 use clap::ArgMatches;
-use command_words::{Form, Progress, Work, box_of, program, work_of, write_json, write_rows};
-use escaped_text::escaped;
-use sharding_core::ShardingCodec;
+use codec_traits::ArrayToBytesCodecTraits;
+use parts_arrays::DataType;
+use parts_escaped_text::escaped;
+use sharding_codec::ShardingCodec;
 use std::alloc::Global;
 use std::convert::AsStr;
 use std::io;
 use std::io::{BufWriter, Write};
 use std::rt::{Clock, Files};
-use zarr_codecs::ArrayToBytesCodecTraits;
-use zarr_parts::DataType;
 
 // Writes cells in a form.
 fn write_cells<W: Write>(
@@ -35,7 +35,7 @@ fn write_cells<W: Write>(
     }
 }
 
-// Reads a box, and writes its cells.
+// Reads a subset, and writes its cells.
 fn run_read<
     R: Files + AllocGlobal,
     I: ArrayToBytesCodecTraits,
@@ -44,13 +44,13 @@ fn run_read<
     M: Write,
 >(
     array: &Array<'_, R, I, X>,
-    asked: Option<&str>,
+    requested: Option<&str>,
     form: Form,
     out: &mut W,
     progress: &mut Progress<'_, M>,
 ) -> Result<Ending, Stop> {
-    let subset = box_of(array.alloc(), asked, &array.metadata.shape)?;
-    let cells = read_box(array, &subset, progress)?;
+    let subset = subset_of(array.alloc(), requested, &array.metadata.shape)?;
+    let cells = read_subset(array, &subset, progress)?;
     progress.clear();
     let data_type = &array.metadata.data_type;
     let wrote = write_cells(out, form, data_type, cells.bytes(), subset.shape());
@@ -74,7 +74,7 @@ fn run_work<
     match work {
         Work::Info => info(array, out, progress),
         Work::Check => check(array, out, progress),
-        Work::Read { asked, form } => run_read(array, asked, form, out, progress),
+        Work::Read { requested, form } => run_read(array, requested, form, out, progress),
         Work::Compact { is_dry } => compact(array, is_dry, out, progress),
     }
 }

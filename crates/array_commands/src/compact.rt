@@ -4,13 +4,13 @@ use crate::folder::age_of;
 use crate::refusal::{Place, Refusal};
 use crate::rewriting::{Planned, plan_of, replace};
 use crate::stop::{Ending, Stop, written};
-use command_words::Progress;
-use escaped_text::escaped;
-use file_handles::path_beside;
+use array_cli::Progress;
+use codec_traits::ArrayToBytesCodecTraits;
+use parts_escaped_text::escaped;
 use std::io::Write;
 use std::rt::{Clock, Files};
 use std::{fs, io};
-use zarr_codecs::ArrayToBytesCodecTraits;
+use storage_files::path_beside;
 
 /// What was gained, and what was not done.
 #[derive(Debug, Clone, Copy, PartialEq, Eq)]

@@ -3,19 +3,20 @@ use crate::arrays::{Array, Shard, ShardFile};
 use crate::folder::{Counted, write_folder};
 use crate::refusal::{Place, Refusal};
 use crate::stop::{Ending, Stop, written};
+use array_cli::{Progress, write_numbers, write_rows};
 use array_folder::ChunkFiles;
 use array_metadata::ArrayMetadata;
-use command_words::{Progress, write_numbers, write_rows};
-use shard_format::{ShardingIndexLocation, sharding_index_shape};
-use sharding_core::ShardingCodec;
+use codec_traits::{ArrayToBytesCodecTraits, BytesRepresentation};
+use parts_arrays::{DataType, FillValue};
+use parts_errors::{CodecError, CodecOptions};
+use parts_subsets::ChunkShape;
+use sharding_codec::ShardingCodec;
+use sharding_format::{ShardingIndexLocation, sharding_index_shape};
 use std::alloc::Global;
 use std::io;
 use std::io::Write;
 use std::rt::{Clock, Files};
-use zarr_codecs::{
-    ArrayToBytesCodecTraits, ByteRange, BytesPartialDecoderTraits, BytesRepresentation, read_range,
-};
-use zarr_parts::{ChunkShape, CodecError, CodecOptions, DataType, FillValue};
+use storage_handles::{ByteRange, BytesPartialDecoderTraits, read_range};
 
 /// What the index of a shard says.
 #[derive(Debug, Clone, Copy, PartialEq, Eq)]
@@ -84,8 +85,8 @@ fn slice_of(offset: u64, size: u64, length: u64) -> Option<(u64, u64)> {
 fn slices_of(alloc: Global, numbers: &[u64], length: u64) -> Result<Vec<(u64, u64)>, CodecError> {
     let mut slices: Vec<(u64, u64)> = Vec::new(alloc);
     let mut number = 0u64;
-    for pair in numbers.chunks(2) {
-        match pair {
+    for entry in numbers.chunks(2) {
+        match entry {
             [u64::MAX, u64::MAX] => {}
             [offset, size] => match slice_of(*offset, *size, length) {
                 Some(slice) => slices.push(slice)?,

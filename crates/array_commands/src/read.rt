@@ -2,36 +2,40 @@
 use crate::arrays::{Array, Decoder, Shard, read_cells, read_through};
 use crate::refusal::Place;
 use crate::stop::Stop;
-use array_shards::{BoxCells, ShardGrid, ShardPart};
-use command_words::Progress;
-use sharding_core::ShardingPartialDecoder;
+use array_cli::Progress;
+use array_grid::{ShardGrid, ShardPart, SubsetCells};
+use codec_traits::ArrayToBytesCodecTraits;
+use parts_arrays::ArrayBytes;
+use parts_errors::CodecError;
+use parts_row_major::unravel_index;
+use parts_subsets::ArraySubset;
+use sharding_codec::ShardingPartialDecoder;
 use std::io::Write;
 use std::rt::Files;
-use zarr_codecs::{ArrayToBytesCodecTraits, BytesPartialDecoderTraits};
-use zarr_parts::{ArrayBytes, ArraySubset, CodecError, unravel_index};
+use storage_handles::BytesPartialDecoderTraits;
 
-// The cells of a box as they are held, or fill values where none are.
+// The cells of a subset as they are held, or fill values where none are.
 fn held_cells<R: Files + AllocGlobal, I, X>(
     array: &Array<'_, R, I, X>,
-    asked: &ArraySubset,
-    held: Option<BoxCells>,
-) -> Result<BoxCells, CodecError> {
+    requested: &ArraySubset,
+    held: Option<SubsetCells>,
+) -> Result<SubsetCells, CodecError> {
     match held {
         Some(held) => Ok(held),
-        None => BoxCells::new(array.alloc(), asked, &array.metadata.fill_value),
+        None => SubsetCells::new(array.alloc(), requested, &array.metadata.fill_value),
     }
 }
 
-// Puts the cells of a part into those of a box, for which memory is asked with the first part.
+// Puts the cells of a part into those of a subset, for which memory is asked with the first part.
 fn put_part<R: Files + AllocGlobal, I, X>(
     array: &Array<'_, R, I, X>,
-    asked: &ArraySubset,
+    requested: &ArraySubset,
     part: &ShardPart,
     found: &ArrayBytes,
-    cells: &mut Option<BoxCells>,
+    cells: &mut Option<SubsetCells>,
 ) -> Result<(), Stop> {
-    let mut held = held_cells(array, asked, cells.take())?;
-    held.put(&part.in_box, found)?;
+    let mut held = held_cells(array, requested, cells.take())?;
+    held.put(&part.in_subset, found)?;
     *cells = Some(held);
     Ok(())
 }
@@ -95,7 +99,7 @@ fn place_of<
     Ok(Place::Shard)
 }
 
-// Reads the part of a box that lies in a shard, which is open, or says how that is refused.
+// Reads the part of a subset that lies in a shard, which is open, or says how that is refused.
 fn read_open_part<
     R: Files + AllocGlobal,
     I: ArrayToBytesCodecTraits,
@@ -103,21 +107,21 @@ fn read_open_part<
     H: BytesPartialDecoderTraits,
 >(
     array: &Array<'_, R, I, X>,
-    asked: &ArraySubset,
+    requested: &ArraySubset,
     part: &ShardPart,
     decoder: &mut ShardingPartialDecoder<'_, I, X, H>,
-    cells: &mut Option<BoxCells>,
+    cells: &mut Option<SubsetCells>,
 ) -> Result<Option<CodecError>, Stop> {
     match read_cells(array.alloc(), decoder, &part.in_shard) {
         Ok(found) => {
-            put_part(array, asked, part, &found, cells)?;
+            put_part(array, requested, part, &found, cells)?;
             Ok(None)
         }
         Err(error) => Ok(Some(error)),
     }
 }
 
-// Reads the part of a box that lies in a shard, which is open, or says how and where that is refused.
+// Reads the part of a subset that lies in a shard, which is open, or says how and where that is refused.
 fn read_placed<
     R: Files + AllocGlobal,
     I: ArrayToBytesCodecTraits,
@@ -125,12 +129,12 @@ fn read_placed<
     H: BytesPartialDecoderTraits,
 >(
     array: &Array<'_, R, I, X>,
-    asked: &ArraySubset,
+    requested: &ArraySubset,
     part: &ShardPart,
     decoder: &mut ShardingPartialDecoder<'_, I, X, H>,
-    cells: &mut Option<BoxCells>,
+    cells: &mut Option<SubsetCells>,
 ) -> Result<Option<(CodecError, Place)>, Stop> {
-    let Some(error) = read_open_part(array, asked, part, decoder, cells)? else {
+    let Some(error) = read_open_part(array, requested, part, decoder, cells)? else {
         return Ok(None);
     };
     let place = match place_of(array, &part.in_shard, decoder, error) {
@@ -140,16 +144,16 @@ fn read_placed<
     Ok(Some((error, place)))
 }
 
-// Reads the part of a box that lies in a shard, which is open.
+// Reads the part of a subset that lies in a shard, which is open.
 fn read_opened<R: Files + AllocGlobal, I: ArrayToBytesCodecTraits, X: ArrayToBytesCodecTraits>(
     array: &Array<'_, R, I, X>,
-    asked: &ArraySubset,
+    requested: &ArraySubset,
     part: &ShardPart,
     shard: &Shard<'_>,
     mut decoder: Decoder<'_, R, I, X>,
-    cells: &mut Option<BoxCells>,
+    cells: &mut Option<SubsetCells>,
 ) -> Result<(), Stop> {
-    let refused = read_placed(array, asked, part, &mut decoder, cells);
+    let refused = read_placed(array, requested, part, &mut decoder, cells);
     let file = decoder.close();
     match refused? {
         Some((error, place)) => {
@@ -160,13 +164,13 @@ fn read_opened<R: Files + AllocGlobal, I: ArrayToBytesCodecTraits, X: ArrayToByt
     }
 }
 
-// Reads the part of a box that lies in the shard with these coordinates.
+// Reads the part of a subset that lies in the shard with these coordinates.
 fn read_part<R: Files + AllocGlobal, I: ArrayToBytesCodecTraits, X: ArrayToBytesCodecTraits>(
     array: &Array<'_, R, I, X>,
-    asked: &ArraySubset,
+    requested: &ArraySubset,
     part: &ShardPart,
     coordinates: &[u64],
-    cells: &mut Option<BoxCells>,
+    cells: &mut Option<SubsetCells>,
 ) -> Result<(), Stop> {
     let key = array.metadata.keys.key_of(array.alloc(), coordinates)?;
     let shard = Shard {
@@ -174,7 +178,7 @@ fn read_part<R: Files + AllocGlobal, I: ArrayToBytesCodecTraits, X: ArrayToBytes
         coordinates,
     };
     match array.decoder(&shard, array.file(&key)?)? {
-        Ok(decoder) => read_opened(array, asked, part, &shard, decoder, cells),
+        Ok(decoder) => read_opened(array, requested, part, &shard, decoder, cells),
         Err(refusal) => Err(Stop::Refused(refusal)),
     }
 }
@@ -190,25 +194,25 @@ fn shards_of<R: Files + AllocGlobal, I, X>(array: &Array<'_, R, I, X>) -> Result
 
 /// The elements of a subset, from each shard that it overlaps, and fill values of those that are absent. Memory for them is
 /// allocated once a part is read, so that a subset in one shard takes less.
-pub fn read_box<
+pub fn read_subset<
     R: Files + AllocGlobal,
     I: ArrayToBytesCodecTraits,
     X: ArrayToBytesCodecTraits,
     M: Write,
 >(
     array: &Array<'_, R, I, X>,
-    asked: &ArraySubset,
+    requested: &ArraySubset,
     progress: &mut Progress<'_, M>,
-) -> Result<BoxCells, Stop> {
+) -> Result<SubsetCells, Stop> {
     let grid = shards_of(array)?;
-    let parts = grid.parts(array.alloc(), asked)?;
-    let mut cells: Option<BoxCells> = None;
+    let parts = grid.parts(array.alloc(), requested)?;
+    let mut cells: Option<SubsetCells> = None;
     for (done, part) in parts.iter().enumerate() {
         progress.step(done as u64, parts.len() as u64);
         let Some(coordinates) = grid.coordinates(array.alloc(), part.shard)? else {
             return Err(CodecError::OutOfBounds.into());
         };
-        read_part(array, asked, part, &coordinates, &mut cells)?;
+        read_part(array, requested, part, &coordinates, &mut cells)?;
     }
-    Ok(held_cells(array, asked, cells)?)
+    Ok(held_cells(array, requested, cells)?)
 }

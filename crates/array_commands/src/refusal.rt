@@ -1,9 +1,11 @@
 // Why a shard is refused, and where.
 use crate::arrays::Shard;
 use array_metadata::ArrayMetadata;
+use parts_errors::CodecError;
+use parts_row_major::unravel_index;
+use parts_subsets::ChunkShape;
 use std::alloc::{AllocError, Global};
 use std::fmt;
-use zarr_parts::{ChunkShape, CodecError, unravel_index};
 
 /// Where in a shard something is refused.
 #[derive(Debug, Clone, Copy, PartialEq, Eq)]

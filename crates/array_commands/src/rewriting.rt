@@ -3,15 +3,17 @@ use crate::arrays::{Array, Shard, ShardFile};
 use crate::refusal::Place;
 use crate::stop::Stop;
 use array_metadata::ArrayMetadata;
-use file_handles::{Replacement, folder_of};
-use shard_format::ShardingIndexLocation;
-use sharding_core::{CompactionPlan, ShardingCodec};
+use codec_traits::ArrayToBytesCodecTraits;
+use parts_errors::{CodecError, CodecOptions};
+use sharding_codec::ShardingCodec;
+use sharding_format::ShardingIndexLocation;
+use sharding_layout::CompactionPlan;
 use std::alloc::Global;
 use std::io;
 use std::io::{ErrorKind, Write};
 use std::rt::Files;
-use zarr_codecs::{ArrayToBytesCodecTraits, ByteRange, BytesPartialDecoderTraits, read_range};
-use zarr_parts::{CodecError, CodecOptions};
+use storage_files::{Replacement, folder_of};
+use storage_handles::{ByteRange, BytesPartialDecoderTraits, read_range};
 
 // How many bytes of a slice are held at once.
 const PIECE: usize = 1_048_576;

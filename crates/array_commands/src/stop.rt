@@ -3,13 +3,13 @@ ghost use Rattle.std.specs.Prelude.{◌≡◌, ◌≤◌};
 ghost use Rattle.array_commands.specs.Statuses.{status_of};
 
 use crate::refusal::Refusal;
+use array_cli::SubsetError;
 use array_folder::FolderError;
 use array_metadata::MetadataError;
-use command_words::BoxError;
+use parts_errors::CodecError;
 use std::alloc::{AllocError, AllocFailed, Global};
 use std::io;
 use thiserror::Error;
-use zarr_parts::CodecError;
 
 /// How a command ends that does not stop.
 #[derive(Debug, Clone, Copy, PartialEq, Eq)]
@@ -70,9 +70,9 @@ pub enum Stop {
     /// A shard that is refused.
     #[error("{0}")]
     Refused(Refusal),
-    /// A box that is refused.
+    /// A subset that is refused.
     #[error("{0}")]
-    Box(BoxError),
+    Subset(SubsetError),
     /// An array whose chunks have too many elements for their numbers to be told.
     #[error("the chunks of the array have 2^64 elements or more, and `read` serves fewer")]
     TooManyElements,
@@ -137,11 +137,11 @@ impl From<FolderError> for Stop {
     }
 }
 
-impl From<BoxError> for Stop {
-    fn from(error: BoxError) -> Stop {
+impl From<SubsetError> for Stop {
+    fn from(error: SubsetError) -> Stop {
         match error {
-            BoxError::OutOfMemory => Stop::OutOfMemory,
-            _ => Stop::Box(error),
+            SubsetError::OutOfMemory => Stop::OutOfMemory,
+            _ => Stop::Subset(error),
         }
     }
 }

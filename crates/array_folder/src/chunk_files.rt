@@ -2,11 +2,11 @@
 use crate::chunk_grid::ChunkGrid;
 use crate::error::FolderError;
 use crate::names::{KeyForm, Level, levels_of};
-use file_handles::check_folder;
 use std::alloc::{AllocError, Global};
 use std::io::Read;
 use std::rt::Files;
 use std::{io, mem, str};
+use storage_files::check_folder;
 
 // The name behind which a new file stands until it is whole.
 const REPLACING: &str = ".replacing";
@@ -46,7 +46,7 @@ struct Walk<'a, 'l> {
     is_last: bool,
 }
 
-// Two lists, one behind the other.
+// Two lists, one after the other.
 fn joined(alloc: Global, first: &[u64], second: &[u64]) -> Result<Vec<u64>, AllocError> {
     let mut joined: Vec<u64> = Vec::with_capacity(alloc, first.len())?;
     joined.extend_from_slice(first)?;
@@ -76,8 +76,8 @@ impl Walk<'_, '_> {
 
     // Adds what a name in the folder is to what was found.
     fn add(&self, name: &str, found: &mut ChunkFiles) -> Result<(), AllocError> {
-        if let Some(behind) = self.level.coordinates(self.alloc, name)? {
-            let coordinates = joined(self.alloc, self.coordinates, &behind)?;
+        if let Some(rest) = self.level.coordinates(self.alloc, name)? {
+            let coordinates = joined(self.alloc, self.coordinates, &rest)?;
             let key = self.key_of(name)?;
             found.chunks.push(ChunkFile { coordinates, key })?;
         } else if self.is_replacing(name)? {

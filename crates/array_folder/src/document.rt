@@ -1,10 +1,10 @@
 // The text of an array's metadata.
 use crate::error::FolderError;
-use file_handles::{check_folder, file_length};
 use std::alloc::Global;
 use std::io::{ErrorKind, Read};
 use std::rt::Files;
 use std::{fs, io};
+use storage_files::{check_folder, file_length};
 
 // What the system said of the file or folder at a path, with the path where that was refused.
 fn named<T: Drop>(alloc: Global, path: &str, answer: io::Result<T>) -> Result<T, FolderError> {

@@ -1,5 +1,5 @@
 // Why a folder is not read.
-use escaped_text::escaped;
+use parts_escaped_text::escaped;
 use std::alloc::{AllocError, AllocFailed, Global};
 use std::io;
 use thiserror::Error;

@@ -2,10 +2,10 @@
 use Rattle.std.proofs.Common.{◌≡◌, ◌≢◌, ℕ, List, [], ◌∷◌, Option, None, Some, Ok, Err, length, refl, codes, option_map, option_and_then, ap, sym, ◌∙◌}
 use Rattle.serde_json.specs.Data.{Data, Items}
 use Rattle.serde_json.specs.Find.{get, as_array, as_object}
-use Rattle.zarr_parts.specs.Words.{Bytes}
-use Rattle.zarr_codecs.specs.CreateErrors.{Reading, Refusal, or_refused, and_then, missing_field, bad_field}
-use Rattle.zarr_codecs.specs.Metadata.{first_refused, unless_refused}
-use Rattle.sharding_core.specs.Configuration.{Configuration, configuration_in, is_configuration_member, field, shape_in}
+use Rattle.parts_errors.specs.Words.{Bytes}
+use Rattle.codec_metadata.specs.CreateErrors.{Reading, Refusal, or_refused, and_then, missing_field, bad_field}
+use Rattle.codec_metadata.specs.Metadata.{first_refused, unless_refused}
+use Rattle.sharding_configuration.specs.Configuration.{Configuration, configuration_in, is_configuration_member, field, shape_in}
 use Rattle.array_metadata.specs.declared.codecs.NamedCodec.{NamedCodec}
 use Rattle.array_metadata.specs.MetadataFields.{configured_in}
 use Rattle.array_metadata.specs.ArrayCodecs.{sole_shards}

@@ -2,16 +2,16 @@
 use Rattle.std.specs.Prelude.{Option, Ok, Err, Some, None, if◌then◌else◌, codes, bytes_eq, option_map, option_and_then, unwrap_or, false}
 use Rattle.serde_json.specs.Data.{Data, Items, no_items, item}
 use Rattle.serde_json.specs.Find.{as_array}
-use Rattle.zarr_codecs.specs.CreateErrors.{Reading, and_then, unsupported_chain}
-use Rattle.zarr_codecs.specs.Metadata.{name_in, codec_of}
-use Rattle.zarr_codecs.specs.BytesMetadata.{bytes_configured}
-use Rattle.zarr_codecs.specs.Endianness.{Endianness}
+use Rattle.codec_metadata.specs.CreateErrors.{Reading, and_then, unsupported_chain}
+use Rattle.codec_metadata.specs.Metadata.{name_in, codec_of}
+use Rattle.codec_metadata.specs.BytesMetadata.{bytes_configured}
+use Rattle.codec_bytes.specs.declared.bytes_codec.Endianness.{Endianness}
 use Rattle.codec_chains.specs.declared.bytes_chain.BytesChain.{BytesChain}
-use Rattle.zarr_crc32c.specs.declared.codec.Crc32cCodec.{Crc32cCodec}
-use Rattle.either_codec.specs.declared.either_codec.EitherCodec.{EitherCodec}
-use Rattle.either_codec.specs.declared.either_codec.EitherCodec.TheVariants.{First, Second}
-use Rattle.sharding_core.specs.declared.codec.ShardingCodec.{ShardingCodec}
-use Rattle.sharding_core.specs.ShardMetadata.{shard_configured}
+use Rattle.codec_crc32c.specs.declared.codec.Crc32cCodec.{Crc32cCodec}
+use Rattle.codec_chains.specs.declared.either_codec.EitherCodec.{EitherCodec}
+use Rattle.codec_chains.specs.declared.either_codec.EitherCodec.TheVariants.{First, Second}
+use Rattle.sharding_codec.specs.declared.codec.ShardingCodec.{ShardingCodec}
+use Rattle.sharding_codec.specs.ShardMetadata.{shard_configured}
 
 -- `bytes` by its byte order, or `bytes` and `crc32c` behind it
 abbrev pub Elements : Type 0

@@ -2,8 +2,8 @@
 use Rattle.std.specs.Prelude.{◌≡◌, List, Some, None, codes, map}
 use Rattle.serde_json.specs.Data.{Data, Items}
 use Rattle.serde_json.specs.View.{view, items_of}
-use Rattle.zarr_parts.specs.Words.{Bytes as Text}
-use Rattle.zarr_codecs.specs.Metadata.{name_in, is_metadata_member, first_refused, members_in}
+use Rattle.parts_errors.specs.Words.{Bytes as Text}
+use Rattle.codec_metadata.specs.Metadata.{name_in, is_metadata_member, first_refused, members_in}
 use Rattle.array_metadata.specs.declared.codecs.CodecName.{CodecName}
 use Rattle.array_metadata.specs.declared.codecs.CodecName.TheVariants.{Bytes, Crc32c, ShardingIndexed}
 use Rattle.array_metadata.specs.declared.codecs.NamedCodec.{NamedCodec}

@@ -1,9 +1,9 @@
 -- The fill value that the metadata gives: of `bool` true or false, of the other types a whole number.
 use Rattle.std.specs.Prelude.{ℤ, pos, Option, option_map, option_and_then}
 use Rattle.std.specs.Int.{w8, w16, w32, w64, from_bool, from_le_bytes, cast_signed}
-use Rattle.zarr_parts.specs.Words.{Bytes as Text}
-use Rattle.zarr_parts.specs.DataType.{DataType}
-use Rattle.zarr_parts.specs.DataType.TheVariants.{Bool, Int8, Int16, Int32, Int64, UInt8, UInt16, UInt32, UInt64, Raw, Bytes, Optional}
+use Rattle.parts_errors.specs.Words.{Bytes as Text}
+use Rattle.parts_arrays.specs.declared.data_type.DataType.{DataType}
+use Rattle.parts_arrays.specs.declared.data_type.DataType.TheVariants.{Bool, Int8, Int16, Int32, Int64, UInt8, UInt16, UInt32, UInt64, Raw, Bytes, Optional}
 use Rattle.serde_json.specs.Data.{Data}
 use Rattle.serde_json.specs.Find.{as_bool, as_number, as_integer}
 

@@ -1,6 +1,6 @@
 -- What the metadata says of the keys of chunks.
 use Rattle.std.specs.Prelude.{Bool, true, false, codes}
-use Rattle.zarr_parts.specs.Words.{Bytes}
+use Rattle.parts_errors.specs.Words.{Bytes}
 use Rattle.array_metadata.specs.declared.keys.KeyEncoding.{KeyEncoding}
 use Rattle.array_metadata.specs.declared.keys.KeyEncoding.TheVariants.{Default, V2}
 

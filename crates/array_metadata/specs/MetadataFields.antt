@@ -1,7 +1,6 @@
 -- What stands in the text of an array's metadata.
-use Rattle.std.specs.Prelude.{ℕ, Bool, true, not, ◌||◌, List, [], ◌∷◌, codes, bytes_eq}
-use Rattle.std.specs.Prelude.{Option, Some, option_map, option_and_then, unwrap_or}
-use Rattle.zarr_parts.specs.Words.{Bytes}
+use Rattle.std.specs.Prelude.{ℕ, Bool, true, not, ◌||◌, List, [], ◌∷◌, codes, bytes_eq, Option, Some, option_map, option_and_then, unwrap_or}
+use Rattle.parts_errors.specs.Words.{Bytes}
 use Rattle.serde_json.specs.Data.{Data, Items, no_items, item}
 use Rattle.serde_json.specs.Find.{get, as_array, as_bool, as_number, as_u64}
 use Rattle.serde_json.specs.Read.{read}

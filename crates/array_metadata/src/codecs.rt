@@ -3,21 +3,24 @@ ghost use Rattle.std.specs.Prelude.{◌≡◌, Some, Ok, IfOk, IfSome, length, o
 ghost use Rattle.std.specs.List.{All};
 ghost use Rattle.serde_json.specs.Find.{get};
 ghost use Rattle.serde_json.specs.View.{view, items_view};
-ghost use Rattle.sharding_core.specs.Configuration.{configuration_in, shape_in};
-ghost use Rattle.sharding_core.specs.Configurations.{configuration_of};
+ghost use Rattle.sharding_configuration.specs.Configuration.{configuration_in, shape_in};
+ghost use Rattle.sharding_configuration.specs.Configurations.{configuration_of};
 ghost use Rattle.array_metadata.specs.MetadataFields.{configured_in};
 ghost use Rattle.array_metadata.specs.ArrayCodecs.{bytes_in, crc32c_in, elements_in, shards_in, subchunks_in, sole_shards, chunks_in};
 ghost use Rattle.array_metadata.specs.CodecNames.{codec_name, Names, IsNamed, listed};
 
 use crate::error::MetadataError;
 use crate::fields::Placed;
-use either_codec::EitherCodec;
+use codec_bytes::BytesCodec;
+use codec_chains::{BytesChain, EitherCodec};
+use codec_crc32c::Crc32cCodec;
+use codec_metadata::{CodecTraitsV3, PluginCreateError};
+use parts_arrays::{DataType, DataTypeSize};
+use parts_subsets::ChunkShape;
 use serde_json::Value;
-use sharding_core::{ShardingCodec, ShardingCodecConfiguration, ShardingCodecConfigurationV1};
+use sharding_codec::ShardingCodec;
+use sharding_configuration::{ShardingCodecConfiguration, ShardingCodecConfigurationV1};
 use std::alloc::Global;
-use zarr_codecs::{BytesChain, BytesCodec, CodecTraitsV3, PluginCreateError};
-use zarr_crc32c::Crc32cCodec;
-use zarr_parts::{ChunkShape, DataType, DataTypeSize};
 
 /// `bytes`, or `bytes` and `crc32c` behind it.
 pub type ElementCodec = EitherCodec<BytesCodec, BytesChain<BytesCodec, Crc32cCodec>>;
@@ -267,14 +270,14 @@ fn shard_parts(alloc: Global, metadata: &Placed, axes: usize) -> Result<ShardPar
     let placed = metadata.required(alloc, "configuration")?;
     let configuration = parsed_configuration(alloc, &placed, axes)?;
     let outer = placed.place.as_str();
-    let index_place = format!(in alloc; "{outer}.index_codecs")?;
+    let index_offset = format!(in alloc; "{outer}.index_codecs")?;
     let values = configuration.index_codecs.as_slice();
     // The numbers of an index are of 64 bits.
     let index_codec = listed_elements(
         alloc,
         values,
         "index_codecs",
-        index_place,
+        index_offset,
         DataType::UInt64,
     )?;
     let place = format!(in alloc; "{outer}.codecs")?;

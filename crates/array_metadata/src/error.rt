@@ -2,10 +2,10 @@
 ghost use Rattle.std.specs.Prelude.{◌≡◌, ◌≤◌, ◌<◌, IfErr, OnOk};
 ghost use Rattle.array_metadata.specs.declared.error.MetadataError.TheVariants.{TooLong};
 
-use escaped_text::escaped;
+use codec_metadata::PluginCreateError;
+use parts_escaped_text::escaped;
 use std::alloc::{AllocError, AllocFailed, Global};
 use thiserror::Error;
-use zarr_codecs::PluginCreateError;
 
 /// How many bytes a `zarr.json` may have: 16 MiB.
 pub const LONGEST_TEXT: u64 = 16_777_216;

@@ -2,14 +2,14 @@
 ghost use Rattle.std.specs.Prelude.{◌≡◌, Some, None, IfOk, length, option_map};
 ghost use Rattle.serde_json.specs.Find.{get};
 ghost use Rattle.serde_json.specs.View.{view, items_view};
-ghost use Rattle.zarr_codecs.specs.Metadata.{name_in, is_metadata_member, first_refused, members_in};
+ghost use Rattle.codec_metadata.specs.Metadata.{name_in, is_metadata_member, first_refused, members_in};
 ghost use Rattle.array_metadata.specs.MetadataFields.{whole_numbers_of, whole_numbers_in};
 
 use crate::error::MetadataError;
+use codec_metadata::{MemberTest, PluginCreateError, metadata_name, test_members};
+use parts_subsets::ChunkShape;
 use serde_json::Value;
 use std::alloc::{AllocError, Global};
-use zarr_codecs::{MemberTest, PluginCreateError, metadata_name, test_members};
-use zarr_parts::ChunkShape;
 
 // A value of the metadata, and where it stands.
 #[derive(Drop)]
@@ -26,7 +26,7 @@ pub struct Placed<'a> {
 struct ExtensionMembers;
 
 impl MemberTest for ExtensionMembers {
-    ghost use Rattle.zarr_codecs.specs.Metadata.{is_metadata_member};
+    ghost use Rattle.codec_metadata.specs.Metadata.{is_metadata_member};
 
     ghost passes = { is_metadata_member };
 

@@ -3,16 +3,16 @@ ghost use Rattle.std.specs.Prelude.{◌≡◌, ◌≤◌, ◌≤ℤ◌, ℤ, pos
 ghost use Rattle.std.specs.Int.{w64, to_le_bytes};
 ghost use Rattle.serde_json.specs.Find.{as_str, as_number, as_integer};
 ghost use Rattle.serde_json.specs.View.{view};
-ghost use Rattle.zarr_parts.specs.Types.{size_of, byte_size, type_name, HasElements};
-ghost use Rattle.zarr_parts.specs.DataTypeSize.TheVariants.{Fixed};
+ghost use Rattle.parts_arrays.specs.Types.{size_of, byte_size, type_name, HasElements};
+ghost use Rattle.parts_arrays.specs.declared.data_type.DataTypeSize.TheVariants.{Fixed};
 ghost use Rattle.array_metadata.specs.FillValues.{number_in, number_of};
 
 use crate::error::MetadataError;
 use crate::fields::Placed;
-use escaped_text::escaped;
+use parts_arrays::{DataType, DataTypeSize, FillValue};
+use parts_escaped_text::escaped;
 use serde_json::Value;
 use std::alloc::Global;
-use zarr_parts::{DataType, DataTypeSize, FillValue};
 
 // The type of elements that a value names. Refused as `BadField`.
 pub fn data_type_in(alloc: Global, named: &Placed) -> Result<DataType, MetadataError>

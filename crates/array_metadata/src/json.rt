@@ -4,9 +4,9 @@ ghost use Rattle.serde_json.specs.Read.{read as read_text};
 ghost use Rattle.serde_json.specs.View.{view};
 
 use crate::error::MetadataError;
+use codec_metadata::PluginCreateError;
 use serde_json::{Error, Value};
 use std::alloc::{AllocError, Global};
-use zarr_codecs::PluginCreateError;
 
 // How deep values may nest: as many brackets as JSON is read with here.
 const MOST_BRACKETS: usize = 127;

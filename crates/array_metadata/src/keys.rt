@@ -2,13 +2,13 @@
 ghost use Rattle.std.specs.Prelude.{◌≡◌, Some, IfOk, option_and_then, option_map, unwrap_or, codes};
 ghost use Rattle.serde_json.specs.Find.{as_str};
 ghost use Rattle.serde_json.specs.View.{view};
-ghost use Rattle.zarr_codecs.specs.Metadata.{name_in};
+ghost use Rattle.codec_metadata.specs.Metadata.{name_in};
 ghost use Rattle.array_metadata.specs.MetadataFields.{configured_in};
 ghost use Rattle.array_metadata.specs.KeyEncodings.{encoding_name, default_separator, separator_text};
 
 use crate::error::MetadataError;
 use crate::fields::Placed;
-use escaped_text::escaped;
+use parts_escaped_text::escaped;
 use std::alloc::{AllocError, Global};
 
 /// How a chunk's key is made (Zarr V3 core, "Chunk key encoding").

@@ -4,15 +4,15 @@ ghost use Rattle.serde_json.specs.Data.{no_items};
 ghost use Rattle.serde_json.specs.Find.{as_str, as_array, get};
 ghost use Rattle.serde_json.specs.Read.{read as read_text};
 ghost use Rattle.serde_json.specs.View.{view, members_view};
-ghost use Rattle.zarr_codecs.specs.Metadata.{name_in, first_refused, members_in};
+ghost use Rattle.codec_metadata.specs.Metadata.{name_in, first_refused, members_in};
 ghost use Rattle.array_metadata.specs.MetadataFields.{member_in, configured_in, whole_number_in, whole_numbers_in, is_understood};
 ghost use Rattle.array_metadata.specs.KeyEncodings.{encoding_name, default_separator, separator_text};
 ghost use Rattle.array_metadata.specs.FillValues.{number_in, number_of};
 ghost use Rattle.array_metadata.specs.ArrayCodecs.{chunks_in, shards_in, subchunks_in};
-ghost use Rattle.sharding_core.specs.Configuration.{shape_in};
-ghost use Rattle.zarr_parts.specs.Grid.{Divides};
-ghost use Rattle.zarr_parts.specs.Types.{size_of, type_name, HasElements};
-ghost use Rattle.zarr_parts.specs.DataTypeSize.TheVariants.{Fixed};
+ghost use Rattle.sharding_configuration.specs.Configuration.{shape_in};
+ghost use Rattle.parts_subsets.specs.Grid.{Divides};
+ghost use Rattle.parts_arrays.specs.Types.{size_of, type_name, HasElements};
+ghost use Rattle.parts_arrays.specs.declared.data_type.DataTypeSize.TheVariants.{Fixed};
 
 use crate::codecs::{ArrayCodec, InnerCodec, array_codec};
 use crate::error::MetadataError;
@@ -20,11 +20,12 @@ use crate::fields::Placed;
 use crate::fill::{data_type_in, fill_value_in};
 use crate::json::value_in;
 use crate::keys::{ChunkKeys, keys_in};
-use escaped_text::escaped;
+use codec_metadata::PluginCreateError;
+use parts_arrays::{DataType, FillValue};
+use parts_escaped_text::escaped;
+use parts_subsets::ChunkShape;
 use serde_json::{Map, Value};
 use std::alloc::Global;
-use zarr_codecs::PluginCreateError;
-use zarr_parts::{ChunkShape, DataType, FillValue};
 
 /// How many axes an array may have whose metadata is read. The codecs know no such bound.
 pub const MOST_AXES: usize = 64;

@@ -1,13 +1,13 @@
 -- Steps of what a chain decodes and reads.
 use Rattle.std.proofs.Common.{◌≡◌, ℕ, zero, suc, ◌+◌, ◌<◌, ◌≤◌, ◌⊎◌, List, Option, Some, None, IsSome, length, take, drop, replicate, refl, sym, subst, arith, inl, inr}
 use Rattle.std.proofs.Math.Seq.{take-length}
-use Rattle.zarr_parts.specs.Words.{Bytes, CellsOf}
-use Rattle.zarr_parts.specs.Order.{◌or◌then◌, done, RefusedBy}
-use Rattle.zarr_parts.specs.CodecError.{CodecError}
-use Rattle.zarr_parts.specs.CodecError.TheVariants.{Damaged, Fault}
-use Rattle.codec_laws.specs.Cells.{all_there}
-use Rattle.codec_laws.specs.Refusals.{MayRefuseDecode}
-use Rattle.codec_laws.specs.Reads.{MayRefuseRead, cells_at}
+use Rattle.parts_errors.specs.Words.{Bytes, CellsOf}
+use Rattle.parts_errors.specs.Order.{◌or◌then◌, done, RefusedBy}
+use Rattle.parts_errors.specs.declared.error.CodecError.{CodecError}
+use Rattle.parts_errors.specs.declared.error.CodecError.TheVariants.{Damaged, Fault}
+use Rattle.codec_traits.specs.Cells.{all_there}
+use Rattle.codec_traits.specs.Refusals.{MayRefuseDecode}
+use Rattle.codec_traits.specs.Reads.{MayRefuseRead, cells_at}
 use Rattle.codec_chains.specs.Chains.{cells_of}
 
 -- no cell of some is not all of them

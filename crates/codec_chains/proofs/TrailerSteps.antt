@@ -4,9 +4,9 @@ use Rattle.std.proofs.lemmas.List.Prefix.{end_rest}
 use Rattle.std.proofs.lemmas.Bool.Decides.{Decides-eqb}
 use Rattle.std.proofs.Math.Seq.{take-length}
 use Rattle.std.specs.Cmp.Lexicographic.{pointwise, pointwise_decides}
-use Rattle.zarr_parts.specs.Words.{Bytes}
-use Rattle.zarr_parts.specs.Order.{◌or◌then◌, done, RefusedBy}
-use Rattle.zarr_parts.specs.CodecError.TheVariants.{Damaged}
+use Rattle.parts_errors.specs.Words.{Bytes}
+use Rattle.parts_errors.specs.Order.{◌or◌then◌, done, RefusedBy}
+use Rattle.parts_errors.specs.declared.error.CodecError.TheVariants.{Damaged}
 use Rattle.codec_chains.specs.Trailers.{with_trailer, before_trailer, without_trailer}
 use Rattle.codec_chains.specs.TrailerLaws.{length-with_trailer, checked, unchecked}
 
@@ -42,9 +42,9 @@ module _ (size : ℕ) (trailer : Bytes → Bytes) (sized : (bytes : Bytes) → l
       → true ≡ not (pointwise nat_eq (take (length b - (length b - size)) (drop (length b - size) b)) found)
       → RefusedBy (IsSome (without_trailer size trailer b) or Damaged then done) Damaged
   refused_other b found is test =
-      let behind = trailer (before_trailer size b) in
+      let appended = trailer (before_trailer size b) in
       refused (without_trailer size trailer b) (unchecked size trailer b (λ same. differ _ found test
-      (last_bytes size b ∙ (ap (λ n. drop (length b - n) b) (sym (sized (before_trailer size b))) ∙ (end_rest b behind (before_trailer size b) (sym same) ∙ sym is)))))
+      (last_bytes size b ∙ (ap (λ n. drop (length b - n) b) (sym (sized (before_trailer size b))) ∙ (end_rest b appended (before_trailer size b) (sym same) ∙ sym is)))))
 
   -- bytes with their trailer
   pub decoded : (b found : Bytes) → found ≡ trailer (before_trailer size b)
@@ -52,4 +52,4 @@ module _ (size : ℕ) (trailer : Bytes → Bytes) (sized : (bytes : Bytes) → l
       → without_trailer size trailer b ≡ Some (before_trailer size b)
   decoded b found is test =
       let stored : drop (length b - size) b ≡ trailer (before_trailer size b) = sym (last_bytes size b) ∙ (agree _ found test ∙ is) in
-      checked size trailer b (ap (λ behind. before_trailer size b ++ behind) (sym stored) ∙ take-append-drop (length b - size) b)
+      checked size trailer b (ap (λ appended. before_trailer size b ++ appended) (sym stored) ∙ take-append-drop (length b - size) b)

@@ -2,15 +2,15 @@
 use Rattle.std.proofs.Common.{◌≡◌, ◌<◌, ℕ, List, Option, Some, None, IfSome, length, get_or, ap, ◌∙◌}
 use Rattle.std.proofs.lemmas.List.{length-replicate, get_or-replicate}
 use Rattle.std.specs.Option.{option_map}
-use Rattle.zarr_parts.specs.Words.{Bytes, Elements, CellsOf, Written}
-use Rattle.zarr_parts.specs.CodecError.TheVariants.{TooLarge}
-use Rattle.zarr_parts.specs.Numbering.{count_of}
-use Rattle.zarr_parts.specs.Geo.{Geo}
-use Rattle.codec_laws.specs.declared.representation.BytesRepresentation.{BytesRepresentation}
-use Rattle.codec_laws.specs.Meanings.{Meaning}
-use Rattle.codec_laws.specs.Laws.{IsLawful}
-use Rattle.codec_laws.specs.RefusalLaws.{test_faultless, test_as_faultless}
-use Rattle.codec_laws.specs.Representations.{IsWithin}
+use Rattle.parts_errors.specs.Words.{Bytes, Elements, CellsOf, Written}
+use Rattle.parts_errors.specs.declared.error.CodecError.TheVariants.{TooLarge}
+use Rattle.parts_row_major.specs.Numbering.{count_of}
+use Rattle.parts_arrays.specs.ArraySpec.{ArraySpec}
+use Rattle.codec_traits.specs.declared.representation.BytesRepresentation.{BytesRepresentation}
+use Rattle.codec_traits.specs.Meanings.{Meaning}
+use Rattle.codec_traits.specs.Laws.{IsLawful}
+use Rattle.codec_traits.specs.RefusalLaws.{test_faultless, test_as_faultless}
+use Rattle.codec_traits.specs.Representations.{IsWithin}
 use Rattle.codec_chains.specs.Codings.{Coding, IsInvertible, IsBounded}
 use Rattle.codec_chains.specs.Chains.{cells_of, IsChained, chain_meaning}
 
@@ -33,7 +33,7 @@ within_both coding None inner bounded h = tt
 within_both coding (Some told) inner bounded h = bounded.within told inner h
 
 -- what the chain means keeps the laws
-pub chain_lawful : (coding : Coding) (m : Meaning) (g : Geo) → IsInvertible coding → IsBounded coding → IsLawful g m
+pub chain_lawful : (coding : Coding) (m : Meaning) (g : ArraySpec) → IsInvertible coding → IsBounded coding → IsLawful g m
     → IsLawful g (chain_meaning coding m g)
 chain_lawful coding m g invertible bounded law = record {
   check_faultless = λ e h. law.check_faultless e h;

@@ -1,13 +1,13 @@
--- A codec from arrays to bytes with a codec from bytes to bytes behind it.
+-- A codec from arrays to bytes with a codec from bytes to bytes after it.
 use Rattle.std.specs.Prelude.{◌≡◌, ◌<◌, ◌^◌, ⊤, ℕ, Option, Some, None, length, replicate}
 use Rattle.std.specs.Option.{option_map}
-use Rattle.zarr_parts.specs.Words.{Bytes, Elements, CellList, CellsOf, Written, Refusals}
-use Rattle.zarr_parts.specs.Order.{◌or◌then◌, ◌or_as◌then◌, done}
-use Rattle.zarr_parts.specs.CodecError.TheVariants.{TooLarge, Damaged}
-use Rattle.zarr_parts.specs.Numbering.{count_of}
-use Rattle.zarr_parts.specs.Geo.{Geo}
-use Rattle.zarr_parts.specs.Arrays.{Array}
-use Rattle.codec_laws.specs.Meanings.{Meaning}
+use Rattle.parts_errors.specs.Words.{Bytes, Elements, CellList, CellsOf, Written, Refusals}
+use Rattle.parts_errors.specs.Order.{◌or◌then◌, ◌or_as◌then◌, done}
+use Rattle.parts_errors.specs.declared.error.CodecError.TheVariants.{TooLarge, Damaged}
+use Rattle.parts_row_major.specs.Numbering.{count_of}
+use Rattle.parts_arrays.specs.ArraySpec.{ArraySpec}
+use Rattle.parts_arrays.specs.Arrays.{Array}
+use Rattle.codec_traits.specs.Meanings.{Meaning}
 use Rattle.codec_chains.specs.Codings.{Coding}
 
 -- the cells of the bytes that were encoded; where there are none, no cell is there
@@ -16,9 +16,9 @@ cells_of cells count None = replicate count None
 cells_of cells count (Some inner) = cells inner
 
 -- the tests of the bytes that were encoded; where there are none, the encoding is damaged
-abbrev pub InnerTests : (Bytes → Refusals) → Option Bytes → Refusals
-InnerTests tests None = λ e. e ≡ Damaged
-InnerTests tests (Some inner) = tests inner
+abbrev pub InnerRefusals : (Bytes → Refusals) → Option Bytes → Refusals
+InnerRefusals refusals None = λ e. e ≡ Damaged
+InnerRefusals refusals (Some inner) = refusals inner
 
 -- the bytes are the encoding of bytes that the elements were written to
 pub record IsChained (written : Written) (encoding : Bytes → Bytes) (elements : Elements) (b : Bytes) : Type 0 where
@@ -36,14 +36,14 @@ pub record IsWritable (written : Written) (elements : Elements) : Type 0 where
   pub inner_written : written elements inner
 
 -- the tests of `encode` after those of `check`
-abbrev pub ChainEncodeTests : Coding → Meaning → Array → Refusals
-ChainEncodeTests coding m array =
-    IsWritable m.written array.elements or_as m.encode_tests array then
+abbrev pub ChainEncodeRefusals : Coding → Meaning → Array → Refusals
+ChainEncodeRefusals coding m array =
+    IsWritable m.written array.elements or_as m.encode_refusals array then
     EncodingsFit m.written coding.encoding array.elements or TooLarge then
     done
 
 -- what the chain means, by what both codecs mean
-abbrev pub chain_meaning : Coding → Meaning → Geo → Meaning
+abbrev pub chain_meaning : Coding → Meaning → ArraySpec → Meaning
 chain_meaning coding m g = record {
   serves = m.serves;
   cells = λ b. cells_of m.cells (count_of g.shape) (coding.decoding b);
@@ -51,12 +51,12 @@ chain_meaning coding m g = record {
   encodable = m.encodable;
   fits = λ elements. m.fits elements × EncodingsFit m.written coding.encoding elements;
   representation = option_map coding.representation m.representation;
-  check_tests = m.check_tests;
-  encode_tests = ChainEncodeTests coding m;
-  decode_tests = λ b. InnerTests m.decode_tests (coding.decoding b);
+  check_refusals = m.check_refusals;
+  encode_refusals = ChainEncodeRefusals coding m;
+  decode_refusals = λ b. InnerRefusals m.decode_refusals (coding.decoding b);
   compacted = λ old new. ⊥;
-  compact_tests = λ b. done;
+  compact_refusals = λ b. done;
   answerable = λ n. ⊤;
-  read_tests = λ b points. InnerTests (λ inner. m.answerable (length points) or TooLarge then m.read_tests inner points)
+  read_refusals = λ b points. InnerRefusals (λ inner. m.answerable (length points) or TooLarge then m.read_refusals inner points)
       (coding.decoding b);
 }

@@ -1,9 +1,9 @@
 -- What a codec from bytes to bytes means.
 use Rattle.std.specs.Prelude.{◌≡◌, Option, Some, length}
-use Rattle.zarr_parts.specs.Words.{Bytes}
-use Rattle.codec_laws.specs.declared.representation.BytesRepresentation.{BytesRepresentation}
-use Rattle.codec_laws.specs.declared.representation.BytesRepresentation.TheVariants.{UnboundedSize}
-use Rattle.codec_laws.specs.Representations.{IsWithin}
+use Rattle.parts_errors.specs.Words.{Bytes}
+use Rattle.codec_traits.specs.declared.representation.BytesRepresentation.{BytesRepresentation}
+use Rattle.codec_traits.specs.declared.representation.BytesRepresentation.TheVariants.{UnboundedSize}
+use Rattle.codec_traits.specs.Representations.{IsWithin}
 
 pub record Coding : Type 0 where
   -- the encoding of bytes

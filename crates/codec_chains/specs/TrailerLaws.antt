@@ -1,12 +1,11 @@
 -- A codec that puts a trailer behind bytes keeps the laws.
-use Rattle.std.proofs.Common.{◌≡◌, ◌≢◌, ℕ, ◌+◌, ◌-◌, ◌^◌, ◌≤◌, ◌++◌, Bool, true, false, if◌then◌else◌, nat_lt, Option, Some, None, length}
-use Rattle.std.proofs.Common.{take, bytes_eq, refl, ap, ◌∙◌, arith, length-append}
+use Rattle.std.proofs.Common.{◌≡◌, ◌≢◌, ℕ, ◌+◌, ◌-◌, ◌^◌, ◌≤◌, ◌++◌, Bool, true, false, if◌then◌else◌, nat_lt, Option, Some, None, length, take, bytes_eq, refl, ap, ◌∙◌, arith, length-append}
 use Rattle.std.proofs.lemmas.Slice.Eq.{bytes_eq-Decides}
 use Rattle.std.proofs.Math.Seq.{take-append_seam}
-use Rattle.zarr_parts.specs.Words.{Bytes}
-use Rattle.codec_laws.specs.declared.representation.BytesRepresentation.{BytesRepresentation}
-use Rattle.codec_laws.specs.declared.representation.BytesRepresentation.TheVariants.{FixedSize, BoundedSize, UnboundedSize}
-use Rattle.codec_laws.specs.Representations.{IsWithin}
+use Rattle.parts_errors.specs.Words.{Bytes}
+use Rattle.codec_traits.specs.declared.representation.BytesRepresentation.{BytesRepresentation}
+use Rattle.codec_traits.specs.declared.representation.BytesRepresentation.TheVariants.{FixedSize, BoundedSize, UnboundedSize}
+use Rattle.codec_traits.specs.Representations.{IsWithin}
 use Rattle.codec_chains.specs.Codings.{IsInvertible, IsBounded}
 use Rattle.codec_chains.specs.Trailers.{with_trailer, before_trailer, without_trailer, longer_by, trailer_coding}
 
@@ -40,8 +39,8 @@ module _ (size : ℕ) (trailer : Bytes → Bytes) where
     -- the bytes stand before their trailer
     pub before-with_trailer : (bytes : Bytes) → before_trailer size (with_trailer trailer bytes) ≡ bytes
     before-with_trailer bytes =
-        let place : length (with_trailer trailer bytes) - size ≡ length bytes = omega (arith, length-with_trailer bytes) in
-        ap (λ n. take n (with_trailer trailer bytes)) place ∙ take-append_seam bytes (trailer bytes)
+        let position : length (with_trailer trailer bytes) - size ≡ length bytes = omega (arith, length-with_trailer bytes) in
+        ap (λ n. take n (with_trailer trailer bytes)) position ∙ take-append_seam bytes (trailer bytes)
 
     -- the bytes come back
     pub trailer_invertible : IsInvertible (trailer_coding size trailer)

@@ -1,8 +1,8 @@
 -- Codecs from bytes to bytes that put a trailer behind the bytes: as many bytes more, always, which the bytes give.
 use Rattle.std.specs.Prelude.{◌+◌, ◌-◌, ◌^◌, ◌++◌, ℕ, if◌then◌else◌, nat_lt, Option, Some, None, length, take, bytes_eq}
-use Rattle.zarr_parts.specs.Words.{Bytes}
-use Rattle.codec_laws.specs.declared.representation.BytesRepresentation.{BytesRepresentation}
-use Rattle.codec_laws.specs.declared.representation.BytesRepresentation.TheVariants.{FixedSize, BoundedSize, UnboundedSize}
+use Rattle.parts_errors.specs.Words.{Bytes}
+use Rattle.codec_traits.specs.declared.representation.BytesRepresentation.{BytesRepresentation}
+use Rattle.codec_traits.specs.declared.representation.BytesRepresentation.TheVariants.{FixedSize, BoundedSize, UnboundedSize}
 use Rattle.codec_chains.specs.Codings.{Coding}
 
 -- the bytes with their trailer behind them

@@ -1,31 +1,31 @@
-// A codec with a codec from bytes to bytes behind it.
+// A codec with a codec from bytes to bytes after it.
 ghost use Rattle.std.specs.Prelude.{◌≡◌, Some, IfOk, IfErr, map};
 ghost use Rattle.std.specs.Cow.{cow_slice_items};
-ghost use Rattle.zarr_parts.specs.Order.{RefusedBy};
-ghost use Rattle.zarr_parts.specs.Geo.{geo, IsArrayOf};
-ghost use Rattle.zarr_parts.specs.Types.{size_of};
-ghost use Rattle.codec_laws.specs.Refusals.{MayRefuseDecode};
+ghost use Rattle.parts_errors.specs.Order.{RefusedBy};
+ghost use Rattle.parts_arrays.specs.ArraySpec.{array_spec, IsArrayOf};
+ghost use Rattle.parts_arrays.specs.Types.{size_of};
+ghost use Rattle.codec_traits.specs.Refusals.{MayRefuseDecode};
 
 use crate::bytes_to_bytes::BytesToBytesCodecTraits;
-use codec_laws::{
+use codec_traits::{
     ArrayToBytesCodecTraits, BytesRepresentation, FunctionalCodec, RecommendedConcurrency,
 };
-use object_handles::{
-    ByteRange, BytesPartialDecoderTraits, Interval, SliceHandle, check_interval, read_range,
-};
+use parts_arrays::{ArrayBytes, DataType, FillValue};
+use parts_errors::{CodecError, CodecOptions};
+use parts_subsets::{ChunkShape, Indexer, check_selection};
 use std::alloc::Global;
 use std::borrow::CowSlice;
-use zarr_parts::{
-    ArrayBytes, ChunkShape, CodecError, CodecOptions, DataType, FillValue, Indexer, check_selection,
+use storage_handles::{
+    ByteRange, BytesPartialDecoderTraits, Interval, SliceHandle, check_interval, read_range,
 };
 
-/// A codec from arrays to bytes with a codec from bytes to bytes behind it, which encodes its bytes once more. It serves
+/// A codec from arrays to bytes with a codec from bytes to bytes after it, which encodes its bytes once more. It serves
 /// what `C` serves.
 #[derive(Debug, Drop)]
 pub struct BytesChain<C, B> {
     /// The codec from arrays to bytes, which is the first to encode.
     pub array_to_bytes: C,
-    /// The codec from bytes to bytes behind it.
+    /// The codec from bytes to bytes after it.
     pub bytes_to_bytes: B,
 }
 
@@ -51,15 +51,15 @@ fn decode_owned<C: ArrayToBytesCodecTraits>(
     fill_value: &FillValue,
     options: &CodecOptions,
 ) -> Result<ArrayBytes<'static>, CodecError>
-    requires { (C.meaning codec.now (geo shape.now data_type.now fill_value.now)).serves }
-    ensures array { let g = geo shape.now data_type.now fill_value.now in
+    requires { (C.meaning codec.now (array_spec shape.now data_type.now fill_value.now)).serves }
+    ensures array { let g = array_spec shape.now data_type.now fill_value.now in
         IfOk result (λ array. (array.kind ≡ size_of data_type.now) × IsArrayOf g array.elements) }
-    ensures cells { let m = C.meaning codec.now (geo shape.now data_type.now fill_value.now) in
+    ensures cells { let m = C.meaning codec.now (array_spec shape.now data_type.now fill_value.now) in
         IfOk result (λ array. m.cells bytes.items ≡ map Some array.elements) }
-    ensures lawful { let m = C.meaning codec.now (geo shape.now data_type.now fill_value.now) in
+    ensures lawful { let m = C.meaning codec.now (array_spec shape.now data_type.now fill_value.now) in
         IfErr result (MayRefuseDecode (m.cells bytes.items)) }
-    ensures refused { let m = C.meaning codec.now (geo shape.now data_type.now fill_value.now) in
-        IfErr result (RefusedBy (m.decode_tests bytes.items)) }
+    ensures refused { let m = C.meaning codec.now (array_spec shape.now data_type.now fill_value.now) in
+        IfErr result (RefusedBy (m.decode_refusals bytes.items)) }
 {
     let array = codec.decode(alloc, &bytes, shape, data_type, fill_value, options)?;
     let owned = array.into_owned(alloc)?;
@@ -76,15 +76,15 @@ fn decode_inner<'a, C: ArrayToBytesCodecTraits>(
     fill_value: &FillValue,
     options: &CodecOptions,
 ) -> Result<ArrayBytes<'a>, CodecError>
-    requires { (C.meaning codec.now (geo shape.now data_type.now fill_value.now)).serves }
-    ensures array { let g = geo shape.now data_type.now fill_value.now in
+    requires { (C.meaning codec.now (array_spec shape.now data_type.now fill_value.now)).serves }
+    ensures array { let g = array_spec shape.now data_type.now fill_value.now in
         IfOk result (λ array. (array.kind ≡ size_of data_type.now) × IsArrayOf g array.elements) }
-    ensures cells { let m = C.meaning codec.now (geo shape.now data_type.now fill_value.now) in
+    ensures cells { let m = C.meaning codec.now (array_spec shape.now data_type.now fill_value.now) in
         IfOk result (λ array. m.cells (cow_slice_items inner.entry) ≡ map Some array.elements) }
-    ensures lawful { let m = C.meaning codec.now (geo shape.now data_type.now fill_value.now) in
+    ensures lawful { let m = C.meaning codec.now (array_spec shape.now data_type.now fill_value.now) in
         IfErr result (MayRefuseDecode (m.cells (cow_slice_items inner.entry))) }
-    ensures refused { let m = C.meaning codec.now (geo shape.now data_type.now fill_value.now) in
-        IfErr result (RefusedBy (m.decode_tests (cow_slice_items inner.entry))) }
+    ensures refused { let m = C.meaning codec.now (array_spec shape.now data_type.now fill_value.now) in
+        IfErr result (RefusedBy (m.decode_refusals (cow_slice_items inner.entry))) }
 {
     match inner {
         CowSlice::Borrowed(bytes) => {
@@ -191,7 +191,7 @@ impl<C: ArrayToBytesCodecTraits, B: BytesToBytesCodecTraits> ArrayToBytesCodecTr
         Ok(self.bytes_to_bytes.encoded_representation(inner))
     }
 
-    /// Reads the whole interval, and by the first codec the asked cells of the bytes that the second decodes. Refused as
+    /// Reads the whole interval, and by the first codec the requested cells of the bytes that the second decodes. Refused as
     /// the trait says, then as `Damaged` where the second codec has no inverse of the bytes, then as the first refuses
     /// these bytes.
     fn partial_decode<H: BytesPartialDecoderTraits, N: Indexer>(

@@ -1,14 +1,14 @@
 // Codecs from bytes to bytes.
 ghost use Rattle.std.specs.Prelude.{◌≡◌, ◌<◌, ◌^◌, Some, IfOk, IfErr, IsSome, length};
 ghost use Rattle.std.specs.Cow.{cow_slice_items};
-ghost use Rattle.zarr_parts.specs.Order.{◌or◌then◌, done, RefusedBy};
-ghost use Rattle.zarr_parts.specs.CodecError.TheVariants.{TooLarge, Damaged};
+ghost use Rattle.parts_errors.specs.Order.{◌or◌then◌, done, RefusedBy};
+ghost use Rattle.parts_errors.specs.declared.error.CodecError.TheVariants.{TooLarge, Damaged};
 ghost use Rattle.codec_chains.specs.Codings.{Coding, IsInvertible, IsBounded};
 
-use codec_laws::BytesRepresentation;
+use codec_traits::BytesRepresentation;
+use parts_errors::CodecError;
 use std::alloc::Global;
 use std::borrow::CowSlice;
-use zarr_parts::CodecError;
 
 /// A codec from bytes to bytes (Zarr V3 core, "Codecs"): a function, and an inverse where there is one, which gives every
 /// input back.

@@ -1,10 +1,10 @@
 -- The metadata of the codec `bytes`: its configuration has the byte order of whole numbers, where there is one.
 use Rattle.std.specs.Prelude.{Bool, false, ◌||◌, Option, Some, None, Ok, if◌then◌else◌, codes, bytes_eq, is_some, option_and_then}
-use Rattle.zarr_words.specs.Words.{Bytes}
+use Rattle.parts_errors.specs.Words.{Bytes}
 use Rattle.serde_json.specs.Data.{Data, string, Members, no_members, member}
 use Rattle.serde_json.specs.Find.{get, as_str}
-use Rattle.small_codecs.specs.declared.bytes_codec.Endianness.{Endianness}
-use Rattle.small_codecs.specs.declared.bytes_codec.Endianness.TheVariants.{Little, Big}
+use Rattle.codec_bytes.specs.declared.bytes_codec.Endianness.{Endianness}
+use Rattle.codec_bytes.specs.declared.bytes_codec.Endianness.TheVariants.{Little, Big}
 use Rattle.codec_metadata.specs.CreateErrors.{Reading}
 use Rattle.codec_metadata.specs.Metadata.{members_in, first_refused, unless_refused}
 

@@ -1,8 +1,8 @@
 -- What the codec `bytes` writes is read as the codec.
 use Rattle.std.specs.Prelude.{◌≡◌, Option, Some, None, Ok, option_map, refl}
 use Rattle.serde_json.specs.Data.{object}
-use Rattle.small_codecs.specs.declared.bytes_codec.Endianness.{Endianness}
-use Rattle.small_codecs.specs.declared.bytes_codec.Endianness.TheVariants.{Little, Big}
+use Rattle.codec_bytes.specs.declared.bytes_codec.Endianness.{Endianness}
+use Rattle.codec_bytes.specs.declared.bytes_codec.Endianness.TheVariants.{Little, Big}
 use Rattle.codec_metadata.specs.BytesMetadata.{bytes_configured, bytes_written}
 
 pub bytes_remembers : (codec : Option Endianness) → bytes_configured (option_map object (bytes_written codec)) ≡ Ok codec

@@ -1,9 +1,8 @@
 -- Why metadata is refused: the number and name of each refusal, and the text that it carries.
 use Rattle.std.specs.Prelude.{◌≡◌, ◌⊎◌, ℕ, Option, Some, None, Result, Ok, Err, codes, string_bytes}
-use Rattle.zarr_words.specs.Words.{Bytes}
+use Rattle.parts_errors.specs.Words.{Bytes}
 use Rattle.codec_metadata.specs.declared.error.PluginCreateError.{PluginCreateError}
-use Rattle.codec_metadata.specs.declared.error.PluginCreateError.TheVariants.{OutOfMemory, UnsupportedCodec, MissingField, BadField}
-use Rattle.codec_metadata.specs.declared.error.PluginCreateError.TheVariants.{UnsupportedChain}
+use Rattle.codec_metadata.specs.declared.error.PluginCreateError.TheVariants.{OutOfMemory, UnsupportedCodec, MissingField, BadField, UnsupportedChain}
 
 -- the number of a refusal: its place among them, from 1 on
 abbrev pub refusal_number : PluginCreateError → ℕ

@@ -1,6 +1,6 @@
 -- The metadata of a codec: a string, its name, or an object with `name`, `configuration` and `must_understand`.
 use Rattle.std.specs.Prelude.{Bool, false, Option, Some, None, Err, if◌then◌else◌, codes, bytes_eq, is_some, option_and_then, unwrap_or}
-use Rattle.zarr_words.specs.Words.{Bytes}
+use Rattle.parts_errors.specs.Words.{Bytes}
 use Rattle.serde_json.specs.Data.{Data, string, object, Members, no_members, member}
 use Rattle.serde_json.specs.Find.{get, as_str, as_bool, as_object}
 use Rattle.codec_metadata.specs.CreateErrors.{Reading, or_refused, unsupported_codec, bad_field}

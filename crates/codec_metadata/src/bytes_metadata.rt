@@ -3,11 +3,11 @@ ghost use Rattle.std.specs.Prelude.{◌≡◌, option_map};
 ghost use Rattle.serde_json.specs.View.{view};
 ghost use Rattle.codec_metadata.specs.BytesMetadata.{byte_order_in, order_word};
 
-use crate::codec_traits::CodecTraitsV3;
 use crate::error::PluginCreateError;
 use crate::members::{MemberTest, test_members};
+use crate::named_codec::CodecTraitsV3;
+use codec_bytes::{BytesCodec, Endianness};
 use serde_json::{Map, Value, put};
-use small_codecs::{BytesCodec, Endianness};
 use std::alloc::{AllocError, Global};
 
 // The byte order of a value.

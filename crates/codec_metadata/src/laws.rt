@@ -4,8 +4,8 @@ ghost use Rattle.serde_json.specs.View.{view};
 ghost use Rattle.codec_metadata.specs.Metadata.{metadata_of};
 ghost use Rattle.codec_metadata.specs.declared.error.PluginCreateError.TheVariants.{OutOfMemory};
 
-use crate::codec_traits::CodecTraitsV3;
 use crate::error::PluginCreateError;
+use crate::named_codec::CodecTraitsV3;
 use serde_json::Value;
 use std::alloc::Global;
 

@@ -2,12 +2,12 @@
 #![tactic(auto)]
 
 mod bytes_metadata;
-mod codec_traits;
 mod error;
 mod laws;
 mod members;
+mod named_codec;
 
-pub use codec_traits::{CodecTraitsV3, metadata_name};
 pub use error::PluginCreateError;
 pub use laws::create_after_metadata;
 pub use members::{MemberTest, test_members};
+pub use named_codec::{CodecTraitsV3, metadata_name};

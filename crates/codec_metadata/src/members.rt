@@ -1,6 +1,6 @@
 // The members of a JSON object, tested one by one.
 ghost use Rattle.std.specs.Prelude.{◌≡◌, ◌⊎◌, Bool, None, Some, IfErr, OnOk, option_map};
-ghost use Rattle.zarr_words.specs.Words.{Bytes};
+ghost use Rattle.parts_errors.specs.Words.{Bytes};
 ghost use Rattle.serde_json.specs.Data.{Data};
 ghost use Rattle.serde_json.specs.View.{view, members_view};
 ghost use Rattle.codec_metadata.specs.Metadata.{first_refused, members_in};

@@ -2,9 +2,9 @@
 // standard error it says why a line is no command's.
 #![tactic(auto)]
 
-use shard_script::run_script_explained;
 use std::io;
 use std::process::ExitCode;
+use tool_script::run_script_explained;
 
 fn main(rt: HostRuntime) -> ExitCode {
     let status = run_script_explained(rt.alloc(), rt.stdin(), io::writer(&rt), rt.stderr());

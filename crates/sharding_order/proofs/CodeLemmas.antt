@@ -9,8 +9,8 @@ use Rattle.std.proofs.lemmas.Nat.{pow_pos, pow-add, mod_below, mul-add-lt, shr_h
 use Rattle.std.proofs.lemmas.List.{length-map, length-set, get_or-map, map-set, length-append}
 use Rattle.std.proofs.Math.Seq.{map-set_same}
 use Rattle.std.proofs.lemmas.Bool.{cases_lt}
-use Rattle.shard_format.specs.WriteOrder.{interleaved_bits, is_before}
-use Rattle.sharding_order.specs.Reached.{binary, morton_code, IsReached}
+use Rattle.sharding_format.specs.WriteOrder.{interleaved_bits, is_before}
+use Rattle.sharding_order.specs.steps.Reached.{binary, morton_code, IsReached}
 
 -- ---- bits as a number
 abbrev AreBits : List ℕ → Type 0
@@ -212,6 +212,6 @@ code_below point a b e h long reached =
     let few : binary (interleaved_bits 64 point) ≡ binary (plane ++ rest) = few_bits 64 (suc b) point (omega arith) (λ y. subst (λ m. get_or point y 0 < 2 ^ m) next (reached.every y)) in
     let front : binary plane < 2 ^ e = zeros_in_front plane a e (long ∙ sym (length-map point (λ x. bit_at x b))) (plane_bits b point)
     (λ y lt. get_bits b point y ∙ no_bit (get_or point y 0) b (reached.front y lt)) in
-    let place = mul-add-lt (binary plane) (2 ^ length rest) (binary rest) (2 ^ e) front (binary_below rest (interleaved b point)) in
+    let position = mul-add-lt (binary plane) (2 ^ length rest) (binary rest) (2 ^ e) front (binary_below rest (interleaved b point)) in
     let width : 2 ^ length rest * 2 ^ e ≡ 2 ^ e * 2 ^ (b * length point) = ap (λ m. 2 ^ m * 2 ^ e) (length-interleaved b point) ∙ times_turned (2 ^ (b * length point)) (2 ^ e) in
-    omega (arith, few, binary_append plane rest, place, width)
+    omega (arith, few, binary_append plane rest, position, width)

@@ -4,9 +4,9 @@ use Rattle.std.specs.List.{AllByRecursion, Contains, filter, range_with_len}
 use Rattle.std.proofs.lemmas.Bool.{false≢true}
 use Rattle.std.proofs.lemmas.List.FromFn.{length-range_with_len, get_or-range_with_len}
 use Rattle.std.proofs.lemmas.List.Sorted.{Contains-permutation}
-use Rattle.shard_format.specs.WriteOrder.{put_in, sorted_by}
-use Rattle.shard_format.specs.WriteOrderLaws.{sorted_by_permutes}
-use Rattle.sharding_order.specs.Reached.{Ascends}
+use Rattle.sharding_format.specs.WriteOrder.{put_in, sorted_by}
+use Rattle.sharding_format.specs.WriteOrderLaws.{sorted_by_permutes}
+use Rattle.sharding_order.specs.steps.Reached.{Ascends}
 
 -- ---- each member
 pub all_weaker : (P Q : ℕ → Type 0) (xs : List ℕ) → ((x : ℕ) → P x → Q x) → AllByRecursion P xs → AllByRecursion Q xs
@@ -133,7 +133,7 @@ same_members f (x ∷ xs) (y ∷ ys) hx hy there back =
 
 -- ---- sorting
 module _ (f : ℕ → ℕ) (n : ℕ) (before : ℕ → ℕ → Bool)
-    (tells : (j k : ℕ) → j < n → k < n → ((before j k ≡ true) × (f j < f k)) ⊎ ((before j k ≡ false) × (f k ≤ f j)))
+    (transparent : (j k : ℕ) → j < n → k < n → ((before j k ≡ true) × (f j < f k)) ⊎ ((before j k ≡ false) × (f k ≤ f j)))
     (one : (j k : ℕ) → j < n → k < n → f j ≡ f k → j ≡ k) where
   all_put_in : (P : ℕ → Type 0) (k : ℕ) (js : List ℕ) → P k → AllByRecursion P js → AllByRecursion P (put_in before k js)
   all_put_in P k [] h each = (h, tt)
@@ -146,7 +146,7 @@ module _ (f : ℕ → ℕ) (n : ℕ) (before : ℕ → ℕ → Bool)
   put_in_ascends : (k : ℕ) (js : List ℕ) → k < n → AllByRecursion (λ j. (j < n) × (¬ (k ≡ j))) js → Ascends f js → Ascends f (put_in before k js)
   put_in_ascends k [] below others h = (tt, tt)
   put_in_ascends k (j ∷ js) below others h =
-      elim (tells k j below others.0.0) [
+      elim (transparent k j below others.0.0) [
         | inl less ↦ rw less.0 ((less.1, all_weaker (λ y. f j < f y) (λ y. f k < f y) js (λ y up. omega (arith, up, less.1)) h.0), h)
         | inr more ↦
             let other : ¬ (f k ≡ f j) = λ same. others.0.1 (one k j below others.0.0 same) in

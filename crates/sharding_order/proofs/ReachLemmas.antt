@@ -9,12 +9,12 @@ use Rattle.std.proofs.lemmas.List.FromFn.{length-range_with_len, get_or-range_wi
 use Rattle.std.proofs.lemmas.Bool.{cases_lt, lt-ltb, ltb-true}
 use Rattle.std.proofs.lemmas.List.{get_or-drop, length-drop, get_or-set_same, get_or-set_other, get_or_past}
 use Rattle.std.proofs.lemmas.List.Elements.{All-from_recursion}
-use Rattle.row_major.specs.Numbering.{count_of, number_of, point_of, IsInside}
-use Rattle.row_major.proofs.NumberingLaws.{count_positive, count_of-drop, count_of_drop_le, length-point_of, number_below, point_inside, point_of-number_of, number_of-point_of, below_axis}
-use Rattle.row_major.proofs.PointLaws.{point_of_at}
-use Rattle.shard_format.specs.WriteOrder.{interleaved_bits, is_before, numbers_in_order}
-use Rattle.shard_format.specs.declared.order.SubchunkWriteOrder.TheVariants.{Morton}
-use Rattle.sharding_order.specs.Reached.{binary, moved, morton_code, IsReached, AreReached, Ascends}
+use Rattle.parts_row_major.specs.Numbering.{count_of, number_of, point_of, IsInside}
+use Rattle.parts_row_major.proofs.NumberingLaws.{count_positive, count_of-drop, count_of_drop_le, length-point_of, number_below, point_inside, point_of-number_of, number_of-point_of, below_axis}
+use Rattle.parts_row_major.proofs.PointLaws.{point_of_at}
+use Rattle.sharding_format.specs.WriteOrder.{interleaved_bits, is_before, numbers_in_order}
+use Rattle.sharding_format.specs.declared.order.SubchunkWriteOrder.TheVariants.{Morton}
+use Rattle.sharding_order.specs.steps.Reached.{binary, moved, morton_code, IsReached, AreReached, Ascends}
 use Rattle.sharding_order.proofs.CodeLemmas.{length-interleaved, before_tells, code_further, code_below}
 use Rattle.sharding_order.proofs.ListLemmas.{Has, has_at, has_contained, contains_had, had_append_left, had_append_right, had_map, had_filter, all_weaker, all_append, all_map, all_filter, ascends_append, ascends_filter, ascends_map, sorted_is, one_code}
 

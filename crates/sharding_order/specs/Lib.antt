@@ -1,2 +1,1 @@
-pub mod Reached
-pub mod Sequences
+pub mod steps

@@ -2,10 +2,10 @@
 // bit from the last axis to the first, by what lies one such bit further along the axis.
 ghost use Rattle.std.specs.Prelude.{◌≡◌, ◌<◌, ◌≤◌, ◌+◌, ◌*◌, ◌/◌, ◌%◌, ◌^◌, ◌++◌, ℕ, OnOk, IfOk, length, slice_index};
 ghost use Rattle.std.specs.List.{All};
-ghost use Rattle.row_major.specs.Numbering.{count_of, AllPositive};
-ghost use Rattle.shard_format.specs.WriteOrder.{numbers_in_order};
-ghost use Rattle.shard_format.specs.declared.order.SubchunkWriteOrder.TheVariants.{Morton};
-ghost use Rattle.sharding_order.specs.Reached.{moved, AreReached};
+ghost use Rattle.parts_row_major.specs.Numbering.{count_of, AllPositive};
+ghost use Rattle.sharding_format.specs.WriteOrder.{numbers_in_order};
+ghost use Rattle.sharding_format.specs.declared.order.SubchunkWriteOrder.TheVariants.{Morton};
+ghost use Rattle.sharding_order.specs.steps.Reached.{moved, AreReached};
 
 use std::alloc::{AllocError, Global};
 

@@ -1,15 +1,15 @@
 // The subchunks of a shard in the order in which they are written.
 ghost use Rattle.std.specs.Prelude.{◌≡◌, ◌<◌, IfOk, IsTrue, length, slice_index};
 ghost use Rattle.std.specs.List.{range_with_len};
-ghost use Rattle.row_major.specs.Numbering.{count_of, AllPositive};
-ghost use Rattle.shard_format.specs.declared.order.SubchunkWriteOrder.TheVariants.{Morton};
-ghost use Rattle.shard_format.specs.WriteOrder.{numbers_in_order};
+ghost use Rattle.parts_row_major.specs.Numbering.{count_of, AllPositive};
+ghost use Rattle.sharding_format.specs.declared.order.SubchunkWriteOrder.TheVariants.{Morton};
+ghost use Rattle.sharding_format.specs.WriteOrder.{numbers_in_order};
 
 use crate::morton::morton_numbers;
-use shard_format::SubchunkWriteOrder;
+use parts_subsets::ChunkShape;
+use sharding_format::SubchunkWriteOrder;
 use std::alloc::{AllocError, Global};
 use std::marker::Model;
-use zarr_boxes::ChunkShape;
 
 /// The row-major numbers of the subchunks of a grid, each once, in the order in which a shard has their encodings. The ascending
 /// order takes no memory.
@@ -23,7 +23,7 @@ pub struct SubchunkSequence {
 impl Model for SubchunkSequence {
     ghost use Rattle.std.specs.Prelude.{ℕ, List, IsPermutation};
     ghost use Rattle.std.specs.List.{range_with_len};
-    ghost use Rattle.sharding_order.specs.Sequences.{numbers_of};
+    ghost use Rattle.sharding_order.specs.steps.Sequences.{numbers_of};
 
     ghost Value = { List ℕ };
 
@@ -94,13 +94,13 @@ impl SubchunkSequence {
     }
 
     /// The number of the subchunk at a place of the order.
-    pub fn number_at(&self, place: u64) -> u64
-        requires { place < length self.now }
-        ensures { result ≡ slice_index self.now place }
+    pub fn number_at(&self, position: u64) -> u64
+        requires { position < length self.now }
+        ensures { result ≡ slice_index self.now position }
     {
         if self.is_ascending {
-            return place;
+            return position;
         }
-        self.listed[place as usize]
+        self.listed[position as usize]
     }
 }

@@ -1,51 +1,77 @@
-// A codec that takes each byte of an array from 255.
-ghost use Rattle.std.specs.Prelude.{◌≡◌, IfOk, IfErr, map};
-ghost use Rattle.zarr_parts.specs.CodecError.TheVariants.{OutOfMemory};
-ghost use Rattle.test_codecs.specs.Inverted.{inverted_byte, inverted_elements};
+// A codec from arrays to arrays before the codec `bytes`: one that takes each byte from 255.
+use crate::compared::{same, same_at};
+use crate::pairs::{decoded_pair, encoded_pair, has, reads_second, said};
+use std::alloc::Global;
+use test_helpers::InvertedCodec;
+use zarr_codecs::{ArrayChain, BytesCodec, FunctionalCodec, Interval};
+use zarr_parts::{ArrayBytes, CodecError};
 
-use array_chains::ArrayToArrayCodecTraits;
-use std::alloc::{AllocError, Global};
-use zarr_parts::{ArrayBuilder, ArrayBytes, CodecError};
-
-/// A codec that takes each byte from 255, which turns each of its bits over.
-#[derive(Debug, Clone, Copy, PartialEq, Eq)]
-pub struct InvertedCodec;
-
-// The bytes of an element, each taken from 255.
-fn turned(alloc: Global, element: &[u8]) -> Result<Vec<u8>, AllocError>
-    ensures { IfOk result (λ turned. turned.items ≡ map inverted_byte element.now) }
-{
-    element.iter().map(|byte| *byte ^ 255).collect(alloc)
+fn inverted() -> ArrayChain<InvertedCodec, BytesCodec> {
+    ArrayChain::new(InvertedCodec, BytesCodec::little())
 }
 
-// The elements of an array, each byte taken from 255.
-#[tactic(auto, unfolding(crate::specs::Inverted::inverted_elements))]
-fn inverted_array(alloc: Global, array: &ArrayBytes) -> Result<ArrayBytes<'static>, AllocError>
-    ensures { IfOk result (λ inverted. inverted ≡ record { kind = array.now.kind; elements = inverted_elements array.now.elements }) }
-{
-    let mut builder = ArrayBuilder::new(alloc, array.kind())?;
-    for i in 0..array.len() {
-        let element = turned(alloc, array.element(i))?;
-        builder.push(&element)?;
+// The first codec encodes first, and the second is not given what is no array of the shape.
+#[test]
+fn an_array_is_encoded_before_it_is_stored(rt: HostRuntime) {
+    let few = Err(CodecError::InvalidNumberOfElements);
+    for (elements, want) in [([1, 2].as_slice(), Ok([254, 253].as_slice())), (&[1], few)] {
+        let text = encoded_pair(rt.alloc(), &inverted(), elements);
+        same(&rt, said(&text), want);
     }
-    Ok(builder.finish())
 }
 
-impl ArrayToArrayCodecTraits for InvertedCodec {
-    ghost use Rattle.test_codecs.specs.Inverted.{inverted_coding};
-    ghost use Rattle.test_codecs.specs.InvertedLaws.{inverted_invertible, inverted_keeps};
+// Whether an array that owns its bytes is equal to a copy.
+fn is_owned_as(alloc: Global, array: ArrayBytes, copy: &ArrayBytes) -> Result<bool, CodecError> {
+    Ok(array.into_owned(alloc)? == *copy)
+}
 
-    ghost coding = { λ _. inverted_coding };
+// Whether an array is the same once it owns its bytes.
+fn is_owned(alloc: Global, array: ArrayBytes) -> Result<bool, CodecError> {
+    let copy = array.try_clone(alloc)?;
+    is_owned_as(alloc, array, &copy)
+}
 
-    ghost invertible = { λ _. inverted_invertible };
+// Whether bytes are decoded as the elements 1 and 2, borrowed or owned; or the refusal.
+fn is_one_two(alloc: Global, bytes: &[u8]) -> Result<bool, CodecError> {
+    let array = decoded_pair(alloc, &inverted(), bytes)?;
+    let same = has(&array, &[1, 2])?;
+    Ok(is_owned(alloc, array)? && same)
+}
 
-    ghost keeps_lengths = { λ _. inverted_keeps };
-
-    fn encode(&self, alloc: Global, array: &ArrayBytes) -> Result<ArrayBytes<'static>, CodecError> {
-        Ok(inverted_array(alloc, array)?)
+#[test]
+fn an_array_is_decoded_after_its_bytes(rt: HostRuntime) {
+    let damaged = Err(CodecError::Damaged);
+    for (bytes, want) in [
+        ([254, 253].as_slice(), Ok(true)),
+        (&[254, 254], Ok(false)),
+        (&[254], damaged),
+        (&[], damaged),
+    ] {
+        same_at(&rt, bytes, is_one_two(rt.alloc(), bytes), want);
     }
+}
 
-    fn decode(&self, alloc: Global, array: &ArrayBytes) -> Result<ArrayBytes<'static>, CodecError> {
-        Ok(inverted_array(alloc, array)?)
+// Whether the second cell, read of an interval of 7, 254, 253, 7, is 2; or the refusal.
+fn reads_two(alloc: Global, offset: u64, size: u64) -> Result<bool, CodecError> {
+    let interval = Interval { offset, size };
+    reads_second(alloc, &inverted(), &[7, 254, 253, 7], interval, 2)
+}
+
+// The bytes of an interval are decoded whole.
+#[test]
+fn an_array_is_read_whole(rt: HostRuntime) {
+    assert!(rt; inverted().is_functional());
+    for (offset, size, want) in [
+        (1, 2, Ok(true)),
+        (2, 2, Ok(false)),
+        (1, 3, Err(CodecError::Damaged)),
+        (3, 2, Err(CodecError::OutOfBounds)),
+    ] {
+        same_at(
+            &rt,
+            (offset, size),
+            reads_two(rt.alloc(), offset, size),
+            want,
+        );
     }
 }

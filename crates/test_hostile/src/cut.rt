@@ -1,10 +1,10 @@
 // A shard that was cut after each of its bytes.
 use crate::compared::same_at;
 use crate::shards::{Answer, Shards, plain, shape_of, subset_of};
-use hostile_objects::{ABSENT, Stored};
 use std::alloc::Global;
 use std::test::Fail;
 use std::thread::Threads;
+use test_helpers::{ABSENT, Stored};
 use zarr_codecs::BytesCodec;
 use zarr_parts::{CodecError, CodecOptions, FixedTarget};
 use zarrs_sharding::ShardingIndexLocation::End;

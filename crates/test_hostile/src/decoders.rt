@@ -1,10 +1,10 @@
 // Objects that are read in part.
 use crate::compared::same_at;
 use crate::shards::{Answer, Case, case_of, listed, over, said, subset_of};
-use hostile_objects::{HOSTILE_OBJECTS, HostileObject};
 use std::alloc::Global;
 use std::ops::Range;
 use std::test::Fail;
+use test_helpers::{HOSTILE_OBJECTS, HostileObject};
 use zarr_codecs::ByteRange;
 use zarr_parts::{CodecError, CodecOptions, FixedTarget};
 
@@ -12,8 +12,8 @@ use zarr_parts::{CodecError, CodecOptions, FixedTarget};
 const HALVES: [Range<u64>; 2] = [0..2, 2..4];
 
 fn read(alloc: Global, case: &Case, range: &Range<u64>) -> Answer {
-    let asked = subset_of(alloc, range)?;
-    case.shards.read(alloc, &case.object, &asked)
+    let requested = subset_of(alloc, range)?;
+    case.shards.read(alloc, &case.object, &requested)
 }
 
 #[test]
@@ -29,8 +29,8 @@ fn subsets_are_read(rt: HostRuntime) -> Result<(), Fail> {
 }
 
 fn read_listed(alloc: Global, case: &Case) -> Answer {
-    let asked = listed(alloc)?;
-    case.shards.read(alloc, &case.object, &asked)
+    let requested = listed(alloc)?;
+    case.shards.read(alloc, &case.object, &requested)
 }
 
 #[test]
@@ -49,9 +49,9 @@ fn read_to(
     range: &Range<u64>,
     target: &mut FixedTarget,
 ) -> Result<(), CodecError> {
-    let asked = subset_of(alloc, range)?;
+    let requested = subset_of(alloc, range)?;
     let mut decoder = case.shards.decoder(alloc, &case.object)?;
-    decoder.partial_decode_into(alloc, &asked, target, &CodecOptions::default())
+    decoder.partial_decode_into(alloc, &requested, target, &CodecOptions::default())
 }
 
 // Reads two elements into these bytes.

@@ -1,5 +1,5 @@
 // Objects that nobody wrote as a shard, by each call that meets them, and few calls on others. The objects stand in
-// hostile_objects.
+// test_helpers.
 #![tactic(auto)]
 
 #[cfg(test)]

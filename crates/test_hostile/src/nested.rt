@@ -3,11 +3,11 @@ use crate::compared::same_at;
 use crate::shards::{
     Answer, Plain, Shards, around, elements_of, location_of, said, shards_of, subset_of,
 };
-use hostile_objects::{ABSENT, HOSTILE_OBJECTS, HostileObject, Wanted, object_of};
 use std::alloc::Global;
 use std::process::Abort;
 use std::test::Fail;
 use std::thread::Threads;
+use test_helpers::{ABSENT, HOSTILE_OBJECTS, HostileObject, Wanted, object_of};
 use zarr_codecs::{ArrayToBytesCodecTraits, BytesCodec};
 use zarr_parts::{CodecError, CodecOptions};
 use zarrs_sharding::ShardingCodec;
@@ -84,8 +84,8 @@ fn read<I: ArrayToBytesCodecTraits + Drop>(
     object: &[u8],
     element: u64,
 ) -> Answer {
-    let asked = subset_of(alloc, &(element..element.saturating_add(1)))?;
-    shards.read(alloc, object, &asked)
+    let requested = subset_of(alloc, &(element..element.saturating_add(1)))?;
+    shards.read(alloc, object, &requested)
 }
 
 // The same in a session.
@@ -95,10 +95,10 @@ fn read_in_session<I: ArrayToBytesCodecTraits + Drop>(
     object: &[u8],
     element: u64,
 ) -> Answer {
-    let asked = subset_of(alloc, &(element..element.saturating_add(1)))?;
+    let requested = subset_of(alloc, &(element..element.saturating_add(1)))?;
     match shards.open(alloc, object.to_vec(alloc)?) {
         Ok(mut session) => {
-            let array = session.partial_decode(alloc, &asked, &CodecOptions::default());
+            let array = session.partial_decode(alloc, &requested, &CodecOptions::default());
             elements_of(alloc, array)
         }
         Err((_, error)) => Err(error),

@@ -1,14 +1,15 @@
 // Arrays that are encoded anew by another codec.
 use crate::compared::{same, same_at};
 use crate::shards::{Answer, Case, Plain, Shards, around, case_of, elements_of, said};
-use hostile_objects::{HOSTILE_OBJECTS, HostileObject, object_of};
-use session_reshard::{decode_after_reshard, reshard, reshard_functional};
 use std::alloc::Global;
 use std::test::Fail;
+use test_helpers::{HOSTILE_OBJECTS, HostileObject, object_of};
 use zarr_codecs::BytesCodec;
 use zarr_parts::{ChunkShape, CodecError, DataType, FillValue};
 use zarrs_sharding::ShardingIndexLocation::{End, Start};
-use zarrs_sharding::{ShardingCodec, SubchunkWriteOrder};
+use zarrs_sharding::{
+    ShardingCodec, SubchunkWriteOrder, decode_after_reshard, reshard, reshard_functional,
+};
 
 fn resharded(alloc: Global, from: &Shards<BytesCodec>, to: &Plain, object: &[u8]) -> Answer {
     reshard(

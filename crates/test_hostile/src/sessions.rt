@@ -3,11 +3,11 @@ use crate::compared::{same, same_at};
 use crate::shards::{
     Answer, Case, Session, Shards, case_of, elements_of, listed, plain, said, subset_of,
 };
-use hostile_objects::{ABSENT, HOSTILE_OBJECTS, HostileObject, Stored, Wanted};
 use std::alloc::Global;
 use std::ops::Range;
 use std::sync::Wait;
 use std::test::Fail;
+use test_helpers::{ABSENT, HOSTILE_OBJECTS, HostileObject, Stored, Wanted};
 use zarr_codecs::{BytesCodec, MemoryHandle};
 use zarr_parts::{ArrayBytes, CodecError, CodecOptions, DataType, Indexer};
 use zarrs_sharding::{ShardingIndexLocation, ShardingPartialEncoder};
@@ -68,25 +68,25 @@ fn they_are_shared_or_given_back(rt: HostRuntime) -> Result<(), Fail> {
     Ok(())
 }
 
-fn read<N: Indexer>(alloc: Global, case: Case, asked: &N) -> Answer {
+fn read<N: Indexer>(alloc: Global, case: Case, requested: &N) -> Answer {
     let Case { object, shards } = case;
     match shards.open(alloc, object) {
         Ok(mut session) => elements_of(
             alloc,
-            session.partial_decode(alloc, asked, &CodecOptions::default()),
+            session.partial_decode(alloc, requested, &CodecOptions::default()),
         ),
         Err((_, error)) => Err(error),
     }
 }
 
 fn read_range(alloc: Global, hostile: &HostileObject, range: &Range<u64>) -> Answer {
-    let asked = subset_of(alloc, range)?;
-    read(alloc, case_of(alloc, hostile)?, &asked)
+    let requested = subset_of(alloc, range)?;
+    read(alloc, case_of(alloc, hostile)?, &requested)
 }
 
 fn read_listed(alloc: Global, hostile: &HostileObject) -> Answer {
-    let asked = listed(alloc)?;
-    read(alloc, case_of(alloc, hostile)?, &asked)
+    let requested = listed(alloc)?;
+    read(alloc, case_of(alloc, hostile)?, &requested)
 }
 
 // What a session reads that a decoder reads so.
@@ -126,12 +126,12 @@ fn read_shared<R: Wait>(
     hostile: &HostileObject,
     range: &Range<u64>,
 ) -> Answer {
-    let asked = subset_of(alloc, range)?;
+    let requested = subset_of(alloc, range)?;
     let Case { object, shards } = case_of(alloc, hostile)?;
     match share(&shards, alloc, object) {
         Ok(encoder) => elements_of(
             alloc,
-            encoder.partial_decode(rt, alloc, &asked, &CodecOptions::default()),
+            encoder.partial_decode(rt, alloc, &requested, &CodecOptions::default()),
         ),
         Err((_, error)) => Err(error),
     }

@@ -1,8 +1,8 @@
 // Shards of elements of one byte with the fill value 0, and the calls that meet their objects.
-use hostile_objects::{HostileObject, Wanted};
 use std::alloc::Global;
 use std::ops::Range;
 use std::thread::Threads;
+use test_helpers::{HostileObject, Wanted};
 use zarr_codecs::{ArrayToBytesCodecTraits, BytesCodec, MemoryHandle, SliceHandle};
 use zarr_parts::{
     ArrayBytes, ArraySubset, ChunkShape, CodecError, CodecOptions, Coordinates, DataType,
@@ -205,9 +205,9 @@ impl<I: ArrayToBytesCodecTraits + Drop> Shards<I> {
     }
 
     // The elements that a decoder of an object reads.
-    pub(crate) fn read<N: Indexer>(&self, alloc: Global, object: &[u8], asked: &N) -> Answer {
+    pub(crate) fn read<N: Indexer>(&self, alloc: Global, object: &[u8], requested: &N) -> Answer {
         let mut decoder = self.decoder(alloc, object)?;
-        let array = decoder.partial_decode(alloc, asked, &CodecOptions::default());
+        let array = decoder.partial_decode(alloc, requested, &CodecOptions::default());
         elements_of(alloc, array)
     }
 }

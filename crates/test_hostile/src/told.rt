@@ -1,10 +1,9 @@
 // Sixteen elements read where they lie, and shards with a mark behind a slice or behind the index.
 use crate::compared::same;
 use crate::shards::{Answer, elements_of, shape_of};
-use hostile_objects::{ABSENT, object_of};
 use std::alloc::Global;
 use std::test::Fail;
-use test_codecs::MarkedCodec;
+use test_helpers::{ABSENT, MarkedCodec, object_of};
 use zarr_codecs::{ArrayToBytesCodecTraits, BytesChain, BytesCodec, SliceHandle};
 use zarr_parts::{
     ArrayBytes, ArraySubset, ChunkShape, CodecError, CodecOptions, DataType, FillValue,
@@ -24,19 +23,19 @@ fn axes_of(alloc: Global, axes: &[u64]) -> Result<ChunkShape, CodecError> {
 }
 
 // How many bytes a decoder of such a shard holds, and the elements of two rows in the first column.
-fn held_and_read(alloc: Global, object: &[u8]) -> Result<(usize, Vec<u8>), CodecError> {
+fn cached_and_read(alloc: Global, object: &[u8]) -> Result<(usize, Vec<u8>), CodecError> {
     let little = BytesCodec::little();
     let codec = ShardingCodec::new(axes_of(alloc, &[2, 2])?, little, little, Start);
     let shape = axes_of(alloc, &[4, 4])?;
     let fill = FillValue::from_number(alloc, 0u8)?;
-    let asked = ArraySubset::from_ranges(alloc, &[1..3, 0..1])?;
+    let requested = ArraySubset::from_ranges(alloc, &[1..3, 0..1])?;
     let options = CodecOptions::default();
     let handle = SliceHandle::new(object);
     match codec.partial_decoder(alloc, handle, &shape, &DataType::UInt8, &fill, &options) {
         Ok(mut decoder) => {
-            let held = decoder.size_held();
-            let array = decoder.partial_decode(alloc, &asked, &options);
-            Ok((held, elements_of(alloc, array)?))
+            let cached = decoder.size_held();
+            let array = decoder.partial_decode(alloc, &requested, &options);
+            Ok((cached, elements_of(alloc, array)?))
         }
         Err((_, error)) => Err(error),
     }
@@ -44,10 +43,10 @@ fn held_and_read(alloc: Global, object: &[u8]) -> Result<(usize, Vec<u8>), Codec
 
 // A decoder holds eight bytes for each number of its index besides those that its handle holds.
 #[test]
-fn lent_bytes_are_held_and_read(rt: HostRuntime) -> Result<(), Fail> {
+fn borrowed_bytes_are_cached_and_read(rt: HostRuntime) -> Result<(), Fail> {
     let object = in_squares(rt.alloc())?;
-    let (held, elements) = held_and_read(rt.alloc(), &object)?;
-    same(&rt, (object.len(), held), (80, 80 + 64));
+    let (cached, elements) = cached_and_read(rt.alloc(), &object)?;
+    same(&rt, (object.len(), cached), (80, 80 + 64));
     same(&rt, elements.as_slice(), [4u8, 8].as_slice());
     Ok(())
 }
@@ -69,7 +68,7 @@ fn encoded(alloc: Global) -> Answer {
 }
 
 #[test]
-fn a_slice_has_its_mark_behind_it(rt: HostRuntime) -> Result<(), Fail> {
+fn a_slice_has_its_mark_after_it(rt: HostRuntime) -> Result<(), Fail> {
     let shard = encoded(rt.alloc())?;
     let want = object_of(rt.alloc(), false, &[1, 2, 42], &[0, 3, ABSENT, ABSENT])?;
     same(&rt, (shard.len(), shard), (35, want));
@@ -90,7 +89,7 @@ fn index_before(alloc: Global, last: u8) -> Result<Vec<u64>, CodecError> {
 }
 
 #[test]
-fn an_index_has_its_mark_behind_it(rt: HostRuntime) -> Result<(), Fail> {
+fn an_index_has_its_mark_after_it(rt: HostRuntime) -> Result<(), Fail> {
     let index = index_before(rt.alloc(), 42)?;
     same(&rt, index.as_slice(), [0, 3, ABSENT, ABSENT].as_slice());
     let other = index_before(rt.alloc(), 41);

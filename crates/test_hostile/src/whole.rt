@@ -1,9 +1,9 @@
 // Whole shards: decoded, also in parallel and into a target, and compacted.
 use crate::compared::same_at;
 use crate::shards::{Case, case_of, over, said, shape_of, subset_of};
-use hostile_objects::{HOSTILE_OBJECTS, HostileObject};
 use std::alloc::Global;
 use std::test::Fail;
+use test_helpers::{HOSTILE_OBJECTS, HostileObject};
 use zarr_parts::{CodecError, CodecOptions, FixedTarget};
 
 #[test]

@@ -1,2 +1,3 @@
 pub mod ReadingLemmas
-pub use Rattle.shard_format.proofs.EncodeRefusals
+pub use Rattle.sharding_format.proofs.EncodeRefusals
+mod ReshardLemmas

@@ -1,10 +1,10 @@
 -- What a reading that gives a value says of its steps and of the call that makes it.
 use Rattle.std.proofs.Common.{◌≡◌, Result, Ok, Err, IfErr, IsErrAnd, inl, inr, refl, sym, subst, Option}
-use Rattle.zarr_parts.specs.Words.{Bytes}
+use Rattle.parts_errors.specs.Words.{Bytes}
 use Rattle.serde_json.specs.Data.{Members, object}
 use Rattle.codec_metadata.specs.Metadata.{metadata_of}
-use Rattle.sharding_core.specs.declared.codec.ShardingCodec.{ShardingCodec}
-use Rattle.sharding_core.specs.ShardMetadata.{shard_written, shard_told}
+use Rattle.sharding_codec.specs.declared.codec.ShardingCodec.{ShardingCodec}
+use Rattle.sharding_codec.specs.ShardMetadata.{shard_written, shard_told}
 use Rattle.codec_metadata.specs.CreateErrors.{Reading, RefusedAs, and_then}
 use Rattle.codec_metadata.specs.declared.error.PluginCreateError.{PluginCreateError}
 use Rattle.codec_metadata.specs.declared.error.PluginCreateError.TheVariants.{OutOfMemory}

@@ -1,20 +1,20 @@
 // The parts of a sharding codec.
 ghost use Rattle.std.specs.Prelude.{◌≡◌, Some, IfOk};
-ghost use Rattle.default_codec.specs.DefaultCodec.{default_codec_of};
+ghost use Rattle.codec_default.specs.DefaultCodec.{default_codec_of};
 ghost use Rattle.std.specs.Arc.{arc_value};
-ghost use Rattle.small_codecs.specs.declared.bytes_codec.Endianness.TheVariants.{Little};
-ghost use Rattle.shard_format.specs.declared.location.ShardingIndexLocation.TheVariants.{End};
-ghost use Rattle.shard_format.specs.declared.order.SubchunkWriteOrder.TheVariants.{Unordered};
+ghost use Rattle.codec_bytes.specs.declared.bytes_codec.Endianness.TheVariants.{Little};
+ghost use Rattle.sharding_format.specs.declared.location.ShardingIndexLocation.TheVariants.{End};
+ghost use Rattle.sharding_format.specs.declared.order.SubchunkWriteOrder.TheVariants.{Unordered};
 
-use array_chains::ArrayChain;
-use codec_chains::BytesChain;
-use default_codec::{DefaultArrayToBytesCodec, default_array_to_bytes_codec};
-use shard_format::ShardingIndexLocation;
-use sharding_core::ShardingCodec;
-use small_codecs::BytesCodec;
+use codec_bytes::BytesCodec;
+use codec_chains::{ArrayChain, BytesChain};
+use codec_default::{DefaultArrayToBytesCodec, default_array_to_bytes_codec};
+use parts_arrays::DataType;
+use parts_subsets::ChunkShape;
+use sharding_codec::ShardingCodec;
+use sharding_format::ShardingIndexLocation;
 use std::alloc::{AllocError, Global};
 use std::sync::Arc;
-use zarr_parts::{ChunkShape, DataType};
 
 /// A sharding codec in the making: the shape of its subchunks, an inner codec, an index codec, and where the index stands. Each
 /// call takes the builder and gives one with a part replaced or wrapped; none is refused, since what a codec does not serve
@@ -89,7 +89,7 @@ impl<I: Drop, X: Drop> ShardingCodecBuilder<I, X> {
 }
 
 impl<I, X> ShardingCodecBuilder<I, X> {
-    /// A codec from bytes to bytes behind the inner codec that stands.
+    /// A codec from bytes to bytes after the inner codec that stands.
     pub fn bytes_to_bytes_codecs<B>(self, codec: B) -> ShardingCodecBuilder<BytesChain<I, B>, X>
         ensures { result ≡ record {
           subchunk_shape = self.subchunk_shape;
@@ -135,7 +135,7 @@ impl<I, X> ShardingCodecBuilder<I, X> {
         }
     }
 
-    /// A codec from bytes to bytes behind the index codec that stands.
+    /// A codec from bytes to bytes after the index codec that stands.
     pub fn index_bytes_to_bytes_codecs<B>(
         self,
         codec: B,

@@ -4,11 +4,12 @@ ghost use Rattle.serde_json.specs.Data.{object};
 ghost use Rattle.serde_json.specs.View.{view};
 ghost use Rattle.codec_metadata.specs.Metadata.{metadata_of};
 ghost use Rattle.codec_metadata.specs.declared.error.PluginCreateError.TheVariants.{OutOfMemory};
-ghost use Rattle.sharding_core.specs.ShardMetadata.{shard_written, shard_told};
+ghost use Rattle.sharding_codec.specs.ShardMetadata.{shard_written, shard_told};
 
 use codec_metadata::{CodecTraitsV3, PluginCreateError};
 use serde_json::Value;
-use sharding_core::{ShardingCodec, ShardingCodecConfiguration};
+use sharding_codec::ShardingCodec;
+use sharding_configuration::ShardingCodecConfiguration;
 use std::alloc::Global;
 
 /// The codec of the configuration that `configuration` gave of a codec: the same codec, but for what the metadata of its codecs

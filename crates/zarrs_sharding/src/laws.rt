@@ -1,34 +1,34 @@
 // What callers learn from the sharding codec's laws, each as the contract of a call.
 ghost use Rattle.std.specs.Prelude.{◌≡◌, ◌&&◌, ℕ, Some, None, IsTrue, IfOk, IfErr, IfSome, IfNone, IsSome, map};
-ghost use Rattle.zarr_parts.specs.Order.{◌or_as◌then◌, RefusedBy};
-ghost use Rattle.zarr_parts.specs.Numbering.{count_of};
-ghost use Rattle.zarr_parts.specs.Grid.{grid_of};
-ghost use Rattle.zarr_parts.specs.Geo.{geo, IsArrayOf};
-ghost use Rattle.zarr_parts.specs.Types.{size_of, byte_size};
-ghost use Rattle.zarr_parts.specs.DataTypeSize.TheVariants.{Fixed};
-ghost use Rattle.zarr_parts.specs.CodecError.TheVariants.{OutOfMemory, BadIndexEntry};
-ghost use Rattle.codec_laws.specs.Cells.{all_there};
-ghost use Rattle.codec_laws.specs.Refusals.{RefusesUnserved, MayRefuseEncode, MayRefuseDecode, MayRefuseCompact};
-ghost use Rattle.shard_format.specs.Index.{index_geo};
-ghost use Rattle.shard_format.specs.Holding.{Holds};
-ghost use Rattle.shard_format.specs.Compacting.{IsCompact};
-ghost use Rattle.shard_format.specs.Scratch.{scratch};
-ghost use Rattle.shard_format.specs.Serves.{sub_geo};
-ghost use Rattle.sharding_core.specs.Meanings.{layout_in};
-ghost use Rattle.shard_format.specs.DecodeTests.{IsLowestBad};
-ghost use Rattle.object_handles.specs.Handles.{seen};
-ghost use Rattle.object_handles.specs.Objects.{ObjectTests};
-ghost use Rattle.codec_laws.specs.Reads.{AskedTests};
-ghost use Rattle.sharding_core.specs.Writing.{AreOverlaid, AreReadAfter};
-ghost use Rattle.sharding_core.specs.Decoders.{index_in, object_cells, ObjectCellsTests, Unmoved};
+ghost use Rattle.parts_errors.specs.Order.{◌or_as◌then◌, RefusedBy};
+ghost use Rattle.parts_row_major.specs.Numbering.{count_of};
+ghost use Rattle.parts_subsets.specs.Grid.{grid_of};
+ghost use Rattle.parts_arrays.specs.ArraySpec.{array_spec, IsArrayOf};
+ghost use Rattle.parts_arrays.specs.Types.{size_of, byte_size};
+ghost use Rattle.parts_arrays.specs.declared.data_type.DataTypeSize.TheVariants.{Fixed};
+ghost use Rattle.parts_errors.specs.declared.error.CodecError.TheVariants.{OutOfMemory, BadIndexEntry};
+ghost use Rattle.codec_traits.specs.Cells.{all_there};
+ghost use Rattle.codec_traits.specs.Refusals.{RefusesUnserved, MayRefuseEncode, MayRefuseDecode, MayRefuseCompact};
+ghost use Rattle.sharding_format.specs.Index.{index_spec};
+ghost use Rattle.sharding_format.specs.Holding.{Holds};
+ghost use Rattle.sharding_format.specs.Compacting.{IsCompact};
+ghost use Rattle.sharding_format.specs.Scratch.{scratch};
+ghost use Rattle.sharding_format.specs.Serves.{subchunk_spec};
+ghost use Rattle.sharding_codec.specs.Meanings.{layout_in};
+ghost use Rattle.sharding_format.specs.DecodeRefusals.{IsLowestBad};
+ghost use Rattle.storage_handles.specs.Handles.{seen};
+ghost use Rattle.storage_handles.specs.Objects.{ObjectRefusals};
+ghost use Rattle.codec_traits.specs.Reads.{RequestRefusals};
+ghost use Rattle.sharding_write.specs.Writing.{AreOverlaid, AreReadAfter};
+ghost use Rattle.sharding_codec.specs.Decoders.{index_in, object_cells, ObjectCellsRefusals, Unmoved};
 
-use codec_laws::{ArrayToBytesCodecTraits, FunctionalCodec};
-use object_handles::BytesPartialDecoderTraits;
-use sharding_core::{ShardingCodec, ShardingPartialDecoder};
+use codec_traits::{ArrayToBytesCodecTraits, FunctionalCodec};
+use parts_arrays::{ArrayBytes, DataType, FillValue};
+use parts_errors::{CodecError, CodecOptions};
+use parts_subsets::{ArraySubset, ChunkShape, Indexer};
+use sharding_codec::{ShardingCodec, ShardingPartialDecoder};
 use std::alloc::Global;
-use zarr_parts::{
-    ArrayBytes, ArraySubset, ChunkShape, CodecError, CodecOptions, DataType, FillValue, Indexer,
-};
+use storage_handles::BytesPartialDecoderTraits;
 
 /// Decodes a shard that the codec serves and whose cells are all there, of elements of one length: the answer has these
 /// cells. Refused only as out of memory.
@@ -41,12 +41,12 @@ pub fn decode_sound<'a, I: ArrayToBytesCodecTraits, X: ArrayToBytesCodecTraits>(
     fill_value: &FillValue,
     options: &CodecOptions,
 ) -> Result<ArrayBytes<'a>, CodecError>
-    requires serves { (⟦<ShardingCodec<I, X> as ArrayToBytesCodecTraits>⟧.meaning codec.now (geo shape.now data_type.now fill_value.now)).serves }
+    requires serves { (⟦<ShardingCodec<I, X> as ArrayToBytesCodecTraits>⟧.meaning codec.now (array_spec shape.now data_type.now fill_value.now)).serves }
     requires fixed { size_of data_type.now ≡ Fixed (byte_size (size_of data_type.now)) }
-    requires sound { let g = geo shape.now data_type.now fill_value.now in
+    requires sound { let g = array_spec shape.now data_type.now fill_value.now in
         IsSome (all_there ((⟦<ShardingCodec<I, X> as ArrayToBytesCodecTraits>⟧.meaning codec.now g).cells bytes.now)) }
-    ensures array { IfOk result (λ array. (array.kind ≡ size_of data_type.now) × IsArrayOf (geo shape.now data_type.now fill_value.now) array.elements) }
-    ensures cells { let g = geo shape.now data_type.now fill_value.now in
+    ensures array { IfOk result (λ array. (array.kind ≡ size_of data_type.now) × IsArrayOf (array_spec shape.now data_type.now fill_value.now) array.elements) }
+    ensures cells { let g = array_spec shape.now data_type.now fill_value.now in
         IfOk result (λ array. (⟦<ShardingCodec<I, X> as ArrayToBytesCodecTraits>⟧.meaning codec.now g).cells bytes.now ≡ map Some array.elements) }
     ensures refused { IfErr result (λ e. e ≡ OutOfMemory) }
 {
@@ -65,18 +65,18 @@ pub fn decode_served<'a, I: ArrayToBytesCodecTraits, X: ArrayToBytesCodecTraits>
     fill_value: &FillValue,
     options: &CodecOptions,
 ) -> Result<ArrayBytes<'a>, CodecError>
-    requires serves { (⟦<ShardingCodec<I, X> as ArrayToBytesCodecTraits>⟧.meaning codec.now (geo shape.now data_type.now fill_value.now)).serves }
-    ensures array { IfOk result (λ array. (array.kind ≡ size_of data_type.now) × IsArrayOf (geo shape.now data_type.now fill_value.now) array.elements) }
-    ensures cells { let g = geo shape.now data_type.now fill_value.now in
+    requires serves { (⟦<ShardingCodec<I, X> as ArrayToBytesCodecTraits>⟧.meaning codec.now (array_spec shape.now data_type.now fill_value.now)).serves }
+    ensures array { IfOk result (λ array. (array.kind ≡ size_of data_type.now) × IsArrayOf (array_spec shape.now data_type.now fill_value.now) array.elements) }
+    ensures cells { let g = array_spec shape.now data_type.now fill_value.now in
         IfOk result (λ array. (⟦<ShardingCodec<I, X> as ArrayToBytesCodecTraits>⟧.meaning codec.now g).cells shard.now ≡ map Some array.elements) }
-    ensures lawful { let g = geo shape.now data_type.now fill_value.now in
+    ensures lawful { let g = array_spec shape.now data_type.now fill_value.now in
         IfErr result (MayRefuseDecode ((⟦<ShardingCodec<I, X> as ArrayToBytesCodecTraits>⟧.meaning codec.now g).cells shard.now)) }
-    ensures lowest { let g = geo shape.now data_type.now fill_value.now in let s = codec.now in
-        let inner_cells = (I.meaning s.inner (sub_geo s.subchunk_shape g)).cells in let numbers = index_in X.meaning s g shard.now in
+    ensures lowest { let g = array_spec shape.now data_type.now fill_value.now in let s = codec.now in
+        let inner_cells = (I.meaning s.inner (subchunk_spec s.subchunk_shape g)).cells in let numbers = index_in X.meaning s g shard.now in
         IfErr result (λ e. (number : ℕ) → e ≡ BadIndexEntry number
         → IsLowestBad inner_cells shard.now numbers (count_of (grid_of g.shape s.subchunk_shape)) number) }
-    ensures refused { let g = geo shape.now data_type.now fill_value.now in
-        IfErr result (RefusedBy ((⟦<ShardingCodec<I, X> as ArrayToBytesCodecTraits>⟧.meaning codec.now g).decode_tests shard.now)) }
+    ensures refused { let g = array_spec shape.now data_type.now fill_value.now in
+        IfErr result (RefusedBy ((⟦<ShardingCodec<I, X> as ArrayToBytesCodecTraits>⟧.meaning codec.now g).decode_refusals shard.now)) }
 {
     codec.decode(alloc, shard, shape, data_type, fill_value, options)
 }
@@ -94,15 +94,15 @@ pub fn encode_functional<I: FunctionalCodec, X: FunctionalCodec>(
     options: &CodecOptions,
 ) -> Result<Vec<u8>, CodecError>
     requires functional { IsTrue (⟦<ShardingCodec<I, X> as FunctionalCodec>⟧.functional codec.now) }
-    ensures one { let g = geo shape.now data_type.now fill_value.now in
+    ensures one { let g = array_spec shape.now data_type.now fill_value.now in
         IfOk result (λ shard. shard.items ≡ ⟦<ShardingCodec<I, X> as FunctionalCodec>⟧.encoding codec.now g array.now.elements) }
-    ensures lawful { let sharding = ⟦<ShardingCodec<I, X> as ArrayToBytesCodecTraits>⟧ in let g = geo shape.now data_type.now fill_value.now in
+    ensures lawful { let sharding = ⟦<ShardingCodec<I, X> as ArrayToBytesCodecTraits>⟧ in let g = array_spec shape.now data_type.now fill_value.now in
         IfErr result (λ e. (sharding.meaning codec.now g).serves → array.now.kind ≡ size_of data_type.now → IsArrayOf g array.now.elements
         → MayRefuseEncode (sharding.meaning codec.now g) array.now.elements e) }
-    ensures refused { let m = ⟦<ShardingCodec<I, X> as ArrayToBytesCodecTraits>⟧.meaning codec.now (geo shape.now data_type.now fill_value.now) in
+    ensures refused { let m = ⟦<ShardingCodec<I, X> as ArrayToBytesCodecTraits>⟧.meaning codec.now (array_spec shape.now data_type.now fill_value.now) in
         IfErr result (RefusedBy (
         m.serves or_as RefusesUnserved m then
-        m.encode_tests array.now)) }
+        m.encode_refusals array.now)) }
 {
     codec.encode(alloc, array, shape, data_type, fill_value, options)
 }
@@ -121,24 +121,24 @@ pub fn compact_encoded<I: FunctionalCodec, X: FunctionalCodec>(
     fill_value: &FillValue,
     options: &CodecOptions,
 ) -> Result<Option<Vec<u8>>, CodecError>
-    requires serves { (⟦<ShardingCodec<I, X> as ArrayToBytesCodecTraits>⟧.meaning codec.now (geo shape.now data_type.now fill_value.now)).serves }
-    requires array { IsArrayOf (geo shape.now data_type.now fill_value.now) array.now.elements }
-    requires holds { let g = geo shape.now data_type.now fill_value.now in let s = codec.now in
-        let inner_written = (I.meaning s.inner (sub_geo s.subchunk_shape g)).written in let index_cells = (X.meaning s.index_codec (index_geo (grid_of g.shape s.subchunk_shape))).cells in
-        Holds inner_written index_cells (layout_in s (X.meaning s.index_codec (index_geo (grid_of g.shape s.subchunk_shape))) g) array.now.elements encoded.now }
+    requires serves { (⟦<ShardingCodec<I, X> as ArrayToBytesCodecTraits>⟧.meaning codec.now (array_spec shape.now data_type.now fill_value.now)).serves }
+    requires array { IsArrayOf (array_spec shape.now data_type.now fill_value.now) array.now.elements }
+    requires holds { let g = array_spec shape.now data_type.now fill_value.now in let s = codec.now in
+        let inner_written = (I.meaning s.inner (subchunk_spec s.subchunk_shape g)).written in let index_cells = (X.meaning s.index_codec (index_spec (grid_of g.shape s.subchunk_shape))).cells in
+        Holds inner_written index_cells (layout_in s (X.meaning s.index_codec (index_spec (grid_of g.shape s.subchunk_shape))) g) array.now.elements encoded.now }
     requires functional { let s = codec.now in IsTrue (I.functional s.inner && X.functional s.index_codec) }
-    ensures scratch { let g = geo shape.now data_type.now fill_value.now in let s = codec.now in let index_g = index_geo (grid_of g.shape s.subchunk_shape) in
-        IfOk result (λ answer. IfSome answer (λ new. new.items ≡ scratch (I.encoding s.inner (sub_geo s.subchunk_shape g)) (X.encoding s.index_codec index_g)
+    ensures scratch { let g = array_spec shape.now data_type.now fill_value.now in let s = codec.now in let index_g = index_spec (grid_of g.shape s.subchunk_shape) in
+        IfOk result (λ answer. IfSome answer (λ new. new.items ≡ scratch (I.encoding s.inner (subchunk_spec s.subchunk_shape g)) (X.encoding s.index_codec index_g)
         (layout_in s (X.meaning s.index_codec index_g) g) array.now.elements)) }
-    ensures compacted { let g = geo shape.now data_type.now fill_value.now in
+    ensures compacted { let g = array_spec shape.now data_type.now fill_value.now in
         IfOk result (λ answer. IfSome answer (λ new. (⟦<ShardingCodec<I, X> as ArrayToBytesCodecTraits>⟧.meaning codec.now g).compacted encoded.now new.items)) }
-    ensures kept { let g = geo shape.now data_type.now fill_value.now in let s = codec.now in
-        let index_cells = (X.meaning s.index_codec (index_geo (grid_of g.shape s.subchunk_shape))).cells in
-        IfOk result (λ answer. IfNone answer (IsCompact index_cells (layout_in s (X.meaning s.index_codec (index_geo (grid_of g.shape s.subchunk_shape))) g) encoded.now)) }
-    ensures lawful { let g = geo shape.now data_type.now fill_value.now in
+    ensures kept { let g = array_spec shape.now data_type.now fill_value.now in let s = codec.now in
+        let index_cells = (X.meaning s.index_codec (index_spec (grid_of g.shape s.subchunk_shape))).cells in
+        IfOk result (λ answer. IfNone answer (IsCompact index_cells (layout_in s (X.meaning s.index_codec (index_spec (grid_of g.shape s.subchunk_shape))) g) encoded.now)) }
+    ensures lawful { let g = array_spec shape.now data_type.now fill_value.now in
         IfErr result (MayRefuseCompact ((⟦<ShardingCodec<I, X> as ArrayToBytesCodecTraits>⟧.meaning codec.now g).cells encoded.now)) }
-    ensures refused { let g = geo shape.now data_type.now fill_value.now in
-        IfErr result (RefusedBy ((⟦<ShardingCodec<I, X> as ArrayToBytesCodecTraits>⟧.meaning codec.now g).compact_tests encoded.now)) }
+    ensures refused { let g = array_spec shape.now data_type.now fill_value.now in
+        IfErr result (RefusedBy ((⟦<ShardingCodec<I, X> as ArrayToBytesCodecTraits>⟧.meaning codec.now g).compact_refusals encoded.now)) }
 {
     codec.compact(alloc, encoded, shape, data_type, fill_value, options)
 }
@@ -155,11 +155,11 @@ pub fn compact_again<I: ArrayToBytesCodecTraits, X: ArrayToBytesCodecTraits>(
     fill_value: &FillValue,
     options: &CodecOptions,
 ) -> Result<Option<Vec<u8>>, CodecError>
-    requires serves { (⟦<ShardingCodec<I, X> as ArrayToBytesCodecTraits>⟧.meaning codec.now (geo shape.now data_type.now fill_value.now)).serves }
-    requires compacted { let g = geo shape.now data_type.now fill_value.now in
+    requires serves { (⟦<ShardingCodec<I, X> as ArrayToBytesCodecTraits>⟧.meaning codec.now (array_spec shape.now data_type.now fill_value.now)).serves }
+    requires compacted { let g = array_spec shape.now data_type.now fill_value.now in
         (⟦<ShardingCodec<I, X> as ArrayToBytesCodecTraits>⟧.meaning codec.now g).compacted _shard.now compacted.now }
-    ensures compact { let g = geo shape.now data_type.now fill_value.now in let s = codec.now in
-        let index = X.meaning s.index_codec (index_geo (grid_of g.shape s.subchunk_shape)) in
+    ensures compact { let g = array_spec shape.now data_type.now fill_value.now in let s = codec.now in
+        let index = X.meaning s.index_codec (index_spec (grid_of g.shape s.subchunk_shape)) in
         IsCompact index.cells (layout_in s index g) compacted.now }
     ensures nothing { IfOk result (λ answer. answer ≡ None) }
     ensures refused { IfErr result (λ e. e ≡ OutOfMemory) }
@@ -184,18 +184,18 @@ pub fn read_after_write<
     indexer: &N,
     options: &CodecOptions,
 ) -> Result<ArrayBytes<'static>, CodecError>
-    requires told { IsTrue (H.state decoder.old.handle).tells }
-    requires written { let codec = ⟦<ShardingCodec<I, X> as ArrayToBytesCodecTraits>⟧ in let s = decoder.old.codec in let g = decoder.old.geo in
+    requires told { IsTrue (H.state decoder.old.handle).transparent }
+    requires written { let codec = ⟦<ShardingCodec<I, X> as ArrayToBytesCodecTraits>⟧ in let s = decoder.old.codec in let g = decoder.old.array_spec in
         AreOverlaid g.shape _subset.now _update.now.elements (object_cells (codec.meaning s g).cells g (seen (λ bytes. bytes.now) _before))
         (object_cells (codec.meaning s g).cells g (H.state decoder.old.handle).contents) }
     ensures unmoved { Unmoved H.state decoder.old decoder.new }
-    ensures agree { let codec = ⟦<ShardingCodec<I, X> as ArrayToBytesCodecTraits>⟧ in let s = decoder.old.codec in let g = decoder.old.geo in
+    ensures agree { let codec = ⟦<ShardingCodec<I, X> as ArrayToBytesCodecTraits>⟧ in let s = decoder.old.codec in let g = decoder.old.array_spec in
         IfOk result (λ array. AreReadAfter g.shape _subset.now _update.now.elements
         (object_cells (codec.meaning s g).cells g (seen (λ bytes. bytes.now) _before.entry)) (N.selection indexer.now).points array.elements) }
-    ensures refused { let codec = ⟦<ShardingCodec<I, X> as ArrayToBytesCodecTraits>⟧ in let s = decoder.old.codec in let g = decoder.old.geo in
-        IfErr result (RefusedBy (AskedTests g (N.selection indexer.now) (codec.meaning s g).answerable (
-        ObjectTests (H.state decoder.old.handle) (H.state decoder.new.handle) (
-        ObjectCellsTests I.meaning X.meaning s g (H.state decoder.old.handle).contents (N.selection indexer.now).points)))) }
+    ensures refused { let codec = ⟦<ShardingCodec<I, X> as ArrayToBytesCodecTraits>⟧ in let s = decoder.old.codec in let g = decoder.old.array_spec in
+        IfErr result (RefusedBy (RequestRefusals g (N.selection indexer.now) (codec.meaning s g).answerable (
+        ObjectRefusals (H.state decoder.old.handle) (H.state decoder.new.handle) (
+        ObjectCellsRefusals I.meaning X.meaning s g (H.state decoder.old.handle).contents (N.selection indexer.now).points)))) }
 {
     decoder.partial_decode(alloc, indexer, options)
 }

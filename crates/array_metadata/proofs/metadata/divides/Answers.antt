@@ -1,6 +1,6 @@
 use Rattle.std.proofs.Common.{subst, arith}
-use Rattle.zarr_parts.specs.Grid.{Divides}
-use Rattle.shard_format.proofs.QuotientLemmas.{Divides-from_axes}
+use Rattle.parts_subsets.specs.Grid.{Divides}
+use Rattle.sharding_format.proofs.QuotientLemmas.{Divides-from_axes}
 use Rattle.array_metadata.proofs.metadata.divides.Goals as goal
 
 pub returns : goal.returns

@@ -1,6 +1,6 @@
 use Rattle.std.proofs.Common.{◌≡◌}
 use Rattle.serde_json.specs.View.{members_view}
-use Rattle.zarr_codecs.specs.Metadata.{first_refused}
+use Rattle.codec_metadata.specs.Metadata.{first_refused}
 use Rattle.array_metadata.specs.MetadataFields.{is_understood}
 use Rattle.array_metadata.proofs.metadata.first_unknown.Given as goal
 

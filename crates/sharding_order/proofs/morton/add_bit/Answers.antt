@@ -1,6 +1,6 @@
 use Rattle.std.proofs.Common.{◌≡◌, ◌<◌, ◌≤◌, ◌-◌, ◌*◌, ◌%◌, ◌^◌, ℕ, get_or, subst, arith}
 use Rattle.std.proofs.lemmas.Nat.{one_shl}
-use Rattle.sharding_order.specs.Reached.{AreReached}
+use Rattle.sharding_order.specs.steps.Reached.{AreReached}
 use Rattle.sharding_order.proofs.ReachLemmas.{axis_step_of, next_bit}
 use Rattle.sharding_order.proofs.morton.add_bit.Goals as goal
 use Rattle.sharding_order.proofs.morton.add_bit.Goals.{then-step-length+in_ok-add_moved, else-step-length}

@@ -1,7 +1,7 @@
 -- The axes from `axis` on have the new bit.
 use Rattle.std.proofs.Common.{◌≡◌, drop}
-use Rattle.row_major.specs.Numbering.{count_of}
-use Rattle.sharding_order.specs.Reached.{AreReached}
+use Rattle.parts_row_major.specs.Numbering.{count_of}
+use Rattle.sharding_order.specs.steps.Reached.{AreReached}
 use Rattle.sharding_order.proofs.morton.add_bit.Given as goal
 
 abbrev pub invariant-loop-axis : goal.invariant-loop-axis

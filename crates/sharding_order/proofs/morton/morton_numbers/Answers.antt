@@ -1,5 +1,5 @@
 use Rattle.std.proofs.Common.{◌≡◌, ◌≤◌, ◌^◌, [], ◌∷◌, get_or, subst, arith}
-use Rattle.row_major.proofs.NumberingLaws.{count_positive}
+use Rattle.parts_row_major.proofs.NumberingLaws.{count_positive}
 use Rattle.sharding_order.proofs.ReachLemmas.{first_reached, all_reached}
 use Rattle.sharding_order.proofs.morton.morton_numbers.Goals as goal
 

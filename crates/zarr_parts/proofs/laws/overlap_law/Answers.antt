@@ -1,4 +1,4 @@
-use Rattle.zarr_boxes.proofs.OverlapLaws.{overlap_has_both}
+use Rattle.parts_subsets.proofs.OverlapLaws.{overlap_has_both}
 use Rattle.zarr_parts.proofs.laws.overlap_law.Goals as goal
 
 pub returns : goal.returns

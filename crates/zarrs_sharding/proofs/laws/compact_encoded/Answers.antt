@@ -1,11 +1,11 @@
 use Rattle.std.proofs.Common.{Option, Some, None, Result, Ok, Err, IfOk, IfSome}
 use Rattle.std.proofs.lemmas.Bool.{and_parts}
-use Rattle.zarr_parts.specs.Geo.{geo}
-use Rattle.zarr_parts.specs.Grid.{grid_of}
-use Rattle.shard_format.specs.Index.{index_geo}
-use Rattle.shard_format.specs.Serves.{sub_geo}
-use Rattle.codec_laws.proofs.CodecLaws.{refused_so}
-use Rattle.shard_format.proofs.CompactionLemmas.{scratch_of_compacted}
+use Rattle.parts_arrays.specs.ArraySpec.{array_spec}
+use Rattle.parts_subsets.specs.Grid.{grid_of}
+use Rattle.sharding_format.specs.Index.{index_spec}
+use Rattle.sharding_format.specs.Serves.{subchunk_spec}
+use Rattle.codec_traits.proofs.CodecLaws.{refused_so}
+use Rattle.sharding_format.proofs.CompactionLemmas.{scratch_of_compacted}
 use Rattle.zarrs_sharding.proofs.laws.compact_encoded.Goals as goal
 
 -- what an answer's facts say of it
@@ -17,16 +17,16 @@ rewritten P Q (Err e) h told = tt
 pub returns-clause-scratch : goal.returns-clause-scratch
 returns-clause-scratch g c =
     let s = c.args.codec.now in
-    let asked = geo c.args.shape.now c.args.data_type.now c.args.fill_value.now in
-    let inner_g = sub_geo s.subchunk_shape asked in
-    let index_g = index_geo (grid_of c.args.shape.now s.subchunk_shape) in
+    let spec = array_spec c.args.shape.now c.args.data_type.now c.args.fill_value.now in
+    let inner_g = subchunk_spec s.subchunk_shape spec in
+    let index_g = index_spec (grid_of c.args.shape.now s.subchunk_shape) in
     let inner = g.I.FunctionalCodec in
     let index = g.X.FunctionalCodec in
     let serves = c.requires.serves in
     let functional = and_parts (inner.functional s.inner) (index.functional s.index_codec) c.requires.functional in
     rewritten _ _ c.compact.result c.compact.ensures.compacted
     (λ new compacted.
-    scratch_of_compacted _ _ (inner.encoding s.inner inner_g) (index.encoding s.index_codec index_g) s.subchunk_shape s.location s.order _ asked c.args.array.now.elements
+    scratch_of_compacted _ _ (inner.encoding s.inner inner_g) (index.encoding s.index_codec index_g) s.subchunk_shape s.location s.order _ spec c.args.array.now.elements
     c.args.encoded.now new.items serves.divides c.requires.array
     (λ x y of written. g.met.I.FunctionalCodec.one_encoding s.inner inner_g x y functional.0 serves.inner_served of written)
     (λ x y of written. g.met.X.FunctionalCodec.one_encoding s.index_codec index_g x y functional.1 serves.index_served.served of written)

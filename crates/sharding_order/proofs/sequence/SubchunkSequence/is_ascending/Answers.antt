@@ -2,7 +2,7 @@ use Rattle.std.proofs.Common.{◌≡◌, Bool, true, false, IsTrue, List, length
 use Rattle.std.proofs.lemmas.Bool.{false≢true}
 use Rattle.std.specs.List.{range_with_len}
 use Rattle.std.proofs.lemmas.List.FromFn.{length-range_with_len}
-use Rattle.sharding_order.specs.Sequences.{numbers_of}
+use Rattle.sharding_order.specs.steps.Sequences.{numbers_of}
 use Rattle.sharding_order.proofs.sequence.SubchunkSequence.is_ascending.Goals as goal
 
 ascends : (is : Bool) (count : ℕ) (listed value : List ℕ) → value ≡ numbers_of is count listed → IsTrue is → value ≡ range_with_len 0 (length value)

@@ -1,5 +1,5 @@
 use Rattle.std.proofs.Common.{sym, ap, ◌∙◌, length}
-use Rattle.shard_format.specs.WriteOrderLaws.{order_counted}
+use Rattle.sharding_format.specs.WriteOrderLaws.{order_counted}
 use Rattle.sharding_order.proofs.sequence.SubchunkSequence.len.Goals as goal
 
 pub returns : goal.returns

@@ -1,7 +1,7 @@
 use Rattle.std.proofs.Common.{inl, inr, ◌∙◌}
-use Rattle.row_major.proofs.NumberingLaws.{count_positive}
-use Rattle.shard_format.specs.WriteOrderLaws.{order_permutes}
-use Rattle.shard_format.specs.declared.order.SubchunkWriteOrder.TheVariants.{Morton}
+use Rattle.parts_row_major.proofs.NumberingLaws.{count_positive}
+use Rattle.sharding_format.specs.WriteOrderLaws.{order_permutes}
+use Rattle.sharding_format.specs.declared.order.SubchunkWriteOrder.TheVariants.{Morton}
 use Rattle.sharding_order.proofs.ReachLemmas.{ascends_by_itself}
 use Rattle.sharding_order.proofs.sequence.SubchunkSequence.morton.Goals as goal
 

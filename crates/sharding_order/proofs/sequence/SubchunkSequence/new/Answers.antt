@@ -1,4 +1,4 @@
-use Rattle.shard_format.specs.WriteOrder.{numbers_in_order}
+use Rattle.sharding_format.specs.WriteOrder.{numbers_in_order}
 use Rattle.sharding_order.proofs.sequence.SubchunkSequence.new.Goals as goal
 
 pub returns-in-C : goal.returns-in-C

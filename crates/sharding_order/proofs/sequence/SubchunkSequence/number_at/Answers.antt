@@ -10,4 +10,4 @@ returns-then-self c =
     let s = c.self.inside in
     let is = rw c.if-self.true at c.self.view_is in
     let below = rw (← is, length-range_with_len 0 s.count) at c.requires in
-    plain c.args.place ∙ sym (get_or-range_with_len 0 s.count c.args.place 0 below) ∙ ap (λ xs. get_or xs c.args.place 0) is
+    plain c.args.position ∙ sym (get_or-range_with_len 0 s.count c.args.position 0 below) ∙ ap (λ xs. get_or xs c.args.position 0) is

@@ -1,0 +1,158 @@
+// The command line.
+use clap::{Arg, ArgAction, ArgMatches, Command};
+use std::alloc::{AllocError, Global};
+
+/// How cells are written.
+#[derive(Debug, Clone, Copy, PartialEq, Eq)]
+pub enum Form {
+    Text,
+    Json,
+    Raw,
+}
+
+/// What is done with an array.
+#[derive(Debug, Clone, Copy, PartialEq, Eq)]
+pub enum Work<'a> {
+    Info,
+    Check,
+    Read {
+        requested: Option<&'a str>,
+        form: Form,
+    },
+    Compact {
+        is_dry: bool,
+    },
+}
+
+fn path_argument<'a>(alloc: Global) -> Arg<'a> {
+    Arg::new(alloc, "PATH")
+        .required(true)
+        .help("The folder of the array, in which its zarr.json lies")
+}
+
+fn info_command<'a>(alloc: Global) -> Result<Command<'a>, AllocError> {
+    Command::new(alloc, "info")
+        .about(
+            "Says what the array holds, and of each shard its key, length, subchunks and dead bytes",
+        )
+        .after_help("Example: zarr_shard info weather/temperature")
+        .arg(path_argument(alloc))
+}
+
+fn check_command<'a>(alloc: Global) -> Result<Command<'a>, AllocError> {
+    Command::new(alloc, "check")
+        .about(
+            "Decodes every index and subchunk of the shards that are there; a line for each that is refused, and status 1 then",
+        )
+        .after_help(
+            "Example: zarr_shard check weather/temperature\nA line has the shard's key, the number and name of the refusal, and where and why.",
+        )
+        .arg(path_argument(alloc))
+}
+
+fn subset_argument<'a>(alloc: Global) -> Arg<'a> {
+    Arg::new(alloc, "BOX").help("A range for each axis, as 0..2,3..5; without it the whole array")
+}
+
+fn json_flag<'a>(alloc: Global) -> Arg<'a> {
+    Arg::new(alloc, "json")
+        .long("json")
+        .action(ArgAction::SetTrue)
+        .help("An object of JSON with shape, data_type and cells")
+}
+
+fn raw_flag<'a>(alloc: Global) -> Result<Arg<'a>, AllocError> {
+    Arg::new(alloc, "raw")
+        .long("raw")
+        .action(ArgAction::SetTrue)
+        .help("The bytes of the cells, least significant first")
+        .conflicts_with("json")
+}
+
+// The command `read`, and what it reads.
+fn boxed_command<'a>(alloc: Global) -> Result<Command<'a>, AllocError> {
+    Command::new(alloc, "read")
+        .about("Writes the cells of a box in row-major order, a row of the last axis a line")
+        .after_help(
+            "Example: zarr_shard read weather/temperature 0..2,3..5\nA bool is 0 or 1 as text, and true or false in JSON.",
+        )
+        .arg(path_argument(alloc))?
+        .arg(subset_argument(alloc))
+}
+
+fn read_command<'a>(alloc: Global) -> Result<Command<'a>, AllocError> {
+    let raw = raw_flag(alloc)?;
+    boxed_command(alloc)?.arg(json_flag(alloc))?.arg(raw)
+}
+
+fn dry_flag<'a>(alloc: Global) -> Arg<'a> {
+    Arg::new(alloc, "dry-run")
+        .long("dry-run")
+        .action(ArgAction::SetTrue)
+        .help("Says what would be saved, and writes no file")
+}
+
+fn compact_command<'a>(alloc: Global) -> Result<Command<'a>, AllocError> {
+    Command::new(alloc, "compact")
+        .about("Puts a compact shard in the place of each that has dead bytes")
+        .after_help("Example: zarr_shard compact --dry-run weather/temperature")
+        .arg(path_argument(alloc))?
+        .arg(dry_flag(alloc))
+}
+
+// The version of the program, and the line of the kit that proves it.
+const VERSION: &str = "0.1.0 (rattle-kit-13f logic dac8208d650f15bf)";
+
+// The program without its commands.
+fn bare_program<'a>(alloc: Global) -> Command<'a> {
+    Command::new(alloc, "zarr_shard")
+        .about("Works on an array on disk whose chunks are shards (Zarr V3, sharding_indexed)")
+        .version(VERSION)
+        .after_help(
+            "Example: zarr_shard read weather/temperature 0..2,3..5\nStatus: 0 done; 1 a shard is refused; 2 it, or a part of it, could not be done.",
+        )
+        .subcommand_required(true)
+        .arg_required_else_help(true)
+}
+
+// The program with one command more.
+fn with<'a>(
+    program: Command<'a>,
+    command: Result<Command<'a>, AllocError>,
+) -> Result<Command<'a>, AllocError> {
+    program.subcommand(command?)
+}
+
+/// The program's command line.
+pub fn program<'a>(alloc: Global) -> Result<Command<'a>, AllocError> {
+    let program = with(bare_program(alloc), info_command(alloc))?;
+    let program = with(program, check_command(alloc))?;
+    let program = with(program, read_command(alloc))?;
+    with(program, compact_command(alloc))
+}
+
+// How the cells that a command reads are to be written.
+fn form_of(matches: &ArgMatches<'_>) -> Form {
+    if matches.get_flag("json") {
+        Form::Json
+    } else if matches.get_flag("raw") {
+        Form::Raw
+    } else {
+        Form::Text
+    }
+}
+
+/// What the command of a name does.
+pub fn work_of<'a>(name: &str, matches: &ArgMatches<'a>) -> Work<'a> {
+    match name {
+        "check" => Work::Check,
+        "read" => Work::Read {
+            requested: matches.get_str("BOX"),
+            form: form_of(matches),
+        },
+        "compact" => Work::Compact {
+            is_dry: matches.get_flag("dry-run"),
+        },
+        _ => Work::Info,
+    }
+}

@@ -1,0 +1,12 @@
+// What stands on a command line over an array on disk, and how its cells and the progress of a command are written.
+#![tactic(auto)]
+
+mod command_line;
+mod progress;
+mod subsets;
+mod text;
+
+pub use command_line::{Form, Work, program, work_of};
+pub use progress::Progress;
+pub use subsets::{SubsetError, subset_of};
+pub use text::{write_json, write_numbers, write_rows};

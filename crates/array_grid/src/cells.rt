@@ -1,0 +1,117 @@
+// The cells of a subset of an array, put together of its parts.
+ghost use Rattle.std.specs.Prelude.{◌≡◌, ◌*◌, ◌^◌, ◌<◌, ℕ, IfOk, IfErr, OnOk, OnErr, length};
+ghost use Rattle.parts_errors.specs.Order.{RefusedBy};
+ghost use Rattle.parts_row_major.specs.Numbering.{count_of};
+ghost use Rattle.parts_row_major.specs.Subsets.{IsServed, number_in};
+ghost use Rattle.parts_row_major.specs.Pieces.{piece, IsUpdated};
+ghost use Rattle.parts_arrays.specs.Arrays.{element_of};
+ghost use Rattle.parts_arrays.specs.declared.data_type.DataTypeSize.TheVariants.{Fixed};
+ghost use Rattle.array_grid.specs.Cells.{AreWhole, AreFilled, FillRefusals, PutRefusals};
+
+use parts_arrays::{ArrayBytes, FillValue, FixedTarget};
+use parts_errors::CodecError;
+use parts_subsets::{ArraySubset, check_subset};
+use sharding_gather::room_for;
+use std::alloc::Global;
+use std::marker::Model;
+
+/// The cells of a subset of an array, in row-major order of the subset; their elements have one size.
+#[derive(Drop)]
+pub struct SubsetCells {
+    bytes: Vec<u8>,
+    element_size: usize,
+    shape: Vec<u64>,
+}
+
+impl Model for SubsetCells {
+    ghost use Rattle.array_grid.specs.Cells.{CellsOfSubset, AreWhole};
+
+    // their bytes, how many of these a cell has, and the subset's shape
+    ghost Value = { CellsOfSubset };
+
+    ghost view = { λ cells. record { bytes = cells.bytes.items; element_size = cells.element_size; shape = cells.shape.items } };
+
+    ghost invariant = { λ cells. AreWhole cells.bytes.items cells.element_size cells.shape.items };
+}
+
+// Writes the cells of a part where it lies in a subset whose cells have these bytes.
+fn put_into(
+    bytes: &mut [u8],
+    element_size: usize,
+    shape: &[u64],
+    in_subset: &ArraySubset,
+    part: &ArrayBytes,
+) -> Result<(), CodecError>
+    requires whole { AreWhole bytes.old element_size shape.now }
+    ensures length { length bytes.new ≡ length bytes.old }
+    ensures written { OnOk result (IsUpdated (count_of in_subset.now.shape) (number_in in_subset.now shape.now)
+        (piece element_size bytes.old) (element_of part.now) (piece element_size bytes.new)) }
+    ensures served { OnOk result (IsServed in_subset.now shape.now) }
+    ensures kind { OnOk result (part.now.kind ≡ Fixed element_size) }
+    ensures counted { OnOk result (count_of in_subset.now.shape ≡ length part.now.elements) }
+    ensures kept { OnErr result (bytes.new ≡ bytes.old) }
+    ensures refused { IfErr result (PutRefusals element_size shape.now in_subset.now part.now) }
+{
+    let _axes = in_subset.start();
+    check_subset(in_subset, shape)?;
+    let mut target = FixedTarget::over(bytes, element_size, shape, in_subset);
+    target.copy_from(part)
+}
+
+impl SubsetCells {
+    /// The cells of a subset, each of them the fill value. Refused, in this order, as `BadFillValue` where it has no byte, and as
+    /// `TooLarge` where the cells or their bytes are more than `u64::MAX`; or as `OutOfMemory`.
+    pub fn new(
+        alloc: Global,
+        subset: &ArraySubset,
+        fill_value: &FillValue,
+    ) -> Result<Self, CodecError>
+        ensures filled { IfOk result (AreFilled subset.now.shape fill_value.now) }
+        ensures served { OnOk result ((0 < length fill_value.now) × (count_of subset.now.shape < 2 ^ 64) × (count_of subset.now.shape * length fill_value.now < 2 ^ 64)) }
+        ensures refused { IfErr result (RefusedBy (FillRefusals subset.now.shape fill_value.now)) }
+    {
+        let fill = fill_value.as_ne_bytes();
+        if fill.is_empty() {
+            return Err(CodecError::BadFillValue);
+        }
+        let Some(count) = subset.num_elements() else {
+            return Err(CodecError::TooLarge);
+        };
+        if count.checked_mul(fill.len() as u64).is_none() {
+            return Err(CodecError::TooLarge);
+        }
+        let bytes = room_for(alloc, true, count as usize, fill)?;
+        let shape = Vec::from_slice(alloc, subset.shape())?;
+        Ok(SubsetCells {
+            bytes,
+            element_size: fill.len(),
+            shape,
+        })
+    }
+
+    /// Writes the cells of a part, in row-major order of it, where it lies in the subset. Refused, in this order, as
+    /// `IncompatibleDimensionality` and `OutOfBounds` where it does not lie in the subset, and as `WrongElementKind` and
+    /// `InvalidNumberOfElements` where the array is not of as many cells of the same size; all cells are then as they were.
+    /// Takes no memory.
+    pub fn put(&mut self, in_subset: &ArraySubset, part: &ArrayBytes) -> Result<(), CodecError>
+        ensures same_size { self.new.element_size ≡ self.old.element_size }
+        ensures same_shape { self.new.shape ≡ self.old.shape }
+        ensures written { OnOk result (IsUpdated (count_of in_subset.now.shape) (number_in in_subset.now self.old.shape)
+            (piece self.old.element_size self.old.bytes) (element_of part.now) (piece self.old.element_size self.new.bytes)) }
+        ensures served { OnOk result (IsServed in_subset.now self.old.shape) }
+        ensures kind { OnOk result (part.now.kind ≡ Fixed self.old.element_size) }
+        ensures counted { OnOk result (count_of in_subset.now.shape ≡ length part.now.elements) }
+        ensures kept { OnErr result (self.new ≡ self.old) }
+        ensures refused { IfErr result (PutRefusals self.old.element_size self.old.shape in_subset.now part.now) }
+    {
+        let bytes = self.bytes.as_mut_slice();
+        put_into(bytes, self.element_size, &self.shape, in_subset, part)
+    }
+
+    /// The bytes of the cells.
+    pub fn bytes(&self) -> &[u8]
+        ensures { result.now ≡ self.now.bytes }
+    {
+        &self.bytes
+    }
+}

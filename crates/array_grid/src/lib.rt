@@ -1,0 +1,10 @@
+// The shards of an array: which cell of which shard stands where.
+#![tactic(auto)]
+
+mod cells;
+mod grid;
+mod parts;
+
+pub use cells::SubsetCells;
+pub use grid::ShardGrid;
+pub use parts::ShardPart;

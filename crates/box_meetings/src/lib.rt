@@ -1,6 +1,0 @@
-// Where a box and a subchunk of a grid meet.
-#![tactic(auto)]
-
-mod meeting;
-
-pub use meeting::{Meeting, meeting_of};

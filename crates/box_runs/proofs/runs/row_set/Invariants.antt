@@ -1,9 +1,0 @@
-use Rattle.std.proofs.Common.{◌≡◌, drop}
-use Rattle.row_major.specs.Numbering.{count_of}
-use Rattle.box_runs.proofs.runs.row_set.Given as goal
-
-abbrev pub invariant-loop-axis : goal.invariant-loop-axis
-invariant-loop-axis l = record {
-  spanned : drop l.axis l.len ≡ drop l.axis l.shape;
-  so_far : l.run ≡ count_of (drop l.axis l.len);
-}

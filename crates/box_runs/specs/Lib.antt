@@ -1,3 +1,0 @@
-pub mod Boxes
-pub mod Pieces
-pub mod Runs

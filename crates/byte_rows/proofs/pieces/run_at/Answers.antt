@@ -1,8 +1,0 @@
-use Rattle.std.proofs.Common.{◌≡◌, ◌+◌, ◌-◌, ◌*◌, arith}
-use Rattle.zarr_boxes.proofs.PieceLaws.{run_pieces}
-use Rattle.byte_rows.proofs.pieces.run_at.Goals as goal
-
-pub returns : goal.returns
-returns c =
-    let len : c.args.first * c.args.size + c.args.len * c.args.size - c.args.first * c.args.size ≡ c.args.len * c.args.size = omega arith in
-    rw len (run_pieces c.args.size c.args.first c.args.len c.args.bytes.now)

@@ -1,3 +1,0 @@
-pub mod CodecLaws
-pub mod ReadLemmas
-pub mod OverwriteLemmas

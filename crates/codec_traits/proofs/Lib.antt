@@ -1,0 +1,4 @@
+pub mod CodecLaws
+pub mod ReadLemmas
+pub mod OverwriteLemmas
+pub mod WholeArrayLaws

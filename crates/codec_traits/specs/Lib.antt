@@ -1,0 +1,11 @@
+pub mod Cells
+pub mod CellLaws
+pub mod Meanings
+pub mod Refusals
+pub mod RefusalLaws
+pub mod Representations
+pub mod Laws
+pub mod Encodings
+pub mod Reads
+pub mod RoundTrip
+pub mod WholeArrays

@@ -1,0 +1,4 @@
+pub mod Numbering
+pub mod Subsets
+pub mod Pieces
+pub mod Runs

@@ -1,0 +1,10 @@
+// Elements of one size, one after the other in bytes: runs and subsets of them, filled and copied.
+#![tactic(auto)]
+
+mod pieces;
+mod rows;
+mod subsets;
+
+pub use pieces::{fill_run, fill_subset, piece_at, push_front, run_at};
+pub use rows::{gather, scatter};
+pub use subsets::copy_subset;

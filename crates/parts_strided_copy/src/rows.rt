@@ -1,0 +1,168 @@
+// Rows of elements, copied from an array to another.
+ghost use Rattle.std.specs.Prelude.{◌≡◌, ◌≢◌, ℕ, ◌+◌, ◌*◌, ◌<◌, ◌≤◌, IfOk, length};
+ghost use Rattle.std.specs.List.{flat_map};
+ghost use Rattle.parts_row_major.specs.Numbering.{count_of};
+ghost use Rattle.parts_row_major.specs.Subsets.{number_in, numbers_in, IsServed};
+ghost use Rattle.parts_row_major.specs.Pieces.{piece, IsUpdated};
+ghost use Rattle.parts_row_major.specs.Runs.{row_position};
+
+use crate::pieces::copy_run;
+use parts_subsets::{ArraySubset, SubsetRows, points_in};
+use std::alloc::{AllocError, Global};
+
+// Where rows of elements begin: the first, and how far behind it each further one.
+#[derive(Clone, Copy)]
+pub(crate) struct Rows {
+    pub first: usize,
+    pub stride: usize,
+}
+
+// Copies so many rows of so many elements over others. The first number, where it isn't 0, is how many bytes a row has; the
+// second, where it isn't 0, one that these are no fewer than, and at most twice as many.
+#[inline(always)]
+fn copy_rows_of<const N: usize, const M: usize>(
+    output: &mut [u8],
+    size: usize,
+    to: Rows,
+    update: &[u8],
+    from: Rows,
+    rows: usize,
+    run: usize,
+)
+    requires some { 0 < size }
+    requires inside { (k : ℕ) → k < rows → (to.first + k * to.stride + run) * size ≤ length output.old }
+    requires inside_update { (k : ℕ) → k < rows → (from.first + k * from.stride + run) * size ≤ length update.now }
+    requires apart { (i j : ℕ) → i < rows * run → j < rows * run → row_position to.first to.stride run i ≡ row_position to.first to.stride run j → i ≡ j }
+    requires known { N ≢ 0 → run * size ≡ N }
+    requires least { M ≤ run * size }
+    requires most { M ≢ 0 → run * size ≤ 2 * M }
+    ensures { IsUpdated (rows * run) (row_position to.first to.stride run) (piece size output.old) (λ j. piece size update.now (row_position from.first from.stride run j)) (piece size output.new) }
+{
+    for k in 0..rows {
+        let into = to.first + k * to.stride;
+        let taken = from.first + k * from.stride;
+        copy_run::<N, M>(output, size, into, update, taken, run);
+    }
+}
+
+// Copies so many rows of so many elements over others: short rows with a length that stands here, or with two copies of such a
+// length from either end, which takes no call.
+pub(crate) fn copy_rows(
+    output: &mut [u8],
+    size: usize,
+    to: Rows,
+    update: &[u8],
+    from: Rows,
+    rows: usize,
+    run: usize,
+)
+    requires some { 0 < size }
+    requires inside { (k : ℕ) → k < rows → (to.first + k * to.stride + run) * size ≤ length output.old }
+    requires inside_update { (k : ℕ) → k < rows → (from.first + k * from.stride + run) * size ≤ length update.now }
+    requires apart { (i j : ℕ) → i < rows * run → j < rows * run → row_position to.first to.stride run i ≡ row_position to.first to.stride run j → i ≡ j }
+    ensures { IsUpdated (rows * run) (row_position to.first to.stride run) (piece size output.old) (λ j. piece size update.now (row_position from.first from.stride run j)) (piece size output.new) }
+{
+    let bytes = run.saturating_mul(size);
+    match bytes {
+        1 => copy_rows_of::<1, 0>(output, size, to, update, from, rows, run),
+        2 => copy_rows_of::<2, 0>(output, size, to, update, from, rows, run),
+        4 => copy_rows_of::<4, 0>(output, size, to, update, from, rows, run),
+        8 => copy_rows_of::<8, 0>(output, size, to, update, from, rows, run),
+        16 => copy_rows_of::<16, 0>(output, size, to, update, from, rows, run),
+        32 => copy_rows_of::<32, 0>(output, size, to, update, from, rows, run),
+        64 => copy_rows_of::<64, 0>(output, size, to, update, from, rows, run),
+        3 => copy_rows_of::<0, 2>(output, size, to, update, from, rows, run),
+        5..=7 => copy_rows_of::<0, 4>(output, size, to, update, from, rows, run),
+        9..=15 => copy_rows_of::<0, 8>(output, size, to, update, from, rows, run),
+        17..=31 => copy_rows_of::<0, 16>(output, size, to, update, from, rows, run),
+        33..=63 => copy_rows_of::<0, 32>(output, size, to, update, from, rows, run),
+        65..=128 => copy_rows_of::<0, 64>(output, size, to, update, from, rows, run),
+        _ => copy_rows_of::<0, 0>(output, size, to, update, from, rows, run),
+    }
+}
+
+/// Writes elements that come one after the other at the points of a subset of an array of a shape, in row-major order of the
+/// subset. Takes no memory.
+pub fn scatter(output: &mut [u8], size: usize, subset: &ArraySubset, shape: &[u64], update: &[u8])
+    requires some { 0 < size }
+    requires served { IsServed subset.now shape.now }
+    requires whole { length output.old ≡ count_of shape.now * size }
+    requires whole_update { length update.now ≡ count_of subset.now.shape * size }
+    ensures { IsUpdated (count_of subset.now.shape) (number_in subset.now shape.now) (piece size output.old) (piece size update.now) (piece size output.new) }
+{
+    let set = subset.rows_in(shape);
+    let each = set.rows * set.run;
+    let mut starts = subset.set_starts(shape, each, set.sets);
+    for q in 0..set.sets {
+        let done = q * each;
+        let to = Rows {
+            first: starts.next_start() as usize,
+            stride: set.stride as usize,
+        };
+        let from = Rows {
+            first: done as usize,
+            stride: set.run as usize,
+        };
+        copy_rows(
+            output,
+            size,
+            to,
+            update,
+            from,
+            set.rows as usize,
+            set.run as usize,
+        );
+    }
+}
+
+// Writes the elements at the points of a subset of an array of a shape one after the other, in row-major order of the subset.
+fn gather_into(part: &mut [u8], bytes: &[u8], size: usize, subset: &ArraySubset, shape: &[u64])
+    requires some { 0 < size }
+    requires served { IsServed subset.now shape.now }
+    requires whole { length bytes.now ≡ count_of shape.now * size }
+    requires whole_part { length part.old ≡ count_of subset.now.shape * size }
+    ensures { (k : ℕ) → k < count_of subset.now.shape → piece size part.new k ≡ piece size bytes.now (number_in subset.now shape.now k) }
+{
+    let set = subset.rows_in(shape);
+    let each = set.rows * set.run;
+    let mut starts = subset.set_starts(shape, each, set.sets);
+    for q in 0..set.sets {
+        let done = q * each;
+        let to = Rows {
+            first: done as usize,
+            stride: set.run as usize,
+        };
+        let from = Rows {
+            first: starts.next_start() as usize,
+            stride: set.stride as usize,
+        };
+        copy_rows(
+            part,
+            size,
+            to,
+            bytes,
+            from,
+            set.rows as usize,
+            set.run as usize,
+        );
+    }
+}
+
+/// The elements at the points of a subset of an array of a shape, one after the other, in row-major order of the subset.
+pub fn gather(
+    alloc: Global,
+    bytes: &[u8],
+    size: usize,
+    subset: &ArraySubset,
+    shape: &[u64],
+) -> Result<Vec<u8>, AllocError>
+    requires some { 0 < size }
+    requires served { IsServed subset.now shape.now }
+    requires whole { length bytes.now ≡ count_of shape.now * size }
+    ensures { IfOk result (λ part. part.items ≡ flat_map (piece size bytes.now) (numbers_in subset.now shape.now)) }
+{
+    let room = points_in(subset, shape) as usize * size;
+    let mut part = Vec::from_elem(alloc, 0, room)?;
+    gather_into(&mut part, bytes, size, subset, shape);
+    Ok(part)
+}

@@ -1,2 +1,0 @@
-pub mod NumberingLaws
-pub mod PointLaws

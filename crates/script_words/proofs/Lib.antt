@@ -1,3 +1,0 @@
-pub mod TextLaws
-pub mod ElementLaws
-pub mod HexLaws

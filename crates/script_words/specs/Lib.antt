@@ -1,4 +1,0 @@
-pub mod Text
-pub mod Elements
-pub mod Script
-pub mod Hex

@@ -1,0 +1,6 @@
+pub mod Maps
+pub mod Objects
+pub mod Causes
+pub mod Runs
+pub mod Ended
+pub mod steps

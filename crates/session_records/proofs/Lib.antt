@@ -1,0 +1,6 @@
+pub mod ClosingLemmas
+pub mod HistoryLemmas
+pub mod OpeningLemmas
+pub mod ReceiptLemmas
+pub mod WholeLemmas
+pub mod EqualityLemmas

@@ -1,0 +1,7 @@
+pub mod Histories
+pub mod Recorded
+pub mod SharedRecords
+pub mod Receipts
+pub mod Closing
+pub mod RefusedErasures
+pub mod steps

@@ -1,0 +1,21 @@
+// Sessions that threads share, with a history of what was done and receipts of it.
+#![tactic(auto)]
+
+mod calls;
+mod closing;
+mod encoder;
+mod event;
+mod history;
+mod naming;
+mod receipts;
+mod seat;
+mod shard;
+
+pub use calls::{record_erase, record_read, record_write};
+pub use closing::{CloseError, Closed};
+pub use encoder::{RecordedPartialEncoder, recorded};
+pub use event::{Event, Receipt, same_elements, same_event};
+pub use history::History;
+pub use naming::Naming;
+pub use seat::Seat;
+pub use shard::RecordedShard;

@@ -1,0 +1,4 @@
+pub mod Halting
+pub mod FromScratch
+pub mod Served
+pub mod steps

@@ -1,6 +1,0 @@
--- There are six stages.
-use Rattle.std.proofs.Common.{◌<◌}
-use Rattle.sessions_tests.proofs.faults.a_fault_is_met_at_each_call.Given as goal
-
-abbrev pub invariant-loop-fails_at : goal.invariant-loop-fails_at
-invariant-loop-fails_at g l = l.stage < 6

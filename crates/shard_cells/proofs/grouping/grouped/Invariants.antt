@@ -1,7 +1,0 @@
-use Rattle.std.proofs.Common.{map}
-use Rattle.shard_cells.proofs.GroupingLemmas.{AreStanding}
-use Rattle.shard_cells.proofs.grouping.grouped.Given as goal
-
-abbrev pub invariant-loop-cell : goal.invariant-loop-cell
-invariant-loop-cell l =
-    AreStanding l.shape l.sub l.numbers l.used.items l.cell-index (map (λ list. list.items) l.places.items) l.standings.items

@@ -1,8 +1,0 @@
-use Rattle.std.proofs.Common.{◌≡◌, ◌*◌, map}
-use Rattle.std.specs.List.{concat, range_with_len}
-use Rattle.zarr_parts.specs.Numbering.{count_of}
-use Rattle.shard_format.specs.Decoding.{element_in}
-use Rattle.shard_cells.proofs.laying.appended.Given as goal
-
-abbrev pub invariant-loop-k : goal.invariant-loop-k
-invariant-loop-k l = l.bytes.items ≡ concat (map (element_in l.subchunks l.fill l._shape l._sub) (range_with_len 0 (l.k * count_of l._sub)))

@@ -1,6 +1,0 @@
-use Rattle.std.proofs.Common.{◌≡◌, ◌+◌, take}
-use Rattle.zarr_parts.specs.Numbering.{zip_with}
-use Rattle.shard_cells.proofs.placing.moved.Given as goal
-
-abbrev pub invariant-loop-axis : goal.invariant-loop-axis
-invariant-loop-axis l = l.axes.items ≡ take l.axis (zip_with ◌+◌ l.origin l.start)

@@ -1,5 +1,0 @@
-pub mod Grouping
-pub mod Sorting
-pub mod Gathering
-pub mod Updates
-pub mod Placings

@@ -1,3 +1,0 @@
-mod CompactLemmas
-mod PlaceLemmas
-mod PlanLemmas

@@ -1,3 +1,0 @@
-pub mod Layouts
-pub mod CompactionPlans
-pub use Rattle.shard_layout.specs.Repacking

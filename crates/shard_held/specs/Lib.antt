@@ -1,9 +1,0 @@
-pub mod OpenSessions
-pub mod PreparedWrites
-pub use Rattle.shard_writing.specs.Writing
-pub use Rattle.shard_writing.specs.WriteTests
-pub use Rattle.shard_writing.specs.Changes
-pub use Rattle.shard_opening.specs.Held
-pub use Rattle.shard_opening.specs.Slices
-pub use Rattle.shard_opening.specs.OpenShards
-pub use Rattle.shard_opening.specs.declared.shard.OpenShard

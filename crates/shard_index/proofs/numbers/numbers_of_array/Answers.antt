@@ -1,8 +1,0 @@
-use Rattle.std.proofs.Common.{◌∙◌, ap, arith, map}
-use Rattle.shard_format.specs.Index.{number_of_element}
-use Rattle.shard_index.proofs.NumberLaws.{chunks_of}
-use Rattle.shard_index.proofs.numbers.numbers_of_array.Goals as goal
-
-pub returns-clause-numbers : goal.returns-clause-numbers
-returns-clause-numbers c =
-    c.in_ok-numbers.ensures ∙ ap (map number_of_element) (chunks_of 8 c.args.index.now.elements c.bytes.result.now (omega arith) c.requires c.bytes.ensures)

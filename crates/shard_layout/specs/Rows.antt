@@ -1,9 +1,0 @@
--- Subchunks that lie in their shape as one row after the other.
-use Rattle.std.specs.Prelude.{◌≡◌, ◌<◌, ℕ, List, length, drop}
-use Rattle.zarr_parts.specs.Numbering.{count_of}
-
--- the subchunks of a shape follow one another in it, each of so many elements: all axes but the first are whole in the subchunk shape
-pub record FollowBy (shape sub : List ℕ) (places : ℕ) : Type 0 where
-  pub axes : 0 < length shape
-  pub follow : drop 1 shape ≡ drop 1 sub
-  pub places_are : places ≡ count_of sub

@@ -1,4 +1,0 @@
-pub mod StandingLemmas
-pub mod FromScratchLemmas
-pub mod RunLemmas
-pub mod ReadBackLaws

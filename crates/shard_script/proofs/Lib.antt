@@ -1,3 +1,0 @@
-mod OptionLaws
-mod OpenLaws
-mod ReshardLaws

@@ -1,6 +1,0 @@
-use Rattle.zarr_codecs.specs.RefusalLaws.{passed_on}
-use Rattle.shard_script.proofs.shard.Shard.encode.Goals as goal
-
-pub returns-in_err-object-clause-refused : goal.returns-in_err-object-clause-refused
-returns-in_err-object-clause-refused c =
-    passed_on _ c.in_err-object.field-0.0 _ c.from_residual.ensures.1 (rw c.data_type.ensures.value at c.in_err-object.ensures.refused)

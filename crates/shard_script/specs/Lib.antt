@@ -1,3 +1,0 @@
-pub mod Shards
-pub mod Answers
-pub mod Configured

@@ -1,6 +1,0 @@
-use Rattle.codec_laws.specs.RefusalLaws.{passed_on}
-use Rattle.shard_steps.proofs.sharding.ShardingArrayToBytesCodecTraits.encode.Goals as goal
-
-pub returns-in_err-encode_onto-clause-lawful : goal.returns-in_err-encode_onto-clause-lawful
-returns-in_err-encode_onto-clause-lawful g c =
-    passed_on _ c.in_err-encode_onto.field-0.0 _ c.from_residual.ensures.1 c.in_err-encode_onto.ensures.lawful

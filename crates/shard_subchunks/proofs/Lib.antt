@@ -1,8 +1,0 @@
-pub mod BehindLemmas
-pub mod PlainRowLemmas
-pub mod TargetLemmas
-pub mod PlainLemmas
-pub mod DecodedRowLemmas
-pub mod WholeLemmas
-pub mod PutLemmas
-pub mod BoxPutLemmas

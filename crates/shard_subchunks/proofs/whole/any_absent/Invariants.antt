@@ -1,7 +1,0 @@
-use Rattle.std.proofs.Common.{◌≡◌, ◌<◌, ℕ}
-use Rattle.shard_format.specs.Index.{slot_at}
-use Rattle.shard_format.specs.declared.slot.Slot.TheVariants.{Absent}
-use Rattle.shard_subchunks.proofs.whole.any_absent.Given as goal
-
-abbrev pub invariant-loop-k : goal.invariant-loop-k
-invariant-loop-k l = (k : ℕ) → k < l.k → slot_at l.index.len l.index.numbers.items k ≡ Absent → ⊥

@@ -1,5 +1,0 @@
-pub mod Inner
-pub mod PlainRows
-pub mod Reads
-pub mod DecodedRows
-pub mod Writes

@@ -1,8 +1,0 @@
-use Rattle.std.proofs.Common.{◌∙◌, ap}
-use Rattle.shard_updates.specs.Places.{slot_end}
-use Rattle.shard_updates.proofs.PlaceLemmas.{last_more}
-use Rattle.shard_updates.proofs.place.last_end.Goals as goal
-
-pub loop-k-preserved : goal.loop-k-preserved
-loop-k-preserved c =
-    last_more c.args.least c.args.len c.args.numbers.now c.loop-k.k _ _ _ c.loop-k.invariant (c.end_in-end.ensures ∙ ap slot_end c.slot_in.ensures.slot) c.max-last.ensures

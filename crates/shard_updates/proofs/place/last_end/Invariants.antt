@@ -1,7 +1,0 @@
--- The greatest end so far.
-use Rattle.std.proofs.Common.{◌≡◌}
-use Rattle.shard_updates.specs.Places.{last_end}
-use Rattle.shard_updates.proofs.place.last_end.Given as goal
-
-abbrev pub invariant-loop-k : goal.invariant-loop-k
-invariant-loop-k l = l.last ≡ last_end l.least l.len l.numbers l.k

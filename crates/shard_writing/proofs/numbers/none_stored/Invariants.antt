@@ -1,7 +1,0 @@
--- The slots so far name nothing.
-use Rattle.std.proofs.Common.{◌≡◌, ◌<◌, ℕ, get_or}
-use Rattle.shard_format.specs.declared.slot.Slot.TheVariants.{Absent}
-use Rattle.shard_writing.proofs.numbers.none_stored.Given as goal
-
-abbrev pub invariant-loop-k : goal.invariant-loop-k
-invariant-loop-k l = (j : ℕ) → j < l.k → get_or l.slots j Absent ≡ Absent

@@ -1,4 +1,0 @@
-pub mod Writing
-pub mod WriteTests
-pub mod Slices
-pub mod Changes

@@ -1,0 +1,19 @@
+// The sharding codec: an array cut into subchunks that an inner codec encodes, with an index of where they stand.
+#![tactic(auto)]
+
+mod capabilities;
+mod codec;
+mod compaction;
+mod configuration;
+mod functional;
+mod index;
+mod locked;
+mod options;
+mod partial_decoder;
+mod state;
+mod workers;
+
+pub use codec::ShardingCodec;
+pub use locked::ShardingPartialEncoder;
+pub use partial_decoder::ShardingPartialDecoder;
+pub use state::ShardState;

@@ -1,6 +1,0 @@
-use Rattle.sharding_core.proofs.codec.ShardingCodec.partial_encoder.Goals as goal
-
-pub returns-clause-opened : goal.returns-clause-opened
-returns-clause-opened g c =
-    let opened = c.in_ok-session.ensures in
-    (c.in_ok-session.session, opened.in_step, (opened.codec, opened.asked, opened.usable, opened.read))

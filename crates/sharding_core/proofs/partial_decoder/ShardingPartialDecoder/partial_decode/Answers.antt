@@ -1,7 +1,0 @@
-use Rattle.sharding_core.proofs.partial_decoder.ShardingPartialDecoder.partial_decode.Goals as goal
-
-pub returns-clause-refused : goal.returns-clause-refused
-returns-clause-refused g c = rw (← c.self.view_is) c.read_asked.ensures.refused
-
-pub returns-clause-cells : goal.returns-clause-cells
-returns-clause-cells g c = rw (← c.self.view_is) c.read_asked.ensures.cells

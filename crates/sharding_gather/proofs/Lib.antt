@@ -1,0 +1,12 @@
+pub mod GroupingLemmas
+pub mod ReadGroupLemmas
+pub mod GatherLemmas
+pub mod RunPositions
+pub mod LayingLaws
+pub mod MetPositions
+pub mod SubsetReadLemmas
+pub mod LocatingLemmas
+pub mod SortingLemmas
+pub mod SortedReads
+pub mod PlacingLemmas
+pub mod SubchunkOverlapLemmas

@@ -1,0 +1,8 @@
+use Rattle.std.proofs.Common.{◌≡◌, ◌*◌, map}
+use Rattle.std.specs.List.{concat, range_with_len}
+use Rattle.parts_row_major.specs.Numbering.{count_of}
+use Rattle.sharding_format.specs.steps.Decoding.{element_in}
+use Rattle.sharding_gather.proofs.laying.appended.Given as goal
+
+abbrev pub invariant-loop-k : goal.invariant-loop-k
+invariant-loop-k l = l.bytes.items ≡ concat (map (element_in l.subchunks l.fill l._shape l._sub) (range_with_len 0 (l.k * count_of l._sub)))

@@ -1,0 +1,3 @@
+pub mod Updates
+pub mod SubchunkOverlaps
+pub mod steps

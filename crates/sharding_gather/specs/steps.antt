@@ -1,0 +1,5 @@
+-- What the steps of this crate say of one another: no public clause reaches it.
+pub mod Gathering
+pub mod Grouping
+pub mod Placings
+pub mod Sorting

@@ -1,0 +1,22 @@
+// The cells of a shard: those that a read asks, by their subchunks, and the elements put together from subchunks.
+#![tactic(auto)]
+
+mod fill_values;
+mod gathering;
+mod grouping;
+mod laying;
+mod overlap;
+mod placing;
+mod requested;
+mod sorted;
+mod update;
+
+pub use fill_values::filled;
+pub use gathering::{check_lengths, gathered};
+pub use grouping::{Grouping, Positions, Standing, grouped};
+pub use laying::room_for;
+pub use overlap::{SubchunkOverlap, subchunk_overlap};
+pub use placing::{placed_part, placed_subset};
+pub use requested::{check_requested, put_together};
+pub use sorted::{RequestedCell, list_positions, located, put_cells, run_length, sorted_cells};
+pub use update::check_update;

@@ -1,0 +1,69 @@
+// Where a subchunk lies of an array that is itself a subset of another array.
+ghost use Rattle.std.specs.Prelude.{◌≡◌, ◌+◌, ◌^◌, ◌<◌, IfOk, IfErr};
+ghost use Rattle.parts_row_major.specs.Numbering.{count_of, zip_with};
+ghost use Rattle.parts_row_major.specs.Subsets.{IsSubset, LiesIn};
+ghost use Rattle.parts_subsets.specs.Grid.{Divides, grid_of, grid_subset};
+ghost use Rattle.parts_errors.specs.declared.error.CodecError.TheVariants.{OutOfMemory};
+ghost use Rattle.sharding_gather.specs.steps.Placings.{shifted_subset};
+
+use parts_errors::CodecError;
+use parts_subsets::{ArraySubset, Axes, ChunkShape};
+use sharding_format::subchunk_subset;
+use std::alloc::{AllocError, Global};
+
+// The starts of a subset, counted from an origin's own origin.
+fn moved(alloc: Global, start: &[u64], origin: &[u64]) -> Result<Axes, AllocError>
+    requires { IsSubset origin.now start.now }
+    ensures { IfOk result (λ axes. axes.items ≡ zip_with ◌+◌ origin.now start.now) }
+{
+    let mut axes = Axes::new(alloc);
+    for axis in 0..origin.len() {
+        axes.push(origin[axis] + start[axis])?;
+    }
+    Ok(axes)
+}
+
+/// A subset of an array that is itself a subset of another array, as a subset of this one. Refused only as out of memory.
+pub fn placed_part(
+    alloc: Global,
+    within: &ArraySubset,
+    part: &ArraySubset,
+) -> Result<ArraySubset, CodecError>
+    requires { LiesIn part.now within.now.shape }
+    ensures placed { IfOk result (λ placed. placed ≡ shifted_subset within.now part.now) }
+    ensures refused { IfErr result (λ e. e ≡ OutOfMemory) }
+{
+    let _lengths = within.shape();
+    let start = moved(alloc, part.start(), within.start())?;
+    let lengths = Axes::from_slice(alloc, part.shape())?;
+    match ArraySubset::new_with_axes(start, lengths) {
+        Some(placed) => Ok(placed),
+        None => unreachable!(),
+    }
+}
+
+/// The subset of a subchunk of a shape, where this is the shape of a subset of another array: the subchunk's subset there. Refused only
+/// as out of memory.
+pub fn placed_subset(
+    alloc: Global,
+    number: u64,
+    shape: &ChunkShape,
+    grid: &ChunkShape,
+    sub: &ChunkShape,
+    within: &ArraySubset,
+) -> Result<ArraySubset, CodecError>
+    requires fits { count_of shape.now < 2 ^ 64 }
+    requires divides { Divides sub.now shape.now }
+    requires grid { grid.now ≡ grid_of shape.now sub.now }
+    requires below { number < count_of grid.now }
+    requires same { within.now.shape ≡ shape.now }
+    ensures placed { IfOk result (λ placed. placed ≡ shifted_subset within.now (grid_subset grid.now sub.now number)) }
+    ensures refused { IfErr result (λ e. e ≡ OutOfMemory) }
+{
+    let _axes = shape.as_slice();
+    let Some(part) = subchunk_subset(alloc, number, grid, sub)? else {
+        unreachable!()
+    };
+    let placed = placed_part(alloc, within, &part)?;
+    Ok(placed)
+}

@@ -1,0 +1,7 @@
+-- The bytes of the numbers so far.
+use Rattle.std.proofs.Common.{◌≡◌, take, map}
+use Rattle.sharding_format.specs.Index.{element_of_number}
+use Rattle.sharding_index.proofs.numbers.chunks_of_numbers.Given as goal
+
+abbrev pub invariant-loop-number : goal.invariant-loop-number
+invariant-loop-number l = l.chunks.items ≡ map element_of_number (take l.number-index l.numbers)

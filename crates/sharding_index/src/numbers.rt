@@ -1,0 +1,91 @@
+// The numbers of an index: from the elements of an array and back, and from slots.
+ghost use Rattle.std.specs.Prelude.{◌≡◌, ◌<◌, ◌*◌, ◌/◌, ◌^◌, ℕ, IfOk, IfErr, map, length, slice_index_or};
+ghost use Rattle.std.specs.List.{All};
+ghost use Rattle.std.specs.Simd.{first_chunks};
+ghost use Rattle.parts_arrays.specs.declared.data_type.DataTypeSize.TheVariants.{Fixed};
+ghost use Rattle.parts_errors.specs.declared.error.CodecError.TheVariants.{OutOfMemory};
+ghost use Rattle.sharding_format.specs.Index.{number_of_element, element_of_number};
+ghost use Rattle.sharding_format.specs.Laying.{offset_number, size_number, EndsBelow, AreNumbersOf};
+ghost use Rattle.sharding_format.specs.declared.slot.Slot.TheVariants.{Bad};
+
+use parts_arrays::ArrayBytes;
+use parts_errors::CodecError;
+use sharding_format::Slot;
+use std::alloc::{AllocError, Global};
+use std::borrow::CowSlice;
+
+// The numbers that bytes are, of eight bytes each.
+fn numbers_of_bytes(alloc: Global, bytes: &[u8]) -> Result<Vec<u64>, AllocError>
+    ensures { IfOk result (λ numbers. numbers.items ≡ map number_of_element (first_chunks 8 (length bytes.now / 8) bytes.now)) }
+{
+    let (chunks, _) = bytes.as_chunks::<8>();
+    chunks
+        .iter()
+        .map(|chunk| u64::from_le_bytes(*chunk))
+        .collect(alloc)
+}
+
+// The numbers that an array's elements are.
+pub(crate) fn numbers_of_array(alloc: Global, index: &ArrayBytes) -> Result<Vec<u64>, CodecError>
+    requires { All (λ e. length e ≡ 8) index.now.elements }
+    ensures refused { IfErr result (λ e. e ≡ OutOfMemory) }
+    ensures numbers { IfOk result (λ numbers. numbers.items ≡ map number_of_element index.now.elements) }
+{
+    let numbers = numbers_of_bytes(alloc, index.bytes())?;
+    Ok(numbers)
+}
+
+/// The pair of the index that names a slot of the data part, which begins at `start`: its offset and its size.
+pub fn entry_of(slot: Slot, start: u64) -> (u64, u64)
+    requires { EndsBelow start slot }
+    ensures offset { result.0 ≡ offset_number start slot }
+    ensures size { result.1 ≡ size_number slot }
+{
+    match slot {
+        Slot::Absent => (u64::MAX, u64::MAX),
+        Slot::InRange { offset, size } => (start + offset, size),
+        Slot::Bad => (0, 0),
+    }
+}
+
+// The numbers of the index of these slots.
+pub(crate) fn numbers_of_slots(
+    alloc: Global,
+    slots: &[Slot],
+    start: u64,
+) -> Result<Vec<u64>, CodecError>
+    requires { (k : ℕ) → k < length slots.now → EndsBelow start (slice_index_or slots.now k Bad) }
+    ensures refused { IfErr result (λ e. e ≡ OutOfMemory) }
+    ensures numbers { IfOk result (λ numbers. AreNumbersOf start slots.now numbers.items (length slots.now)) }
+    ensures below { IfOk result (λ numbers. All (λ n. n < 2 ^ 64) numbers.items) }
+{
+    let mut numbers = Vec::with_capacity(alloc, 2 * slots.len())?;
+    for k in 0..slots.len() {
+        let (offset, size) = entry_of(slots[k], start);
+        numbers.push(offset)?;
+        numbers.push(size)?;
+    }
+    Ok(numbers)
+}
+
+// The bytes of these numbers, eight of each.
+pub(crate) fn chunks_of_numbers(alloc: Global, numbers: &[u64]) -> Result<Vec<[u8; 8]>, AllocError>
+    ensures { IfOk result (λ chunks. chunks.items ≡ map element_of_number numbers.now) }
+{
+    let mut chunks = Vec::with_capacity(alloc, numbers.len())?;
+    for number in numbers {
+        chunks.push(number.to_le_bytes())?;
+    }
+    Ok(chunks)
+}
+
+// The array whose elements these are.
+pub(crate) fn array_of_chunks(chunks: &[[u8; 8]]) -> ArrayBytes<'_>
+    ensures kind { result.kind ≡ Fixed 8 }
+    ensures elements { result.elements ≡ chunks.now }
+{
+    match ArrayBytes::new_flen(CowSlice::Borrowed(chunks.as_flattened()), 8) {
+        Some(array) => array,
+        None => unreachable!(),
+    }
+}

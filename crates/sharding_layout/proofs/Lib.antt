@@ -1,0 +1,4 @@
+pub mod RepackingLemmas
+mod CompactLemmas
+mod OffsetLemmas
+mod PlanLemmas

@@ -1,0 +1,33 @@
+use Rattle.parts_subsets.proofs.GridLaws.{count-positive}
+use Rattle.codec_traits.specs.RefusalLaws.{passed_on}
+use Rattle.sharding_format.proofs.SubsetLemmas.{subset_refused, part_refused, extracted_subset}
+use Rattle.sharding_layout.proofs.laying.gather_subchunk.Goals as goal
+
+pub borrowed_subchunk-requires-clause-some : goal.borrowed_subchunk-requires-clause-some
+borrowed_subchunk-requires-clause-some c = count-positive c.args.shape.now c.as_slice-axes.ensures.positive
+
+pub returns-in_err-subset-clause-refused : goal.returns-in_err-subset-clause-refused
+returns-in_err-subset-clause-refused c =
+    let shape = c.args.shape.now in
+    let sub = c.args.sub.now in
+    let e = c.in_err-subset.field-0.0 in
+    let below = rw c.requires.grid at c.requires.below in
+    let refused = rw c.requires.grid at c.in_err-subset.ensures.refused in
+    passed_on _ e _ c.from_residual.ensures.1 (subset_refused shape sub c.args.number c.as_slice-axes.ensures.positive c.requires.divides c.requires.fits below e c.requires.axes refused)
+
+pub returns-in_err-part-clause-refused : goal.returns-in_err-part-clause-refused
+returns-in_err-part-clause-refused c =
+    let shape = c.args.shape.now in
+    let sub = c.args.sub.now in
+    let e = c.in_err-part.field-0.0 in
+    let below = rw c.requires.grid at c.requires.below in
+    let found = rw (c.in-Some-2.is, c.requires.grid) at c.in_ok-subset.ensures.subset in
+    let refused = rw c.as_slice-axes.ensures.value at c.in_err-part.ensures.refused in
+    passed_on _ e _ c.from_residual-in_err-part.ensures.1
+    (part_refused shape sub c.args.number c.as_slice-axes.ensures.positive c.requires.divides c.requires.fits below c.args.array.now c.args.data_type.now c.in-Some-2.subset e
+    c.requires.axes c.requires.supported c.requires.kind c.requires.counted found.1 refused)
+
+pub returns-clause-elements : goal.returns-clause-elements
+returns-clause-elements c =
+    let found = rw (c.in-Some-2.is, c.requires.grid) at c.in_ok-subset.ensures.subset in
+    extracted_subset c.args.array.now c.in_ok-part.part c.args.shape.now c.args.sub.now c.in-Some-2.subset c.args.number found.1 (rw c.as_slice-axes.ensures.value at c.in_ok-part.ensures.extracted)

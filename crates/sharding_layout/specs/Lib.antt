@@ -1,0 +1,4 @@
+pub mod Repacking
+pub mod Rows
+pub mod Layouts
+pub mod CompactionPlans

@@ -1,0 +1,17 @@
+// Where the slices of a shard go: subchunks laid end to end, and slices packed.
+#![tactic(auto)]
+
+mod compact;
+mod laying;
+mod packing;
+mod plan;
+mod storing;
+
+pub use compact::compacted;
+pub use laying::{
+    StoredSlices, absent_slots, elements_in_row, gather_subchunk, joined_shard, placed,
+    room_for_next,
+};
+pub use packing::{compact_size, packed_numbers, push_slices};
+pub use plan::{CompactionPlan, plan_compaction};
+pub use storing::store_after;

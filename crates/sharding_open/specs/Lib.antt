@@ -1,0 +1,5 @@
+pub mod Cached
+pub mod OpenShards
+pub mod OpenSessions
+pub mod PreparedWrites
+pub mod steps

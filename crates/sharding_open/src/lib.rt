@@ -1,0 +1,16 @@
+// A shard that is open through a handle: what is held of its object, what is read of it, and what a session holds and writes.
+#![tactic(auto)]
+
+mod cached;
+mod reads;
+mod requested;
+mod session;
+mod session_reads;
+mod shard;
+mod subchunks;
+mod writes;
+
+pub use requested::{read_into, read_requested};
+pub use session::OpenSession;
+pub use shard::OpenShard;
+pub use subchunks::byte_range;

@@ -1,0 +1,15 @@
+-- The touched subchunks so far have been read.
+use Rattle.std.proofs.Common.{◌≡◌, ◌*◌, IsTrue, length}
+use Rattle.storage_handles.specs.Handles.{IsRead}
+use Rattle.storage_handles.specs.Objects.{interval_part}
+use Rattle.sharding_gather.proofs.SubsetReadLemmas.{IsReadTo}
+use Rattle.sharding_subchunks.specs.steps.Inner.{inner_meaning}
+use Rattle.sharding_subchunks.proofs.subchunks.Subchunks.subset_bytes.Given as goal
+
+abbrev pub invariant-loop-j : goal.invariant-loop-j
+invariant-loop-j g l = let h = g.H.BytesPartialDecoderTraits in let s = l.self in let inner = inner_meaning g.I.ArrayToBytesCodecTraits.meaning s in record {
+  read : IsRead (h.state l.fn.handle) (h.state l.handle);
+  whole : length l.bytes.items ≡ l.count * length s.fill_value.now;
+  so_far : IsTrue (h.state l.fn.handle).transparent
+      → IsReadTo inner.cells l.shape s.shape.now s.fill_value.now (interval_part l.outer (h.state l.fn.handle).contents) l.index.numbers.items l.subset l.touched.items l.outer.size l.j l.bytes.items;
+}

@@ -1,0 +1,297 @@
+// Subchunks of an array, encoded and laid end to end in an order.
+ghost use Rattle.std.specs.Prelude.{◌≡◌, ◌<◌, ◌^◌, IfOk, IfErr, OnErr, IfSome, IsPermutation, length, take, drop};
+ghost use Rattle.std.specs.List.{range_with_len};
+ghost use Rattle.parts_errors.specs.Order.{done, RefusedBy};
+ghost use Rattle.parts_row_major.specs.Numbering.{count_of};
+ghost use Rattle.parts_subsets.specs.Grid.{Divides, grid_of, subchunk};
+ghost use Rattle.parts_arrays.specs.ArraySpec.{array_spec, IsArrayOf};
+ghost use Rattle.parts_arrays.specs.Types.{size_of, HasElements};
+ghost use Rattle.sharding_format.specs.Laying.{IsStored, IsStoredAfter, IsStoredInOrder};
+ghost use Rattle.sharding_format.specs.EncodeRefusals.{RefusesToStore, StoreRefusals};
+ghost use Rattle.sharding_layout.specs.Rows.{FollowBy};
+ghost use Rattle.sharding_subchunks.specs.steps.Inner.{spec_of_subchunks, inner_meaning};
+
+use crate::subchunks::Subchunks;
+use codec_traits::ArrayToBytesCodecTraits;
+use parts_arrays::ArrayBytes;
+use parts_errors::CodecError;
+use parts_subsets::ChunkShape;
+use sharding_format::Slot;
+use sharding_layout::{
+    absent_slots, elements_in_row, gather_subchunk, placed, room_for_next, store_after,
+};
+use sharding_order::SubchunkSequence;
+use std::alloc::Global;
+
+/// What is to be stored of a subchunk: nothing where it is all fill.
+#[derive(Drop)]
+pub struct Stored {
+    pub present: bool,
+    pub bytes: Vec<u8>,
+}
+
+impl<I: ArrayToBytesCodecTraits> Subchunks<'_, I> {
+    /// Encodes a subchunk that isn't all fill. Refused as `CannotEncode` or `TooLarge`; or as `OutOfMemory`.
+    pub fn stored_of(&self, alloc: Global, part: &ArrayBytes) -> Result<Stored, CodecError>
+        requires serves { (inner_meaning I.meaning self.now).serves }
+        requires kind { part.now.kind ≡ size_of self.now.data_type.now }
+        requires array { IsArrayOf (spec_of_subchunks self.now) part.now.elements }
+        ensures stored { let inner = inner_meaning I.meaning self.now in
+            IfOk result (λ stored. IsStored inner.written self.now.fill_value.now part.now.elements stored.present stored.bytes.items) }
+        ensures refused { let inner = inner_meaning I.meaning self.now in
+            IfErr result (RefusedBy (RefusesToStore inner.encodable inner.fits self.now.fill_value.now part.now.elements)) }
+    {
+        let mut bytes = Vec::new(alloc);
+        let slot = self.store_after(alloc, part, &mut bytes)?;
+        Ok(Stored {
+            present: slot != Slot::Absent,
+            bytes,
+        })
+    }
+
+    /// Puts the encoding of a subchunk that isn't all fill behind the slices that are there, and tells where it stands. A refusal
+    /// leaves the slices. Refused as `CannotEncode` or `TooLarge`; or as `OutOfMemory`.
+    pub fn store_after(
+        &self,
+        alloc: Global,
+        part: &ArrayBytes,
+        slices: &mut Vec<u8>,
+    ) -> Result<Slot, CodecError>
+        requires serves { (inner_meaning I.meaning self.now).serves }
+        requires kind { part.now.kind ≡ size_of self.now.data_type.now }
+        requires array { IsArrayOf (spec_of_subchunks self.now) part.now.elements }
+        ensures stored { let inner = inner_meaning I.meaning self.now in
+            IfOk result (IsStoredAfter inner.written self.now.fill_value.now part.now.elements slices.old.items slices.new.items) }
+        ensures kept { OnErr result (slices.new.items ≡ slices.old.items) }
+        ensures refused { let inner = inner_meaning I.meaning self.now in
+            IfErr result (RefusedBy (RefusesToStore inner.encodable inner.fits self.now.fill_value.now part.now.elements)) }
+    {
+        store_after(
+            self.codec,
+            alloc,
+            part,
+            self.shape,
+            self.data_type,
+            self.fill_value,
+            slices,
+            self.options,
+        )
+    }
+
+    /// What is to be stored of the subchunk of an array with a number. Refused as `CannotEncode` or `TooLarge`; or as `OutOfMemory`.
+    pub fn stored_at(
+        &self,
+        alloc: Global,
+        array: &ArrayBytes,
+        number: u64,
+        in_row: Option<u64>,
+        shape: &ChunkShape,
+        grid: &ChunkShape,
+    ) -> Result<Stored, CodecError>
+        requires serves { (inner_meaning I.meaning self.now).serves }
+        requires supported { HasElements self.now.data_type.now }
+        requires kind { array.now.kind ≡ size_of self.now.data_type.now }
+        requires array { IsArrayOf (array_spec shape.now self.now.data_type.now self.now.fill_value.now) array.now.elements }
+        requires fits { count_of shape.now < 2 ^ 64 }
+        requires axes { length shape.now ≡ length self.now.shape.now }
+        requires divides { Divides self.now.shape.now shape.now }
+        requires grid { grid.now ≡ grid_of shape.now self.now.shape.now }
+        requires below { number < count_of grid.now }
+        requires in_row { IfSome in_row (FollowBy shape.now self.now.shape.now) }
+        ensures stored { let inner = inner_meaning I.meaning self.now in
+            IfOk result (λ stored. IsStored inner.written self.now.fill_value.now
+            (subchunk shape.now self.now.shape.now array.now.elements number) stored.present stored.bytes.items) }
+        ensures refused { let inner = inner_meaning I.meaning self.now in
+            IfErr result (RefusedBy (RefusesToStore inner.encodable inner.fits self.now.fill_value.now
+            (subchunk shape.now self.now.shape.now array.now.elements number))) }
+    {
+        let part = gather_subchunk(
+            alloc,
+            array,
+            number,
+            in_row,
+            shape,
+            grid,
+            self.shape,
+            self.data_type,
+        )?;
+        let stored = self.stored_of(alloc, &part)?;
+        Ok(stored)
+    }
+
+    // The refusal of the lowest subchunk that is refused, where that with a number is refused as `refusal` says. Those below it are
+    // encoded once more, one at a time.
+    fn lowest_refusal(
+        &self,
+        alloc: Global,
+        array: &ArrayBytes,
+        number: u64,
+        in_row: Option<u64>,
+        shape: &ChunkShape,
+        grid: &ChunkShape,
+        refusal: CodecError,
+    ) -> CodecError
+        requires serves { (inner_meaning I.meaning self.now).serves }
+        requires supported { HasElements self.now.data_type.now }
+        requires kind { array.now.kind ≡ size_of self.now.data_type.now }
+        requires array { IsArrayOf (array_spec shape.now self.now.data_type.now self.now.fill_value.now) array.now.elements }
+        requires fits { count_of shape.now < 2 ^ 64 }
+        requires axes { length shape.now ≡ length self.now.shape.now }
+        requires divides { Divides self.now.shape.now shape.now }
+        requires grid { grid.now ≡ grid_of shape.now self.now.shape.now }
+        requires below { number < count_of grid.now }
+        requires in_row { IfSome in_row (FollowBy shape.now self.now.shape.now) }
+        requires refusal { let inner = inner_meaning I.meaning self.now in
+            RefusedBy (RefusesToStore inner.encodable inner.fits self.now.fill_value.now
+            (subchunk shape.now self.now.shape.now array.now.elements number)) refusal }
+        ensures { let inner = inner_meaning I.meaning self.now in
+            RefusedBy (StoreRefusals inner self.now.fill_value.now
+            (subchunk shape.now self.now.shape.now array.now.elements) (count_of grid.now) done) result }
+    {
+        if refusal == CodecError::OutOfMemory {
+            return refusal;
+        }
+        for lower in 0..number {
+            if let Err(error) = self.stored_at(alloc, array, lower, in_row, shape, grid) {
+                return error;
+            }
+        }
+        refusal
+    }
+
+    // Puts the encoding of a subchunk that isn't all fill behind bytes that are there, and tells where it stands. A refusal leaves
+    // them, and is that of the lowest subchunk that is refused.
+    fn store_number(
+        &self,
+        alloc: Global,
+        array: &ArrayBytes,
+        number: u64,
+        in_row: Option<u64>,
+        shape: &ChunkShape,
+        grid: &ChunkShape,
+        bytes: &mut Vec<u8>,
+    ) -> Result<Slot, CodecError>
+        requires serves { (inner_meaning I.meaning self.now).serves }
+        requires supported { HasElements self.now.data_type.now }
+        requires kind { array.now.kind ≡ size_of self.now.data_type.now }
+        requires array { IsArrayOf (array_spec shape.now self.now.data_type.now self.now.fill_value.now) array.now.elements }
+        requires fits { count_of shape.now < 2 ^ 64 }
+        requires axes { length shape.now ≡ length self.now.shape.now }
+        requires divides { Divides self.now.shape.now shape.now }
+        requires grid { grid.now ≡ grid_of shape.now self.now.shape.now }
+        requires below { number < count_of grid.now }
+        requires in_row { IfSome in_row (FollowBy shape.now self.now.shape.now) }
+        ensures stored { let inner = inner_meaning I.meaning self.now in
+            IfOk result (IsStoredAfter inner.written self.now.fill_value.now
+            (subchunk shape.now self.now.shape.now array.now.elements number) bytes.old.items bytes.new.items) }
+        ensures kept { OnErr result (bytes.new.items ≡ bytes.old.items) }
+        ensures refused { let inner = inner_meaning I.meaning self.now in
+            IfErr result (RefusedBy (StoreRefusals inner self.now.fill_value.now
+            (subchunk shape.now self.now.shape.now array.now.elements) (count_of grid.now) done)) }
+    {
+        let part = gather_subchunk(
+            alloc,
+            array,
+            number,
+            in_row,
+            shape,
+            grid,
+            self.shape,
+            self.data_type,
+        )?;
+        match self.store_after(alloc, &part, bytes) {
+            Ok(slot) => Ok(slot),
+            Err(refusal) => {
+                Err(self.lowest_refusal(alloc, array, number, in_row, shape, grid, refusal))
+            }
+        }
+    }
+
+    // Each subchunk of an array that isn't all fill encoded behind bytes that are there, which stay, in the order of a sequence. Where
+    // one is refused, those before it may stand there.
+    fn lay_out_each(
+        &self,
+        alloc: Global,
+        array: &ArrayBytes,
+        in_row: Option<u64>,
+        shape: &ChunkShape,
+        grid: &ChunkShape,
+        sequence: &SubchunkSequence,
+        bytes: &mut Vec<u8>,
+    ) -> Result<Vec<Slot>, CodecError>
+        requires serves { (inner_meaning I.meaning self.now).serves }
+        requires supported { HasElements self.now.data_type.now }
+        requires kind { array.now.kind ≡ size_of self.now.data_type.now }
+        requires array { IsArrayOf (array_spec shape.now self.now.data_type.now self.now.fill_value.now) array.now.elements }
+        requires fits { count_of shape.now < 2 ^ 64 }
+        requires axes { length shape.now ≡ length self.now.shape.now }
+        requires divides { Divides self.now.shape.now shape.now }
+        requires grid { grid.now ≡ grid_of shape.now self.now.shape.now }
+        requires order { IsPermutation (range_with_len 0 (count_of grid.now)) sequence.now }
+        requires in_row { IfSome in_row (FollowBy shape.now self.now.shape.now) }
+        ensures stay { take (length bytes.old.items) bytes.new.items ≡ bytes.old.items }
+        ensures stored_slices { let inner = inner_meaning I.meaning self.now in
+            IfOk result (λ slots. IsStoredInOrder inner.written self.now.fill_value.now shape.now self.now.shape.now array.now.elements
+            (drop (length bytes.old.items) bytes.new.items) slots.items sequence.now (count_of grid.now)) }
+        ensures refused { let inner = inner_meaning I.meaning self.now in
+            IfErr result (RefusedBy (StoreRefusals inner self.now.fill_value.now
+            (subchunk shape.now self.now.shape.now array.now.elements) (count_of grid.now) done)) }
+    {
+        let start = bytes.len();
+        let many = sequence.len();
+        let mut slots = absent_slots(alloc, many as usize)?;
+        let mut longest = 0;
+        for position in 0..many {
+            room_for_next(
+                bytes,
+                start,
+                position as usize,
+                (many - position) as usize,
+                longest,
+            )?;
+            let number = sequence.number_at(position);
+            let from = bytes.len();
+            let slot = self.store_number(alloc, array, number, in_row, shape, grid, bytes)?;
+            let (offset, size) = (from - start, bytes.len() - from);
+            longest = longest.max(size);
+            slots[number as usize] = placed(slot != Slot::Absent, offset as u64, size as u64);
+        }
+        Ok(slots)
+    }
+
+    /// Each subchunk of an array that isn't all fill encoded, one after the other in the order of a sequence, behind bytes that are
+    /// there, which stay; the slots, in ascending number, are counted from their end. The lowest that the inner codec refuses gives
+    /// the refusal, and some may stand there: `CannotEncode`, `TooLarge`; or `OutOfMemory`.
+    pub fn store_all_after(
+        &self,
+        alloc: Global,
+        array: &ArrayBytes,
+        shape: &ChunkShape,
+        grid: &ChunkShape,
+        sequence: &SubchunkSequence,
+        bytes: &mut Vec<u8>,
+    ) -> Result<Vec<Slot>, CodecError>
+        requires serves { (inner_meaning I.meaning self.now).serves }
+        requires supported { HasElements self.now.data_type.now }
+        requires kind { array.now.kind ≡ size_of self.now.data_type.now }
+        requires array { IsArrayOf (array_spec shape.now self.now.data_type.now self.now.fill_value.now) array.now.elements }
+        requires fits { count_of shape.now < 2 ^ 64 }
+        requires axes { length shape.now ≡ length self.now.shape.now }
+        requires divides { Divides self.now.shape.now shape.now }
+        requires grid { grid.now ≡ grid_of shape.now self.now.shape.now }
+        requires order { IsPermutation (range_with_len 0 (count_of grid.now)) sequence.now }
+        ensures stay { take (length bytes.old.items) bytes.new.items ≡ bytes.old.items }
+        ensures stored_slices { let inner = inner_meaning I.meaning self.now in
+            IfOk result (λ slots. IsStoredInOrder inner.written self.now.fill_value.now shape.now self.now.shape.now array.now.elements
+            (drop (length bytes.old.items) bytes.new.items) slots.items sequence.now (count_of grid.now)) }
+        ensures refused { let inner = inner_meaning I.meaning self.now in
+            IfErr result (RefusedBy (StoreRefusals inner self.now.fill_value.now
+            (subchunk shape.now self.now.shape.now array.now.elements) (count_of grid.now) done)) }
+    {
+        let in_row = elements_in_row(shape, self.shape);
+        if let Some(slots) = self.lay_out_rows(alloc, array, in_row, shape, sequence, bytes)? {
+            return Ok(slots);
+        }
+        self.lay_out_each(alloc, array, in_row, shape, grid, sequence, bytes)
+    }
+}

@@ -1,0 +1,20 @@
+// The subchunks of a shard, by its inner codec: decoded, read in part, encoded.
+#![tactic(auto)]
+
+mod cells;
+mod decoded;
+mod encoded;
+mod listed;
+mod plain;
+mod plain_decoded;
+mod plain_rows;
+mod plain_subset;
+mod plain_target;
+mod read;
+mod requested;
+mod subchunks;
+mod subsets;
+mod whole;
+
+pub use encoded::Stored;
+pub use subchunks::Subchunks;

@@ -1,0 +1,208 @@
+// Subchunks that are rows of an array's bytes, laid end to end where the inner codec stores elements as they are in memory.
+ghost use Rattle.std.specs.Prelude.{◌≡◌, ◌<◌, ◌++◌, ◌⊎◌, [], OnOk, OnErr, IfOk, IfSome, IfNone, IsTrue, IsPermutation, ◌↔◌, length, take, drop};
+ghost use Rattle.std.specs.List.{range_with_len};
+ghost use Rattle.parts_row_major.specs.Numbering.{count_of};
+ghost use Rattle.parts_subsets.specs.Grid.{Divides, grid_of};
+ghost use Rattle.parts_arrays.specs.ArraySpec.{array_spec, IsArrayOf};
+ghost use Rattle.parts_arrays.specs.Arrays.{IsWhole, fixed_array};
+ghost use Rattle.sharding_format.specs.Encoding.{IsAllFill};
+ghost use Rattle.sharding_format.specs.Laying.{IsStoredInOrder};
+ghost use Rattle.sharding_layout.specs.Rows.{FollowBy};
+ghost use Rattle.sharding_subchunks.specs.steps.Inner.{spec_of_subchunks, inner_meaning};
+ghost use Rattle.sharding_subchunks.specs.PlainRows.{ArePlainRows};
+
+use crate::subchunks::Subchunks;
+use codec_traits::ArrayToBytesCodecTraits;
+use parts_arrays::{ArrayBytes, FillValue};
+use parts_subsets::ChunkShape;
+use sharding_format::Slot;
+use sharding_layout::{absent_slots, placed, room_for_next};
+use sharding_order::SubchunkSequence;
+use std::alloc::{AllocError, Global};
+use std::borrow::CowSlice;
+
+// Whether each element that a row's bytes are is the fill value. The first byte tells it of most rows that aren't.
+fn is_blank(row: &[u8], fill_value: &FillValue) -> bool
+    requires whole { IsWhole (length fill_value.now) row.now }
+    requires some { 0 < length row.now }
+    ensures { IsTrue result ↔ IsAllFill fill_value.now (fixed_array (length fill_value.now) row.now).elements }
+{
+    let fill = fill_value.as_ne_bytes();
+    if row[0] != fill[0] {
+        return false;
+    }
+    if row.len() == fill.len() {
+        return row == fill;
+    }
+    match ArrayBytes::new_flen(CowSlice::Borrowed(row), fill.len()) {
+        Some(elements) => elements.is_fill_value(fill_value),
+        None => unreachable!(),
+    }
+}
+
+// What is to be stored of a row: nothing where each element is the fill value.
+fn stored_row<'a>(row: &'a [u8], fill_value: &FillValue) -> &'a [u8]
+    requires whole { IsWhole (length fill_value.now) row.now }
+    requires some { 0 < length row.now }
+    ensures { let elements = (fixed_array (length fill_value.now) row.now).elements in
+        (IsAllFill fill_value.now elements × (result.now ≡ [])) ⊎ ((¬ (IsAllFill fill_value.now elements)) × (result.now ≡ row.now)) }
+{
+    if is_blank(row, fill_value) {
+        return &row[..0];
+    }
+    row
+}
+
+// Puts a run of rows behind the others, which begin at `start`, where some rows are laid out and some are left; one of none takes
+// no call. A refusal leaves them.
+fn push_rows(
+    slices: &mut Vec<u8>,
+    start: usize,
+    stored_slices: usize,
+    left: usize,
+    run: &[u8],
+) -> Result<(), AllocError>
+    ensures appended { OnOk result (slices.new.items ≡ slices.old.items ++ run.now) }
+    ensures kept { OnErr result (slices.new.items ≡ slices.old.items) }
+{
+    if run.len() == 0 {
+        return Ok(());
+    }
+    room_for_next(slices, start, stored_slices, left, run.len())?;
+    slices.extend_from_slice(run)
+}
+
+impl<I: ArrayToBytesCodecTraits> Subchunks<'_, I> {
+    // The rows that aren't all fill, one after the other behind the slices that are there, which stay; neighbours are copied
+    // together. Refused only as out of memory, and then some rows may stand there.
+    fn lay_out_bytes(
+        &self,
+        alloc: Global,
+        bytes: &[u8],
+        size: usize,
+        rows: usize,
+        _array: &ArrayBytes,
+        _shape: &ChunkShape,
+        slices: &mut Vec<u8>,
+    ) -> Result<Vec<Slot>, AllocError>
+        requires rows { let inner = inner_meaning I.meaning self.now in
+            ArePlainRows inner.written self.now.fill_value.now _shape.now self.now.shape.now _array.now.elements bytes.now size rows }
+        ensures stay { take (length slices.old.items) slices.new.items ≡ slices.old.items }
+        ensures stored_slices { let inner = inner_meaning I.meaning self.now in
+            IfOk result (λ slots. IsStoredInOrder inner.written self.now.fill_value.now _shape.now self.now.shape.now _array.now.elements
+            (drop (length slices.old.items) slices.new.items) slots.items (range_with_len 0 rows) rows) }
+    {
+        let start = slices.len();
+        let mut slots = Vec::with_capacity(alloc, rows)?;
+        let mut copied = 0;
+        for k in 0..rows {
+            let first = k * size;
+            if !is_blank(&bytes[first..first + size], self.fill_value) {
+                slots.push(Slot::InRange {
+                    offset: (slices.len() - start + (first - copied)) as u64,
+                    size: size as u64,
+                })?;
+                continue;
+            }
+            push_rows(slices, start, k, rows - k, &bytes[copied..first])?;
+            copied = first + size;
+            slots.push(Slot::Absent)?;
+        }
+        push_rows(slices, start, rows, 0, &bytes[copied..])?;
+        Ok(slots)
+    }
+
+    // The rows that aren't all fill, one after the other in the order of a sequence, behind the slices that are there, which stay.
+    // Refused only as out of memory, and then some rows may stand there.
+    fn lay_out_along(
+        &self,
+        alloc: Global,
+        bytes: &[u8],
+        size: usize,
+        sequence: &SubchunkSequence,
+        _array: &ArrayBytes,
+        _shape: &ChunkShape,
+        slices: &mut Vec<u8>,
+    ) -> Result<Vec<Slot>, AllocError>
+        requires order { IsPermutation (range_with_len 0 (length sequence.now)) sequence.now }
+        requires rows { let inner = inner_meaning I.meaning self.now in
+            ArePlainRows inner.written self.now.fill_value.now _shape.now self.now.shape.now _array.now.elements bytes.now size (length sequence.now) }
+        ensures stay { take (length slices.old.items) slices.new.items ≡ slices.old.items }
+        ensures stored_slices { let inner = inner_meaning I.meaning self.now in
+            IfOk result (λ slots. IsStoredInOrder inner.written self.now.fill_value.now _shape.now self.now.shape.now _array.now.elements
+            (drop (length slices.old.items) slices.new.items) slots.items sequence.now (length sequence.now)) }
+    {
+        let start = slices.len();
+        let rows = sequence.len() as usize;
+        let mut slots = absent_slots(alloc, rows)?;
+        for position in 0..rows {
+            let number = sequence.number_at(position as u64) as usize;
+            let first = number * size;
+            let run = stored_row(&bytes[first..first + size], self.fill_value);
+            let offset = slices.len() - start;
+            push_rows(slices, start, position, rows - position, run)?;
+            slots[number] = placed(run.len() > 0, offset as u64, run.len() as u64);
+        }
+        Ok(slots)
+    }
+
+    /// The subchunks laid out as `store_all_after` does, where they follow one another in the array, as `elements_in_row` tells, and
+    /// the inner codec stores their elements as they are in memory. Else `None`, and nothing is put there. Refused only as out of
+    /// memory.
+    pub(crate) fn lay_out_rows(
+        &self,
+        alloc: Global,
+        array: &ArrayBytes,
+        in_row: Option<u64>,
+        shape: &ChunkShape,
+        sequence: &SubchunkSequence,
+        slices: &mut Vec<u8>,
+    ) -> Result<Option<Vec<Slot>>, AllocError>
+        requires array { IsArrayOf (array_spec shape.now self.now.data_type.now self.now.fill_value.now) array.now.elements }
+        requires divides { Divides self.now.shape.now shape.now }
+        requires order { IsPermutation (range_with_len 0 (count_of (grid_of shape.now self.now.shape.now))) sequence.now }
+        requires in_row { IfSome in_row (FollowBy shape.now self.now.shape.now) }
+        ensures stay { take (length slices.old.items) slices.new.items ≡ slices.old.items }
+        ensures none { IfOk result (λ rows. IfNone rows (slices.new.items ≡ slices.old.items)) }
+        ensures stored_slices { let inner = inner_meaning I.meaning self.now in
+            IfOk result (λ rows. IfSome rows (λ slots. IsStoredInOrder inner.written self.now.fill_value.now shape.now self.now.shape.now
+            array.now.elements (drop (length slices.old.items) slices.new.items) slots.items sequence.now (count_of (grid_of shape.now self.now.shape.now)))) }
+    {
+        let _axes = shape.as_slice();
+        let Some(_places) = in_row else {
+            return Ok(None);
+        };
+        let Some(size) = self
+            .codec
+            .plain_size(self.shape, self.data_type, self.fill_value)
+        else {
+            return Ok(None);
+        };
+        let Some(bytes) = array.fixed_bytes() else {
+            return Ok(None);
+        };
+        if sequence.is_ascending() {
+            let rows = sequence.len() as usize;
+            let slots = self.lay_out_bytes(
+                alloc,
+                bytes,
+                size as usize,
+                rows,
+                array,
+                shape,
+                slices,
+            )?;
+            return Ok(Some(slots));
+        }
+        let slots = self.lay_out_along(
+            alloc,
+            bytes,
+            size as usize,
+            sequence,
+            array,
+            shape,
+            slices,
+        )?;
+        Ok(Some(slots))
+    }
+}

@@ -1,0 +1,151 @@
+// A whole shard whose inner codec stores elements as they are in memory, copied slice by slice to where each lies in a target.
+ghost use Rattle.std.specs.Prelude.{◌≡◌, ◌+◌, ◌*◌, ◌/◌, ◌^◌, ◌<◌, ℕ, Some, IsTrue, IfOk, IfErr, OnErr, map, length, slice_index_or};
+ghost use Rattle.std.specs.List.{range_with_len};
+ghost use Rattle.parts_row_major.specs.Numbering.{count_of};
+ghost use Rattle.parts_row_major.specs.Subsets.{IsServed};
+ghost use Rattle.parts_subsets.specs.Grid.{Divides, grid_of, grid_subset};
+ghost use Rattle.parts_arrays.specs.Targets.{target_element_size, target_shape, target_subset};
+ghost use Rattle.parts_errors.specs.declared.error.CodecError.TheVariants.{OutOfMemory};
+ghost use Rattle.codec_traits.specs.Encodings.{IsPlain};
+ghost use Rattle.codec_traits.specs.Reads.{IsDecodedInto};
+ghost use Rattle.sharding_format.specs.Index.{slot_at};
+ghost use Rattle.sharding_format.specs.Cells.{indexed_cell};
+ghost use Rattle.sharding_format.specs.steps.Decoding.{FitsSlot};
+ghost use Rattle.sharding_gather.specs.steps.Placings.{shifted_subset, no_subset};
+ghost use Rattle.sharding_subchunks.specs.steps.Inner.{spec_of_subchunks, inner_meaning};
+ghost use Rattle.sharding_subchunks.specs.steps.Writes.{IsOfSize, IsSlotPut};
+
+use crate::subchunks::Subchunks;
+use codec_traits::ArrayToBytesCodecTraits;
+use parts_arrays::FixedTarget;
+use parts_errors::CodecError;
+use parts_subsets::{ArraySubset, ChunkShape};
+use sharding_format::{ShardIndex, Slot, calculate_chunks_per_shard};
+use sharding_gather::placed_subset;
+use std::alloc::Global;
+
+// Whether a subset has as many coordinates along each axis as a shape.
+pub(crate) fn same_axes(lengths: &[u64], shape: &[u64]) -> bool
+    ensures { IsTrue result → lengths.now ≡ shape.now }
+{
+    lengths == shape
+}
+
+// Whether a subchunk is absent, or its slice has so many bytes.
+fn is_plain(slot: Slot, size: u64) -> bool
+    ensures { IsTrue result → IsOfSize size slot }
+{
+    match slot {
+        Slot::Absent => true,
+        Slot::InRange {
+            offset: _,
+            size: len,
+        } => len == size,
+        Slot::Bad => false,
+    }
+}
+
+// Whether each subchunk is absent, or its slice has so many bytes.
+fn are_plain(index: &ShardIndex, size: u64) -> bool
+    ensures { IsTrue result → (k : ℕ) → k < length index.now.numbers.items / 2 → IsOfSize size (slot_at index.now.len index.now.numbers.items k) }
+{
+    for k in 0..index.subchunks() {
+        if !is_plain(index.slot(k), size) {
+            return false;
+        }
+    }
+    true
+}
+
+// The subset of each subchunk of a shape, which is that of a subset of another array, in this array. Refused only as out of memory.
+fn placed_subsets(
+    alloc: Global,
+    count: usize,
+    shape: &ChunkShape,
+    grid: &ChunkShape,
+    sub: &ChunkShape,
+    within: &ArraySubset,
+) -> Result<Vec<ArraySubset>, CodecError>
+    requires count { count ≡ count_of grid.now }
+    requires fits { count_of shape.now < 2 ^ 64 }
+    requires divides { Divides sub.now shape.now }
+    requires grid { grid.now ≡ grid_of shape.now sub.now }
+    requires same { within.now.shape ≡ shape.now }
+    ensures counted { IfOk result (λ subsets. length subsets.items ≡ count) }
+    ensures each { IfOk result (λ subsets. (k : ℕ) → k < count → slice_index_or subsets.items k no_subset ≡ shifted_subset within.now (grid_subset grid.now sub.now k)) }
+    ensures refused { IfErr result (λ e. e ≡ OutOfMemory) }
+{
+    let mut subsets = Vec::with_capacity(alloc, count)?;
+    for k in 0..count {
+        let placed = placed_subset(alloc, k as u64, shape, grid, sub, within)?;
+        subsets.push(placed)?;
+    }
+    Ok(subsets)
+}
+
+impl<I: ArrayToBytesCodecTraits> Subchunks<'_, I> {
+    // Copies the slice that a slot names, or fill values where there is none, to a subset of a target's array.
+    fn put_slot(
+        &self,
+        bytes: &[u8],
+        slot: Slot,
+        _size: u64,
+        position: &ArraySubset,
+        target: &mut FixedTarget,
+    )
+        requires fits { FitsSlot (length bytes.now) slot }
+        requires plain { IsPlain (spec_of_subchunks self.now) (inner_meaning I.meaning self.now) _size }
+        requires slot { IsOfSize _size slot }
+        requires element { target_element_size target.old ≡ length self.now.fill_value.now }
+        requires served { IsServed position.now (target_shape target.old) }
+        requires counted { position.now.shape ≡ self.now.shape.now }
+        ensures { let inner = inner_meaning I.meaning self.now in
+            IsSlotPut inner.cells self.now.fill_value.now bytes.now slot (count_of self.now.shape.now) position.now target.old target.new }
+    {
+        match slot {
+            Slot::InRange { offset, size } => {
+                let rest = &bytes[offset as usize..];
+                target.copy_part(position, &rest[..size as usize]);
+            }
+            Slot::Absent => target.fill_part(position, self.fill_value.as_ne_bytes()),
+            Slot::Bad => unreachable!(),
+        }
+    }
+
+    /// Copies a whole shard into a target, where the inner codec stores each subchunk as so many bytes that are its elements, the
+    /// target's subset has the shard's shape, and each subchunk is absent or has a slice of so many bytes. False where it is not
+    /// so; the target is then as it was. Refused only as out of memory, which leaves the target.
+    pub fn put_plain(
+        &self,
+        alloc: Global,
+        bytes: &[u8],
+        index: &ShardIndex,
+        size: u64,
+        shape: &ChunkShape,
+        target: &mut FixedTarget,
+    ) -> Result<bool, CodecError>
+        requires plain { IsPlain (spec_of_subchunks self.now) (inner_meaning I.meaning self.now) size }
+        requires len { index.now.len ≡ length bytes.now }
+        requires index { length index.now.numbers.items ≡ 2 * count_of (grid_of shape.now self.now.shape.now) }
+        requires element { target_element_size target.old ≡ length self.now.fill_value.now }
+        requires fits { count_of shape.now < 2 ^ 64 }
+        requires divides { Divides self.now.shape.now shape.now }
+        ensures put { let inner = inner_meaning I.meaning self.now in
+            IfOk result (λ done. IsTrue done → IsDecodedInto target.old target.new
+            (map (indexed_cell inner.cells shape.now self.now.shape.now self.now.fill_value.now bytes.now index.now.numbers.items) (range_with_len 0 (count_of shape.now)))) }
+        ensures kept { IfOk result (λ done. (¬ (IsTrue done)) → target.new ≡ target.old) }
+        ensures left { OnErr result (target.new ≡ target.old) }
+        ensures refused { IfErr result (λ e. e ≡ OutOfMemory) }
+    {
+        if !same_axes(target.subset().shape(), shape.as_slice()) || !are_plain(index, size) {
+            return Ok(false);
+        }
+        let grid = calculate_chunks_per_shard(alloc, shape, self.shape)?;
+        let count = index.subchunks();
+        let subsets = placed_subsets(alloc, count, shape, &grid, self.shape, target.subset())?;
+        for k in 0..count {
+            self.put_slot(bytes, index.slot(k), size, &subsets[k], target);
+        }
+        Ok(true)
+    }
+}

@@ -1,0 +1,5 @@
+pub mod Writing
+pub mod WriteRefusals
+pub mod Slices
+pub mod OldCells
+pub mod steps

@@ -1,0 +1,150 @@
+// Bytes put after slices: those of an old subchunk, and what becomes of them.
+ghost use Rattle.std.specs.Prelude.{◌≡◌, ◌≤◌, ◌<◌, ◌*◌, ◌++◌, IsTrue, ◌↔◌, IfOk, IfErr, OnOk, All, length, take, drop, replicate};
+ghost use Rattle.std.specs.List.{concat};
+ghost use Rattle.parts_errors.specs.Order.{done, RefusedBy};
+ghost use Rattle.parts_row_major.specs.Numbering.{count_of};
+ghost use Rattle.parts_row_major.specs.Subsets.{IsServed};
+ghost use Rattle.parts_arrays.specs.Arrays.{IsWhole, fixed_array, extracted, IsOverlaid};
+ghost use Rattle.parts_arrays.specs.Types.{FitsKind};
+ghost use Rattle.parts_errors.specs.declared.error.CodecError.TheVariants.{OutOfMemory};
+ghost use Rattle.parts_arrays.specs.declared.data_type.DataTypeSize.TheVariants.{Fixed};
+ghost use Rattle.storage_handles.specs.Handles.{IsRead, IsCounted};
+ghost use Rattle.storage_handles.specs.Objects.{HasInterval, ObjectRefusals};
+ghost use Rattle.storage_handles.specs.Writes.{bytes_of};
+ghost use Rattle.sharding_format.specs.Index.{slice_at};
+ghost use Rattle.sharding_format.specs.Encoding.{IsAllFill};
+ghost use Rattle.sharding_format.specs.Laying.{IsStoredAfter};
+ghost use Rattle.sharding_write.specs.Slices.{IsPutAfter};
+
+use parts_arrays::{ArrayBytes, FillValue};
+use parts_errors::CodecError;
+use parts_strided_copy::copy_subset;
+use sharding_format::Slot;
+use sharding_gather::SubchunkOverlap;
+use std::alloc::Global;
+use std::borrow::CowSlice;
+use storage_handles::{ByteRange, BytesPartialDecoderTraits, read_range};
+
+// Puts so many zeros after the slices. Refused only as out of memory.
+pub fn zeros_after(slices: &mut Vec<u8>, size: usize) -> Result<(), CodecError>
+    ensures appended { OnOk result (slices.new.items ≡ slices.old.items ++ replicate size 0) }
+    ensures refused { IfErr result (λ e. e ≡ OutOfMemory) }
+{
+    let Some(end) = slices.len().checked_add(size) else {
+        return Err(CodecError::OutOfMemory);
+    };
+    slices.resize(end, 0)?;
+    Ok(())
+}
+
+// Puts a slice of an object behind the slices that are there. `false` where there is no object. Refused as `Fault`, where the
+// handle failed, or `OutOfMemory`.
+pub fn slice_after<H: BytesPartialDecoderTraits>(
+    alloc: Global,
+    handle: &mut H,
+    offset: u64,
+    size: u64,
+    slices: &mut Vec<u8>,
+) -> Result<bool, CodecError>
+    requires there { IsTrue (H.state handle.old).transparent → HasInterval (record { offset = offset; size = size }) (H.state handle.old).contents }
+    ensures read { IsRead (H.state handle.old) (H.state handle.new) }
+    ensures appended { IfOk result (λ there. IsTrue there → IsPutAfter slices.old.items slices.new.items size
+        (λ part. IsTrue (H.state handle.old).transparent → part ≡ slice_at offset size (bytes_of (H.state handle.old).contents))) }
+    ensures fault { IfErr result (IsCounted (H.state handle.old) (H.state handle.new)) }
+    ensures refused { IfErr result (RefusedBy (ObjectRefusals (H.state handle.old) (H.state handle.new) done)) }
+{
+    let range = ByteRange::FromStart(offset, Some(size));
+    let mut room = Vec::new(alloc);
+    let Some(part) = read_range(handle, &mut room, alloc, range)? else {
+        return Ok(false);
+    };
+    slices.extend_from_slice(part)?;
+    Ok(true)
+}
+
+// Writes the elements at the points of a subset of an update over those of a subchunk where both meet.
+fn overlay(
+    part: &mut [u8],
+    size: usize,
+    overlap: &SubchunkOverlap,
+    sub: &[u64],
+    update: &ArrayBytes,
+    axes: &[u64],
+)
+    requires some { 0 < size }
+    requires kind { update.now.kind ≡ Fixed size }
+    requires fitting { All (FitsKind (Fixed size)) update.now.elements }
+    requires all { length update.now.elements ≡ count_of axes.now }
+    requires served { IsServed overlap.now.in_subchunk sub.now }
+    requires subset_served { IsServed overlap.now.in_subset axes.now }
+    requires same { count_of overlap.now.in_subset.shape ≡ count_of overlap.now.in_subchunk.shape }
+    requires whole { length part.old ≡ count_of sub.now * size }
+    ensures { IsOverlaid overlap.now.in_subchunk sub.now (fixed_array size part.old) (extracted update.now overlap.now.in_subset axes.now) (fixed_array size part.new) }
+{
+    let given = update.bytes();
+    copy_subset(
+        part,
+        size,
+        &overlap.in_subchunk,
+        sub,
+        given,
+        &overlap.in_subset,
+        axes,
+    );
+}
+
+// The same of the subchunk that stands from a place of the slices on.
+pub fn overlay_after(
+    slices: &mut Vec<u8>,
+    from: usize,
+    size: usize,
+    overlap: &SubchunkOverlap,
+    sub: &[u64],
+    update: &ArrayBytes,
+    axes: &[u64],
+)
+    requires some { 0 < size }
+    requires kind { update.now.kind ≡ Fixed size }
+    requires fitting { All (FitsKind (Fixed size)) update.now.elements }
+    requires all { length update.now.elements ≡ count_of axes.now }
+    requires served { IsServed overlap.now.in_subchunk sub.now }
+    requires subset_served { IsServed overlap.now.in_subset axes.now }
+    requires same { count_of overlap.now.in_subset.shape ≡ count_of overlap.now.in_subchunk.shape }
+    requires from { from ≤ length slices.old.items }
+    requires whole { length (drop from slices.old.items) ≡ count_of sub.now * size }
+    ensures kept { take from slices.new.items ≡ take from slices.old.items }
+    ensures long { length slices.new.items ≡ length slices.old.items }
+    ensures overlaid { IsOverlaid overlap.now.in_subchunk sub.now (fixed_array size (drop from slices.old.items))
+        (extracted update.now overlap.now.in_subset axes.now) (fixed_array size (drop from slices.new.items)) }
+{
+    overlay(&mut slices[from..], size, overlap, sub, update, axes);
+}
+
+// Whether elements of one size are all fill.
+fn are_fill(bytes: &[u8], size: usize, fill_value: &FillValue) -> bool
+    requires { IsWhole size bytes.now }
+    ensures { IsTrue result ↔ IsAllFill fill_value.now (fixed_array size bytes.now).elements }
+{
+    match ArrayBytes::new_flen(CowSlice::Borrowed(bytes), size) {
+        Some(array) => array.is_fill_value(fill_value),
+        None => unreachable!(),
+    }
+}
+
+// Where the subchunk stands that was put after the slices from a place on: nowhere, and its bytes are taken back, where it is all
+// fill.
+pub fn slot_after(slices: &mut Vec<u8>, from: usize, size: usize, fill_value: &FillValue) -> Slot
+    requires from { from ≤ length slices.old.items }
+    requires whole { IsWhole size (drop from slices.old.items) }
+    ensures stored { IsStoredAfter (λ elements bytes. bytes ≡ concat elements) fill_value.now (fixed_array size (drop from slices.old.items)).elements
+        (take from slices.old.items) slices.new.items result }
+{
+    if are_fill(&slices[from..], size, fill_value) {
+        slices.truncate(from);
+        return Slot::Absent;
+    }
+    Slot::InRange {
+        offset: from as u64,
+        size: (slices.len() - from) as u64,
+    }
+}

@@ -1,0 +1,94 @@
+// Where new slices go, and how long the object is with them.
+ghost use Rattle.std.specs.Prelude.{◌≡◌, ◌+◌, ◌*◌, ◌/◌, ◌^◌, ◌<◌, SomeIff, length};
+ghost use Rattle.sharding_format.specs.steps.Decoding.{FitsSlot};
+ghost use Rattle.sharding_format.specs.Index.{slot_at, data_start};
+ghost use Rattle.sharding_write.specs.steps.Offsets.{slot_end, last_end, offset_after, length_after, index_after};
+
+use sharding_format::{ShardingIndexLocation, Slot, slot_of};
+
+// What the entry of a subchunk says.
+#[tactic(auto, unfolding(sharding_format::specs::Index::slot_at))]
+pub fn slot_in(len: u64, numbers: &[u64], subchunk: usize) -> Slot
+    requires { 2 * subchunk + 1 < length numbers.now }
+    ensures slot { result ≡ slot_at len numbers.now subchunk }
+    ensures fits { FitsSlot len result }
+{
+    slot_of(len, numbers[2 * subchunk], numbers[2 * subchunk + 1])
+}
+
+// Where a slot's slice ends in a shard of so many bytes, 0 where there is none.
+fn end_in(len: u64, slot: Slot) -> u64
+    requires { FitsSlot len slot }
+    ensures { result ≡ slot_end slot }
+{
+    match slot {
+        Slot::InRange { offset, size } => offset + size,
+        _ => 0,
+    }
+}
+
+// The greatest end of a slice, and no less than a number.
+fn last_end(least: u64, len: u64, numbers: &[u64]) -> u64
+    ensures { result ≡ last_end least len numbers.now (length numbers.now / 2) }
+{
+    let mut last = least;
+    for k in 0..numbers.len() / 2 {
+        let end = end_in(len, slot_in(len, numbers, k));
+        last = last.max(end);
+    }
+    last
+}
+
+// Where new slices go after the old ones.
+pub fn offset_after(
+    location: ShardingIndexLocation,
+    index_size: u64,
+    len: u64,
+    numbers: &[u64],
+) -> u64
+    ensures { result ≡ offset_after location index_size len numbers.now (length numbers.now / 2) }
+{
+    match location {
+        ShardingIndexLocation::Start => last_end(index_size, len, numbers),
+        ShardingIndexLocation::End => len.saturating_sub(index_size),
+    }
+}
+
+// How long the object is with so many bytes of new slices at a place behind the old ones, where that can be said.
+pub fn length_after(
+    location: ShardingIndexLocation,
+    len: u64,
+    write_offset: u64,
+    total: u64,
+) -> Option<u64>
+    ensures { SomeIff result (length_after location len write_offset total < 2 ^ 64) (length_after location len write_offset total) }
+{
+    match location {
+        ShardingIndexLocation::Start => {
+            let end = write_offset.checked_add(total)?;
+            Some(len.max(end))
+        }
+        ShardingIndexLocation::End => len.checked_add(total),
+    }
+}
+
+// Where the data part begins.
+pub fn fresh_offset(location: ShardingIndexLocation, index_size: u64) -> u64
+    ensures { result ≡ data_start location index_size }
+{
+    match location {
+        ShardingIndexLocation::Start => index_size,
+        ShardingIndexLocation::End => 0,
+    }
+}
+
+// Where the index goes when so many bytes of new slices stand at a place behind the old ones.
+pub fn index_offset(location: ShardingIndexLocation, write_offset: u64, total: u64) -> u64
+    requires { write_offset + total < 2 ^ 64 }
+    ensures { result ≡ index_after location write_offset total }
+{
+    match location {
+        ShardingIndexLocation::Start => 0,
+        ShardingIndexLocation::End => write_offset + total,
+    }
+}

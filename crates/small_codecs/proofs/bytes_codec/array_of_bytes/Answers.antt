@@ -1,5 +1,0 @@
-use Rattle.small_codecs.proofs.BytesCodecSteps.{whole_swapped}
-use Rattle.small_codecs.proofs.bytes_codec.array_of_bytes.Goals as goal
-
-pub unreachable-requires : goal.unreachable-requires
-unreachable-requires c = c.in-None.ensures (whole_swapped _ _ c.args.bytes.now _ c.requires c.in_ok-elements.ensures)

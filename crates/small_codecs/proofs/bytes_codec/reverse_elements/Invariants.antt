@@ -1,5 +1,0 @@
-use Rattle.small_codecs.proofs.BytesCodecSteps.{AreReversed}
-use Rattle.small_codecs.proofs.bytes_codec.reverse_elements.Given as goal
-
-abbrev pub invariant-loop-i : goal.invariant-loop-i
-invariant-loop-i l = AreReversed l.size l.i l.fn.bytes l.bytes

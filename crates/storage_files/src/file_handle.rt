@@ -1,0 +1,181 @@
+// A handle over a file.
+ghost use Rattle.std.specs.Prelude.{◌≡◌, ◌+◌, ◌-◌, ◌^◌, min, IsTrue, IfOk, IfErr, OnOk};
+ghost use Rattle.storage_handles.specs.Handles.{IsRead, IsCounted};
+ghost use Rattle.storage_files.specs.Files.{untold, IsRequestedSize};
+ghost use Rattle.parts_errors.specs.declared.error.CodecError.TheVariants.{Fault};
+
+mod writes;
+
+use crate::count::Count;
+use crate::interval::interval_of;
+use crate::system::{length_of, open_if_there, read_at};
+use parts_errors::CodecError;
+use std::alloc::{AllocError, Global};
+use std::io;
+use std::marker::Model;
+use std::rt::Files;
+use storage_handles::{ByteRange, LendsSlice};
+
+/// An object that is a regular file of the system, maybe through links; where nothing of that name is there, there is no
+/// object. It never is transparent, and each error of input or output is a `Fault`, as is anything else that stands there:
+/// a folder, a FIFO, a device, a link to nothing, also on the way.
+///
+/// Read is what is asked for, and nothing else. The file is opened by the first call that reads, and stays open until it is
+/// replaced or erased here: so what another process puts in its place meanwhile is not seen. `partial_encode_many` writes
+/// in place, and makes the folders that are missing. `replace` makes a `Replacement`: whoever reads, and whoever looks after a
+/// crash, finds the old object or the new one. It is refused while another one stands there.
+#[derive(Drop)]
+pub struct FileHandle<R: Files> {
+    files: R,
+    path: String,
+    // the file, once it was found
+    file: Option<R::File>,
+    // what was read last
+    room: Vec<u8>,
+    faults: Count,
+    // as `u64::MAX` where it would pass that
+    fault_count: u64,
+    error: Option<io::Error>,
+}
+
+impl<R: Files> Model for FileHandle<R> {
+    ghost use Rattle.std.specs.Prelude.{◌≡◌, ◌-◌, ◌^◌, min, length};
+    ghost use Rattle.storage_files.specs.Files.{FileUse};
+
+    // how often a call of the system failed, and how many bytes are held
+    ghost Value = { FileUse };
+
+    ghost view = { λ handle. record { faults = handle.faults.value; cached = length handle.room.items } };
+
+    ghost invariant = { λ handle. handle.fault_count ≡ min handle.faults.value (2 ^ 64 - 1) };
+}
+
+impl<R: Files> FileHandle<R> {
+    /// A handle over the file of this path, which need not be there.
+    pub fn new(alloc: Global, files: R, path: &str) -> Result<Self, AllocError>
+    where
+        R: Drop,
+        ensures { IfOk result (λ handle. handle ≡ record { faults = 0; cached = 0 }) }
+    {
+        Ok(FileHandle {
+            files,
+            path: String::from_str(alloc, path)?,
+            file: None,
+            room: Vec::new(alloc),
+            faults: Count::new(),
+            fault_count: 0,
+            error: None,
+        })
+    }
+
+    /// How often a call of the system failed, or `u64::MAX` where that is more.
+    pub fn faults(&self) -> u64
+        ensures { result ≡ min self.now.faults (2 ^ 64 - 1) }
+    {
+        self.fault_count
+    }
+
+    /// What the system said when it failed last.
+    pub fn error(&self) -> Option<io::Error> {
+        self.error
+    }
+
+    // What the system answered, with an error counted.
+    fn noted<T>(&mut self, answer: io::Result<T>) -> Result<T, CodecError>
+        ensures cached { self.new.cached ≡ self.old.cached }
+        ensures same { OnOk result (self.new.faults ≡ self.old.faults) }
+        ensures value { IfOk result (λ x. answer ≡ Ok x) }
+        ensures counted { IfErr result (λ e. (e ≡ Fault) × (self.new.faults ≡ self.old.faults + 1)) }
+    {
+        match answer {
+            Ok(value) => Ok(value),
+            Err(error) => {
+                self.error = Some(error);
+                self.faults.raise();
+                self.fault_count = self.fault_count.saturating_add(1);
+                Err(CodecError::Fault)
+            }
+        }
+    }
+
+    // Opens the file where that was not done, and says whether it is there.
+    fn open(&mut self) -> io::Result<bool>
+        ensures { self.new ≡ self.old }
+    {
+        if self.file.is_none() {
+            self.file = open_if_there(&self.files, self.path.as_str())?;
+        }
+        Ok(self.file.is_some())
+    }
+
+    // The file's length, or none where there is no file.
+    fn length(&mut self) -> io::Result<Option<u64>>
+        ensures { self.new ≡ self.old }
+    {
+        self.open()?;
+        match &self.file {
+            Some(file) => {
+                let length = length_of(file)?;
+                Ok(Some(length))
+            }
+            None => Ok(None),
+        }
+    }
+
+    // Fills the room, which has its size, with the bytes from an offset on.
+    fn fill(&mut self, offset: u64) -> io::Result<()>
+        ensures { self.new ≡ self.old }
+    {
+        match &mut self.file {
+            Some(file) => read_at(file, offset, self.room.as_mut_slice()),
+            None => Err(io::ErrorKind::NotFound.into()),
+        }
+    }
+
+    // Reads a range into the room, and says whether there is an object.
+    fn fetch(&mut self, range: ByteRange) -> Result<bool, CodecError>
+        ensures read { IsRead (untold self.old) (untold self.new) }
+        ensures requested { IfOk result (λ there. IsTrue there → IsRequestedSize range self.new.cached) }
+        ensures refused { IfErr result (IsCounted (untold self.old) (untold self.new)) }
+    {
+        let length = self.length();
+        let Some(length) = self.noted(length)? else {
+            return Ok(false);
+        };
+        let interval = interval_of(range, length)?;
+        self.room.resize(interval.size as usize, 0)?;
+        let filled = self.fill(interval.offset);
+        self.noted(filled)?;
+        Ok(true)
+    }
+}
+
+impl<R: Files> LendsSlice for FileHandle<R> {
+    ghost state = { untold };
+
+    fn find(&mut self) -> Result<bool, CodecError> {
+        let there = self.open();
+        self.noted(there)
+    }
+
+    fn measure(&mut self) -> Result<Option<u64>, CodecError> {
+        let length = self.length();
+        self.noted(length)
+    }
+
+    fn cached_bytes(&self) -> usize {
+        self.room.len()
+    }
+
+    fn lend(&mut self, _alloc: Global, range: ByteRange) -> Result<Option<&[u8]>, CodecError> {
+        if self.fetch(range)? {
+            Ok(Some(self.room.as_slice()))
+        } else {
+            Ok(None)
+        }
+    }
+
+    fn lends_parts(&self) -> bool {
+        true
+    }
+}

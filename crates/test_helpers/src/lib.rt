@@ -1,0 +1,12 @@
+// What tests share: codecs that turn elements around, and objects that nobody wrote as a shard.
+#![tactic(auto)]
+
+mod hostile_objects;
+mod inverted;
+mod marked;
+mod unbounded;
+
+pub use hostile_objects::{ABSENT, HOSTILE_OBJECTS, HostileObject, Stored, Wanted, object_of};
+pub use inverted::InvertedCodec;
+pub use marked::MarkedCodec;
+pub use unbounded::UnboundedCodec;

@@ -1,0 +1,137 @@
+// What is read of an object after a write into it, by the law that says so.
+ghost use Rattle.std.specs.Prelude.{Some};
+ghost use Rattle.parts_arrays.specs.ArraySpec.{array_spec};
+ghost use Rattle.sharding_codec.specs.Decoders.{object_cells};
+ghost use Rattle.sharding_write.specs.Writing.{AreOverlaid};
+
+use crate::compared::same;
+use crate::shards::{elements_of, seven, shape_of, subset_of};
+use std::alloc::Global;
+use std::test::Fail;
+use zarr_codecs::{ArrayToBytesCodecTraits, BytesCodec, MemoryHandle};
+use zarr_parts::{
+    ArrayBytes, ArraySubset, ChunkShape, CodecError, CodecOptions, DataType, FillValue,
+};
+use zarrs_sharding::{ShardingCodec, ShardingIndexLocation, read_after_write};
+
+type Codec = ShardingCodec<BytesCodec, BytesCodec>;
+
+// What a codec is asked to serve.
+#[derive(Drop)]
+struct ArraySpec {
+    shape: ChunkShape,
+    data_type: DataType,
+    fill: FillValue,
+}
+
+// What a decoder that is opened anew reads of an object into which an update was written, and which had other bytes before.
+fn read_written(
+    alloc: Global,
+    codec: &Codec,
+    spec: &ArraySpec,
+    before: &[u8],
+    after: MemoryHandle,
+    subset: &ArraySubset,
+    update: &ArrayBytes,
+    all: &ArraySubset,
+) -> Result<ArrayBytes<'static>, CodecError>
+    requires { let c = ⟦<Codec as ArrayToBytesCodecTraits>⟧ in let g = array_spec spec.now.shape spec.now.data_type spec.now.fill in
+        AreOverlaid g.shape subset.now update.now.elements (object_cells (c.meaning codec.now g).cells g (Some before.now)) (object_cells (c.meaning codec.now g).cells g after) }
+{
+    let options = CodecOptions::default();
+    let opened = codec.partial_decoder(
+        alloc,
+        after,
+        &spec.shape,
+        &spec.data_type,
+        &spec.fill,
+        &options,
+    );
+    match opened {
+        Ok(mut decoder) => read_after_write(
+            &mut decoder,
+            alloc,
+            Some(before),
+            subset,
+            update,
+            all,
+            &options,
+        ),
+        Err((_, error)) => Err(error),
+    }
+}
+
+// What is read of an object after a write into it.
+fn written_and_read(
+    alloc: Global,
+    codec: &Codec,
+    spec: &ArraySpec,
+    before: &[u8],
+    subset: &ArraySubset,
+    update: &ArrayBytes,
+    all: &ArraySubset,
+) -> Result<ArrayBytes<'static>, CodecError> {
+    let handle = MemoryHandle::new(Some(before.to_vec(alloc)?));
+    let options = CodecOptions::default();
+    let opened = codec.open_state(
+        alloc,
+        handle,
+        &spec.shape,
+        &spec.data_type,
+        &spec.fill,
+        &options,
+    );
+    match opened {
+        Ok(mut session) => {
+            let written = session.partial_encode(alloc, subset, update, &options);
+            let after = session.close();
+            written?;
+            read_written(alloc, codec, spec, before, after, subset, update, all)
+        }
+        Err((_, error)) => Err(error),
+    }
+}
+
+fn four_cells(alloc: Global) -> Result<ArraySpec, CodecError> {
+    Ok(ArraySpec {
+        shape: shape_of(alloc, &[4])?,
+        data_type: DataType::UInt8,
+        fill: FillValue::from_number(alloc, 0u8)?,
+    })
+}
+
+fn codec(alloc: Global) -> Result<Codec, CodecError> {
+    let (inner, index) = (BytesCodec::little(), BytesCodec::little());
+    let sub = shape_of(alloc, &[2])?;
+    Ok(ShardingCodec::new(sub, inner, index, ShardingIndexLocation::End))
+}
+
+// The cells of an object after an update was written over the first.
+fn updated(
+    alloc: Global,
+    codec: &Codec,
+    spec: &ArraySpec,
+    before: &[u8],
+    update: &ArrayBytes,
+) -> Result<Vec<u8>, CodecError> {
+    let first = subset_of(alloc, 0..1)?;
+    let all = subset_of(alloc, 0..4)?;
+    let cells = written_and_read(alloc, codec, spec, before, &first, update, &all);
+    elements_of(alloc, cells)
+}
+
+// The cells 0, 7, 0, 0 after 5 was written over the first.
+fn five_and_seven(alloc: Global, codec: &Codec, spec: &ArraySpec) -> Result<Vec<u8>, CodecError> {
+    let before = seven(alloc)?;
+    let update = ArrayBytes::from_numbers(alloc, &[5u8])?;
+    updated(alloc, codec, spec, &before, &update)
+}
+
+#[test]
+fn a_read_after_a_write_has_its_cells(rt: HostRuntime) -> Result<(), Fail> {
+    let codec = codec(rt.alloc())?;
+    let spec = four_cells(rt.alloc())?;
+    let found = five_and_seven(rt.alloc(), &codec, &spec)?;
+    same(&rt, found.as_slice(), [5u8, 7, 0, 0].as_slice());
+    Ok(())
+}

@@ -1,0 +1,142 @@
+// The plan of a compaction, made from the index and the length of a shard alone. The numbers are by hand.
+use crate::compared::same_at;
+use crate::shards::{ABSENT, plain, shape_of};
+use std::alloc::Global;
+use zarr_codecs::Interval;
+use zarr_parts::{CodecError, CodecOptions};
+use zarrs_sharding::{CompactionPlan, ShardingIndexLocation};
+
+// What is planned of a shard of two subchunks of two cells: its new length, where the old slices stand, and its new index.
+#[derive(Debug, Clone, Copy, PartialEq)]
+struct Planned {
+    len: u64,
+    slices: [Option<Interval>; 2],
+    numbers: [u64; 4],
+}
+
+// The index of a shard, and how many bytes the shard has.
+#[derive(Debug, Clone, Copy)]
+struct Shard {
+    location: ShardingIndexLocation,
+    numbers: [u64; 4],
+    length: u64,
+}
+
+// The bytes of an index.
+fn index_of(alloc: Global, numbers: &[u64; 4]) -> Result<Vec<u8>, CodecError> {
+    let mut bytes = Vec::new(alloc);
+    for number in numbers {
+        bytes.extend_from_slice(&number.to_le_bytes())?;
+    }
+    Ok(bytes)
+}
+
+// The plan of the compaction of a shard.
+fn plan_of(alloc: Global, shard: &Shard) -> Result<Option<CompactionPlan>, CodecError> {
+    let codec = plain(alloc, &[2], shard.location)?;
+    let index = index_of(alloc, &shard.numbers)?;
+    let options = CodecOptions::default();
+    codec.plan_compaction(
+        alloc,
+        &index,
+        shard.length,
+        &shape_of(alloc, &[4])?,
+        &options,
+    )
+}
+
+// Whether a plan is this.
+fn says(alloc: Global, plan: &CompactionPlan, want: &Planned) -> Result<bool, CodecError> {
+    let index = index_of(alloc, &want.numbers)?;
+    for k in 0..plan.subchunks() {
+        if want.slices.get(k) != Some(&plan.slice(k)) {
+            return Ok(false);
+        }
+    }
+    Ok(plan.subchunks() == 2 && plan.len() == want.len && plan.index() == index.as_slice())
+}
+
+// Whether this is planned of a shard, or nothing is.
+fn is_planned(alloc: Global, shard: &Shard, want: Option<Planned>) -> Result<bool, CodecError> {
+    match (plan_of(alloc, shard)?, want) {
+        (Some(plan), Some(want)) => {
+            Ok(plan.index_location() == shard.location && says(alloc, &plan, &want)?)
+        }
+        (None, None) => Ok(true),
+        (Some(_), None) | (None, Some(_)) => Ok(false),
+    }
+}
+
+const fn slice(offset: u64) -> Option<Interval> {
+    Some(Interval { offset, size: 2 })
+}
+
+// A gap of two bytes, an index in front, pairs that name the same bytes, and a shard without a gap.
+#[test]
+fn a_compaction_is_planned(rt: HostRuntime) {
+    let end = ShardingIndexLocation::End;
+    let start = ShardingIndexLocation::Start;
+    let moved = |len, slices, numbers| Some(Planned {
+        len,
+        slices,
+        numbers,
+    });
+    for (location, numbers, length, want) in [
+        (
+            end,
+            [2, 2, 4, 2],
+            38,
+            moved(36, [slice(2), slice(4)], [0, 2, 2, 2]),
+        ),
+        (
+            start,
+            [ABSENT, ABSENT, 34, 2],
+            36,
+            moved(34, [None, slice(34)], [ABSENT, ABSENT, 32, 2]),
+        ),
+        (
+            end,
+            [0, 2, 0, 2],
+            34,
+            moved(36, [slice(0), slice(0)], [0, 2, 2, 2]),
+        ),
+        (end, [0, 2, 2, 2], 36, None),
+    ] {
+        let shard = Shard {
+            location,
+            numbers,
+            length,
+        };
+        same_at(&rt, shard, is_planned(rt.alloc(), &shard, want), Ok(true));
+    }
+}
+
+// Which bytes of a shard of this length are its index.
+fn index_interval(
+    alloc: Global,
+    location: ShardingIndexLocation,
+    length: u64,
+) -> Result<Interval, CodecError> {
+    plain(alloc, &[2], location)?.index_interval(alloc, length, &shape_of(alloc, &[4])?)
+}
+
+// The index of two subchunks has 32 bytes.
+#[test]
+fn an_index_has_a_position(rt: HostRuntime) {
+    let end = ShardingIndexLocation::End;
+    let start = ShardingIndexLocation::Start;
+    let size = 32;
+    for (location, length, want) in [
+        (end, 38, Ok(Interval { offset: 6, size })),
+        (start, 38, Ok(Interval { offset: 0, size })),
+        (end, 32, Ok(Interval { offset: 0, size })),
+        (end, 31, Err(CodecError::ShardTooShort)),
+    ] {
+        same_at(
+            &rt,
+            (location, length),
+            index_interval(rt.alloc(), location, length),
+            want,
+        );
+    }
+}

@@ -1,0 +1,21 @@
+// Tests of arrays on disk, their metadata and their shards, and of scripts whose reader or writer fails.
+#![tactic(auto)]
+
+#[cfg(test)]
+mod compared;
+#[cfg(test)]
+mod escapes;
+#[cfg(test)]
+mod examples;
+#[cfg(test)]
+mod faults;
+#[cfg(test)]
+mod limits;
+#[cfg(test)]
+mod messages;
+#[cfg(test)]
+mod metadata;
+#[cfg(test)]
+mod refused;
+#[cfg(test)]
+mod shards;

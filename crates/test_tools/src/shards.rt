@@ -1,0 +1,189 @@
+// The shards of an array, and the cells of a subset put together of their parts.
+use crate::compared::same;
+use array_grid::{ShardGrid, ShardPart, SubsetCells};
+use std::alloc::Global;
+use std::ops::Range;
+use std::process::Abort;
+use std::test::Fail;
+use zarr_parts::{ArrayBytes, ArraySubset, ChunkShape, CodecError, FillValue};
+
+// The parts of the subset 1..5, 3..7 of an array of 5 by 7 in shards of 4 by 4: where each starts in its shard and in the
+// subset, and its shape.
+const PARTS: [([u64; 2], [u64; 2], [u64; 2]); 4] = [
+    ([1, 3], [0, 0], [3, 1]),
+    ([1, 0], [0, 1], [3, 3]),
+    ([0, 3], [3, 0], [1, 1]),
+    ([0, 0], [3, 1], [1, 3]),
+];
+
+fn grid_of(alloc: Global, shape: &[u64], shard: &[u64]) -> Result<ShardGrid, CodecError> {
+    let shard = ChunkShape::new(alloc, shard)?.ok_or(CodecError::InvalidSubchunkShape)?;
+    ShardGrid::new(alloc, shape, &shard)
+}
+
+// Compares the coordinates of a shard, which an array without axes does not have.
+fn compare_coordinates<R: Abort + AllocGlobal>(
+    rt: &R,
+    grid: &ShardGrid,
+    number: u64,
+    axes: usize,
+    want: &[u64],
+) -> Result<(), Fail> {
+    match grid.coordinates(rt.alloc(), number)? {
+        Some(coordinates) => same(rt, coordinates.as_slice(), want),
+        None => same(rt, axes, 0),
+    }
+    Ok(())
+}
+
+// Compares how many shards an array of a shape in shards of another has, and the coordinates of the last one.
+fn compare_grid<R: Abort + AllocGlobal>(
+    rt: &R,
+    shape: &[u64],
+    shard: &[u64],
+    len: u64,
+    last: &[u64],
+) -> Result<(), Fail> {
+    let grid = grid_of(rt.alloc(), shape, shard)?;
+    same(rt, grid.len(), len);
+    compare_coordinates(rt, &grid, len.max(2) - 1, shape.len(), last)
+}
+
+#[test]
+fn as_many_shards_as_hold_all_cells(rt: HostRuntime) -> Result<(), Fail> {
+    compare_grid(&rt, &[8, 8], &[4, 4], 4, &[1, 1])?;
+    compare_grid(&rt, &[5, 7], &[4, 4], 4, &[1, 1])?;
+    compare_grid(&rt, &[9], &[4], 3, &[2])?;
+    compare_grid(&rt, &[4, 1, 6], &[4, 2, 3], 2, &[0, 0, 1])?;
+    compare_grid(&rt, &[], &[], 1, &[])?;
+    compare_grid(&rt, &[0, 7], &[4, 4], 0, &[0, 1])
+}
+
+fn told(alloc: Global, part: &ShardPart) -> Result<String, Fail> {
+    let (inside, within) = (&part.in_shard, &part.in_subset);
+    let told = format!(in alloc;
+        "{} {:?} {:?} {:?} {:?}",
+        part.shard,
+        inside.start(),
+        inside.shape(),
+        within.start(),
+        within.shape()
+    )?;
+    Ok(told)
+}
+
+fn wanted(alloc: Global, number: usize) -> Result<String, Fail> {
+    let (inside, within, shape) = &PARTS[number % 4];
+    let wanted = format!(in alloc; "{number} {inside:?} {shape:?} {within:?} {shape:?}")?;
+    Ok(wanted)
+}
+
+fn compare_part<R: Abort + AllocGlobal>(
+    rt: &R,
+    number: usize,
+    part: &ShardPart,
+) -> Result<(), Fail> {
+    let wanted = wanted(rt.alloc(), number)?;
+    let told = told(rt.alloc(), part)?;
+    same(rt, told, wanted);
+    Ok(())
+}
+
+// The parts of the subset 1..5, 3..7 of an array of 5 by 7 in shards of 4 by 4.
+fn parts_of_subset(alloc: Global) -> Result<Vec<ShardPart>, CodecError> {
+    let grid = grid_of(alloc, &[5, 7], &[4, 4])?;
+    let requested = ArraySubset::from_ranges(alloc, &[1..5, 3..7])?;
+    grid.parts(alloc, &requested)
+}
+
+#[test]
+fn a_subset_is_made_of_a_part_of_each_shard(rt: HostRuntime) -> Result<(), Fail> {
+    let parts = parts_of_subset(rt.alloc())?;
+    same(&rt, parts.len(), 4);
+    for (number, part) in parts.iter().enumerate() {
+        compare_part(&rt, number, part)?;
+    }
+    Ok(())
+}
+
+fn refused(alloc: Global, grid: &ShardGrid, ranges: &[Range<u64>]) -> Option<CodecError> {
+    match ArraySubset::from_ranges(alloc, ranges) {
+        Ok(requested) => grid.parts(alloc, &requested).err(),
+        Err(error) => Some(error),
+    }
+}
+
+#[test]
+fn subsets_and_shapes_are_refused_in_order(rt: HostRuntime) -> Result<(), Fail> {
+    let alloc = rt.alloc();
+    let grid = grid_of(alloc, &[5, 7], &[4, 4])?;
+    let of_one = Some(CodecError::IncompatibleDimensionality);
+    same(&rt, refused(alloc, &grid, &[0..9]), of_one);
+    same(
+        &rt,
+        refused(alloc, &grid, &[0..5, 6..8]),
+        Some(CodecError::OutOfBounds),
+    );
+    same(&rt, refused(alloc, &grid, &[2..2, 0..7]), None);
+    same(&rt, grid_of(alloc, &[8], &[4, 4]).err(), of_one);
+    same(
+        &rt,
+        grid_of(alloc, &[u64::MAX], &[2]).err(),
+        Some(CodecError::TooLarge),
+    );
+    let large: [u64; 2] = [1 << 40, 1 << 40];
+    same(
+        &rt,
+        grid_of(alloc, &large, &[4, 4]).err(),
+        Some(CodecError::TooLarge),
+    );
+    Ok(())
+}
+
+fn put(
+    alloc: Global,
+    cells: &mut SubsetCells,
+    ranges: &[Range<u64>],
+    numbers: &[u16],
+) -> Result<(), CodecError> {
+    let at = ArraySubset::from_ranges(alloc, ranges)?;
+    cells.put(&at, &ArrayBytes::from_numbers(alloc, numbers)?)
+}
+
+// A subset of two by three cells, which are all 258.
+fn subset_of_cells(alloc: Global) -> Result<SubsetCells, CodecError> {
+    let requested = ArraySubset::from_ranges(alloc, &[4..6, 1..4])?;
+    let fill = FillValue::from_number(alloc, 258u16)?;
+    SubsetCells::new(alloc, &requested, &fill)
+}
+
+fn put_a_byte(alloc: Global, cells: &mut SubsetCells) -> Result<(), CodecError> {
+    let at = ArraySubset::from_ranges(alloc, &[0..1, 0..1])?;
+    cells.put(&at, &ArrayBytes::from_numbers(alloc, &[4u8])?)
+}
+
+#[test]
+fn parts_are_put_into_a_subset(rt: HostRuntime) -> Result<(), Fail> {
+    let alloc = rt.alloc();
+    let mut cells = subset_of_cells(alloc)?;
+    for (ranges, numbers, put_there) in [
+        ([0..2, 1..2], &[1, 2][..], Ok(())),
+        ([1..2, 2..3], &[3], Ok(())),
+        (
+            [0..1, 0..1],
+            &[4, 5],
+            Err(CodecError::InvalidNumberOfElements),
+        ),
+        ([0..3, 0..1], &[4, 5, 6], Err(CodecError::OutOfBounds)),
+    ] {
+        same(&rt, put(alloc, &mut cells, &ranges, numbers), put_there);
+    }
+    let of_a_byte = put_a_byte(alloc, &mut cells);
+    same(&rt, of_a_byte, Err(CodecError::WrongElementKind));
+    same(
+        &rt,
+        cells.bytes(),
+        [2, 1, 1, 0, 2, 1, 2, 1, 2, 0, 3, 0].as_slice(),
+    );
+    Ok(())
+}

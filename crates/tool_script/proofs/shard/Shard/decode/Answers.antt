@@ -1,0 +1,8 @@
+use Rattle.codec_traits.specs.RefusalLaws.{passed_on}
+use Rattle.tool_script.proofs.OptionLaws.{there}
+use Rattle.tool_script.proofs.shard.Shard.decode.Goals as goal
+
+pub returns-in_err-array-clause-refused : goal.returns-in_err-array-clause-refused
+returns-in_err-array-clause-refused c =
+    passed_on _ c.in_err-array.field-0.0 _ c.from_residual.ensures.1
+    (there _ _ _ c.in-Some.is (rw (c.data_type.ensures.value, c.deref.ensures.value) at c.in_err-array.ensures.refused))

@@ -1,5 +1,0 @@
-use Rattle.zarr_boxes.proofs.axes.Axes.from_vec.Goals as goal
-use Rattle.zarr_boxes.proofs.AxesLemmas.{held_whole}
-
-pub returns : goal.returns
-returns c = held_whole _ c.args.many.items

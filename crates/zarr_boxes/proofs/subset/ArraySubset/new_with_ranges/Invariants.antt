@@ -1,5 +1,0 @@
-use Rattle.zarr_boxes.proofs.RangeLaws.{RangesSoFar}
-use Rattle.zarr_boxes.proofs.subset.ArraySubset.new_with_ranges.Given as goal
-
-abbrev pub invariant-loop-range : goal.invariant-loop-range
-invariant-loop-range l = RangesSoFar l.ranges l.range-index l.start.items l.shape.items

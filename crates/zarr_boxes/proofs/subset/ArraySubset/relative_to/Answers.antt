@@ -1,9 +1,0 @@
-use Rattle.std.proofs.Common.{arith, refl}
-use Rattle.zarr_boxes.proofs.OverlapLaws.{relative_is_box}
-use Rattle.zarr_boxes.proofs.subset.ArraySubset.relative_to.Goals as goal
-
-pub invariant_of-result : goal.invariant_of-result
-invariant_of-result c =
-    let behind = (rw c.deref.ensures at c.if-not-is_behind.ensures).0 refl in
-    rw (c.in_ok-start.ensures, c.in_ok-shape.ensures, c.deref-2.ensures, c.deref-3.ensures)
-    (relative_is_box c.self.inside.start.items c.self.inside.shape.items c.args.origin.now (omega arith) behind c.self.invariant)

@@ -1,6 +1,0 @@
-use Rattle.std.proofs.Common.{◌≡◌, ℕ, ◌+◌, ◌^◌, ◌<◌, length, get_or}
-use Rattle.zarr_boxes.proofs.subset.is_box.Given as goal
-
-abbrev pub invariant-loop-axis : goal.invariant-loop-axis
-invariant-loop-axis l =
-    (length l.start ≡ length l.shape) × ((k : ℕ) → k < l.axis → get_or l.start k 0 + get_or l.shape k 0 < 2 ^ 64)

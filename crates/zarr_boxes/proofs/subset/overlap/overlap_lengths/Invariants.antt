@@ -1,8 +1,0 @@
--- The lengths so far.
-use Rattle.std.proofs.Common.{◌≡◌, take}
-use Rattle.zarr_boxes.specs.Overlaps.{overlap_of}
-use Rattle.zarr_boxes.proofs.subset.overlap.overlap_lengths.Given as goal
-
-abbrev pub invariant-loop-axis : goal.invariant-loop-axis
-invariant-loop-axis l =
-    l.lengths.items ≡ take l.axis (overlap_of (record { start = l.start; shape = l.shape }) (record { start = l.other_start; shape = l.other_shape })).shape

@@ -1,7 +1,0 @@
--- The starts so far.
-use Rattle.std.proofs.Common.{◌≡◌, max, take}
-use Rattle.row_major.specs.Numbering.{zip_with}
-use Rattle.zarr_boxes.proofs.subset.overlap.overlap_starts.Given as goal
-
-abbrev pub invariant-loop-axis : goal.invariant-loop-axis
-invariant-loop-axis l = l.starts.items ≡ take l.axis (zip_with max l.start l.other_start)

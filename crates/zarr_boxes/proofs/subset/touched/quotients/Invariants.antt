@@ -1,7 +1,0 @@
--- The quotients so far.
-use Rattle.std.proofs.Common.{◌≡◌, ◌/◌, take}
-use Rattle.row_major.specs.Numbering.{zip_with}
-use Rattle.zarr_boxes.proofs.subset.touched.quotients.Given as goal
-
-abbrev pub invariant-loop-axis : goal.invariant-loop-axis
-invariant-loop-axis l = l.grid.items ≡ take l.axis (zip_with ◌/◌ l.shape l.sub)

@@ -1,6 +1,0 @@
-use Rattle.std.proofs.Common.{◌≡◌, ◌<◌, ℕ}
-use Rattle.zarr_elements.specs.Arrays.{part}
-use Rattle.zarr_elements.proofs.array_bytes.fill.are_parts_alike.Given as goal
-
-abbrev pub invariant-loop-i : goal.invariant-loop-i
-invariant-loop-i l = (k : ℕ) → k < l.i → part l.bytes l.offsets k ≡ l.element

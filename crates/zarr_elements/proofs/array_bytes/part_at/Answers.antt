@@ -1,7 +1,0 @@
-use Rattle.std.proofs.Common.{◌+◌, rules, length}
-use Rattle.zarr_elements.proofs.ArrayLaws.{offset_within}
-use Rattle.zarr_elements.proofs.array_bytes.part_at.Goals as goal
-
-pub slice_bounds-result-end : goal.slice_bounds-result-end
-slice_bounds-result-end c = let within =
-    offset_within c.args.offsets.now (length c.args.bytes.now) (c.args.i + 1) c.requires.offsets c.requires.below in search rules

@@ -1,4 +1,0 @@
-pub mod LocateLaws
-pub mod FollowLaws
-pub mod CoordinateLaws
-pub mod SelectionLemmas

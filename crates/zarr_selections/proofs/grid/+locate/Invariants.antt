@@ -1,5 +1,0 @@
-use Rattle.std.proofs.Common.{length}
-use Rattle.zarr_selections.proofs.grid.+locate.Given as goal
-
-abbrev pub decreases-locate : goal.decreases-locate
-decreases-locate l = length l.shape.now

@@ -1,5 +1,0 @@
-use Rattle.box_runs.proofs.BoxLaws.{length-points_of}
-use Rattle.zarr_selections.proofs.indexer.ArraySubsetIndexer.len.Goals as goal
-
-pub returns-clause-value : goal.returns-clause-value
-returns-clause-value c = rw (length-points_of c.args.self.now) c.num_elements.ensures.value
