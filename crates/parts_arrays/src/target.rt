@@ -183,8 +183,8 @@ impl<'a> FixedTarget<'a> {
         Ok(())
     }
 
-    /// Writes the elements at the points of a subset of an array at the points of the subset, both in row-major order: the array has
-    /// the shape and elements of the target's size, and its subset as many points as the subset. Takes no memory.
+    /// Writes the elements at the points of a subset of an array into the target's subset, both in row-major order: the array has
+    /// the shape and elements of the target's size, and its subset as many points as the target's. Takes no memory.
     pub fn copy_subset_from(&mut self, array: &ArrayBytes, subset: &ArraySubset, shape: &[u64])
         requires kind { array.now.kind ≡ Fixed (target_element_size self.old) }
         requires all { length array.now.elements ≡ count_of shape.now }
