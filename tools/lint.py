@@ -19,6 +19,7 @@ PARAMETERS, CLAUSES = 7, 12
 WIDTHS = {".md": 120, ".antt": 140}
 LENGTHS = {"README.md": 150, "docs/ARCHITECTURE.md": 120}
 DECISION = 8  # lines of an entry in docs/DECISIONS.md
+CRATES, CRATE, FILE = 60, 2200, 500  # crates; lines of the src/ of one without tests; lines of a file
 # Where this project was made, and papers that its reader does not have.
 FOREIGN = r"/(?:work|opt)/[a-z]|\b(?:row|rule) \d\d+\b|\b[RDW]\d{1,2}\b"
 found = []
@@ -144,6 +145,33 @@ def check_crates():
         say("crates/README.md", 1, "has another order than crates.txt")
 
 
+def check_sizes():
+    """How many crates there are, and how long each and its files."""
+    names = re.findall(r"(?m)^(\w+)[^:\n]*:", read(f"{TOP}/crates.txt"))
+    if len(names) > CRATES:
+        say("crates.txt", 1, f"{len(names)} crates (at most {CRATES})")
+    lines = dict.fromkeys(names, 0)
+    for path in files(".rt", ".antt"):
+        length = read(f"{TOP}/{path}").count("\n")
+        if length > FILE:
+            say(path, length, f"{length} lines (at most {FILE})")
+        if path.endswith(".rt"):
+            lines[path.split("/")[1]] += length
+    for name, length in lines.items():
+        if length > CRATE and not name.startswith("test_"):
+            say(f"crates/{name}", 1, f"{length} lines of src (at most {CRATE})")
+
+
+def check_imports():
+    """An import of a definition or a lemma names the crate whose folder holds it; only a façade's Lib.antt hands on."""
+    for path in files(".rt", ".antt"):
+        for number, line in lines_of(path) if not path.endswith("/Lib.antt") else []:
+            for crate, part, name, below in re.findall(r"use Rattle\.(\w+)\.(specs|proofs)\.([A-Z]\w*|steps)(?:\.(\w+))?", line):
+                place = f"{TOP}/crates/{crate}/{part}/" + (f"steps/{below}" if name == "steps" else name)
+                if os.path.isdir(f"{TOP}/crates/{crate}") and not os.path.exists(f"{place}.antt"):
+                    say(path, number, f"{crate} does not hold {name}")
+
+
 def check_session():
     """README.md shows what crates/test_worked_arrays wants the same commands to print."""
     wanted = {}
@@ -212,6 +240,8 @@ def main():
     check_links()
     check_promises()
     check_crates()
+    check_sizes()
+    check_imports()
     check_excerpt()
     check_session()
     sys.argv, arguments = [sys.argv[0], "--check"], sys.argv[1:]
