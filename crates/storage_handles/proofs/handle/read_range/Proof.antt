@@ -81,7 +81,7 @@ read_range_spec 𝓤 𝓛 𝓜 𝓡 wired H L gs d met =
     let z₂ : G₂.Ghost = (((κs.0, tt), (qs.0, tt), tt, (r, (a.1.0, tt)), (v ∷ [], (mut_vals a.1.0, tt))), tt) in
     nothing ! $ move ! (4 ∷ 0 ∷ []) $ join ! $ move ! (2 ∷ 0 ∷ []) $ join ! $ move ! (2 ∷ []) $ split ! $ nothing ! $ move ! (1 ∷ 0 ∷ []) $ join ! $ move ! (0 ∷ 2 ∷ []) $ join ! $
     nothing ! $ move ! (1 ∷ 0 ∷ []) $ join ! $ use1 𝓛 (raw (G₂.pre z₂)) (id⊢ 𝓤 _) $
-    calls_at ! (framed 𝓤 𝓛.H 𝓜 𝓣) G₂ (split_met.met 𝓤 𝓛 𝓜 𝓡 (code.calls-object_handles::handle::split 𝓡.env wired)) z₂ (and_then ! (get ! refl) (and_then ! (get ! refl) (no_more !))) (λ w.
+    calls_at ! (framed 𝓤 𝓛.H 𝓜 𝓣) G₂ (split_met.met 𝓤 𝓛 𝓜 𝓡 (code.calls-storage_handles::handle::split 𝓡.env wired)) z₂ (and_then ! (get ! refl) (and_then ! (get ! refl) (no_more !))) (λ w.
     use1 𝓛 (later (some (λ (s : (Part ν).Denot). (one ⊛ ‵ ((Part ν).own_val s (w ∷ []))) ⊛ some (λ (ws₂ : Lasts g.ended (κs.0, tt) z₂.0.3).
     ‵ (lasts g.ended (κs.0, tt) z₂.0.3 ws₂) ⊛ raw (fact 𝓤 (Agrees (λ b. cow_slice_items b) (λ b. b.now) r s)))))) (id⊢ 𝓤 _) $
     await ! tt $ pick ! (λ s. split ! $ split ! $ move ! (1 ∷ []) $
