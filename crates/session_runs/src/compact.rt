@@ -38,7 +38,7 @@ fn replace<H: BytesPartialEncoderTraits>(
 
 impl<'a, I: ArrayToBytesCodecTraits, X: ArrayToBytesCodecTraits> Served<'a, I, X> {
     // The object of a handle without what is not needed, or `None` where there is nothing to gain.
-    fn compacted<H: BytesPartialDecoderTraits>(
+    fn compaction<H: BytesPartialDecoderTraits>(
         &self,
         alloc: Global,
         handle: &mut H,
@@ -80,7 +80,7 @@ impl<'a, I: ArrayToBytesCodecTraits, X: ArrayToBytesCodecTraits> Served<'a, I, X
             IsTrue (H.state handle.old).transparent → IfOk result (λ reply. Leads s (λ m m'. CompactStep s m old reply m' new) old new) }
         ensures fault { IfErr result (HasFaulted (H.state handle.old) (H.state handle.new)) }
     {
-        match self.compacted(alloc, handle) {
+        match self.compaction(alloc, handle) {
             Ok(made) => match made {
                 None => Ok(Reply::Compacted(false)),
                 Some(bytes) => replace(alloc, handle, &bytes),

@@ -73,7 +73,7 @@ impl<I: ArrayToBytesCodecTraits, X: ArrayToBytesCodecTraits> Sharding<'_, I, X> 
             options,
         };
         let (shape, grid) = (spec.shape, &plan.index.grid);
-        if subchunks.put_requested(
+        if subchunks.put_plain_requested(
             alloc, handle, interval, &index, indexer, shape, grid, target,
         )? {
             return Ok(());

@@ -10,7 +10,7 @@ mod shard;
 mod subchunks;
 mod writes;
 
-pub use requested::{read_into, read_requested};
+pub use requested::{read_indexer, read_indexer_into};
 pub use session::OpenSession;
 pub use shard::OpenShard;
 pub use subchunks::byte_range;

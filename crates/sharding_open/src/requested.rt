@@ -28,7 +28,7 @@ use storage_handles::BytesPartialDecoderTraits;
 /// they have one size, their bytes), as the lowest refused subchunk is in which cells are asked (`BadIndexEntry` with its
 /// number, `Damaged`, `TooLarge`), and as `TooLarge` where the lengths of the requested cells pass `usize::MAX`; or as `Fault`,
 /// where the handle failed, or `OutOfMemory`.
-pub fn read_requested<
+pub fn read_indexer<
     I: ArrayToBytesCodecTraits,
     X: ArrayToBytesCodecTraits,
     H: BytesPartialDecoderTraits,
@@ -62,8 +62,8 @@ pub fn read_requested<
 
 /// Reads the cells that an indexer requests into a target: in the indexer's order they go to the target's subset, in row-major
 /// order of this. A refusal leaves the target. Refused, in this order, as `WrongElementKind` (a type of another element size or
-/// of none), as `InvalidNumberOfElements` (another number of elements in the target's subset), then as `read_requested`.
-pub fn read_into<
+/// of none), as `InvalidNumberOfElements` (another number of elements in the target's subset), then as `read_indexer`.
+pub fn read_indexer_into<
     I: ArrayToBytesCodecTraits,
     X: ArrayToBytesCodecTraits,
     H: BytesPartialDecoderTraits,
@@ -97,6 +97,6 @@ pub fn read_into<
         CachedCellsRefusals (inner_of I.meaning s g) index (layout_in s index g) (H.state handle.old).contents (N.selection indexer.now).points))))) }
 {
     check_target(target, indexer.len(), &shard.data_type)?;
-    let array = read_requested(shard, sharding, alloc, handle, indexer, options)?;
+    let array = read_indexer(shard, sharding, alloc, handle, indexer, options)?;
     target.copy_from(&array)
 }

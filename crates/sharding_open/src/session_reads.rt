@@ -8,7 +8,7 @@ ghost use Rattle.sharding_engine.specs.Meanings.{layout_in, inner_of, index_of, 
 ghost use Rattle.sharding_open.specs.Cached.{object_cells, CachedCellsRefusals};
 ghost use Rattle.sharding_open.specs.OpenShards.{shard_spec, numbers_by, IsKnown};
 
-use crate::requested::read_requested;
+use crate::requested::read_indexer;
 use crate::session::OpenSession;
 use codec_traits::ArrayToBytesCodecTraits;
 use parts_arrays::ArrayBytes;
@@ -19,7 +19,7 @@ use std::alloc::Global;
 use storage_handles::BytesPartialEncoderTraits;
 
 impl OpenSession {
-    /// The cells that an indexer requests, as `read_requested`, through a handle that could be written too: the object stays.
+    /// The cells that an indexer requests, as `read_indexer`, through a handle that could be written too: the object stays.
     pub fn read<
         I: ArrayToBytesCodecTraits,
         X: ArrayToBytesCodecTraits,
@@ -47,6 +47,6 @@ impl OpenSession {
             ObjectRefusals (H.state handle.old) (H.state handle.new) (
             CachedCellsRefusals (inner_of I.meaning s g) index (layout_in s index g) (H.state handle.old).contents (N.selection indexer.now).points)))) }
     {
-        read_requested(&self.shard, sharding, alloc, handle, indexer, options)
+        read_indexer(&self.shard, sharding, alloc, handle, indexer, options)
     }
 }

@@ -13,7 +13,7 @@ use sharding_format::{ShardIndex, Slot};
 use storage_handles::ByteRange;
 
 // What the cached index says of a subchunk. Without an object each is absent.
-fn slot_in(cached: &Option<ShardIndex>, number: u64) -> Slot
+fn cached_slot(cached: &Option<ShardIndex>, number: u64) -> Slot
     requires { IfSome (cached_numbers cached.now) (λ numbers. 2 * number + 1 < length numbers) }
     ensures slot { result ≡ cached_slot (cached_len cached.now) (cached_numbers cached.now) number }
     ensures fits { FitsSlot (cached_len cached.now) result }
@@ -46,7 +46,7 @@ pub fn byte_range(shard: &OpenShard, subchunk: &[u64]) -> Result<Option<ByteRang
     let Some(number) = ravel_indices(subchunk, grid) else {
         return Err(CodecError::OutOfBounds);
     };
-    match slot_in(&shard.cached, number) {
+    match cached_slot(&shard.cached, number) {
         Slot::Absent => Ok(None),
         Slot::InRange { offset, size } => Ok(Some(ByteRange::FromStart(offset, Some(size)))),
         Slot::Bad => Err(CodecError::BadIndexEntry { number }),

@@ -139,7 +139,7 @@ impl<I: ArrayToBytesCodecTraits> Subchunks<'_, I> {
     /// they are a subset of the shape of the target's subset, and the inner codec stores the elements of each touched subchunk that is
     /// present as they are in memory, they are copied from its slice. False where it is not so. Whatever it answers, some elements of
     /// the target's subset may have changed, and no other. Refused as `Fault`, where the handle failed, or `OutOfMemory`.
-    pub fn put_requested<H: BytesPartialDecoderTraits, N: Indexer>(
+    pub fn put_plain_requested<H: BytesPartialDecoderTraits, N: Indexer>(
         &self,
         alloc: Global,
         handle: &mut H,

@@ -206,7 +206,7 @@ impl Shard {
     }
 
     // What a shard of these bytes is compacted to; nothing where there is nothing to gain.
-    fn compacted(&self, alloc: Global, bytes: &[u8]) -> Result<Option<Vec<u8>>, CodecError>
+    fn compaction_of(&self, alloc: Global, bytes: &[u8]) -> Result<Option<Vec<u8>>, CodecError>
         ensures compacted { let codec = ⟦<Codec as ArrayToBytesCodecTraits>⟧ in
             IfOk result (λ answer. IfSome answer (λ new. (codec.meaning self.now.codec (spec_of_shard self.now)).compacted bytes.now new.items)) }
         ensures nothing { let bytes_codec = ⟦<BytesCodec as ArrayToBytesCodecTraits>⟧ in let c = self.now.codec in let g = spec_of_shard self.now in
@@ -245,7 +245,7 @@ impl Shard {
         let Some(object) = &self.object else {
             return Ok(None);
         };
-        match self.compacted(alloc, object)? {
+        match self.compaction_of(alloc, object)? {
             Some(bytes) => Ok(Some(self.store(bytes))),
             None => Ok(None),
         }

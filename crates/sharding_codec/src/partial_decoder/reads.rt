@@ -18,7 +18,7 @@ use codec_traits::ArrayToBytesCodecTraits;
 use parts_arrays::{ArrayBytes, FixedTarget};
 use parts_errors::{CodecError, CodecOptions};
 use parts_subsets::Indexer;
-use sharding_open::{read_into, read_requested};
+use sharding_open::{read_indexer, read_indexer_into};
 use std::alloc::Global;
 use storage_handles::BytesPartialDecoderTraits;
 
@@ -53,7 +53,7 @@ impl<
             ObjectRefusals (H.state self.old.handle) (H.state self.new.handle) (
             ObjectCellsRefusals I.meaning X.meaning s g (H.state self.old.handle).contents (N.selection indexer.now).points)))) }
     {
-        read_requested(
+        read_indexer(
             &self.shard,
             &borrowed!(self.codec),
             alloc,
@@ -92,7 +92,7 @@ impl<
             ObjectRefusals (H.state self.old.handle) (H.state self.new.handle) (
             ObjectCellsRefusals I.meaning X.meaning s g (H.state self.old.handle).contents (N.selection indexer.now).points))))) }
     {
-        read_into(
+        read_indexer_into(
             &self.shard,
             &borrowed!(self.codec),
             alloc,

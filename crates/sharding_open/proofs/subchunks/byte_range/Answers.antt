@@ -5,8 +5,8 @@ use Rattle.sharding_open.specs.Cached.{cached_numbers}
 use Rattle.sharding_open.proofs.OpenLemmas.{entry_below}
 use Rattle.sharding_open.proofs.subchunks.byte_range.Goals as goal
 
-pub slot_in-requires : goal.slot_in-requires
-slot_in-requires c =
+pub cached_slot-requires : goal.cached_slot-requires
+cached_slot-requires c =
     let shard = c.args.shard.now in
     let grid = shard.grid in
     let number = c.in-Some.number in

@@ -21,10 +21,10 @@ returns-in-Some-clause-usable g c =
     let s = shards_of g.I.ArrayToBytesCodecTraits.meaning g.X.ArrayToBytesCodecTraits.meaning codec spec in
     let state = g.H.BytesPartialDecoderTraits.state in
     let old = state c.args.handle.now in
-    let mid = state c.compacted.new.handle in
+    let mid = state c.compaction.new.handle in
     let new = state c.replace.new.handle in
     let bytes : Bytes = c.in-Some.bytes.items in
-    let read = c.compacted.ensures.read in
+    let read = c.compaction.ensures.read in
     on_ok_told c.replace.result (IsTrue old.transparent) (IsReplaced bytes old.contents new.contents) (IsUsable s new.contents)
     (λ told.
     each_ok c.replace.result (IsReplaced c.deref.result.now mid.contents new.contents) (IsReplaced bytes old.contents new.contents) (c.replace.ensures.replaced (rw read.transparent_same told))
@@ -44,10 +44,10 @@ returns-in-Some-clause-leads g c =
     let s = shards_of g.I.ArrayToBytesCodecTraits.meaning g.X.ArrayToBytesCodecTraits.meaning codec spec in
     let state = g.H.BytesPartialDecoderTraits.state in
     let old = state c.args.handle.now in
-    let mid = state c.compacted.new.handle in
+    let mid = state c.compaction.new.handle in
     let new = state c.replace.new.handle in
     let bytes : Bytes = c.in-Some.bytes.items in
-    let read = c.compacted.ensures.read in
+    let read = c.compaction.ensures.read in
     each_ok c.replace.result (IsReplaced c.deref.result.now mid.contents new.contents) (λ reply. Leads s (λ m m'. CompactStep s m old.contents reply m' new.contents) old.contents new.contents)
     (c.replace.ensures.replaced (rw read.transparent_same told))
     (λ reply h.
@@ -66,10 +66,10 @@ returns-in-Err-clause-leads g c =
     let s = shards_of g.I.ArrayToBytesCodecTraits.meaning g.X.ArrayToBytesCodecTraits.meaning codec spec in
     let state = g.H.BytesPartialDecoderTraits.state in
     let old = state c.args.handle.now in
-    let new = state c.compacted.new.handle in
+    let new = state c.compaction.new.handle in
     let e = c.in-Err.error in
     of_refused e c.refused.result (λ reply. Leads s (λ m m'. CompactStep s m old.contents reply m' new.contents) old.contents new.contents) c.refused.ensures (λ no_fault.
     unmade_leads s.inner s.index codec.subchunk_shape codec.location codec.order spec c.requires.serves
     (λ x y array written. (g.met.X.ArrayToBytesCodecTraits.lawful codec.index_codec index_g).written_cells x y c.requires.serves.index_served.served array written)
     old new e (index_never_long s.inner s.index codec.subchunk_shape spec (g.met.X.ArrayToBytesCodecTraits.lawful codec.index_codec index_g) c.requires.serves)
-    told (c.requires.usable told) no_fault c.compacted.ensures.read c.in-Err.ensures.refused)
+    told (c.requires.usable told) no_fault c.compaction.ensures.read c.in-Err.ensures.refused)

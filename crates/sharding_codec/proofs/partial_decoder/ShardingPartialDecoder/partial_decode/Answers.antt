@@ -1,7 +1,7 @@
 use Rattle.sharding_codec.proofs.partial_decoder.ShardingPartialDecoder.partial_decode.Goals as goal
 
 pub returns-clause-refused : goal.returns-clause-refused
-returns-clause-refused g c = rw (← c.self.view_is) c.read_requested.ensures.refused
+returns-clause-refused g c = rw (← c.self.view_is) c.read_indexer.ensures.refused
 
 pub returns-clause-cells : goal.returns-clause-cells
-returns-clause-cells g c = rw (← c.self.view_is) c.read_requested.ensures.cells
+returns-clause-cells g c = rw (← c.self.view_is) c.read_indexer.ensures.cells

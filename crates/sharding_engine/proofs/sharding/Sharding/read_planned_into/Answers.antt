@@ -13,18 +13,18 @@ use Rattle.sharding_gather.proofs.ReadGroupLemmas.{read_then}
 use Rattle.sharding_index.specs.steps.Plans.{spec_of}
 use Rattle.sharding_engine.proofs.sharding.Sharding.read_planned_into.Goals as goal
 
-pub returns-in_err-put_requested-clause-read : goal.returns-in_err-put_requested-clause-read
-returns-in_err-put_requested-clause-read g c = read_then _ _ _ c.read_index.ensures.read c.put_requested.ensures.read
+pub returns-in_err-put_plain_requested-clause-read : goal.returns-in_err-put_plain_requested-clause-read
+returns-in_err-put_plain_requested-clause-read g c = read_then _ _ _ c.read_index.ensures.read c.put_plain_requested.ensures.read
 
 pub returns-then-branch-clause-read : goal.returns-then-branch-clause-read
-returns-then-branch-clause-read g c = read_then _ _ _ c.read_index.ensures.read c.put_requested.ensures.read
+returns-then-branch-clause-read g c = read_then _ _ _ c.read_index.ensures.read c.put_plain_requested.ensures.read
 
 pub returns-in_err-array-clause-read : goal.returns-in_err-array-clause-read
 returns-in_err-array-clause-read g c =
-    read_then _ _ _ (read_then _ _ _ c.read_index.ensures.read c.put_requested.ensures.read) c.read_requested.ensures.read
+    read_then _ _ _ (read_then _ _ _ c.read_index.ensures.read c.put_plain_requested.ensures.read) c.read_requested.ensures.read
 
 pub returns-clause-read : goal.returns-clause-read
-returns-clause-read g c = read_then _ _ _ (read_then _ _ _ c.read_index.ensures.read c.put_requested.ensures.read) c.read_requested.ensures.read
+returns-clause-read g c = read_then _ _ _ (read_then _ _ _ c.read_index.ensures.read c.put_plain_requested.ensures.read) c.read_requested.ensures.read
 
 pub returns-in_err-index-clause-written : goal.returns-in_err-index-clause-written
 returns-in_err-index-clause-written g c = untouched c.args.target.now
@@ -67,8 +67,8 @@ returns-then-branch-clause-cells g c = λ t.
     let plan = c.requires.plan in
     let told = rw (plan.index.size, plan.grid) at (c.in_ok-index.ensures.numbers t) in
     let contents = before.contents_same in
-    let true_is : IsTrue c.in_ok-put_requested.field-0 = search rules in
-    let put = rw contents at (c.in_ok-put_requested.ensures.put true_is (rw before.transparent_same t)) in (
+    let true_is : IsTrue c.in_ok-put_plain_requested.field-0 = search rules in
+    let put = rw contents at (c.in_ok-put_plain_requested.ensures.put true_is (rw before.transparent_same t)) in (
       c.in_ok-index.ensures.inside t,
       record {
         elements = put.elements;
@@ -90,12 +90,12 @@ returns-in_err-array-clause-refused g c =
     let l = layout s.subchunk_shape.now s.index_codec.location s.order (outer.meaning s.index_codec.codec.now index_g).representation spec in
     let points = (g.N.Indexer.selection a.indexer.now).points in
     let before = c.read_index.ensures.read in
-    let tried = c.put_requested.ensures.read in
+    let tried = c.put_plain_requested.ensures.read in
     let plan = c.requires.plan in
     let e = c.in_err-array.field-0.0 in
     let refused = rw (tried.contents_same, before.contents_same) at c.in_err-array.ensures.refused in
     passed_on _ e _ c.from_residual-in_err-array.ensures.1
-    (cells_refused (h.state a.handle.now) (h.state c.put_requested.new.handle) (h.state c.read_requested.new.handle) a.interval (inner.meaning s.inner.now sub_g) (outer.meaning s.index_codec.codec.now index_g) l
+    (cells_refused (h.state a.handle.now) (h.state c.put_plain_requested.new.handle) (h.state c.read_requested.new.handle) a.interval (inner.meaning s.inner.now sub_g) (outer.meaning s.index_codec.codec.now index_g) l
     c.in_ok-index.index.numbers.items (numbers_of a.spec.now.shape.now points) points e
     (read_then _ _ _ before tried) c.in_ok-index.ensures.inside
     (λ t. rw (plan.index.size, plan.grid) at (c.in_ok-index.ensures.numbers t)) c.requires.points refl refused)
@@ -112,7 +112,7 @@ returns-clause-cells g c =
     let points = (g.N.Indexer.selection a.indexer.now).points in
     let bytes = interval_part a.interval (h.state a.handle.now).contents in
     let before = c.read_index.ensures.read in
-    let tried = c.put_requested.ensures.read in
+    let tried = c.put_plain_requested.ensures.read in
     let plan = c.requires.plan in
     let contents = tried.contents_same ∙ before.contents_same in
     let array = c.in_ok-array.array in
@@ -124,14 +124,14 @@ returns-clause-cells g c =
       record {
         elements = array.elements;
         there = requested_cells (g.I.ArrayToBytesCodecTraits.meaning s.inner.now sub_g) (g.X.ArrayToBytesCodecTraits.meaning s.index_codec.codec.now index_g) l bytes c.in_ok-index.index.numbers.items points told c.requires.points ∙ read;
-        written = written_after a.target.now c.put_requested.new.target c.copy_from.new.self (element_of array) c.put_requested.ensures.written wrote;
+        written = written_after a.target.now c.put_plain_requested.new.target c.copy_from.new.self (element_of array) c.put_plain_requested.ensures.written wrote;
       },
     ))
     c.copy_from.ensures.written
 
 pub returns-clause-written : goal.returns-clause-written
 returns-clause-written g c =
-    let mid = c.put_requested.new.target in
+    let mid = c.put_plain_requested.new.target in
     let new = c.copy_from.new.self in
     let last = written_or_kept c.copy_from.result mid new (on_ok_weaker c.copy_from.result (λ wrote. (c.in_ok-array.array.elements, wrote)) c.copy_from.ensures.written) c.copy_from.ensures.kept in
-    (last.0, written_after c.args.target.now mid new _ c.put_requested.ensures.written last.1)
+    (last.0, written_after c.args.target.now mid new _ c.put_plain_requested.ensures.written last.1)

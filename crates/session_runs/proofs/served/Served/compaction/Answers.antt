@@ -3,7 +3,7 @@ use Rattle.codec_traits.proofs.CodecLaws.{refused_so}
 use Rattle.session_model.specs.Objects.{shards_of}
 use Rattle.session_runs.specs.Served.{served_spec}
 use Rattle.session_runs.proofs.ReplaceLemmas.{whole_refusals}
-use Rattle.session_runs.proofs.served.Served.compacted.Goals as goal
+use Rattle.session_runs.proofs.served.Served.compaction.Goals as goal
 
 pub returns-clause-refused : goal.returns-clause-refused
 returns-clause-refused g c =

@@ -2,7 +2,7 @@ use Rattle.std.proofs.Common.{ℕ, List, [], slice_index_or}
 use Rattle.std.proofs.lemmas.Result.{IfOk-weaker}
 use Rattle.parts_arrays.specs.Arrays.{element_of}
 use Rattle.parts_arrays.specs.Targets.{IsWritten}
-use Rattle.sharding_open.proofs.requested.read_into.Goals as goal
+use Rattle.sharding_open.proofs.requested.read_indexer_into.Goals as goal
 
 pub returns-clause-written : goal.returns-clause-written
 returns-clause-written g c =

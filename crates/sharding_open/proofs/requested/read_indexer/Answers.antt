@@ -6,7 +6,7 @@ use Rattle.sharding_engine.specs.Meanings.{layout_in, inner_of, index_of}
 use Rattle.sharding_open.specs.Cached.{CachedCellsRefusals}
 use Rattle.sharding_open.specs.OpenShards.{shard_spec}
 use Rattle.sharding_open.proofs.OpenLemmas.{requested_refused}
-use Rattle.sharding_open.proofs.requested.read_requested.Goals as goal
+use Rattle.sharding_open.proofs.requested.read_indexer.Goals as goal
 
 pub returns-in_err-array-clause-refused : goal.returns-in_err-array-clause-refused
 returns-in_err-array-clause-refused g c =

@@ -1,6 +1,6 @@
 use Rattle.parts_subsets.proofs.SelectionLemmas.{numbers_of-points_of}
 use Rattle.codec_traits.proofs.OverwriteLemmas.{untouched}
-use Rattle.sharding_subchunks.proofs.subchunks.Subchunks.put_requested.Goals as goal
+use Rattle.sharding_subchunks.proofs.subchunks.Subchunks.put_plain_requested.Goals as goal
 
 pub returns-in_default-clause-written : goal.returns-in_default-clause-written
 returns-in_default-clause-written g c = untouched c.args.target.now
