@@ -24,9 +24,9 @@ const CELLS: [(u64, u64); 16] = [
 #[test]
 fn each_cell_has_one_position(rt: HostRuntime) {
     for number in 0..16 {
-        let (subchunk, place) = CELLS[number];
+        let (subchunk, position) = CELLS[number];
         let found = locate(number as u64, 16, 4, 4, &[4, 4], &[2, 2]);
-        same_at(&rt, number, found, Located { subchunk, place });
+        same_at(&rt, number, found, Located { subchunk, position });
     }
 }
 
