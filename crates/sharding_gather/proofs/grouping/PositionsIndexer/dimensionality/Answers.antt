@@ -2,7 +2,7 @@ use Rattle.std.proofs.Common.{[], length, ap, ◌∙◌, arith}
 use Rattle.std.proofs.lemmas.List.{get_or-map, length-map}
 use Rattle.parts_row_major.specs.Numbering.{point_of}
 use Rattle.parts_row_major.proofs.NumberingLaws.{length-point_of}
-use Rattle.sharding_gather.proofs.grouping.PlacesIndexer.dimensionality.Goals as goal
+use Rattle.sharding_gather.proofs.grouping.PositionsIndexer.dimensionality.Goals as goal
 
 pub returns-clause-each : goal.returns-clause-each
 returns-clause-each c =
