@@ -61,7 +61,7 @@ module _ (shape : List ℕ) (sub_g : ArraySpec) (subset : Subset) (k : ℕ) (in_
         (ap (cell_number shape sub_g.shape k) (sym (whole_position p lt)) ∙ here)
 
     pub no_straddle : ¬ (Straddles shape sub_g.shape subset k)
-    no_straddle s = covered_at s.place s.inside s.uncovered
+    no_straddle s = covered_at s.position s.inside s.uncovered
 
     pub covered_array : (update part : Array) → part ≡ extracted update in_subset subset.shape → length update.elements ≡ count_of subset.shape
         → All (FitsKind (size_of sub_g.data_type)) update.elements → IsArrayOf sub_g part.elements
@@ -150,9 +150,9 @@ module _ (shape : List ℕ) (sub_g : ArraySpec) (subset : Subset) (k : ℕ) (in_
         let axes = length_all_zip (λ begin len. begin + len < 2 ^ 64) in_subchunk.start in_subchunk.shape m.sub_well_formed in
         let all = lies_in_length in_subchunk.start in_subchunk.shape sub_g.shape axes m.sub_inside in
         elim (on_or_off in_subchunk first n) [
-          | inr off ↦ record { touches = touches; place = number_of first sub_g.shape; inside = number_below first sub_g.shape first_in; uncovered = leaves first first_in off }
+          | inr off ↦ record { touches = touches; position = number_of first sub_g.shape; inside = number_below first sub_g.shape first_in; uncovered = leaves first first_in off }
           | inl on ↦ elim (on_or_off in_subchunk last n) [
-            | inr off ↦ record { touches = touches; place = number_of last sub_g.shape; inside = number_below last sub_g.shape last_in; uncovered = leaves last last_in off }
+            | inr off ↦ record { touches = touches; position = number_of last sub_g.shape; inside = number_below last sub_g.shape last_in; uncovered = leaves last last_in off }
             | inl on_last ↦ absurd (some (ext_get_or 0 in_subchunk.shape sub_g.shape (omega (arith, axes, all)) (λ j lt.
                 let below : j < n = omega (arith, lt, axes, all) in
                 omega (arith, (on j below).0, first_at j below, (on_last j below).1, last_at j below, positive j 0 below, lies_in_at in_subchunk.start in_subchunk.shape sub_g.shape j axes m.sub_inside below))))

@@ -111,7 +111,7 @@ module _ (g : ArraySpec) (inner : Meaning) (size : ℕ) (plain : IsPlain g inner
         record {
           array = any.array;
           given = any.given;
-          kept = λ p lt none. absurd (no_straddle shape g subset k in_subchunk in_subset m whole (axes_of in_subchunk m.sub_well_formed) (record { touches = touches; write_offset = p; inside = lt; uncovered = none }));
+          kept = λ p lt none. absurd (no_straddle shape g subset k in_subchunk in_subset m whole (axes_of in_subchunk m.sub_well_formed) (record { touches = touches; position = p; inside = lt; uncovered = none }));
         }
 
     pub new_cells : (whole : Bool) → (IsTrue whole → in_subchunk.shape ≡ g.shape) → (¬ (IsTrue whole) → AreOldCells inner.cells g.fill old_bytes slot (count_of g.shape) (pieces n (count_of g.shape) before))

@@ -104,7 +104,7 @@ module _ (inner : Meaning) (l : Layout) (sub_g : ArraySpec) (subset : Subset) (u
         are_touched = are;
         parts = part_at;
         each = λ j lt. some_cells (λ el. IsStoredPart inner.written l.fill el (part_at j)) j lt (encoding_stored inner.written l.fill (elements j) (get_or slots j Bad) slices (stored_slices.stored_slices j lt));
-        place = place;
+        write_offset = place;
         long = long;
         placed = rw all_parts placed;
         holds = holds;

@@ -22,9 +22,9 @@ use Rattle.sharding_write.specs.Writing.{IsUncovered, AreNewCells, cells_in, Are
 -- the subset touches subchunk k and leaves a cell of it
 pub record Straddles (shape sub : List ℕ) (subset : Subset) (k : ℕ) : Type 0 where
   pub touches : Touches shape sub subset k
-  pub place : ℕ
-  pub inside : place < count_of sub
-  pub uncovered : IsUncovered shape sub subset k place
+  pub position : ℕ
+  pub inside : position < count_of sub
+  pub uncovered : IsUncovered shape sub subset k position
 
 -- where the subset straddles the edge of subchunk k, its old cells are there
 abbrev pub HasOldCells : (inner : Meaning) → (shape sub : List ℕ) → Subset → (bytes numbers : List ℕ) → (k : ℕ) → Type 0
@@ -55,9 +55,10 @@ pub record SomeLength (inner : Meaning) (l : Layout) (sub_g : ArraySpec) (subset
   pub parts : ℕ → Bytes
   pub each : (j : ℕ) → j < length touched → SomeNewCells inner l sub_g subset update bytes numbers (slice_index touched j)
       (λ elements. IsStoredPart inner.written l.fill elements (parts j))
-  pub place : ℕ
+  pub write_offset : ℕ
   pub long : ℕ
-  pub placed : ArePlaced l subset (length bytes) numbers (sum_by (λ j. length (parts j)) (range_with_len 0 (length touched))) place long
+  pub placed : ArePlaced l subset (length bytes) numbers (sum_by (λ j. length (parts j)) (range_with_len 0 (length touched))) write_offset
+      long
   pub holds : P long
 
 -- the tests of the new subchunks, ascending
