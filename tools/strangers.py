@@ -1,18 +1,26 @@
 #!/usr/bin/env python3
-"""Runs `zarr_shard` on folders that a repository cannot hold, with a FIFO or a socket in place of a file, and with a pipe that
-nobody reads: each command must end within ten seconds, with this status and sentence.
+"""Runs `zarr_shard` on folders that a repository cannot hold: a FIFO, a socket or a link to nothing in place of a file, a pipe that
+nobody reads, a compaction that is killed, and a shard of 128 MiB. Each command must end in time with this status and sentence.
 
-    python3 tools/strangers.py PATH/OF/zarr_shard
+    python3 tools/strangers.py [PROGRAM]     the program that the merge gate built, if no other is named
 """
+import contextlib
 import json
 import os
+import random
+import shutil
 import signal
 import socket
+import struct
 import subprocess
 import sys
 import tempfile
 
+TOP = os.path.dirname(os.path.dirname(os.path.abspath(__file__)))
+BUILT = f"{TOP}/crates/zarr_shard/out/zarr_shard"
 MOST = 10  # seconds
+MOST_MEMORY = 40_000_000  # bytes
+MIB = 1 << 20
 bad = []
 
 
@@ -36,6 +44,17 @@ def array(path, shape, chunk, subchunk):
         json.dump(metadata, file)
 
 
+def shard(path, parts, dead):
+    """A shard of subchunks with these bytes, of which dead ones stand before each."""
+    with open(path, "wb") as file:
+        index = b""
+        for part in parts:
+            file.write(b"\xee" * dead)
+            index += struct.pack("<QQ", file.tell(), len(part))
+            file.write(part)
+        file.write(index)
+
+
 def expect(words, status, text):
     """Runs a command, which must end with this status and have this text in its output or its messages."""
     try:
@@ -45,31 +64,36 @@ def expect(words, status, text):
         return
     said = (ran.stdout + ran.stderr).decode(errors="replace")
     if ran.returncode != status or text not in said:
-        bad.append(f"{words[1:]}: status {ran.returncode}, {said!r}")
+        bad.append(f"{words[1:]}: status {ran.returncode}, {said[:1000]!r}")
 
 
-def run(program, top):
+def strangers(program, top):
+    """What is no regular file in the place of one."""
     array(f"{top}/fifo", [4], [4], [2])
     os.mkfifo(f"{top}/fifo/0")
     array(f"{top}/socket", [4], [4], [2])
-    with socket.socket(socket.AF_UNIX) as it:
-        it.bind(f"{top}/socket/0")
-    os.makedirs(f"{top}/metadata")
-    os.mkfifo(f"{top}/metadata/zarr.json")
+    array(f"{top}/link", [4], [4], [2])
+    os.symlink("nowhere", f"{top}/link/0")
+    os.makedirs(f"{top}/fifo_metadata")
+    os.mkfifo(f"{top}/fifo_metadata/zarr.json")
+    os.makedirs(f"{top}/socket_metadata")
+    with socket.socket(socket.AF_UNIX) as one, socket.socket(socket.AF_UNIX) as two:
+        one.bind(f"{top}/socket/0")
+        two.bind(f"{top}/socket_metadata/zarr.json")
     for command in (["info"], ["check"], ["read"], ["compact"], ["compact", "--dry-run"]):
         expect([program, *command, f"{top}/fifo"], 2, "0: is a FIFO, not a regular file")
         expect([program, *command, f"{top}/socket"], 2, "0: is a socket, not a regular file")
-        expect([program, *command, f"{top}/metadata"], 2, "zarr.json: is a FIFO, not a regular file")
+        expect([program, *command, f"{top}/link"], 2, "0: is a link to nothing")
+        expect([program, *command, f"{top}/fifo_metadata"], 2, "zarr.json: is a FIFO, not a regular file")
+        expect([program, *command, f"{top}/socket_metadata"], 2, "zarr.json: is a socket, not a regular file")
     expect([program, "info", b"\xff"], 2, "an argument is not UTF-8")
     expect([program, "info", "no\x1bwhere\n"], 2, "no\\u{1b}where\\n: No such file")
     expect([program, "no\x1bwork"], 2, "no\\u{1b}work")
-    closed(program, top)
 
 
 def closed(program, top):
     """A pipe whose reader is gone: the program ends silently, with the status of what was done."""
     array(f"{top}/large", [1000, 1000], [1000, 1000], [10, 10])
-    signal.signal(signal.SIGPIPE, signal.SIG_IGN)
     with subprocess.Popen([program, "read", f"{top}/large"], stdout=subprocess.PIPE, stderr=subprocess.PIPE) as ran:
         ran.stdout.readline()
         ran.stdout.close()
@@ -78,8 +102,69 @@ def closed(program, top):
             bad.append(f"read into a closed pipe: status {ran.returncode}, {said!r}")
 
 
+def cells(program, path):
+    return subprocess.run([program, "read", "--raw", path], capture_output=True, timeout=MOST).stdout
+
+
+def killed(program, top):
+    """A compaction that is killed leaves each shard as it was or compacted, and at most one new file, which is named."""
+    dice, path, size = random.Random(1), f"{top}/killed", 32768
+    array(path, [32 * size], [size], [size // 2])
+    shards = [[dice.randbytes(size // 2), dice.randbytes(size // 2)] for _ in range(32)]
+    whole = b"".join(part for parts in shards for part in parts)
+    for time in range(1, 11):
+        for number, parts in enumerate(shards):
+            shard(f"{path}/{number}", parts, 500)
+        with contextlib.suppress(subprocess.TimeoutExpired):
+            subprocess.run([program, "compact", path], stdout=subprocess.DEVNULL, timeout=time * dice.random() / 100)
+        left = [name for name in os.listdir(path) if name.endswith(".replacing")]
+        if cells(program, path) != whole or len(left) > 1:
+            bad.append(f"a compaction that was killed: other cells, or more than one new file: {left}")
+        for name in left:
+            for command in ("info", "check"):
+                expect([program, command, path], 0, f"{name}, ")
+            expect([program, "compact", path], 2, f"{path}/{name} stands there")
+            os.remove(f"{path}/{name}")
+        expect([program, "compact", path], 0, "bytes saved in ")
+        expect([program, "compact", path], 0, "0 bytes saved in 0 of 32 shards")
+        if cells(program, path) != whole:
+            bad.append("a compaction after one that was killed: other cells")
+
+
+def expect_small(words, status):
+    """Runs a command, which must end with this status and take little memory."""
+    with subprocess.Popen(words, stdout=subprocess.DEVNULL, stderr=subprocess.DEVNULL) as ran:
+        _, how, used = os.wait4(ran.pid, 0)
+        ran.returncode = os.waitstatus_to_exitcode(how)
+    if ran.returncode != status or used.ru_maxrss * 1024 > MOST_MEMORY:
+        bad.append(f"{words[1:]}: status {ran.returncode}, {used.ru_maxrss} KiB of memory")
+
+
+def large(program, top):
+    """A shard of 128 MiB with a dead byte, and metadata of 1 GiB: both take little memory."""
+    path = f"{top}/long"
+    array(path, [128 * MIB], [128 * MIB], [64 * MIB])
+    with open(f"{path}/0", "wb") as file:
+        file.truncate(128 * MIB + 1)
+        file.seek(0, os.SEEK_END)
+        file.write(struct.pack("<4Q", 0, 64 * MIB, 64 * MIB + 1, 64 * MIB))
+    expect_small([program, "compact", "--dry-run", path], 0)
+    expect_small([program, "compact", path], 0)
+    if os.path.getsize(f"{path}/0") != 128 * MIB + 32:
+        bad.append("compact left a shard of 128 MiB with its dead byte")
+    os.truncate(f"{path}/zarr.json", 1 << 30)
+    expect_small([program, "info", path], 2)
+
+
 if __name__ == "__main__":
+    built = os.path.abspath(sys.argv[1]) if sys.argv[1:] else BUILT
+    if not os.path.isfile(built):
+        sys.exit(f"{built}: no such program; the merge gate, `rt ci`, leaves one there")
+    signal.signal(signal.SIGPIPE, signal.SIG_IGN)
     with tempfile.TemporaryDirectory(prefix="strangers-") as folder:
-        run(os.path.abspath(sys.argv[1]), folder)
+        shutil.copyfile(built, f"{folder}/zarr_shard")
+        os.chmod(f"{folder}/zarr_shard", 0o755)
+        for case in (strangers, closed, killed, large):
+            case(f"{folder}/zarr_shard", folder)
     print("\n".join(bad) or "each command ended as it must")
     sys.exit(bool(bad))

@@ -1,10 +1,10 @@
 // Whether the shards of an array are sound.
-use crate::arrays::{Array, Decoder, Shard, ShardFile, read_through};
 use crate::folder::{Counted, write_folder};
-use crate::refusal::{Place, Refusal};
-use crate::stop::{Ending, Stop, written};
 use array_cli::Progress;
 use array_folder::ChunkFiles;
+use array_opening::{
+    Array, Decoder, Ending, Place, Refusal, Shard, ShardFile, Stop, read_through, written,
+};
 use codec_traits::ArrayToBytesCodecTraits;
 use parts_errors::CodecError;
 use parts_row_major::unravel_index;

@@ -1,14 +1,13 @@
 // A command line that is run.
 ghost use Rattle.std.specs.Prelude.{◌≤◌, IfOk};
 
-use crate::arrays::{Array, metadata_of};
 use crate::check::check;
 use crate::compact::compact;
 use crate::info::info;
-use crate::read::read_subset;
-use crate::stop::{Ending, Stop, written};
+use crate::read::read_array;
 use array_cli::{Form, Progress, Work, program, subset_of, work_of, write_json, write_rows};
 use array_metadata::ArrayMetadata;
+use array_opening::{Array, Ending, Stop, metadata_of, written};
 use clap::ArgMatches;
 use codec_traits::ArrayToBytesCodecTraits;
 use parts_arrays::DataType;
@@ -50,7 +49,7 @@ fn run_read<
     progress: &mut Progress<'_, M>,
 ) -> Result<Ending, Stop> {
     let subset = subset_of(array.alloc(), requested, &array.metadata.shape)?;
-    let cells = read_subset(array, &subset, progress)?;
+    let cells = read_array(array, &subset, progress)?;
     progress.clear();
     let data_type = &array.metadata.data_type;
     let wrote = write_cells(out, form, data_type, cells.bytes(), subset.shape());

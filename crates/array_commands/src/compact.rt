@@ -1,10 +1,8 @@
 // The compaction of an array's shards.
-use crate::arrays::{Array, Shard, ShardFile};
 use crate::folder::age_of;
-use crate::refusal::{Place, Refusal};
 use crate::rewriting::{Planned, plan_of, replace};
-use crate::stop::{Ending, Stop, written};
 use array_cli::Progress;
+use array_opening::{Array, Ending, Place, Refusal, Shard, ShardFile, Stop, written};
 use codec_traits::ArrayToBytesCodecTraits;
 use parts_escaped_text::escaped;
 use std::io::Write;

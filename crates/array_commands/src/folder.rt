@@ -1,6 +1,6 @@
 // What stands in an array's folder besides its shards.
-use crate::arrays::Array;
 use array_folder::ChunkFiles;
+use array_opening::Array;
 use std::io::Write;
 use std::rt::{Clock, Files};
 use std::time::{Duration, SystemTime};

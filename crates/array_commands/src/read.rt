@@ -1,9 +1,7 @@
 // The elements of a subset of an array.
-use crate::arrays::{Array, Decoder, Shard, read_cells, read_through};
-use crate::refusal::Place;
-use crate::stop::Stop;
 use array_cli::Progress;
 use array_grid::{ShardGrid, ShardPart, SubsetCells};
+use array_opening::{Array, Decoder, Place, Shard, Stop, decode_subset, read_through};
 use codec_traits::ArrayToBytesCodecTraits;
 use parts_arrays::ArrayBytes;
 use parts_errors::CodecError;
@@ -27,7 +25,7 @@ fn held_cells<R: Files + AllocGlobal, I, X>(
 }
 
 // Puts the cells of a part into those of a subset, for which memory is asked with the first part.
-fn put_part<R: Files + AllocGlobal, I, X>(
+fn put_shard_part<R: Files + AllocGlobal, I, X>(
     array: &Array<'_, R, I, X>,
     requested: &ArraySubset,
     part: &ShardPart,
@@ -112,9 +110,9 @@ fn read_open_part<
     decoder: &mut ShardingPartialDecoder<'_, I, X, H>,
     cells: &mut Option<SubsetCells>,
 ) -> Result<Option<CodecError>, Stop> {
-    match read_cells(array.alloc(), decoder, &part.in_shard) {
+    match decode_subset(array.alloc(), decoder, &part.in_shard) {
         Ok(found) => {
-            put_part(array, requested, part, &found, cells)?;
+            put_shard_part(array, requested, part, &found, cells)?;
             Ok(None)
         }
         Err(error) => Ok(Some(error)),
@@ -164,18 +162,21 @@ fn read_opened<R: Files + AllocGlobal, I: ArrayToBytesCodecTraits, X: ArrayToByt
     }
 }
 
-// Reads the part of a subset that lies in the shard with these coordinates.
+// Reads a part of a subset, which lies in a shard of a grid.
 fn read_part<R: Files + AllocGlobal, I: ArrayToBytesCodecTraits, X: ArrayToBytesCodecTraits>(
     array: &Array<'_, R, I, X>,
     requested: &ArraySubset,
     part: &ShardPart,
-    coordinates: &[u64],
+    grid: &ShardGrid,
     cells: &mut Option<SubsetCells>,
 ) -> Result<(), Stop> {
-    let key = array.metadata.keys.key_of(array.alloc(), coordinates)?;
+    let Some(coordinates) = grid.coordinates(array.alloc(), part.shard)? else {
+        return Err(CodecError::OutOfBounds.into());
+    };
+    let key = array.metadata.keys.key_of(array.alloc(), &coordinates)?;
     let shard = Shard {
         key: &key,
-        coordinates,
+        coordinates: &coordinates,
     };
     match array.decoder(&shard, array.file(&key)?)? {
         Ok(decoder) => read_opened(array, requested, part, &shard, decoder, cells),
@@ -194,7 +195,7 @@ fn shards_of<R: Files + AllocGlobal, I, X>(array: &Array<'_, R, I, X>) -> Result
 
 /// The elements of a subset, from each shard that it overlaps, and fill values of those that are absent. Memory for them is
 /// allocated once a part is read, so that a subset in one shard takes less.
-pub fn read_subset<
+pub fn read_array<
     R: Files + AllocGlobal,
     I: ArrayToBytesCodecTraits,
     X: ArrayToBytesCodecTraits,
@@ -207,12 +208,11 @@ pub fn read_subset<
     let grid = shards_of(array)?;
     let parts = grid.parts(array.alloc(), requested)?;
     let mut cells: Option<SubsetCells> = None;
-    for (done, part) in parts.iter().enumerate() {
-        progress.step(done as u64, parts.len() as u64);
-        let Some(coordinates) = grid.coordinates(array.alloc(), part.shard)? else {
-            return Err(CodecError::OutOfBounds.into());
-        };
-        read_part(array, requested, part, &coordinates, &mut cells)?;
+    for place in 0..parts.len() {
+        progress.step(place, parts.len());
+        if let Some(part) = parts.part(array.alloc(), place)? {
+            read_part(array, requested, &part, &grid, &mut cells)?;
+        }
     }
     Ok(held_cells(array, requested, cells)?)
 }

@@ -1,8 +1,6 @@
 // A compact shard that is written in the place of a shard's file.
-use crate::arrays::{Array, Shard, ShardFile};
-use crate::refusal::Place;
-use crate::stop::Stop;
 use array_metadata::ArrayMetadata;
+use array_opening::{Array, Place, Shard, ShardFile, Stop};
 use codec_traits::ArrayToBytesCodecTraits;
 use parts_errors::{CodecError, CodecOptions};
 use sharding_codec::ShardingCodec;

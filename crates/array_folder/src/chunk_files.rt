@@ -46,38 +46,36 @@ struct Walk<'a, 'l> {
     is_last: bool,
 }
 
-// Two lists, one after the other.
-fn joined(alloc: Global, first: &[u64], second: &[u64]) -> Result<Vec<u64>, AllocError> {
-    let mut joined: Vec<u64> = Vec::with_capacity(alloc, first.len())?;
-    joined.extend_from_slice(first)?;
-    joined.extend_from_slice(second)?;
-    Ok(joined)
-}
-
 impl Walk<'_, '_> {
     // The key of a name in the folder.
     fn key_of(&self, name: &str) -> Result<String, AllocError> {
         if self.key.is_empty() {
             return String::from_str(self.alloc, name);
         }
-        let mut key = String::from_str(self.alloc, self.key)?;
+        let length = self.key.len().saturating_add(name.len()).saturating_add(1);
+        let mut key = String::with_capacity(self.alloc, length)?;
+        key.push_str(self.key)?;
         key.push('/')?;
         key.push_str(name)?;
         Ok(key)
     }
 
+    // The coordinates of a name in the folder, where it is a part of a key.
+    fn coordinates_of(&self, name: &str) -> Result<Option<Vec<u64>>, AllocError> {
+        self.level.coordinates(self.alloc, self.coordinates, name)
+    }
+
     // Whether a name is that of a new file beside that of a chunk.
     fn is_replacing(&self, name: &str) -> Result<bool, AllocError> {
         match name.strip_suffix(REPLACING) {
-            Some(name) if self.is_last => Ok(self.level.coordinates(self.alloc, name)?.is_some()),
+            Some(name) if self.is_last => Ok(self.coordinates_of(name)?.is_some()),
             _ => Ok(false),
         }
     }
 
     // Adds what a name in the folder is to what was found.
     fn add(&self, name: &str, found: &mut ChunkFiles) -> Result<(), AllocError> {
-        if let Some(rest) = self.level.coordinates(self.alloc, name)? {
-            let coordinates = joined(self.alloc, self.coordinates, &rest)?;
+        if let Some(coordinates) = self.coordinates_of(name)? {
             let key = self.key_of(name)?;
             found.chunks.push(ChunkFile { coordinates, key })?;
         } else if self.is_replacing(name)? {
@@ -201,7 +199,7 @@ pub fn list_chunks<R: Files + AllocGlobal>(
         let is_last = depth.saturating_add(1) == levels.len();
         list_level(rt, path, level, depth == 0, is_last, &mut room, &mut found)?;
     }
-    found.chunks.sort()?;
-    found.replacing.sort()?;
+    found.chunks.sort_unstable();
+    found.replacing.sort_unstable();
     Ok(found)
 }

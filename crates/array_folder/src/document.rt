@@ -1,4 +1,7 @@
 // The text of an array's metadata.
+ghost use Rattle.std.specs.Prelude.{IfErr};
+ghost use Rattle.array_folder.specs.Shown.{IsPathPrinted};
+
 use crate::error::FolderError;
 use std::alloc::Global;
 use std::io::{ErrorKind, Read};
@@ -7,7 +10,9 @@ use std::{fs, io};
 use storage_files::{check_folder, file_length};
 
 // What the system said of the file or folder at a path, with the path where that was refused.
-fn named<T: Drop>(alloc: Global, path: &str, answer: io::Result<T>) -> Result<T, FolderError> {
+fn named<T: Drop>(alloc: Global, path: &str, answer: io::Result<T>) -> Result<T, FolderError>
+    ensures { IfErr result IsPathPrinted }
+{
     match answer {
         Ok(value) => Ok(value),
         Err(error) => Err(FolderError::system(alloc, path, error)),
@@ -33,7 +38,9 @@ pub fn document_length<R: Files + AllocGlobal>(
     rt: &R,
     path: &str,
     document: &str,
-) -> Result<u64, FolderError> {
+) -> Result<u64, FolderError>
+    ensures { IfErr result IsPathPrinted }
+{
     named(rt.alloc(), path, check_folder(rt, path))?;
     named(rt.alloc(), document, length_of(rt, document))
 }
@@ -43,6 +50,8 @@ pub fn read_document<R: Files + AllocGlobal>(
     rt: &R,
     document: &str,
     most: u64,
-) -> Result<String, FolderError> {
+) -> Result<String, FolderError>
+    ensures { IfErr result IsPathPrinted }
+{
     named(rt.alloc(), document, text_of(rt, document, most))
 }

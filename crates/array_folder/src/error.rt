@@ -1,4 +1,6 @@
 // Why a folder is not read.
+ghost use Rattle.array_folder.specs.Shown.{IsPathPrinted};
+
 use parts_escaped_text::escaped;
 use std::alloc::{AllocError, AllocFailed, Global};
 use std::io;
@@ -17,7 +19,9 @@ pub enum FolderError {
 
 impl FolderError {
     /// What the system said of the file or folder at a path, or that memory ran out.
-    pub fn system(alloc: Global, path: &str, error: io::Error) -> FolderError {
+    pub fn system(alloc: Global, path: &str, error: io::Error) -> FolderError
+        ensures printed { IsPathPrinted result }
+    {
         if error.kind() == io::ErrorKind::OutOfMemory {
             return FolderError::OutOfMemory;
         }

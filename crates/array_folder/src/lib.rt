@@ -5,10 +5,12 @@ mod chunk_files;
 mod chunk_grid;
 mod document;
 mod error;
+mod folder_files;
 mod names;
 
 pub use chunk_files::{ChunkFile, ChunkFiles, list_chunks};
 pub use chunk_grid::ChunkGrid;
 pub use document::{document_length, read_document};
 pub use error::FolderError;
+pub use folder_files::FolderFiles;
 pub use names::KeyForm;

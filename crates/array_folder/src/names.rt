@@ -33,42 +33,42 @@ fn coordinate_in(word: &str, count: u64) -> Option<u64> {
     }
 }
 
-// The coordinates below these counts that a text is, with `.` between.
-fn coordinates_in(
-    alloc: Global,
+// Adds the coordinates below these counts that a text is, with `.` between, and says whether it is that.
+fn push_coordinates(
+    coordinates: &mut Vec<u64>,
     text: &str,
     counts: &[u64],
-) -> Result<Option<Vec<u64>>, AllocError> {
-    let mut coordinates: Vec<u64> = Vec::new(alloc);
+) -> Result<bool, AllocError> {
     let mut words = text.split('.');
     for count in counts {
         match words.next().and_then(|word| coordinate_in(word, *count)) {
             Some(coordinate) => coordinates.push(coordinate)?,
-            None => return Ok(None),
+            None => return Ok(false),
         }
     }
-    Ok(if words.next().is_none() {
-        Some(coordinates)
-    } else {
-        None
-    })
+    Ok(words.next().is_none())
 }
 
 impl<'a> Level<'a> {
-    /// The coordinates that a name in the folder has, where it is a part of a key.
-    pub fn coordinates(&self, alloc: Global, name: &str) -> Result<Option<Vec<u64>>, AllocError> {
+    /// The coordinates of what has a name in a folder of these coordinates, where the name is a part of a key.
+    pub fn coordinates(
+        &self,
+        alloc: Global,
+        before: &[u64],
+        name: &str,
+    ) -> Result<Option<Vec<u64>>, AllocError> {
         let Some(rest) = name.strip_prefix(self.text) else {
             return Ok(None);
         };
-        if self.counts.is_empty() {
-            let coordinates: Vec<u64> = Vec::new(alloc);
-            return Ok(if rest.is_empty() {
-                Some(coordinates)
-            } else {
-                None
-            });
-        }
-        coordinates_in(alloc, rest, self.counts)
+        let axes = before.len().saturating_add(self.counts.len());
+        let mut coordinates: Vec<u64> = Vec::with_capacity(alloc, axes)?;
+        coordinates.extend_from_slice(before)?;
+        let is_part = if self.counts.is_empty() {
+            rest.is_empty()
+        } else {
+            push_coordinates(&mut coordinates, rest, self.counts)?
+        };
+        Ok(if is_part { Some(coordinates) } else { None })
     }
 }
 

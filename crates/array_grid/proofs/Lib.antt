@@ -1,2 +1,3 @@
 pub mod RoundingLemmas
 pub mod PutLemmas
+pub mod PartLemmas

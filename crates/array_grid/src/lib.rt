@@ -4,7 +4,8 @@
 mod cells;
 mod grid;
 mod parts;
+mod touched;
 
 pub use cells::SubsetCells;
 pub use grid::ShardGrid;
-pub use parts::ShardPart;
+pub use parts::{ShardPart, ShardParts};

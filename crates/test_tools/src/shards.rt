@@ -89,28 +89,29 @@ fn compare_part<R: Abort + AllocGlobal>(
     Ok(())
 }
 
-// The parts of the subset 1..5, 3..7 of an array of 5 by 7 in shards of 4 by 4.
-fn parts_of_subset(alloc: Global) -> Result<Vec<ShardPart>, CodecError> {
+// The part at a place of the subset 1..5, 3..7 of an array of 5 by 7 in shards of 4 by 4.
+fn part_of_box(alloc: Global, position: u64) -> Result<Option<ShardPart>, CodecError> {
     let grid = grid_of(alloc, &[5, 7], &[4, 4])?;
     let requested = ArraySubset::from_ranges(alloc, &[1..5, 3..7])?;
-    grid.parts(alloc, &requested)
+    grid.parts(alloc, &requested)?.part(alloc, position)
 }
 
 #[test]
 fn a_subset_is_made_of_a_part_of_each_shard(rt: HostRuntime) -> Result<(), Fail> {
-    let parts = parts_of_subset(rt.alloc())?;
-    same(&rt, parts.len(), 4);
-    for (number, part) in parts.iter().enumerate() {
-        compare_part(&rt, number, part)?;
+    for number in 0..4 {
+        if let Some(part) = part_of_box(rt.alloc(), number as u64)? {
+            compare_part(&rt, number, &part)?;
+        }
     }
+    same(&rt, part_of_box(rt.alloc(), 3)?.is_some(), true);
+    same(&rt, part_of_box(rt.alloc(), 4)?.is_none(), true);
     Ok(())
 }
 
-fn refused(alloc: Global, grid: &ShardGrid, ranges: &[Range<u64>]) -> Option<CodecError> {
-    match ArraySubset::from_ranges(alloc, ranges) {
-        Ok(requested) => grid.parts(alloc, &requested).err(),
-        Err(error) => Some(error),
-    }
+// How many parts a subset has, or why it is refused.
+fn count_parts(alloc: Global, grid: &ShardGrid, ranges: &[Range<u64>]) -> Result<u64, CodecError> {
+    let requested = ArraySubset::from_ranges(alloc, ranges)?;
+    Ok(grid.parts(alloc, &requested)?.len())
 }
 
 #[test]
@@ -118,13 +119,16 @@ fn subsets_and_shapes_are_refused_in_order(rt: HostRuntime) -> Result<(), Fail> 
     let alloc = rt.alloc();
     let grid = grid_of(alloc, &[5, 7], &[4, 4])?;
     let of_one = Some(CodecError::IncompatibleDimensionality);
-    same(&rt, refused(alloc, &grid, &[0..9]), of_one);
-    same(
-        &rt,
-        refused(alloc, &grid, &[0..5, 6..8]),
-        Some(CodecError::OutOfBounds),
-    );
-    same(&rt, refused(alloc, &grid, &[2..2, 0..7]), None);
+    let out = Some(CodecError::OutOfBounds);
+    for (ranges, want) in [
+        (&[0..9][..], of_one),
+        (&[0..5, 6..8], out),
+        (&[3..2, 0..7], out),
+    ] {
+        same(&rt, count_parts(alloc, &grid, ranges).err(), want);
+    }
+    same(&rt, count_parts(alloc, &grid, &[2..2, 0..7]), Ok(0));
+    same(&rt, count_parts(alloc, &grid, &[0..5, 0..7]), Ok(4));
     same(&rt, grid_of(alloc, &[8], &[4, 4]).err(), of_one);
     same(
         &rt,

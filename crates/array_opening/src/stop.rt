@@ -1,6 +1,6 @@
 // Why a command stops, and how it ends.
 ghost use Rattle.std.specs.Prelude.{◌≡◌, ◌≤◌};
-ghost use Rattle.array_commands.specs.Statuses.{status_of};
+ghost use Rattle.array_opening.specs.Statuses.{status_of};
 
 use crate::refusal::Refusal;
 use array_cli::SubsetError;
@@ -72,7 +72,7 @@ pub enum Stop {
     Refused(Refusal),
     /// A subset that is refused.
     #[error("{0}")]
-    Subset(SubsetError),
+    Box(SubsetError),
     /// An array whose chunks have too many elements for their numbers to be told.
     #[error("the chunks of the array have 2^64 elements or more, and `read` serves fewer")]
     TooManyElements,
@@ -141,7 +141,7 @@ impl From<SubsetError> for Stop {
     fn from(error: SubsetError) -> Stop {
         match error {
             SubsetError::OutOfMemory => Stop::OutOfMemory,
-            _ => Stop::Subset(error),
+            _ => Stop::Box(error),
         }
     }
 }

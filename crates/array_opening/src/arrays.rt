@@ -116,7 +116,7 @@ fn opened<'c, I: ArrayToBytesCodecTraits, X: ArrayToBytesCodecTraits, H: BytesPa
 }
 
 /// Reads the elements of a subset of a shard that is open.
-pub fn read_cells<
+pub fn decode_subset<
     'd,
     I: ArrayToBytesCodecTraits,
     X: ArrayToBytesCodecTraits,
@@ -204,12 +204,12 @@ impl<'a, R: Files + AllocGlobal, I, X> Array<'a, R, I, X> {
         shard: &Shard<'_>,
         file: &ShardFile<'a, R>,
         error: CodecError,
-        place: Place,
+        position: Place,
     ) -> Result<Refusal, Stop> {
         match (error, file.error()) {
             (CodecError::OutOfMemory, _) => Err(Stop::OutOfMemory),
             (CodecError::Fault, Some(error)) => Err(Stop::system(self.alloc(), shard.key, error)),
-            _ => Ok(self.refusal_at(shard, error, place)?),
+            _ => Ok(self.refusal_at(shard, error, position)?),
         }
     }
 
@@ -218,7 +218,7 @@ impl<'a, R: Files + AllocGlobal, I, X> Array<'a, R, I, X> {
         &self,
         shard: &Shard<'_>,
         error: CodecError,
-        place: Place,
+        position: Place,
     ) -> Result<Refusal, AllocError> {
         Refusal::new(
             self.alloc(),
@@ -226,7 +226,7 @@ impl<'a, R: Files + AllocGlobal, I, X> Array<'a, R, I, X> {
             &self.subchunks,
             shard,
             error,
-            place,
+            position,
         )
     }
 }

@@ -42,7 +42,7 @@ impl Place {
 pub struct Refusal {
     pub key: String,
     pub error: CodecError,
-    pub place: Place,
+    pub position: Place,
     /// Of a subchunk, which elements of the array it has, in words.
     pub elements: String,
     /// How many other subchunks of the shard are refused so.
@@ -75,9 +75,9 @@ fn elements_at(
         .as_slice()
         .iter()
         .zip(metadata.subchunk.as_slice());
-    let places = shard.iter().zip(subchunk);
-    for ((size, end), (place, part)) in sizes.zip(metadata.shape.iter()).zip(places) {
-        let Some((start, end)) = range_of(*place, *size.0, *part, *size.1, *end) else {
+    let positions = shard.iter().zip(subchunk);
+    for ((size, end), (position, part)) in sizes.zip(metadata.shape.iter()).zip(positions) {
+        let Some((start, end)) = range_of(*position, *size.0, *part, *size.1, *end) else {
             return String::from_str(alloc, " (outside of the array)");
         };
         text.push_str(if text.is_empty() { " (elements " } else { "," })?;
@@ -95,9 +95,9 @@ fn elements_of(
     metadata: &ArrayMetadata,
     subchunks: &ChunkShape,
     shard: &Shard<'_>,
-    place: Place,
+    position: Place,
 ) -> Result<String, AllocError> {
-    let Place::Subchunk(number) = place else {
+    let Place::Subchunk(number) = position else {
         return Ok(String::new(alloc));
     };
     match unravel_index(alloc, number, subchunks.as_slice())? {
@@ -114,21 +114,21 @@ impl Refusal {
         subchunks: &ChunkShape,
         shard: &Shard<'_>,
         error: CodecError,
-        place: Place,
+        position: Place,
     ) -> Result<Self, AllocError> {
         Ok(Refusal {
             key: String::from_str(alloc, shard.key)?,
             error,
-            place,
-            elements: elements_of(alloc, metadata, subchunks, shard, place)?,
+            position,
+            elements: elements_of(alloc, metadata, subchunks, shard, position)?,
             others: 0,
         })
     }
 }
 
 // Why an index, or a shard, is refused.
-fn reason_of(error: &CodecError, place: Place) -> &'static str {
-    match (error, place) {
+fn reason_of(error: &CodecError, position: Place) -> &'static str {
+    match (error, position) {
         (CodecError::ShardTooShort, _) => ": the file is shorter than its index",
         (CodecError::Damaged, Place::Index) => ": the index does not decode",
         (CodecError::Damaged, _) => ": a requested subchunk does not decode",
@@ -159,13 +159,13 @@ impl fmt::Display for Reason<'_> {
         let Refusal {
             key: _,
             error,
-            place,
+            position,
             elements,
             others,
         } = self.0;
         let (number, name) = (error.number(), error.name());
-        let Place::Subchunk(subchunk) = place else {
-            return write!(f, "{number} {name}{}", reason_of(error, *place));
+        let Place::Subchunk(subchunk) = position else {
+            return write!(f, "{number} {name}{}", reason_of(error, *position));
         };
         write!(f, "{number} {name}: subchunk {subchunk}{elements} ")?;
         match error {

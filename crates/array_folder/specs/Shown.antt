@@ -1,0 +1,11 @@
+-- What is said of a file or folder.
+use Rattle.std.specs.Prelude.{⊤, chars, string_bytes}
+use Rattle.std.specs.List.{All}
+use Rattle.parts_escaped_text.specs.Printed.{IsPrinted}
+use Rattle.array_folder.specs.declared.error.FolderError.{FolderError}
+use Rattle.array_folder.specs.declared.error.FolderError.TheVariants.{System}
+
+-- a path that is shown holds nothing that acts on a terminal
+abbrev pub IsPathPrinted : FolderError → Type 0
+IsPathPrinted (System path error) = All IsPrinted (chars (string_bytes path))
+IsPathPrinted other = ⊤
