@@ -1,0 +1,152 @@
+// A shard that is worked by hand, as the calls of the library take it.
+use crate::worked::{END, NESTED, Part, START, Worked};
+use std::alloc::Global;
+use std::ops::Range;
+use zarr_codecs::{ArrayToBytesCodecTraits, BytesCodec};
+use zarr_parts::{ArraySubset, ChunkShape, CodecError, Coordinates, FillValue};
+use zarrs_sharding::{ShardingCodec, ShardingIndexLocation};
+
+// Whether a call answers what is wanted, or how it is refused.
+pub(crate) type Answer = Result<bool, CodecError>;
+
+pub(crate) type Plain = ShardingCodec<BytesCodec, BytesCodec>;
+
+// A codec, the arrays that it serves, another codec, and what is requested of them.
+#[derive(Drop)]
+pub(crate) struct Row<I: ArrayToBytesCodecTraits> {
+    pub codec: ShardingCodec<I, BytesCodec>,
+    pub other: Plain,
+    pub shape: ChunkShape,
+    pub fill: FillValue,
+    pub requested: Requested,
+    pub objects: Objects,
+    pub worked: Worked,
+}
+
+// All cells, some in a subset, and three by their coordinates.
+#[derive(Drop)]
+pub(crate) struct Requested {
+    pub whole: ArraySubset,
+    pub subset: ArraySubset,
+    pub listed: Coordinates,
+}
+
+// The object, and what it becomes.
+#[derive(Drop)]
+pub(crate) struct Objects {
+    pub object: Vec<u8>,
+    pub written: Vec<u8>,
+    pub compact: Vec<u8>,
+    pub first_written: Vec<u8>,
+    pub first_compact: Vec<u8>,
+    pub resharded: Vec<u8>,
+}
+
+fn put(object: &mut Vec<u8>, part: &Part) -> Result<(), CodecError> {
+    match part {
+        Part::Bytes(bytes) => object.extend_from_slice(bytes)?,
+        Part::Index(numbers) => {
+            for number in numbers.iter() {
+                object.extend_from_slice(&number.to_le_bytes())?;
+            }
+        }
+    }
+    Ok(())
+}
+
+fn object_of(alloc: Global, parts: &[Part]) -> Result<Vec<u8>, CodecError> {
+    let mut object = Vec::with_capacity(alloc, 256)?;
+    for part in parts {
+        put(&mut object, part)?;
+    }
+    Ok(object)
+}
+
+impl Objects {
+    fn new(alloc: Global, worked: &Worked) -> Result<Self, CodecError> {
+        Ok(Objects {
+            object: object_of(alloc, worked.object)?,
+            written: object_of(alloc, worked.written)?,
+            compact: object_of(alloc, worked.compact)?,
+            first_written: object_of(alloc, worked.first_written)?,
+            first_compact: object_of(alloc, worked.first_compact)?,
+            resharded: object_of(alloc, worked.resharded)?,
+        })
+    }
+}
+
+fn listed(alloc: Global, worked: &Worked) -> Result<Coordinates, CodecError> {
+    let numbers = worked.listed.to_vec(alloc)?;
+    Coordinates::new(worked.shape.len(), 3, numbers).ok_or(CodecError::IncompatibleDimensionality)
+}
+
+impl Requested {
+    fn new(alloc: Global, worked: &Worked) -> Result<Self, CodecError> {
+        Ok(Requested {
+            whole: ArraySubset::from_ranges(alloc, worked.whole)?,
+            subset: ArraySubset::from_ranges(alloc, worked.subset)?,
+            listed: listed(alloc, worked)?,
+        })
+    }
+}
+
+fn shape_of(alloc: Global, axes: &[u64]) -> Result<ChunkShape, CodecError> {
+    ChunkShape::new(alloc, axes)?.ok_or(CodecError::InvalidSubchunkShape)
+}
+
+fn codec_of<I: ArrayToBytesCodecTraits + Drop>(
+    alloc: Global,
+    subchunk: &[u64],
+    inner: I,
+    location: ShardingIndexLocation,
+) -> Result<ShardingCodec<I, BytesCodec>, CodecError> {
+    let shape = shape_of(alloc, subchunk)?;
+    Ok(ShardingCodec::new(shape, inner, BytesCodec::little(), location))
+}
+
+fn plain(
+    alloc: Global,
+    subchunk: &[u64],
+    location: ShardingIndexLocation,
+) -> Result<Plain, CodecError> {
+    codec_of(alloc, subchunk, BytesCodec::little(), location)
+}
+
+impl<I: ArrayToBytesCodecTraits + Drop> Row<I> {
+    fn new(
+        alloc: Global,
+        worked: Worked,
+        codec: ShardingCodec<I, BytesCodec>,
+        other: Plain,
+        fill: u8,
+    ) -> Result<Self, CodecError> {
+        Ok(Row {
+            codec,
+            other,
+            shape: shape_of(alloc, worked.shape)?,
+            fill: FillValue::from_number(alloc, fill)?,
+            requested: Requested::new(alloc, &worked)?,
+            objects: Objects::new(alloc, &worked)?,
+            worked,
+        })
+    }
+}
+
+pub(crate) fn index_at_start(alloc: Global) -> Result<Row<BytesCodec>, CodecError> {
+    let codec = plain(alloc, &[2, 2], ShardingIndexLocation::Start)?;
+    let other = plain(alloc, &[4, 2], ShardingIndexLocation::End)?;
+    Row::new(alloc, START, codec, other, 255)
+}
+
+pub(crate) fn index_at_end(alloc: Global) -> Result<Row<BytesCodec>, CodecError> {
+    let codec = plain(alloc, &[2], ShardingIndexLocation::End)?;
+    let other = plain(alloc, &[4], ShardingIndexLocation::End)?;
+    Row::new(alloc, END, codec, other, 0)
+}
+
+pub(crate) fn shards_of_shards(alloc: Global) -> Result<Row<Plain>, CodecError> {
+    let inner = plain(alloc, &[1], ShardingIndexLocation::End)?;
+    let codec = codec_of(alloc, &[2], inner, ShardingIndexLocation::End)?;
+    let other = plain(alloc, &[2], ShardingIndexLocation::End)?;
+    Row::new(alloc, NESTED, codec, other, 0)
+}
