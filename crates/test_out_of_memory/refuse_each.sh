@@ -2,7 +2,7 @@
 # Refuses each allocation of this program in turn: each run must print what `stdout` holds. The allocation that is refused has the same
 # number in all runs; the program makes as many before its own as its input has bytes. With no input, none of its own may be refused.
 # Where the input begins with a 1, the calls are left out that take no memory: the program must make as many allocations as with them.
-number=760
+number=740
 cd "$(dirname "$0")" || exit 2
 folder=$(mktemp -d) || exit 2
 trap 'kill $tries 2>/dev/null; rm -r "$folder"' EXIT

@@ -1,5 +1,5 @@
 // The configuration of a codec, read from a JSON value and written again.
-use crate::row::Plain;
+use crate::shard::Plain;
 use serde_json::Value;
 use std::alloc::{AllocError, Global};
 use zarr_codecs::PluginCreateError;

@@ -22,15 +22,15 @@ macro_rules! again {
 mod configuration;
 mod decoder;
 mod record;
-mod row;
 mod run;
 mod session;
+mod shard;
 mod shared;
 mod whole;
 mod worked;
 
 use crate::configuration::is_configured;
-use crate::row::{Answer, Row};
+use crate::shard::{Answer, Shard};
 use shard_sessions::Naming;
 use std::alloc::Global;
 use std::io::{self, Read};
@@ -44,49 +44,52 @@ type Line = (&'static str, Answer);
 fn lines<I: ArrayToBytesCodecTraits, J: Naming<I, BytesCodec>, R: Wait>(
     rt: &R,
     alloc: Global,
-    row: &Row<I>,
+    shard: &Shard<I>,
     is_whole: bool,
 ) -> [Line; 14]
-    requires codec_named { Some row.now.codec ≡ J.codec }
-    requires spec_named { array_spec row.now.shape UInt8 row.now.fill ≡ J.array_spec }
+    requires codec_named { Some shard.now.codec ≡ J.codec }
+    requires spec_named { array_spec shard.now.shape UInt8 shard.now.fill ≡ J.array_spec }
 {
     [
-        ("encode", whole::encode(alloc, row)),
-        ("decode", whole::decode(alloc, row)),
-        ("decode into a target", whole::decode_into(alloc, row)),
-        ("compact", whole::compact(alloc, row)),
-        ("compact a new object", whole::compact_new(alloc, row)),
-        ("reshard", whole::resharded(alloc, row)),
-        ("decoder", decoder::decoder(alloc, row, is_whole)),
-        ("reads of a session", session::read(alloc, row)),
-        ("writes of a session", session::write(alloc, row)),
-        ("erasure by a session", session::erase(alloc, row, is_whole)),
-        ("shared session", shared::shared(rt, alloc, row)),
+        ("encode", whole::encode(alloc, shard)),
+        ("decode", whole::decode(alloc, shard)),
+        ("decode into a target", whole::decode_into(alloc, shard)),
+        ("compact", whole::compact(alloc, shard)),
+        ("compact a new object", whole::compact_new(alloc, shard)),
+        ("reshard", whole::resharded(alloc, shard)),
+        ("decoder", decoder::decoder(alloc, shard, is_whole)),
+        ("reads of a session", session::read(alloc, shard)),
+        ("writes of a session", session::write(alloc, shard)),
+        (
+            "erasure by a session",
+            session::erase(alloc, shard, is_whole),
+        ),
+        ("shared session", shared::shared(rt, alloc, shard)),
         (
             "erasure by a shared session",
-            shared::erase(rt, alloc, row, is_whole),
+            shared::erase(rt, alloc, shard, is_whole),
         ),
-        ("run of commands", run::run(alloc, row)),
+        ("run of commands", run::run(alloc, shard)),
         (
             "recorded session",
-            record::record::<I, J, R>(rt, alloc, row, is_whole),
+            record::record::<I, J, R>(rt, alloc, shard, is_whole),
         ),
     ]
 }
 
 fn at_the_start<R: Wait>(rt: &R, alloc: Global, is_whole: bool) -> Result<[Line; 14], CodecError> {
-    let row = again!(row::index_at_start(alloc))?;
-    Ok(lines::<_, Brand, _>(rt, alloc, &row, is_whole))
+    let shard = again!(shard::index_at_start(alloc))?;
+    Ok(lines::<_, Brand, _>(rt, alloc, &shard, is_whole))
 }
 
 fn at_the_end<R: Wait>(rt: &R, alloc: Global, is_whole: bool) -> Result<[Line; 14], CodecError> {
-    let row = again!(row::index_at_end(alloc))?;
-    Ok(lines::<_, Brand, _>(rt, alloc, &row, is_whole))
+    let shard = again!(shard::index_at_end(alloc))?;
+    Ok(lines::<_, Brand, _>(rt, alloc, &shard, is_whole))
 }
 
 fn nested<R: Wait>(rt: &R, alloc: Global, is_whole: bool) -> Result<[Line; 14], CodecError> {
-    let row = again!(row::shards_of_shards(alloc))?;
-    Ok(lines::<_, Brand, _>(rt, alloc, &row, is_whole))
+    let shard = again!(shard::shards_of_shards(alloc))?;
+    Ok(lines::<_, Brand, _>(rt, alloc, &shard, is_whole))
 }
 
 // As many allocations as the input has bytes, which are given back: so the one that is refused comes the earlier behind them.

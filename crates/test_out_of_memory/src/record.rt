@@ -3,7 +3,8 @@ ghost use Rattle.std.specs.Prelude.{◌≡◌, Some};
 ghost use Rattle.parts_arrays.specs.ArraySpec.{array_spec};
 ghost use Rattle.parts_arrays.specs.declared.data_type.DataType.TheVariants.{UInt8};
 
-use crate::row::{Answer, Row};
+use crate::shard::{Answer, Shard};
+use crate::worked::is_object;
 use shard_sessions::{Closed, Naming, RecordedPartialEncoder, Seat, recorded};
 use std::alloc::Global;
 use std::sync::Wait;
@@ -16,36 +17,36 @@ type Opened<'a, I, J> = (Recorded<'a, I, J>, Seat);
 
 fn open_once<I: ArrayToBytesCodecTraits, J: Naming<I, BytesCodec>>(
     alloc: Global,
-    row: &Row<I>,
+    shard: &Shard<I>,
     handle: MemoryHandle,
 ) -> Result<Opened<'_, I, J>, (MemoryHandle, CodecError)>
-    requires codec_named { Some row.now.codec ≡ J.codec }
-    requires spec_named { array_spec row.now.shape UInt8 row.now.fill ≡ J.array_spec }
+    requires codec_named { Some shard.now.codec ≡ J.codec }
+    requires spec_named { array_spec shard.now.shape UInt8 shard.now.fill ≡ J.array_spec }
 {
     recorded(
         alloc,
-        &row.codec,
+        &shard.codec,
         handle,
-        &row.shape,
+        &shard.shape,
         &DataType::UInt8,
-        &row.fill,
+        &shard.fill,
     )
 }
 
 // Opens the object of a refused opening, which is as it was.
 fn open_again<I: ArrayToBytesCodecTraits, J: Naming<I, BytesCodec>>(
     alloc: Global,
-    row: &Row<I>,
+    shard: &Shard<I>,
     handle: MemoryHandle,
 ) -> Result<Opened<'_, I, J>, CodecError>
-    requires codec_named { Some row.now.codec ≡ J.codec }
-    requires spec_named { array_spec row.now.shape UInt8 row.now.fill ≡ J.array_spec }
+    requires codec_named { Some shard.now.codec ≡ J.codec }
+    requires spec_named { array_spec shard.now.shape UInt8 shard.now.fill ≡ J.array_spec }
 {
     let object = handle.into_inner();
-    if object.as_ref() != Some(&row.objects.object) {
+    if !is_object(&object, shard.worked.object) {
         return Err(CodecError::Damaged);
     }
-    match open_once::<I, J>(alloc, row, MemoryHandle::new(object)) {
+    match open_once::<I, J>(alloc, shard, MemoryHandle::new(object)) {
         Ok(opened) => Ok(opened),
         Err((_, error)) => Err(error),
     }
@@ -53,15 +54,15 @@ fn open_again<I: ArrayToBytesCodecTraits, J: Naming<I, BytesCodec>>(
 
 fn open<I: ArrayToBytesCodecTraits, J: Naming<I, BytesCodec>>(
     alloc: Global,
-    row: &Row<I>,
+    shard: &Shard<I>,
 ) -> Result<Opened<'_, I, J>, CodecError>
-    requires codec_named { Some row.now.codec ≡ J.codec }
-    requires spec_named { array_spec row.now.shape UInt8 row.now.fill ≡ J.array_spec }
+    requires codec_named { Some shard.now.codec ≡ J.codec }
+    requires spec_named { array_spec shard.now.shape UInt8 shard.now.fill ≡ J.array_spec }
 {
-    let object = again!(row.objects.object.clone())?;
-    match open_once::<I, J>(alloc, row, MemoryHandle::new(Some(object))) {
+    let object = again!(shard.object.clone())?;
+    match open_once::<I, J>(alloc, shard, MemoryHandle::new(Some(object))) {
         Ok(opened) => Ok(opened),
-        Err((handle, CodecError::OutOfMemory)) => open_again::<I, J>(alloc, row, handle),
+        Err((handle, CodecError::OutOfMemory)) => open_again::<I, J>(alloc, shard, handle),
         Err((_, error)) => Err(error),
     }
 }
@@ -75,11 +76,11 @@ struct Update {
 
 fn update_of<I: ArrayToBytesCodecTraits>(
     alloc: Global,
-    row: &Row<I>,
+    shard: &Shard<I>,
 ) -> Result<Update, CodecError> {
     Ok(Update {
-        subset: ArraySubset::from_ranges(alloc, row.worked.first.subset)?,
-        elements: ArrayBytes::from_numbers(alloc, row.worked.first.elements)?,
+        subset: ArraySubset::from_ranges(alloc, shard.worked.first.subset)?,
+        elements: ArrayBytes::from_numbers(alloc, shard.worked.first.elements)?,
     })
 }
 
@@ -112,14 +113,14 @@ fn writes<I: ArrayToBytesCodecTraits, J: Naming<I, BytesCodec>, R: Wait>(
 fn read_once<I: ArrayToBytesCodecTraits, J: Naming<I, BytesCodec>, R: Wait>(
     rt: &R,
     alloc: Global,
-    row: &Row<I>,
+    shard: &Shard<I>,
     session: &Recorded<'_, I, J>,
     seat: Seat,
 ) -> (Seat, Answer) {
-    let (seat, answer) = session.read(rt, alloc, seat, &row.requested.whole);
+    let (seat, answer) = session.read(rt, alloc, seat, &shard.requested.whole);
     match answer {
         Ok((place, elements)) => {
-            let are_left = elements.fixed_bytes() == Some(row.worked.first.left);
+            let are_left = elements.fixed_bytes() == Some(shard.worked.first.left);
             (seat, Ok(place == 1 && are_left))
         }
         Err(error) => (seat, Err(error)),
@@ -129,19 +130,19 @@ fn read_once<I: ArrayToBytesCodecTraits, J: Naming<I, BytesCodec>, R: Wait>(
 fn reads<I: ArrayToBytesCodecTraits, J: Naming<I, BytesCodec>, R: Wait>(
     rt: &R,
     alloc: Global,
-    row: &Row<I>,
+    shard: &Shard<I>,
     session: &Recorded<'_, I, J>,
     seat: Seat,
 ) -> (Seat, Answer) {
-    let (seat, answer) = read_once(rt, alloc, row, session, seat);
+    let (seat, answer) = read_once(rt, alloc, shard, session, seat);
     if answer == Err(CodecError::OutOfMemory) && seat.receipts().len() == 1 {
-        return read_once(rt, alloc, row, session, seat);
+        return read_once(rt, alloc, shard, session, seat);
     }
     (seat, answer)
 }
 
 // Two events, the elements that the session opened with, and the object that is left.
-fn is_closed<I: ArrayToBytesCodecTraits>(row: &Row<I>, closed: Closed<MemoryHandle>) -> bool {
+fn is_closed<I: ArrayToBytesCodecTraits>(shard: &Shard<I>, closed: Closed<MemoryHandle>) -> bool {
     let Closed {
         handle,
         opening,
@@ -149,13 +150,13 @@ fn is_closed<I: ArrayToBytesCodecTraits>(row: &Row<I>, closed: Closed<MemoryHand
     } = closed;
     let object = handle.into_inner();
     history.len() == 2
-        && opening.fixed_bytes() == Some(row.worked.elements)
-        && object.as_ref() == Some(&row.objects.first_written)
+        && opening.fixed_bytes() == Some(shard.worked.elements)
+        && is_object(&object, shard.worked.first_written)
 }
 
 // A seat is split, and the session closed. Takes no memory, where there is room for both seats.
 fn ends<I: ArrayToBytesCodecTraits, J: Naming<I, BytesCodec>>(
-    row: &Row<I>,
+    shard: &Shard<I>,
     session: Recorded<'_, I, J>,
     seat: Seat,
     mut seats: Vec<Seat>,
@@ -164,7 +165,7 @@ fn ends<I: ArrayToBytesCodecTraits, J: Naming<I, BytesCodec>>(
     let _ = seats.push(first);
     let _ = seats.push(second);
     match session.close(seats) {
-        Ok(closed) => is_closed(row, closed),
+        Ok(closed) => is_closed(shard, closed),
         Err(_) => false,
     }
 }
@@ -177,29 +178,29 @@ fn room_for_two(alloc: Global) -> Result<Vec<Seat>, CodecError> {
 fn goes_on<I: ArrayToBytesCodecTraits, J: Naming<I, BytesCodec>, R: Wait>(
     rt: &R,
     alloc: Global,
-    row: &Row<I>,
+    shard: &Shard<I>,
     opened: Opened<'_, I, J>,
     seats: Vec<Seat>,
     is_whole: bool,
 ) -> Answer {
-    let update = again!(update_of(alloc, row))?;
+    let update = again!(update_of(alloc, shard))?;
     let (session, seat) = opened;
     let (seat, written) = writes(rt, alloc, &session, seat, &update);
-    let (seat, read) = reads(rt, alloc, row, &session, seat);
-    let ends = !is_whole || ends(row, session, seat, seats);
+    let (seat, read) = reads(rt, alloc, shard, &session, seat);
+    let ends = !is_whole || ends(shard, session, seat, seats);
     Ok(written? == 0 && read? && ends)
 }
 
 pub(crate) fn record<I: ArrayToBytesCodecTraits, J: Naming<I, BytesCodec>, R: Wait>(
     rt: &R,
     alloc: Global,
-    row: &Row<I>,
+    shard: &Shard<I>,
     is_whole: bool,
 ) -> Answer
-    requires codec_named { Some row.now.codec ≡ J.codec }
-    requires spec_named { array_spec row.now.shape UInt8 row.now.fill ≡ J.array_spec }
+    requires codec_named { Some shard.now.codec ≡ J.codec }
+    requires spec_named { array_spec shard.now.shape UInt8 shard.now.fill ≡ J.array_spec }
 {
     let seats = again!(room_for_two(alloc))?;
-    let opened = open::<I, J>(alloc, row)?;
-    goes_on(rt, alloc, row, opened, seats, is_whole)
+    let opened = open::<I, J>(alloc, shard)?;
+    goes_on(rt, alloc, shard, opened, seats, is_whole)
 }

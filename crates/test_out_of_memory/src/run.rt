@@ -1,5 +1,6 @@
 // Runs of commands.
-use crate::row::{Answer, Row};
+use crate::shard::{Answer, Shard};
+use crate::worked::is_object;
 use shard_sessions::{Command, CommandRun, Reply, run_commands};
 use std::alloc::Global;
 use zarr_codecs::{ArrayToBytesCodecTraits, MemoryHandle};
@@ -21,27 +22,27 @@ const ORDERS: [Order; 7] = [Write, Read, Compact, ReadListed, Erase, Read, Reope
 
 fn write_of<I: ArrayToBytesCodecTraits>(
     alloc: Global,
-    row: &Row<I>,
+    shard: &Shard<I>,
 ) -> Result<Command, CodecError> {
     Ok(Command::Write {
-        subset: ArraySubset::from_ranges(alloc, row.worked.first.subset)?,
-        bytes: ArrayBytes::from_numbers(alloc, row.worked.first.elements)?,
+        subset: ArraySubset::from_ranges(alloc, shard.worked.first.subset)?,
+        bytes: ArrayBytes::from_numbers(alloc, shard.worked.first.elements)?,
     })
 }
 
 fn command_of<I: ArrayToBytesCodecTraits>(
     alloc: Global,
-    row: &Row<I>,
+    shard: &Shard<I>,
     order: Order,
 ) -> Result<Command, CodecError> {
     match order {
-        Write => write_of(alloc, row),
+        Write => write_of(alloc, shard),
         Read => {
-            let subset = row.requested.whole.try_clone(alloc)?;
+            let subset = shard.requested.whole.try_clone(alloc)?;
             Ok(Command::Read { subset })
         }
         ReadListed => {
-            let coordinates = row.requested.listed.try_clone(alloc)?;
+            let coordinates = shard.requested.listed.try_clone(alloc)?;
             Ok(Command::ReadCells { coordinates })
         }
         Compact => Ok(Command::Compact),
@@ -52,11 +53,11 @@ fn command_of<I: ArrayToBytesCodecTraits>(
 
 fn commands_of<I: ArrayToBytesCodecTraits>(
     alloc: Global,
-    row: &Row<I>,
+    shard: &Shard<I>,
 ) -> Result<Vec<Command>, CodecError> {
     let mut commands = Vec::with_capacity(alloc, ORDERS.len())?;
     for order in ORDERS.iter() {
-        commands.push(command_of(alloc, row, *order)?)?;
+        commands.push(command_of(alloc, shard, *order)?)?;
     }
     Ok(commands)
 }
@@ -71,27 +72,34 @@ enum Stage {
 }
 
 impl Stage {
-    fn elements<I: ArrayToBytesCodecTraits>(self, row: &Row<I>) -> &'static [u8] {
+    fn elements<I: ArrayToBytesCodecTraits>(self, shard: &Shard<I>) -> &'static [u8] {
         match self {
-            Stage::New => row.worked.elements,
-            Stage::Written | Stage::Compacted => row.worked.first.left,
-            Stage::Erased => row.worked.erased,
+            Stage::New => shard.worked.elements,
+            Stage::Written | Stage::Compacted => shard.worked.first.left,
+            Stage::Erased => shard.worked.erased,
         }
     }
 
-    fn object<I: ArrayToBytesCodecTraits>(self, row: &Row<I>) -> Option<&Vec<u8>> {
+    fn is_left<I: ArrayToBytesCodecTraits>(
+        self,
+        shard: &Shard<I>,
+        object: &Option<Vec<u8>>,
+    ) -> bool {
         match self {
-            Stage::New => Some(&row.objects.object),
-            Stage::Written => Some(&row.objects.first_written),
-            Stage::Compacted => Some(&row.objects.first_compact),
-            Stage::Erased => None,
+            Stage::New => is_object(object, shard.worked.object),
+            Stage::Written => is_object(object, shard.worked.first_written),
+            Stage::Compacted => is_object(object, shard.worked.first_compact),
+            Stage::Erased => object.is_none(),
         }
     }
 
     // The stage after a compaction that tells whether it rewrote the object.
-    fn compacted<I: ArrayToBytesCodecTraits>(self, row: &Row<I>, rewrote: bool) -> Option<Stage> {
-        let gains = row.objects.first_written != row.objects.first_compact;
-        if rewrote != (gains && self == Stage::Written) {
+    fn compacted<I: ArrayToBytesCodecTraits>(
+        self,
+        shard: &Shard<I>,
+        rewrote: bool,
+    ) -> Option<Stage> {
+        if rewrote != (shard.worked.first_gains && self == Stage::Written) {
             return None;
         }
         if rewrote {
@@ -104,7 +112,7 @@ impl Stage {
     // The stage after a command with a reply, where this may reply so.
     fn next<I: ArrayToBytesCodecTraits>(
         self,
-        row: &Row<I>,
+        shard: &Shard<I>,
         order: Order,
         reply: &Reply,
     ) -> Option<Stage> {
@@ -112,21 +120,21 @@ impl Stage {
             (_, Reply::Refused(CodecError::OutOfMemory)) | (Reopen, Reply::Done) => Some(self),
             (Write, Reply::Done) => Some(Stage::Written),
             (Erase, Reply::Done) => Some(Stage::Erased),
-            (Compact, Reply::Compacted(rewrote)) => self.compacted(row, *rewrote),
-            (Read, Reply::Cells(read)) if read.fixed_bytes() == Some(self.elements(row)) => {
+            (Compact, Reply::Compacted(rewrote)) => self.compacted(shard, *rewrote),
+            (Read, Reply::Cells(read)) if read.fixed_bytes() == Some(self.elements(shard)) => {
                 Some(self)
             }
             (ReadListed, Reply::Cells(read))
-                if read.fixed_bytes() == Some(row.worked.listed_elements) => { Some(self) }
+                if read.fixed_bytes() == Some(shard.worked.listed_elements) => { Some(self) }
             _ => None,
         }
     }
 }
 
-fn stage_after<I: ArrayToBytesCodecTraits>(row: &Row<I>, replies: &[Reply]) -> Option<Stage> {
+fn stage_after<I: ArrayToBytesCodecTraits>(shard: &Shard<I>, replies: &[Reply]) -> Option<Stage> {
     let mut stage = Stage::New;
     for (order, reply) in ORDERS.iter().zip(replies.iter()) {
-        stage = stage.next(row, *order, reply)?;
+        stage = stage.next(shard, *order, reply)?;
     }
     Some(stage)
 }
@@ -159,16 +167,16 @@ fn how_ended(refused: usize, is_full: bool, stop: Option<CodecError>) -> Ended {
 }
 
 // The object is the one that the replies leave.
-fn judged<I: ArrayToBytesCodecTraits>(row: &Row<I>, run: CommandRun<MemoryHandle>) -> Ended {
+fn judged<I: ArrayToBytesCodecTraits>(shard: &Shard<I>, run: CommandRun<MemoryHandle>) -> Ended {
     let CommandRun {
         handle,
         replies,
         stop,
     } = run;
-    let Some(stage) = stage_after(row, &replies) else {
+    let Some(stage) = stage_after(shard, &replies) else {
         return Ended::Otherwise;
     };
-    if handle.into_inner().as_ref() != stage.object(row) {
+    if !stage.is_left(shard, &handle.into_inner()) {
         return Ended::Otherwise;
     }
     how_ended(count_refused(&replies), replies.len() == ORDERS.len(), stop)
@@ -176,27 +184,27 @@ fn judged<I: ArrayToBytesCodecTraits>(row: &Row<I>, run: CommandRun<MemoryHandle
 
 fn run_once<I: ArrayToBytesCodecTraits>(
     alloc: Global,
-    row: &Row<I>,
+    shard: &Shard<I>,
     commands: &[Command],
 ) -> Result<Ended, CodecError> {
-    let object = again!(row.objects.object.clone())?;
+    let object = again!(shard.object.clone())?;
     let run = run_commands(
         alloc,
-        &row.codec,
+        &shard.codec,
         MemoryHandle::new(Some(object)),
-        &row.shape,
+        &shard.shape,
         &DataType::UInt8,
-        &row.fill,
+        &shard.fill,
         commands,
     );
-    Ok(judged(row, run))
+    Ok(judged(shard, run))
 }
 
 // A run that found no memory is made once more, over the object that it started with.
-pub(crate) fn run<I: ArrayToBytesCodecTraits>(alloc: Global, row: &Row<I>) -> Answer {
-    let commands = again!(commands_of(alloc, row))?;
-    let ended = match run_once(alloc, row, &commands)? {
-        Ended::Refused => run_once(alloc, row, &commands)?,
+pub(crate) fn run<I: ArrayToBytesCodecTraits>(alloc: Global, shard: &Shard<I>) -> Answer {
+    let commands = again!(commands_of(alloc, shard))?;
+    let ended = match run_once(alloc, shard, &commands)? {
+        Ended::Refused => run_once(alloc, shard, &commands)?,
         ended => ended,
     };
     Ok(ended == Ended::Whole)

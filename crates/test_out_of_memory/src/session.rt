@@ -1,6 +1,6 @@
 // Shards that are held open for reading and writing.
-use crate::row::{Answer, Row};
-use crate::worked::Write;
+use crate::shard::{Answer, Shard};
+use crate::worked::{Write, is_object};
 use std::alloc::Global;
 use zarr_codecs::{ArrayToBytesCodecTraits, BytesCodec, MemoryHandle};
 use zarr_parts::{ArrayBytes, ArraySubset, CodecError, CodecOptions, DataType, Indexer};
@@ -10,15 +10,15 @@ type Session<'a, I> = ShardState<'a, I, BytesCodec, MemoryHandle>;
 
 fn open_once<I: ArrayToBytesCodecTraits>(
     alloc: Global,
-    row: &Row<I>,
+    shard: &Shard<I>,
     handle: MemoryHandle,
 ) -> Result<Session<'_, I>, (MemoryHandle, CodecError)> {
-    row.codec.open_state(
+    shard.codec.open_state(
         alloc,
         handle,
-        &row.shape,
+        &shard.shape,
         &DataType::UInt8,
-        &row.fill,
+        &shard.fill,
         &CodecOptions::default(),
     )
 }
@@ -26,24 +26,27 @@ fn open_once<I: ArrayToBytesCodecTraits>(
 // Opens the object of a refused opening, which is as it was.
 fn open_again<I: ArrayToBytesCodecTraits>(
     alloc: Global,
-    row: &Row<I>,
+    shard: &Shard<I>,
     handle: MemoryHandle,
 ) -> Result<Session<'_, I>, CodecError> {
     let object = handle.into_inner();
-    if object.as_ref() != Some(&row.objects.object) {
+    if !is_object(&object, shard.worked.object) {
         return Err(CodecError::Damaged);
     }
-    open_once(alloc, row, MemoryHandle::new(object)).map_err(|refused| refused.1)
+    match open_once(alloc, shard, MemoryHandle::new(object)) {
+        Ok(session) => Ok(session),
+        Err((_, error)) => Err(error),
+    }
 }
 
 fn open<I: ArrayToBytesCodecTraits>(
     alloc: Global,
-    row: &Row<I>,
+    shard: &Shard<I>,
 ) -> Result<Session<'_, I>, CodecError> {
-    let object = again!(row.objects.object.clone())?;
-    match open_once(alloc, row, MemoryHandle::new(Some(object))) {
+    let object = again!(shard.object.clone())?;
+    match open_once(alloc, shard, MemoryHandle::new(Some(object))) {
         Ok(session) => Ok(session),
-        Err((handle, CodecError::OutOfMemory)) => open_again(alloc, row, handle),
+        Err((handle, CodecError::OutOfMemory)) => open_again(alloc, shard, handle),
         Err((_, error)) => Err(error),
     }
 }
@@ -76,27 +79,27 @@ fn reads<I: ArrayToBytesCodecTraits, N: Indexer>(
 
 fn reads_all<I: ArrayToBytesCodecTraits>(
     alloc: Global,
-    row: &Row<I>,
+    shard: &Shard<I>,
     session: &mut Session<'_, I>,
 ) -> Answer {
     let in_subset = reads(
         alloc,
         session,
-        &row.requested.subset,
-        row.worked.subset_elements,
+        &shard.requested.subset,
+        shard.worked.subset_elements,
     )?;
     let at_listed = reads(
         alloc,
         session,
-        &row.requested.listed,
-        row.worked.listed_elements,
+        &shard.requested.listed,
+        shard.worked.listed_elements,
     )?;
     Ok(in_subset && at_listed)
 }
 
-pub(crate) fn read<I: ArrayToBytesCodecTraits>(alloc: Global, row: &Row<I>) -> Answer {
-    let mut session = open(alloc, row)?;
-    reads_all(alloc, row, &mut session)
+pub(crate) fn read<I: ArrayToBytesCodecTraits>(alloc: Global, shard: &Shard<I>) -> Answer {
+    let mut session = open(alloc, shard)?;
+    reads_all(alloc, shard, &mut session)
 }
 
 fn write_once<I: ArrayToBytesCodecTraits>(
@@ -137,7 +140,7 @@ fn writes<I: ArrayToBytesCodecTraits>(
 
 fn write_over<I: ArrayToBytesCodecTraits>(
     alloc: Global,
-    row: &Row<I>,
+    shard: &Shard<I>,
     session: &mut Session<'_, I>,
     write: &Write,
     before: &[u8],
@@ -145,7 +148,7 @@ fn write_over<I: ArrayToBytesCodecTraits>(
     let update = Update {
         subset: again!(ArraySubset::from_ranges(alloc, write.subset))?,
         elements: again!(ArrayBytes::from_numbers(alloc, write.elements))?,
-        whole: &row.requested.whole,
+        whole: &shard.requested.whole,
         before,
     };
     writes(alloc, session, &update)
@@ -153,25 +156,31 @@ fn write_over<I: ArrayToBytesCodecTraits>(
 
 fn write_all<I: ArrayToBytesCodecTraits>(
     alloc: Global,
-    row: &Row<I>,
+    shard: &Shard<I>,
     session: &mut Session<'_, I>,
 ) -> Result<(), CodecError> {
-    write_over(alloc, row, session, &row.worked.first, row.worked.elements)?;
-    let mut before = row.worked.first.left;
-    for write in row.worked.later.iter() {
-        write_over(alloc, row, session, write, before)?;
+    write_over(
+        alloc,
+        shard,
+        session,
+        &shard.worked.first,
+        shard.worked.elements,
+    )?;
+    let mut before = shard.worked.first.left;
+    for write in shard.worked.later.iter() {
+        write_over(alloc, shard, session, write, before)?;
         before = write.left;
     }
     Ok(())
 }
 
 // Each write in turn, and the object that is left.
-pub(crate) fn write<I: ArrayToBytesCodecTraits>(alloc: Global, row: &Row<I>) -> Answer {
-    let mut session = open(alloc, row)?;
-    let written = write_all(alloc, row, &mut session);
+pub(crate) fn write<I: ArrayToBytesCodecTraits>(alloc: Global, shard: &Shard<I>) -> Answer {
+    let mut session = open(alloc, shard)?;
+    let written = write_all(alloc, shard, &mut session);
     let object = session.close().into_inner();
     written?;
-    Ok(object.as_ref() == Some(&row.objects.written))
+    Ok(is_object(&object, shard.worked.written))
 }
 
 // Takes no memory. No object is left.
@@ -184,9 +193,9 @@ fn ends<I: ArrayToBytesCodecTraits>(mut session: Session<'_, I>) -> bool {
 
 pub(crate) fn erase<I: ArrayToBytesCodecTraits>(
     alloc: Global,
-    row: &Row<I>,
+    shard: &Shard<I>,
     is_whole: bool,
 ) -> Answer {
-    let session = open(alloc, row)?;
+    let session = open(alloc, shard)?;
     Ok(!is_whole || ends(session))
 }

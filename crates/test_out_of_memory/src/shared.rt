@@ -1,5 +1,6 @@
 // Sessions behind a lock.
-use crate::row::{Answer, Row};
+use crate::shard::{Answer, Shard};
+use crate::worked::is_object;
 use std::alloc::Global;
 use std::sync::Wait;
 use zarr_codecs::{ArrayToBytesCodecTraits, BytesCodec, MemoryHandle};
@@ -10,15 +11,15 @@ type Shared<'a, I> = ShardingPartialEncoder<'a, I, BytesCodec, MemoryHandle>;
 
 fn open_once<I: ArrayToBytesCodecTraits>(
     alloc: Global,
-    row: &Row<I>,
+    shard: &Shard<I>,
     handle: MemoryHandle,
 ) -> Result<Shared<'_, I>, (MemoryHandle, CodecError)> {
-    row.codec.partial_encoder(
+    shard.codec.partial_encoder(
         alloc,
         handle,
-        &row.shape,
+        &shard.shape,
         &DataType::UInt8,
-        &row.fill,
+        &shard.fill,
         &CodecOptions::default(),
     )
 }
@@ -26,24 +27,27 @@ fn open_once<I: ArrayToBytesCodecTraits>(
 // Opens the object of a refused opening, which is as it was.
 fn open_again<I: ArrayToBytesCodecTraits>(
     alloc: Global,
-    row: &Row<I>,
+    shard: &Shard<I>,
     handle: MemoryHandle,
 ) -> Result<Shared<'_, I>, CodecError> {
     let object = handle.into_inner();
-    if object.as_ref() != Some(&row.objects.object) {
+    if !is_object(&object, shard.worked.object) {
         return Err(CodecError::Damaged);
     }
-    open_once(alloc, row, MemoryHandle::new(object)).map_err(|refused| refused.1)
+    match open_once(alloc, shard, MemoryHandle::new(object)) {
+        Ok(session) => Ok(session),
+        Err((_, error)) => Err(error),
+    }
 }
 
 fn open<I: ArrayToBytesCodecTraits>(
     alloc: Global,
-    row: &Row<I>,
+    shard: &Shard<I>,
 ) -> Result<Shared<'_, I>, CodecError> {
-    let object = again!(row.objects.object.clone())?;
-    match open_once(alloc, row, MemoryHandle::new(Some(object))) {
+    let object = again!(shard.object.clone())?;
+    match open_once(alloc, shard, MemoryHandle::new(Some(object))) {
         Ok(session) => Ok(session),
-        Err((handle, CodecError::OutOfMemory)) => open_again(alloc, row, handle),
+        Err((handle, CodecError::OutOfMemory)) => open_again(alloc, shard, handle),
         Err((_, error)) => Err(error),
     }
 }
@@ -79,22 +83,22 @@ fn reads<I: ArrayToBytesCodecTraits, N: Indexer, R: Wait>(
 fn reads_all<I: ArrayToBytesCodecTraits, R: Wait>(
     rt: &R,
     alloc: Global,
-    row: &Row<I>,
+    shard: &Shard<I>,
     session: &Shared<'_, I>,
 ) -> Answer {
     let in_subset = reads(
         rt,
         alloc,
         session,
-        &row.requested.subset,
-        row.worked.subset_elements,
+        &shard.requested.subset,
+        shard.worked.subset_elements,
     )?;
     let at_listed = reads(
         rt,
         alloc,
         session,
-        &row.requested.listed,
-        row.worked.listed_elements,
+        &shard.requested.listed,
+        shard.worked.listed_elements,
     )?;
     Ok(in_subset && at_listed)
 }
@@ -113,7 +117,7 @@ fn write_once<I: ArrayToBytesCodecTraits, R: Wait>(
 fn is_left<I: ArrayToBytesCodecTraits, R: Wait>(
     rt: &R,
     alloc: Global,
-    row: &Row<I>,
+    shard: &Shard<I>,
     session: &Shared<'_, I>,
     held: usize,
 ) -> Answer {
@@ -121,8 +125,8 @@ fn is_left<I: ArrayToBytesCodecTraits, R: Wait>(
         rt,
         alloc,
         session,
-        &row.requested.whole,
-        row.worked.elements,
+        &shard.requested.whole,
+        shard.worked.elements,
     )?;
     Ok(elements && session.size_held(rt) == held)
 }
@@ -131,7 +135,7 @@ fn is_left<I: ArrayToBytesCodecTraits, R: Wait>(
 fn writes<I: ArrayToBytesCodecTraits, R: Wait>(
     rt: &R,
     alloc: Global,
-    row: &Row<I>,
+    shard: &Shard<I>,
     session: &Shared<'_, I>,
     subset: &ArraySubset,
     elements: &ArrayBytes,
@@ -141,7 +145,7 @@ fn writes<I: ArrayToBytesCodecTraits, R: Wait>(
     if answer != Err(CodecError::OutOfMemory) {
         return answer;
     }
-    if is_left(rt, alloc, row, session, held)? {
+    if is_left(rt, alloc, shard, session, held)? {
         return write_once(rt, alloc, session, subset, elements);
     }
     Err(CodecError::Damaged)
@@ -150,12 +154,12 @@ fn writes<I: ArrayToBytesCodecTraits, R: Wait>(
 fn writes_first<I: ArrayToBytesCodecTraits, R: Wait>(
     rt: &R,
     alloc: Global,
-    row: &Row<I>,
+    shard: &Shard<I>,
     session: &Shared<'_, I>,
 ) -> Answer {
-    let subset = again!(ArraySubset::from_ranges(alloc, row.worked.first.subset))?;
-    let elements = again!(ArrayBytes::from_numbers(alloc, row.worked.first.elements))?;
-    writes(rt, alloc, row, session, &subset, &elements)?;
+    let subset = again!(ArraySubset::from_ranges(alloc, shard.worked.first.subset))?;
+    let elements = again!(ArrayBytes::from_numbers(alloc, shard.worked.first.elements))?;
+    writes(rt, alloc, shard, session, &subset, &elements)?;
     session.exists(rt)
 }
 
@@ -163,13 +167,13 @@ fn writes_first<I: ArrayToBytesCodecTraits, R: Wait>(
 pub(crate) fn shared<I: ArrayToBytesCodecTraits, R: Wait>(
     rt: &R,
     alloc: Global,
-    row: &Row<I>,
+    shard: &Shard<I>,
 ) -> Answer {
-    let session = open(alloc, row)?;
-    let reads = reads_all(rt, alloc, row, &session)?;
-    let exists = writes_first(rt, alloc, row, &session)?;
+    let session = open(alloc, shard)?;
+    let reads = reads_all(rt, alloc, shard, &session)?;
+    let exists = writes_first(rt, alloc, shard, &session)?;
     let object = session.into_inner().into_inner();
-    Ok(reads && exists && object.as_ref() == Some(&row.objects.first_written))
+    Ok(reads && exists && is_object(&object, shard.worked.first_written))
 }
 
 // An erasure and the end of a session take no memory.
@@ -182,9 +186,9 @@ fn ends<I: ArrayToBytesCodecTraits, R: Wait>(rt: &R, session: Shared<'_, I>) -> 
 pub(crate) fn erase<I: ArrayToBytesCodecTraits, R: Wait>(
     rt: &R,
     alloc: Global,
-    row: &Row<I>,
+    shard: &Shard<I>,
     is_whole: bool,
 ) -> Answer {
-    let session = open(alloc, row)?;
+    let session = open(alloc, shard)?;
     Ok(!is_whole || ends(rt, session))
 }

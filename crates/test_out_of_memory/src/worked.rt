@@ -13,6 +13,43 @@ pub(crate) enum Part {
 
 use Part::{Bytes, Index};
 
+// The bytes after these numbers, where they begin with them.
+fn cut_numbers<'a>(bytes: &'a [u8], numbers: &[u64]) -> Option<&'a [u8]> {
+    let mut rest = bytes;
+    for number in numbers {
+        rest = rest.strip_prefix(&number.to_le_bytes())?;
+    }
+    Some(rest)
+}
+
+// The bytes after a part, where they begin with it.
+fn cut<'a>(bytes: &'a [u8], part: &Part) -> Option<&'a [u8]> {
+    match part {
+        Bytes(part) => bytes.strip_prefix(part),
+        Index(numbers) => cut_numbers(bytes, numbers),
+    }
+}
+
+// Whether bytes are these parts, one behind the other.
+pub(crate) fn are(bytes: &[u8], parts: &[Part]) -> bool {
+    let mut rest = bytes;
+    for part in parts {
+        let Some(after) = cut(rest, part) else {
+            return false;
+        };
+        rest = after;
+    }
+    rest.is_empty()
+}
+
+// Whether an object is these parts.
+pub(crate) fn is_object(object: &Option<Vec<u8>>, parts: &[Part]) -> bool {
+    match object {
+        Some(bytes) => are(bytes, parts),
+        None => false,
+    }
+}
+
 // Elements over a subset, and all elements after them.
 #[derive(Clone, Copy)]
 pub(crate) struct Write {
@@ -45,8 +82,9 @@ pub(crate) struct Worked {
     pub later: &'static [Write],
     pub written: &'static [Part],
     pub compact: &'static [Part],
-    // The object after the first write, and without what is not needed.
+    // The object after the first write, whether a compaction gains by it, and what it leaves.
     pub first_written: &'static [Part],
+    pub first_gains: bool,
     pub first_compact: &'static [Part],
     // The object for another codec.
     pub resharded: &'static [Part],
@@ -78,6 +116,7 @@ pub(crate) const START: Worked = Worked {
     written: &START_WRITTEN,
     compact: &START_COMPACT,
     first_written: &START_WRITTEN,
+    first_gains: true,
     first_compact: &START_COMPACT,
     resharded: &[
         Bytes(&[0, 1, 4, 5, 8, 9, 12, 13, 2, 3, 6, 7, 10, 11, 14, 15]),
@@ -143,6 +182,7 @@ pub(crate) const END: Worked = Worked {
         Bytes(&[1, 2, 3, 4, 5, 6, 7, 8]),
         Index(&[0, 2, 2, 2, ABSENT, ABSENT, ABSENT, ABSENT]),
     ],
+    first_gains: true,
     first_compact: &[
         Bytes(&[1, 2, 3, 4]),
         Index(&[0, 2, 2, 2, ABSENT, ABSENT, ABSENT, ABSENT]),
@@ -195,6 +235,7 @@ pub(crate) const NESTED: Worked = Worked {
         Index(&[0, 34, 34, 33]),
     ],
     first_written: &NESTED_FIRST,
+    first_gains: false,
     first_compact: &NESTED_FIRST,
     resharded: &[Bytes(&[1, 0]), Index(&[0, 2, ABSENT, ABSENT])],
 };

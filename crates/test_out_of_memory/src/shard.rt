@@ -1,7 +1,6 @@
 // A shard that is worked by hand, as the calls of the library take it.
 use crate::worked::{END, NESTED, Part, START, Worked};
 use std::alloc::Global;
-use std::ops::Range;
 use zarr_codecs::{ArrayToBytesCodecTraits, BytesCodec};
 use zarr_parts::{ArraySubset, ChunkShape, CodecError, Coordinates, FillValue};
 use zarrs_sharding::{ShardingCodec, ShardingIndexLocation};
@@ -11,35 +10,26 @@ pub(crate) type Answer = Result<bool, CodecError>;
 
 pub(crate) type Plain = ShardingCodec<BytesCodec, BytesCodec>;
 
-// A codec, the arrays that it serves, another codec, and what is requested of them.
+// A codec, the arrays that it serves, another codec, and what is requested of them. The object is as it was encoded, and after all
+// writes.
 #[derive(Drop)]
-pub(crate) struct Row<I: ArrayToBytesCodecTraits> {
+pub(crate) struct Shard<I: ArrayToBytesCodecTraits> {
     pub codec: ShardingCodec<I, BytesCodec>,
     pub other: Plain,
     pub shape: ChunkShape,
     pub fill: FillValue,
     pub requested: Requested,
-    pub objects: Objects,
+    pub object: Vec<u8>,
+    pub written: Vec<u8>,
     pub worked: Worked,
 }
 
-// All cells, some in a subset, and three by their coordinates.
+// All elements, some in a subset, and three by their coordinates.
 #[derive(Drop)]
 pub(crate) struct Requested {
     pub whole: ArraySubset,
     pub subset: ArraySubset,
     pub listed: Coordinates,
-}
-
-// The object, and what it becomes.
-#[derive(Drop)]
-pub(crate) struct Objects {
-    pub object: Vec<u8>,
-    pub written: Vec<u8>,
-    pub compact: Vec<u8>,
-    pub first_written: Vec<u8>,
-    pub first_compact: Vec<u8>,
-    pub resharded: Vec<u8>,
 }
 
 fn put(object: &mut Vec<u8>, part: &Part) -> Result<(), CodecError> {
@@ -60,19 +50,6 @@ fn object_of(alloc: Global, parts: &[Part]) -> Result<Vec<u8>, CodecError> {
         put(&mut object, part)?;
     }
     Ok(object)
-}
-
-impl Objects {
-    fn new(alloc: Global, worked: &Worked) -> Result<Self, CodecError> {
-        Ok(Objects {
-            object: object_of(alloc, worked.object)?,
-            written: object_of(alloc, worked.written)?,
-            compact: object_of(alloc, worked.compact)?,
-            first_written: object_of(alloc, worked.first_written)?,
-            first_compact: object_of(alloc, worked.first_compact)?,
-            resharded: object_of(alloc, worked.resharded)?,
-        })
-    }
 }
 
 fn listed(alloc: Global, worked: &Worked) -> Result<Coordinates, CodecError> {
@@ -112,7 +89,29 @@ fn plain(
     codec_of(alloc, subchunk, BytesCodec::little(), location)
 }
 
-impl<I: ArrayToBytesCodecTraits + Drop> Row<I> {
+// What a shard has beside its codecs.
+#[derive(Drop)]
+struct Arguments {
+    shape: ChunkShape,
+    fill: FillValue,
+    requested: Requested,
+    object: Vec<u8>,
+    written: Vec<u8>,
+}
+
+impl Arguments {
+    fn new(alloc: Global, worked: &Worked, fill: u8) -> Result<Self, CodecError> {
+        Ok(Arguments {
+            shape: shape_of(alloc, worked.shape)?,
+            fill: FillValue::from_number(alloc, fill)?,
+            requested: Requested::new(alloc, worked)?,
+            object: object_of(alloc, worked.object)?,
+            written: object_of(alloc, worked.written)?,
+        })
+    }
+}
+
+impl<I: ArrayToBytesCodecTraits + Drop> Shard<I> {
     fn new(
         alloc: Global,
         worked: Worked,
@@ -120,33 +119,41 @@ impl<I: ArrayToBytesCodecTraits + Drop> Row<I> {
         other: Plain,
         fill: u8,
     ) -> Result<Self, CodecError> {
-        Ok(Row {
+        let Arguments {
+            shape,
+            fill,
+            requested,
+            object,
+            written,
+        } = Arguments::new(alloc, &worked, fill)?;
+        Ok(Shard {
             codec,
             other,
-            shape: shape_of(alloc, worked.shape)?,
-            fill: FillValue::from_number(alloc, fill)?,
-            requested: Requested::new(alloc, &worked)?,
-            objects: Objects::new(alloc, &worked)?,
+            shape,
+            fill,
+            requested,
+            object,
+            written,
             worked,
         })
     }
 }
 
-pub(crate) fn index_at_start(alloc: Global) -> Result<Row<BytesCodec>, CodecError> {
+pub(crate) fn index_at_start(alloc: Global) -> Result<Shard<BytesCodec>, CodecError> {
     let codec = plain(alloc, &[2, 2], ShardingIndexLocation::Start)?;
     let other = plain(alloc, &[4, 2], ShardingIndexLocation::End)?;
-    Row::new(alloc, START, codec, other, 255)
+    Shard::new(alloc, START, codec, other, 255)
 }
 
-pub(crate) fn index_at_end(alloc: Global) -> Result<Row<BytesCodec>, CodecError> {
+pub(crate) fn index_at_end(alloc: Global) -> Result<Shard<BytesCodec>, CodecError> {
     let codec = plain(alloc, &[2], ShardingIndexLocation::End)?;
     let other = plain(alloc, &[4], ShardingIndexLocation::End)?;
-    Row::new(alloc, END, codec, other, 0)
+    Shard::new(alloc, END, codec, other, 0)
 }
 
-pub(crate) fn shards_of_shards(alloc: Global) -> Result<Row<Plain>, CodecError> {
+pub(crate) fn shards_of_shards(alloc: Global) -> Result<Shard<Plain>, CodecError> {
     let inner = plain(alloc, &[1], ShardingIndexLocation::End)?;
     let codec = codec_of(alloc, &[2], inner, ShardingIndexLocation::End)?;
     let other = plain(alloc, &[2], ShardingIndexLocation::End)?;
-    Row::new(alloc, NESTED, codec, other, 0)
+    Shard::new(alloc, NESTED, codec, other, 0)
 }
