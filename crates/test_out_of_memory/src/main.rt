@@ -39,57 +39,67 @@ use std::sync::Wait;
 use zarr_codecs::{ArrayToBytesCodecTraits, BytesCodec};
 use zarr_parts::CodecError;
 
-type Line = (&'static str, Answer);
+// The calls on each shard, in this order.
+const CALLS: [&str; 14] = [
+    "encode",
+    "decode",
+    "decode into a target",
+    "compact",
+    "compact a new object",
+    "reshard",
+    "decoder",
+    "reads of a session",
+    "writes of a session",
+    "erasure by a session",
+    "shared session",
+    "erasure by a shared session",
+    "run of commands",
+    "recorded session",
+];
 
-fn lines<I: ArrayToBytesCodecTraits, J: Naming<I, BytesCodec>, R: Wait>(
+// How each of these calls is answered.
+fn answers<I: ArrayToBytesCodecTraits, J: Naming<I, BytesCodec>, R: Wait>(
     rt: &R,
     alloc: Global,
     shard: &Shard<I>,
     is_whole: bool,
-) -> [Line; 14]
+) -> [Answer; 14]
     requires codec_named { Some shard.now.codec ≡ J.codec }
     requires spec_named { array_spec shard.now.shape UInt8 shard.now.fill ≡ J.array_spec }
 {
     [
-        ("encode", whole::encode(alloc, shard)),
-        ("decode", whole::decode(alloc, shard)),
-        ("decode into a target", whole::decode_into(alloc, shard)),
-        ("compact", whole::compact(alloc, shard)),
-        ("compact a new object", whole::compact_new(alloc, shard)),
-        ("reshard", whole::resharded(alloc, shard)),
-        ("decoder", decoder::decoder(alloc, shard, is_whole)),
-        ("reads of a session", session::read(alloc, shard)),
-        ("writes of a session", session::write(alloc, shard)),
-        (
-            "erasure by a session",
-            session::erase(alloc, shard, is_whole),
-        ),
-        ("shared session", shared::shared(rt, alloc, shard)),
-        (
-            "erasure by a shared session",
-            shared::erase(rt, alloc, shard, is_whole),
-        ),
-        ("run of commands", run::run(alloc, shard)),
-        (
-            "recorded session",
-            record::record::<I, J, R>(rt, alloc, shard, is_whole),
-        ),
+        whole::encode(alloc, shard),
+        whole::decode(alloc, shard),
+        whole::decode_into(alloc, shard),
+        whole::compact(alloc, shard),
+        whole::compact_new(alloc, shard),
+        whole::resharded(alloc, shard),
+        decoder::decoder(alloc, shard, is_whole),
+        session::read(alloc, shard),
+        session::write(alloc, shard),
+        session::erase(alloc, shard, is_whole),
+        shared::shared(rt, alloc, shard),
+        shared::erase(rt, alloc, shard, is_whole),
+        run::run(alloc, shard),
+        record::record::<I, J, R>(rt, alloc, shard, is_whole),
     ]
 }
 
-fn at_the_start<R: Wait>(rt: &R, alloc: Global, is_whole: bool) -> Result<[Line; 14], CodecError> {
+type Answers = Result<[Answer; 14], CodecError>;
+
+fn at_the_start<R: Wait>(rt: &R, alloc: Global, is_whole: bool) -> Answers {
     let shard = again!(shard::index_at_start(alloc))?;
-    Ok(lines::<_, Brand, _>(rt, alloc, &shard, is_whole))
+    Ok(answers::<_, Brand, _>(rt, alloc, &shard, is_whole))
 }
 
-fn at_the_end<R: Wait>(rt: &R, alloc: Global, is_whole: bool) -> Result<[Line; 14], CodecError> {
+fn at_the_end<R: Wait>(rt: &R, alloc: Global, is_whole: bool) -> Answers {
     let shard = again!(shard::index_at_end(alloc))?;
-    Ok(lines::<_, Brand, _>(rt, alloc, &shard, is_whole))
+    Ok(answers::<_, Brand, _>(rt, alloc, &shard, is_whole))
 }
 
-fn nested<R: Wait>(rt: &R, alloc: Global, is_whole: bool) -> Result<[Line; 14], CodecError> {
+fn nested<R: Wait>(rt: &R, alloc: Global, is_whole: bool) -> Answers {
     let shard = again!(shard::shards_of_shards(alloc))?;
-    Ok(lines::<_, Brand, _>(rt, alloc, &shard, is_whole))
+    Ok(answers::<_, Brand, _>(rt, alloc, &shard, is_whole))
 }
 
 // As many allocations as the input has bytes, which are given back: so the one that is refused comes the earlier behind them.
@@ -111,8 +121,8 @@ fn tell_one(rt: &HostRuntime, shard: &str, call: &str, answer: Answer) -> io::Re
     }
 }
 
-fn tell(rt: &HostRuntime, shard: &str, lines: &[Line]) -> io::Result<()> {
-    for (call, answer) in lines.iter() {
+fn tell(rt: &HostRuntime, shard: &str, answers: &[Answer]) -> io::Result<()> {
+    for (call, answer) in CALLS.iter().zip(answers.iter()) {
         tell_one(rt, shard, call, *answer)?;
     }
     Ok(())
