@@ -19,4 +19,4 @@ pub use runs::subset_numbers;
 pub use selection::{check_selection, point_numbers, requested_number};
 pub use sets::SetStarts;
 pub use shape::ChunkShape;
-pub use subset::{ArraySubset, check_subset, points_in};
+pub use subset::{ArraySubset, check_subset, points_in, touched_subset};

@@ -15,6 +15,7 @@ use parts_row_major::{count, number_of_point};
 use std::alloc::{AllocError, Global};
 use std::marker::Model;
 use std::ops::Range;
+pub use touched::touched_subset;
 
 /// A subset of coordinates: a start and a length along each axis, whose sum fits 64 bits.
 #[derive(Debug, Drop)]

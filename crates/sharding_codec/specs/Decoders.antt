@@ -11,7 +11,7 @@ use Rattle.codec_traits.specs.Meanings.{Meaning}
 use Rattle.sharding_format.specs.Index.{index_spec, numbers_in_index}
 use Rattle.sharding_format.specs.Serves.{subchunk_spec, fixed_size}
 pub use Rattle.sharding_open.specs.Cached.{HoldsIndex, cached_len, cached_numbers, object_cells}
-pub use Rattle.sharding_open.specs.steps.Slices.{cached_slot, IsRangeOf, IsSliceRead, SlotRefusals}
+pub use Rattle.sharding_open.specs.Slices.{cached_slot, IsRangeOf, IsSliceRead, SlotRefusals}
 use Rattle.sharding_open.specs.Cached.{ObjectIndexRefusals, CachedCellsRefusals}
 use Rattle.sharding_open.specs.OpenShards.{shard_spec}
 use Rattle.sharding_open.specs.declared.shard.OpenShard.{OpenShard}

@@ -47,8 +47,8 @@ abbrev pub index_of : {I X : Type 0} → (X → ArraySpec → Meaning) → Shard
 index_of meaning sharding g = meaning sharding.index_codec.codec.now (index_spec (grid_of g.shape sharding.subchunk_shape.now))
 
 -- its layout
-abbrev pub layout_in : {I X : Type 0} → Sharding I X → (index : Meaning) → ArraySpec → Layout
-layout_in sharding index g = layout sharding.subchunk_shape.now sharding.index_codec.location sharding.order index.representation g
+abbrev pub shard_layout : {I X : Type 0} → Sharding I X → (index : Meaning) → ArraySpec → Layout
+shard_layout sharding index g = layout sharding.subchunk_shape.now sharding.index_codec.location sharding.order index.representation g
 
 -- what the shard means
 abbrev pub meaning_of : {I X : Type 0} → (I → ArraySpec → Meaning) → (X → ArraySpec → Meaning) → Sharding I X → ArraySpec → Meaning

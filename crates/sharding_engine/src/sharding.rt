@@ -9,7 +9,7 @@ ghost use Rattle.sharding_format.specs.Index.{index_spec};
 ghost use Rattle.sharding_format.specs.Serves.{HasPlan, subchunk_spec};
 ghost use Rattle.sharding_format.specs.Grids.{IsCut, ConcurrencyRefusals};
 ghost use Rattle.sharding_format.specs.Compacting.{IsCompact};
-ghost use Rattle.sharding_engine.specs.Meanings.{layout_in, inner_of, index_of, meaning_of};
+ghost use Rattle.sharding_engine.specs.Meanings.{shard_layout, inner_of, index_of, meaning_of};
 
 use codec_traits::{
     ArrayToBytesCodecTraits, BytesRepresentation, RecommendedConcurrency, StoredArray, check_target,
@@ -164,7 +164,7 @@ impl<I: ArrayToBytesCodecTraits, X: ArrayToBytesCodecTraits> ArrayToBytesCodecTr
         ensures compacted { let g = array_spec shape.now data_type.now fill_value.now in
             IfOk result (λ answer. IfSome answer (λ new. (meaning_of I.meaning X.meaning self.now g).compacted bytes.now new.items)) }
         ensures kept { let g = array_spec shape.now data_type.now fill_value.now in let index = index_of X.meaning self.now g in
-            IfOk result (λ answer. IfNone answer (IsCompact index.cells (layout_in self.now index g) bytes.now)) }
+            IfOk result (λ answer. IfNone answer (IsCompact index.cells (shard_layout self.now index g) bytes.now)) }
         ensures served { let g = array_spec shape.now data_type.now fill_value.now in
             OnOk result (HasPlan (index_of X.meaning self.now g) shape.now self.now.subchunk_shape.now 0) }
         ensures lawful { let g = array_spec shape.now data_type.now fill_value.now in

@@ -19,7 +19,7 @@ use Rattle.codec_traits.specs.declared.representation.BytesRepresentation.TheVar
 use Rattle.sharding_format.specs.Cells.{Layout}
 use Rattle.sharding_format.specs.Index.{index_spec, element_of_number}
 use Rattle.sharding_format.specs.Encoding.{slot_size}
-use Rattle.sharding_format.specs.Laying.{IsStoredAt, IsStoredInOrder, IsIndexOf}
+use Rattle.sharding_format.specs.Laying.{IsStoredIn, IsStoredInOrder, IsIndexOf}
 use Rattle.sharding_format.specs.Laws.{count-append_two}
 use Rattle.sharding_format.specs.Serves.{fixed_size, ShardEncodable, ShardFits, IsStoredPart}
 use Rattle.sharding_format.specs.EncodeRefusals.{RefusesToEncode, StoreRefusals, SomeTotal, RefusesIndex, EncodeRefusals}
@@ -83,7 +83,7 @@ module _ (inner index : Meaning) (l : Layout) (kind : DataTypeSize) (array : Arr
     abbrev many : ℕ
     many = count_of (grid_of l.shape l.sub)
 
-    stored_slice_at : (k : ℕ) → k < many → IsStoredAt inner.written l.fill (subchunk l.shape l.sub array.elements k) bytes (get_or slots k Bad)
+    stored_slice_at : (k : ℕ) → k < many → IsStoredIn inner.written l.fill (subchunk l.shape l.sub array.elements k) bytes (get_or slots k Bad)
     stored_slice_at k below = stored_number inner.written l.fill l.shape l.sub array.elements bytes slots order many k permutes stored_slices below
 
     abbrev part_at : ℕ → List ℕ

@@ -12,7 +12,7 @@ use Rattle.parts_subsets.specs.Grid.{grid_of, subchunk}
 use Rattle.sharding_format.specs.Cells.{Layout}
 use Rattle.sharding_format.specs.Index.{absent_number, slot_of_entry, slot_at, index_part, data_start, data_end, element_of_number}
 use Rattle.sharding_format.specs.Encoding.{StandsAt, AreApart, slot_size, BeginsAt, IsEncoding}
-use Rattle.sharding_format.specs.Laying.{IsStoredAt, taken_by, IsStoredInOrder, offset_number, size_number, EndsBelow, IsIndexOf, whole_shard}
+use Rattle.sharding_format.specs.Laying.{IsStoredIn, taken_by, IsStoredInOrder, offset_number, size_number, EndsBelow, IsIndexOf, whole_shard}
 use Rattle.sharding_format.specs.Serves.{layout_of}
 use Rattle.sharding_format.specs.WriteOrder.{numbers_in_order, numbers_before}
 use Rattle.sharding_format.specs.WriteOrderLaws.{order_permutes, order_counted, order_below, order_has, before_at}
@@ -62,7 +62,7 @@ pub other_number : (a b : ℕ) → (¬ (a ≡ b)) → eqb a b ≡ false
 other_number a b h = elim (eqb_tells a b) [ inl same ↦ absurd (h same.1) | inr other ↦ other.0 ]
 
 pub shifted_entry : (inner_written : List (List ℕ) → List ℕ → Type 0) (fill : List ℕ) (e : List (List ℕ)) (bytes : List ℕ) (start len : ℕ) (s : Slot)
-    → IsStoredAt inner_written fill e bytes s → start + length bytes ≤ len → start + length bytes < absent_number
+    → IsStoredIn inner_written fill e bytes s → start + length bytes ≤ len → start + length bytes < absent_number
     → slot_of_entry len (offset_number start s) (size_number s) ≡ shifted start s
 shifted_entry inner_written fill e bytes start len Absent h room small = refl
 shifted_entry inner_written fill e bytes start len (InRange offset size) h room small =
@@ -74,7 +74,7 @@ shifted_entry inner_written fill e bytes start len (InRange offset size) h room 
 shifted_entry inner_written fill e bytes start len Bad h room small = absurd h
 
 pub stands_shifted : (inner_written : List (List ℕ) → List ℕ → Type 0) (l : Layout) (e : List (List ℕ)) (index bytes all : List ℕ) (s : Slot)
-    → Whole l.location l.index_size index bytes all → IsStoredAt inner_written l.fill e bytes s
+    → Whole l.location l.index_size index bytes all → IsStoredIn inner_written l.fill e bytes s
     → StandsAt inner_written l all e (shifted (data_start l.location l.index_size) s)
 stands_shifted inner_written l e index bytes all Absent w h = h
 stands_shifted inner_written l e index bytes all (InRange offset size) w h =
@@ -146,7 +146,7 @@ encoded_shard inner_written index_written sub location order size g a bytes inde
     let start : ℕ = data_start location size in
     let w : Whole location size index bytes all = subst (Whole location size index bytes) (sym is) (whole_of location size index bytes sized) in
     let in_slots : (k : ℕ) → k < n → k < length slots = λ k below. omega (arith, below, h.counted, counted) in
-    let stored_slices : (k : ℕ) → k < n → IsStoredAt inner_written g.fill (subchunk g.shape sub a k) bytes (get_or slots k Bad) =
+    let stored_slices : (k : ℕ) → k < n → IsStoredIn inner_written g.fill (subchunk g.shape sub a k) bytes (get_or slots k Bad) =
     λ k below. stored_number inner_written g.fill g.shape sub a bytes slots numbers n k permutes h below in
     let at : (k : ℕ) → k < n → slot_at (length all) i.numbers k ≡ shifted start (get_or slots k Bad) =
     λ k below. rw (i.are.offsets k (in_slots k below), i.are.sizes k (in_slots k below))
@@ -196,7 +196,7 @@ start_small End size = omega arith
 
 -- the slots' numbers fit
 ends_stored : (inner_written : List (List ℕ) → List ℕ → Type 0) (fill : List ℕ) (e : List (List ℕ)) (bytes : List ℕ) (start : ℕ) (s : Slot)
-    → IsStoredAt inner_written fill e bytes s → start + length bytes < absent_number → EndsBelow start s
+    → IsStoredIn inner_written fill e bytes s → start + length bytes < absent_number → EndsBelow start s
 ends_stored inner_written fill e bytes start Absent h small = tt
 ends_stored inner_written fill e bytes start (InRange o n) h small = omega (arith, h.2, small)
 ends_stored inner_written fill e bytes start Bad h small = absurd h

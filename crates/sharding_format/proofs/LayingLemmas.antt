@@ -14,9 +14,9 @@ use Rattle.parts_subsets.specs.Grid.{subchunk}
 use Rattle.codec_traits.specs.Meanings.{Meaning}
 use Rattle.sharding_format.specs.Serves.{IsStoredPart}
 use Rattle.sharding_format.specs.EncodeRefusals.{RefusesToStore, HasPart, StoreRefusals}
-use Rattle.sharding_format.specs.Encoding.{slot_size, BeginsAt}
+use Rattle.sharding_format.specs.Encoding.{slot_size, BeginsAt, IsStored}
 use Rattle.sharding_format.specs.Packing.{slice_of}
-use Rattle.sharding_format.specs.Laying.{IsStored, placed_slot, IsStoredAt, taken_by, taken, IsStoredInOrder}
+use Rattle.sharding_format.specs.Laying.{placed_slot, IsStoredIn, taken_by, taken, IsStoredInOrder}
 use Rattle.sharding_format.specs.WriteOrderLaws.{order_counted, order_below, order_has, order_differs, take-range}
 use Rattle.sharding_format.specs.declared.slot.Slot.{Slot}
 use Rattle.sharding_format.specs.declared.slot.Slot.TheVariants.{Absent, InRange, Bad}
@@ -69,14 +69,14 @@ size_placed inner_written fill e true offset more h = refl
 size_placed inner_written fill e false offset more h = ap length (sym h.1)
 
 pub stored_placed : (inner_written : List (List ℕ) → List ℕ → Type 0) (fill : List ℕ) (e : List (List ℕ)) (present : Bool) (bytes more : List ℕ)
-    → IsStored inner_written fill e present more → IsStoredAt inner_written fill e (bytes ++ more) (placed_slot present (length bytes) (length more))
+    → IsStored inner_written fill e present more → IsStoredIn inner_written fill e (bytes ++ more) (placed_slot present (length bytes) (length more))
 stored_placed inner_written fill e true bytes more h =
     (h.0, rw (drop-append_seam bytes more, take-length more) h.1, omega (arith, length-append bytes more))
 stored_placed inner_written fill e false bytes more h = h.0
 
 -- what is laid stays where more follows
 pub stored_stays : (inner_written : List (List ℕ) → List ℕ → Type 0) (fill : List ℕ) (e : List (List ℕ)) (s : Slot) (bytes more : List ℕ)
-    → IsStoredAt inner_written fill e bytes s → IsStoredAt inner_written fill e (bytes ++ more) s
+    → IsStoredIn inner_written fill e bytes s → IsStoredIn inner_written fill e (bytes ++ more) s
 stored_stays inner_written fill e Absent bytes more h = h
 stored_stays inner_written fill e (InRange offset size) bytes more h = (
   h.0,
@@ -130,7 +130,7 @@ one_more_stored inner_written fill shape sub a bytes more all slots grown order 
     let stored_here : IsStored inner_written fill (subchunk shape sub a (at i)) present more = rw number stored in
     record {
       counted = ap length put ∙ length-set slots k new ∙ h.counted;
-      stored_slices = below_more (λ j. IsStoredAt inner_written fill (subchunk shape sub a (at j)) all (get_or grown (at j) Bad)) i
+      stored_slices = below_more (λ j. IsStoredIn inner_written fill (subchunk shape sub a (at j)) all (get_or grown (at j) Bad)) i
           (λ j lt. rw (is, before j lt) (stored_stays inner_written fill (subchunk shape sub a (at j)) (get_or slots (at j) Bad) bytes more (h.stored_slices j lt)))
           (rw (is, here) (stored_placed inner_written fill (subchunk shape sub a (at i)) present bytes more stored_here));
       begins = below_more (λ j. BeginsAt (taken_by grown (take j order)) (get_or grown (at j) Bad)) i
@@ -161,17 +161,17 @@ none_stored_yet inner_written fill shape sub a bytes slots order counted nothing
 -- subchunk k is laid out where all are
 pub stored_number : (inner_written : List (List ℕ) → List ℕ → Type 0) (fill shape sub : List ℕ) (a : List (List ℕ)) (bytes : List ℕ) (slots : List Slot) (order : List ℕ) (n k : ℕ)
     → IsPermutation (range_with_len 0 n) order → IsStoredInOrder inner_written fill shape sub a bytes slots order n → k < n
-    → IsStoredAt inner_written fill (subchunk shape sub a k) bytes (get_or slots k Bad)
+    → IsStoredIn inner_written fill (subchunk shape sub a k) bytes (get_or slots k Bad)
 stored_number inner_written fill shape sub a bytes slots order n k permutes h below =
     let found = order_has n order k permutes below in
-    subst (λ m. IsStoredAt inner_written fill (subchunk shape sub a m) bytes (get_or slots m Bad)) found.is
+    subst (λ m. IsStoredIn inner_written fill (subchunk shape sub a m) bytes (get_or slots m Bad)) found.is
     (h.stored_slices found.position (omega (arith, found.inside, order_counted n order permutes)))
 
 -- ---- in ascending order, a slot at a time
 -- the first k subchunks are laid out, and there are as many slots
 pub record IsStoredUpTo (inner_written : List (List ℕ) → List ℕ → Type 0) (fill shape sub : List ℕ) (a : List (List ℕ)) (bytes : List ℕ) (slots : List Slot) (k : ℕ) : Type 0 where
   pub counted : length slots ≡ k
-  pub stored_slices : (j : ℕ) → j < k → IsStoredAt inner_written fill (subchunk shape sub a j) bytes (get_or slots j Bad)
+  pub stored_slices : (j : ℕ) → j < k → IsStoredIn inner_written fill (subchunk shape sub a j) bytes (get_or slots j Bad)
   pub begins : (j : ℕ) → j < k → BeginsAt (taken slots j) (get_or slots j Bad)
   pub filled : taken slots k ≡ length bytes
 
@@ -189,7 +189,7 @@ next_stored inner_written fill shape sub a bytes more all slots grown k present 
     λ j upto. sum_same (λ i. slot_size (get_or grown i Bad)) (λ i. slot_size (get_or slots i Bad)) j (λ i below. ap slot_size (before i (omega arith))) in
     record {
       counted = ap length grows ∙ length_push slots new ∙ ap (λ n. n + 1) h.counted;
-      stored_slices = below_more (λ j. IsStoredAt inner_written fill (subchunk shape sub a j) all (get_or grown j Bad)) k
+      stored_slices = below_more (λ j. IsStoredIn inner_written fill (subchunk shape sub a j) all (get_or grown j Bad)) k
           (λ j below. rw (is, before j below) (stored_stays inner_written fill (subchunk shape sub a j) (get_or slots j Bad) bytes more (h.stored_slices j below)))
           (rw (is, here) (stored_placed inner_written fill (subchunk shape sub a k) present bytes more stored));
       begins = below_more (λ j. BeginsAt (taken grown j) (get_or grown j Bad)) k
@@ -207,19 +207,19 @@ all_stored inner_written fill shape sub a bytes slots n h =
     let number : (j : ℕ) → j < n → j ≡ get_or (range_with_len 0 n) j 0 = λ j below. sym (get_or-range_with_len 0 n j 0 below ∙ plain j) in
     record {
       counted = h.counted ∙ sym (length-range_with_len 0 n);
-      stored_slices = λ j below. subst (λ m. IsStoredAt inner_written fill (subchunk shape sub a m) bytes (get_or slots m Bad)) (number j below) (h.stored_slices j below);
+      stored_slices = λ j below. subst (λ m. IsStoredIn inner_written fill (subchunk shape sub a m) bytes (get_or slots m Bad)) (number j below) (h.stored_slices j below);
       begins = λ j below. rw (take-range n j (omega arith)) (subst (λ m. BeginsAt (taken slots j) (get_or slots m Bad)) (number j below) (h.begins j below));
       filled = ap (taken_by slots) (take-range n n (omega arith)) ∙ h.filled;
     }
 
 pub encoding_stored : (inner_written : List (List ℕ) → List ℕ → Type 0) (fill : List ℕ) (e : List (List ℕ)) (s : Slot) (bytes : List ℕ)
-    → IsStoredAt inner_written fill e bytes s → IsStoredPart inner_written fill e (slice_of bytes s)
+    → IsStoredIn inner_written fill e bytes s → IsStoredPart inner_written fill e (slice_of bytes s)
 encoding_stored inner_written fill e Absent bytes h = inl (h, refl)
 encoding_stored inner_written fill e (InRange offset size) bytes h = inr (h.0, h.1)
 encoding_stored inner_written fill e Bad bytes h = absurd h
 
 pub length_stored : (inner_written : List (List ℕ) → List ℕ → Type 0) (fill : List ℕ) (e : List (List ℕ)) (s : Slot) (bytes : List ℕ)
-    → IsStoredAt inner_written fill e bytes s → length (slice_of bytes s) ≡ slot_size s
+    → IsStoredIn inner_written fill e bytes s → length (slice_of bytes s) ≡ slot_size s
 length_stored inner_written fill e Absent bytes h = refl
 length_stored inner_written fill e (InRange offset size) bytes h = omega (arith, h.2, length-take size (drop offset bytes), length-drop offset bytes)
 length_stored inner_written fill e Bad bytes h = absurd h

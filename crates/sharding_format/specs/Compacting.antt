@@ -1,6 +1,6 @@
 -- When bytes are a compaction of a shard: the same slices, in ascending number without a gap.
 use Rattle.std.specs.Prelude.{◌≡◌, ◌≢◌, ◌<◌, ◌^◌, ℕ, ◌+◌, ◌*◌, List, Some, map, length}
-use Rattle.std.specs.List.{All, range_with_len, sum_by}
+use Rattle.std.specs.List.{All, range_with_len}
 use Rattle.parts_errors.specs.Words.{CellsOf, Written}
 use Rattle.parts_errors.specs.Order.{◌or◌then◌, Each}
 use Rattle.parts_row_major.specs.Numbering.{count_of}
@@ -10,7 +10,7 @@ use Rattle.parts_errors.specs.declared.error.CodecError.TheVariants.{TooLarge, B
 use Rattle.codec_traits.specs.Meanings.{Meaning}
 use Rattle.sharding_format.specs.Index.{slot_at, slice_at, index_part, data_start, element_of_number, numbers_in_index}
 use Rattle.sharding_format.specs.Cells.{Layout}
-use Rattle.sharding_format.specs.Encoding.{slot_size}
+use Rattle.sharding_format.specs.Encoding.{stored_size}
 use Rattle.sharding_format.specs.Serves.{PlanRefusals}
 use Rattle.sharding_format.specs.DecodeRefusals.{IndexRefusals, slot_by}
 use Rattle.sharding_format.specs.EncodeRefusals.{RefusesIndex}
@@ -19,7 +19,7 @@ use Rattle.sharding_format.specs.declared.slot.Slot.TheVariants.{Absent, InRange
 
 -- the sizes of the first n subchunks that are present, by the slot of each
 abbrev pub present_size : (ℕ → Slot) → ℕ → ℕ
-present_size slots n = sum_by (λ k. slot_size (slots k)) (range_with_len 0 n)
+present_size slots n = stored_size slots (range_with_len 0 n)
 
 -- the index's size and the sizes of all present subchunks
 abbrev pub compact_size : Layout → (ℕ → Slot) → ℕ

@@ -1,19 +1,14 @@
 -- The steps of encoding: the slices of the data part, laid end to end in an order of the subchunks, and the index of them.
 use Rattle.std.specs.Prelude.{◌≡◌, ◌≤◌, ◌<◌, ◌^◌, ℕ, ◌+◌, ◌*◌, Bool, true, false, List, [], ◌++◌, length, slice_index, slice_index_or, map, take}
-use Rattle.std.specs.List.{All, range_with_len, sum_by}
+use Rattle.std.specs.List.{All, range_with_len}
 use Rattle.parts_errors.specs.Words.{Written}
 use Rattle.parts_subsets.specs.Grid.{subchunk}
-use Rattle.sharding_format.specs.Index.{absent_number, slice_at, element_of_number}
-use Rattle.sharding_format.specs.Encoding.{IsAllFill, slot_size, BeginsAt}
+use Rattle.sharding_format.specs.Index.{absent_number, element_of_number}
+use Rattle.sharding_format.specs.Encoding.{IsAllFill, IsStoredAt, stored_size, BeginsAt}
 use Rattle.sharding_format.specs.declared.slot.Slot.{Slot}
 use Rattle.sharding_format.specs.declared.slot.Slot.TheVariants.{Absent, InRange, Bad}
 use Rattle.sharding_format.specs.declared.location.ShardingIndexLocation.{ShardingIndexLocation}
 use Rattle.sharding_format.specs.declared.location.ShardingIndexLocation.TheVariants.{Start, End}
-
--- what is to be stored of a subchunk: nothing exactly where it is all fill
-abbrev pub IsStored : Written → List ℕ → List (List ℕ) → Bool → List ℕ → Type 0
-IsStored inner_written fill e true bytes = (¬ (IsAllFill fill e)) × inner_written e bytes
-IsStored inner_written fill e false bytes = IsAllFill fill e × (bytes ≡ [])
 
 -- where it is stored
 abbrev pub placed_slot : Bool → ℕ → ℕ → Slot
@@ -28,16 +23,13 @@ pub record IsStoredAfter (inner_written : Written) (fill : List ℕ) (e : List (
   pub appended : new ≡ old ++ slice
   pub placed : slot ≡ placed_slot present (length old) (length slice)
 
--- a subchunk stands in the data part where its slot says
-abbrev pub IsStoredAt : Written → List ℕ → List (List ℕ) → List ℕ → Slot → Type 0
-IsStoredAt inner_written fill e bytes Absent = IsAllFill fill e
-IsStoredAt inner_written fill e bytes (InRange offset size) = (¬ (IsAllFill fill e)) × inner_written e (slice_at offset size bytes)
-    × (offset + size ≤ length bytes)
-IsStoredAt inner_written fill e bytes Bad = ⊥
+-- a subchunk is stored in a data part where its slot says
+abbrev pub IsStoredIn : Written → List ℕ → List (List ℕ) → List ℕ → Slot → Type 0
+IsStoredIn inner_written fill e bytes slot = IsStoredAt inner_written fill (λ offset size. offset + size ≤ length bytes) e bytes slot
 
 -- the bytes that the slots of some subchunks take
 abbrev pub taken_by : List Slot → List ℕ → ℕ
-taken_by slots numbers = sum_by (λ j. slot_size (slice_index_or slots j Bad)) numbers
+taken_by slots numbers = stored_size (λ j. slice_index_or slots j Bad) numbers
 
 -- the bytes that the first k slots take
 abbrev pub taken : List Slot → ℕ → ℕ
@@ -48,7 +40,7 @@ pub record IsStoredInOrder (inner_written : Written) (fill shape sub : List ℕ)
     (slots : List Slot) (order : List ℕ) (i : ℕ) : Type 0 where
   pub counted : length slots ≡ length order
   pub stored_slices : (j : ℕ) → j < i
-      → IsStoredAt inner_written fill (subchunk shape sub a (slice_index order j)) bytes (slice_index_or slots (slice_index order j) Bad)
+      → IsStoredIn inner_written fill (subchunk shape sub a (slice_index order j)) bytes (slice_index_or slots (slice_index order j) Bad)
   pub begins : (j : ℕ) → j < i → BeginsAt (taken_by slots (take j order)) (slice_index_or slots (slice_index order j) Bad)
   pub filled : taken_by slots (take i order) ≡ length bytes
 

@@ -1,5 +1,5 @@
 -- Which arrays the sharding codec serves, what it can encode, and how long its encodings are.
-use Rattle.std.specs.Prelude.{◌≡◌, ◌<◌, ◌^◌, ◌⊎◌, ℕ, ◌+◌, ◌*◌, List, [], Option, Some, None, IsSome, length, map, nat_lt, if◌then◌else◌}
+use Rattle.std.specs.Prelude.{◌≡◌, ◌<◌, ◌^◌, ◌⊎◌, ℕ, ◌+◌, ◌*◌, List, Bool, true, false, Option, Some, None, IsSome, length, map, nat_lt, if◌then◌else◌}
 use Rattle.std.specs.List.{All, sum_by, range_with_len}
 use Rattle.parts_errors.specs.Words.{Refusals, Written}
 use Rattle.parts_errors.specs.Order.{◌or◌then◌, ◌or_as◌then◌, done}
@@ -15,7 +15,7 @@ use Rattle.codec_traits.specs.declared.representation.BytesRepresentation.TheVar
 use Rattle.codec_traits.specs.Meanings.{Meaning}
 use Rattle.sharding_format.specs.Index.{element_of_number}
 use Rattle.sharding_format.specs.Cells.{Layout}
-use Rattle.sharding_format.specs.Encoding.{IsAllFill}
+use Rattle.sharding_format.specs.Encoding.{IsAllFill, IsStored}
 use Rattle.sharding_format.specs.declared.location.ShardingIndexLocation.{ShardingIndexLocation}
 use Rattle.sharding_format.specs.declared.order.SubchunkWriteOrder.{SubchunkWriteOrder}
 
@@ -97,8 +97,8 @@ pub record ShardEncodable (inner outer : Meaning) (l : Layout) (a : List (List �
 
 -- what is stored of a subchunk: nothing where it is all fill, and else an encoding
 abbrev pub IsStoredPart : Written → List ℕ → List (List ℕ) → List ℕ → Type 0
-IsStoredPart inner_written fill elements part = (IsAllFill fill elements × (part ≡ []))
-    ⊎ ((¬ (IsAllFill fill elements)) × inner_written elements part)
+IsStoredPart inner_written fill elements part =
+    IsStored inner_written fill elements false part ⊎ IsStored inner_written fill elements true part
 
 -- the index's size and the lengths of all parts
 abbrev pub total_size : Layout → (ℕ → List ℕ) → ℕ

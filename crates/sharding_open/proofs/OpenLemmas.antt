@@ -33,7 +33,7 @@ use Rattle.sharding_format.specs.DecodeRefusals.{IndexRefusals}
 use Rattle.sharding_format.specs.ReadRefusals.{numbers_of}
 use Rattle.sharding_format.specs.steps.Reading.{ReadByRefusals}
 use Rattle.sharding_open.specs.Cached.{HoldsIndex, object_cells, ObjectIndexRefusals, CachedCellsRefusals}
-use Rattle.sharding_open.specs.steps.Slices.{cached_slot, IsRangeOf, SlotRefusals}
+use Rattle.sharding_open.specs.Slices.{cached_slot, IsRangeOf, SlotRefusals}
 use Rattle.sharding_format.proofs.ReadLemmas.{requested_cells}
 
 -- all bytes of an object are an interval of it

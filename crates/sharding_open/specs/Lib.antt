@@ -2,4 +2,4 @@ pub mod Cached
 pub mod OpenShards
 pub mod OpenSessions
 pub mod PreparedWrites
-pub mod steps
+pub mod Slices

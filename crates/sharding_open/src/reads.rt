@@ -7,7 +7,7 @@ ghost use Rattle.parts_subsets.specs.Selections.{IsSelectionOf};
 ghost use Rattle.storage_handles.specs.Handles.{IsRead, IsCounted};
 ghost use Rattle.storage_handles.specs.Objects.{ObjectRefusals};
 ghost use Rattle.codec_traits.specs.Reads.{cells_at, IsAnswer};
-ghost use Rattle.sharding_engine.specs.Meanings.{layout_in, inner_of, index_of, meaning_of};
+ghost use Rattle.sharding_engine.specs.Meanings.{shard_layout, inner_of, index_of, meaning_of};
 ghost use Rattle.sharding_open.specs.Cached.{object_cells, CachedCellsRefusals};
 ghost use Rattle.sharding_open.specs.OpenShards.{shard_spec, numbers_by, IsKnown};
 
@@ -54,7 +54,7 @@ impl OpenShard {
         ensures fault { IfErr result (IsCounted (H.state handle.old) (H.state handle.new)) }
         ensures refused { let s = sharding.now in let g = shard_spec self.now in let index = index_of X.meaning s g in
             IfErr result (RefusedBy (ObjectRefusals (H.state handle.old) (H.state handle.new) (
-            CachedCellsRefusals (inner_of I.meaning s g) index (layout_in s index g) (H.state handle.old).contents (N.selection indexer.now).points))) }
+            CachedCellsRefusals (inner_of I.meaning s g) index (shard_layout s index g) (H.state handle.old).contents (N.selection indexer.now).points))) }
     {
         let Some(index) = &self.cached else {
             let fill = filled(alloc, &self.data_type, count, &self.fill_value)?;

@@ -9,7 +9,7 @@ ghost use Rattle.parts_arrays.specs.declared.data_type.DataTypeSize.TheVariants.
 ghost use Rattle.storage_handles.specs.Handles.{IsRead, IsCounted};
 ghost use Rattle.storage_handles.specs.Objects.{ObjectRefusals};
 ghost use Rattle.codec_traits.specs.Reads.{cells_at, IsAnswer, IsDecodedInto, RequestRefusals};
-ghost use Rattle.sharding_engine.specs.Meanings.{layout_in, inner_of, index_of, meaning_of};
+ghost use Rattle.sharding_engine.specs.Meanings.{shard_layout, inner_of, index_of, meaning_of};
 ghost use Rattle.sharding_open.specs.Cached.{object_cells, CachedCellsRefusals};
 ghost use Rattle.sharding_open.specs.OpenShards.{shard_spec, numbers_by, IsKnown};
 
@@ -53,7 +53,7 @@ pub fn read_indexer<
     ensures refused { let s = sharding.now in let g = shard_spec shard.now in let index = index_of X.meaning s g in
         IfErr result (RefusedBy (RequestRefusals g (N.selection indexer.now) (meaning_of I.meaning X.meaning s g).answerable (
         ObjectRefusals (H.state handle.old) (H.state handle.new) (
-        CachedCellsRefusals (inner_of I.meaning s g) index (layout_in s index g) (H.state handle.old).contents (N.selection indexer.now).points)))) }
+        CachedCellsRefusals (inner_of I.meaning s g) index (shard_layout s index g) (H.state handle.old).contents (N.selection indexer.now).points)))) }
 {
     let count = check_requested(indexer, &shard.shape, &shard.data_type)?;
     let array = shard.read(sharding, alloc, handle, count, indexer, options)?;
@@ -94,7 +94,7 @@ pub fn read_indexer_into<
         IfErr result (RefusedBy (TargetRefusals (size_of g.data_type) (length (N.selection indexer.now).points) target.old (
         RequestRefusals g (N.selection indexer.now) (meaning_of I.meaning X.meaning s g).answerable (
         ObjectRefusals (H.state handle.old) (H.state handle.new) (
-        CachedCellsRefusals (inner_of I.meaning s g) index (layout_in s index g) (H.state handle.old).contents (N.selection indexer.now).points))))) }
+        CachedCellsRefusals (inner_of I.meaning s g) index (shard_layout s index g) (H.state handle.old).contents (N.selection indexer.now).points))))) }
 {
     check_target(target, indexer.len(), &shard.data_type)?;
     let array = read_indexer(shard, sharding, alloc, handle, indexer, options)?;

@@ -4,7 +4,7 @@ ghost use Rattle.parts_errors.specs.Order.{RefusedBy};
 ghost use Rattle.storage_handles.specs.Handles.{IsRead, IsCounted};
 ghost use Rattle.storage_handles.specs.Objects.{ObjectRefusals};
 ghost use Rattle.codec_traits.specs.Reads.{cells_at, IsAnswer, RequestRefusals};
-ghost use Rattle.sharding_engine.specs.Meanings.{layout_in, inner_of, index_of, meaning_of};
+ghost use Rattle.sharding_engine.specs.Meanings.{shard_layout, inner_of, index_of, meaning_of};
 ghost use Rattle.sharding_open.specs.Cached.{object_cells, CachedCellsRefusals};
 ghost use Rattle.sharding_open.specs.OpenShards.{shard_spec, numbers_by, IsKnown};
 
@@ -45,7 +45,7 @@ impl OpenSession {
         ensures refused { let s = sharding.now in let g = shard_spec self.now.shard in let index = index_of X.meaning s g in
             IfErr result (RefusedBy (RequestRefusals g (N.selection indexer.now) (meaning_of I.meaning X.meaning s g).answerable (
             ObjectRefusals (H.state handle.old) (H.state handle.new) (
-            CachedCellsRefusals (inner_of I.meaning s g) index (layout_in s index g) (H.state handle.old).contents (N.selection indexer.now).points)))) }
+            CachedCellsRefusals (inner_of I.meaning s g) index (shard_layout s index g) (H.state handle.old).contents (N.selection indexer.now).points)))) }
     {
         read_indexer(&self.shard, sharding, alloc, handle, indexer, options)
     }

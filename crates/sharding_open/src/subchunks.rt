@@ -4,7 +4,7 @@ ghost use Rattle.parts_errors.specs.Order.{done};
 ghost use Rattle.parts_row_major.specs.Numbering.{count_of, number_of, IsInside};
 ghost use Rattle.sharding_format.specs.steps.Decoding.{FitsSlot};
 ghost use Rattle.sharding_open.specs.Cached.{cached_len, cached_numbers};
-ghost use Rattle.sharding_open.specs.steps.Slices.{cached_slot, IsRangeOf, SlotRefusals};
+ghost use Rattle.sharding_open.specs.Slices.{cached_slot, IsRangeOf, SlotRefusals};
 
 use crate::shard::OpenShard;
 use parts_errors::CodecError;

@@ -3,7 +3,8 @@ use Rattle.std.proofs.Common.{◌≡◌, ℕ, ◌+◌, ◌-◌, ◌<◌, ◌≤�
 use Rattle.std.specs.List.{range_with_len}
 use Rattle.std.proofs.lemmas.List.{length-replicate, take_all, drop_all, take-take, take-append-le, drop-append-le}
 use Rattle.parts_subsets.specs.Grid.{subchunk}
-use Rattle.sharding_format.specs.Laying.{IsStored, placed_slot, IsStoredInOrder}
+use Rattle.sharding_format.specs.Encoding.{IsStored}
+use Rattle.sharding_format.specs.Laying.{placed_slot, IsStoredInOrder}
 use Rattle.sharding_format.specs.declared.slot.Slot.{Slot}
 use Rattle.sharding_format.specs.declared.slot.Slot.TheVariants.{Absent}
 use Rattle.sharding_format.specs.WriteOrderLaws.{order_counted}

@@ -14,8 +14,8 @@ use Rattle.parts_row_major.specs.Pieces.{piece, IsUpdated}
 use Rattle.parts_arrays.specs.Arrays.{Array, IsWhole, fixed_array, extracted, IsOverlaid}
 use Rattle.parts_arrays.specs.declared.data_type.DataTypeSize.TheVariants.{Fixed}
 use Rattle.parts_arrays.proofs.ArrayLaws.{whole_from_length, concat-fixed_array, All-fixed_array}
-use Rattle.sharding_format.specs.Encoding.{IsAllFill}
-use Rattle.sharding_format.specs.Laying.{IsStored, IsStoredAfter}
+use Rattle.sharding_format.specs.Encoding.{IsAllFill, IsStored}
+use Rattle.sharding_format.specs.Laying.{IsStoredAfter}
 use Rattle.sharding_format.specs.declared.slot.Slot.{Slot}
 use Rattle.sharding_format.specs.declared.slot.Slot.TheVariants.{Absent, InRange}
 use Rattle.sharding_write.proofs.InPlaceLemmas.{overlaid_subset}

@@ -7,7 +7,7 @@ use Rattle.parts_arrays.specs.ArraySpec.{ArraySpec, IsArrayOf}
 use Rattle.storage_handles.specs.Writes.{bytes_of}
 use Rattle.sharding_format.specs.Index.{slot_at, data_start, data_end, index_spec, numbers_in_index}
 use Rattle.sharding_format.specs.Laws.{numbers_of_index}
-use Rattle.sharding_format.specs.Laying.{IsStoredAt}
+use Rattle.sharding_format.specs.Laying.{IsStoredIn}
 use Rattle.sharding_format.specs.declared.location.ShardingIndexLocation.{ShardingIndexLocation}
 use Rattle.sharding_format.specs.declared.slot.Slot.{Slot}
 use Rattle.sharding_format.specs.declared.slot.Slot.TheVariants.{Absent, InRange, Bad}
@@ -57,7 +57,7 @@ none_cached location size len n numbers counted absent room = record {
 
 module _ (inner_written : Written) (fill : List ℕ) (location : ShardingIndexLocation) (size : ℕ) (touched : List ℕ) (slots : List Slot) (slices : List ℕ) (e : ℕ → Elements)
     (stored_slices : AreStoredInRow inner_written fill e slices slots (length touched)) (n : ℕ) (numbers : List ℕ) (counted : length numbers ≡ 2 * n) (index_written : Written) where
-  shifted_lies : (write_offset start end : ℕ) (el : Elements) (s : Slot) → IsStoredAt inner_written fill el slices s → start ≤ write_offset → write_offset + length slices ≤ end → LiesBetween start end (shifted write_offset s)
+  shifted_lies : (write_offset start end : ℕ) (el : Elements) (s : Slot) → IsStoredIn inner_written fill el slices s → start ≤ write_offset → write_offset + length slices ≤ end → LiesBetween start end (shifted write_offset s)
   shifted_lies write_offset start end el Absent h from upto = tt
   shifted_lies write_offset start end el (InRange o m) h from upto = (omega (arith, from), omega (arith, h.2, upto))
   shifted_lies write_offset start end el Bad h from upto = absurd h

@@ -12,7 +12,7 @@ use Rattle.storage_handles.specs.Writes.{bytes_of}
 use Rattle.codec_traits.specs.Meanings.{Meaning}
 use Rattle.sharding_format.specs.Index.{absent_number, slot_at, data_start, data_end}
 use Rattle.sharding_format.specs.Cells.{Layout}
-use Rattle.sharding_format.specs.Laying.{IsStoredAt, offset_number}
+use Rattle.sharding_format.specs.Laying.{IsStoredIn, offset_number}
 use Rattle.sharding_format.specs.Packing.{slice_of}
 use Rattle.sharding_format.specs.declared.location.ShardingIndexLocation.{ShardingIndexLocation}
 use Rattle.sharding_format.specs.declared.location.ShardingIndexLocation.TheVariants.{Start, End}
@@ -92,7 +92,7 @@ write_erased inner index l sub_g subset update object numbers new_numbers touche
           record {
             elements = e found.0;
             cells = subst (λ m. AreNewCells l.shape sub_g subset update (cells_in inner.cells l.fill (bytes_of object) numbers m) m (e found.0)) found.2 (cells found.0 found.1);
-            stands = rw (absent_slot 0 new_numbers k entry.0 entry.1) (subst (λ (s : Slot). IsStoredAt inner.written l.fill (e found.0) slices s) (gone found.0 found.1) (stored_slices.stored_slices found.0 found.1));
+            stands = rw (absent_slot 0 new_numbers k entry.0 entry.1) (subst (λ (s : Slot). IsStoredIn inner.written l.fill (e found.0) slices s) (gone found.0 found.1) (stored_slices.stored_slices found.0 found.1));
           };
       kept = λ k k_below off.
           let entry = entry_absent new_numbers n k long erased.absent k_below in
@@ -102,7 +102,7 @@ write_erased inner index l sub_g subset update object numbers new_numbers touche
           kept_absent (bytes_of object) numbers [] new_numbers k same_offset same_size (sym same_offset ∙ entry.0) (sym same_size ∙ entry.1);
     }
 
-slot_gone : (inner : Meaning) (fill : List ℕ) (el : Elements) (slices : List ℕ) (write_offset : ℕ) (s : Slot) → IsStoredAt inner.written fill el slices s → offset_number write_offset s ≡ absent_number → write_offset + length slices < absent_number → s ≡ Absent
+slot_gone : (inner : Meaning) (fill : List ℕ) (el : Elements) (slices : List ℕ) (write_offset : ℕ) (s : Slot) → IsStoredIn inner.written fill el slices s → offset_number write_offset s ≡ absent_number → write_offset + length slices < absent_number → s ≡ Absent
 slot_gone inner fill el slices write_offset Absent h is small = refl
 slot_gone inner fill el slices write_offset (InRange o n) h is small = absurd (omega (arith, h.2, is, small))
 slot_gone inner fill el slices write_offset Bad h is small = absurd h

@@ -5,7 +5,7 @@ use Rattle.parts_errors.specs.Words.{Written}
 use Rattle.storage_handles.specs.Writes.{written_at}
 use Rattle.storage_handles.proofs.WriteLaws.{length-written_at, written_inside, written_outside}
 use Rattle.sharding_format.specs.Index.{absent_number, data_start, element_of_number}
-use Rattle.sharding_format.specs.Laying.{whole_shard, EndsBelow, IsStoredAt}
+use Rattle.sharding_format.specs.Laying.{whole_shard, EndsBelow, IsStoredIn}
 use Rattle.sharding_format.specs.Packing.{LiesInShard}
 use Rattle.sharding_format.specs.declared.slot.Slot.{Slot}
 use Rattle.sharding_format.specs.declared.slot.Slot.TheVariants.{Absent, InRange, Bad}
@@ -176,7 +176,7 @@ put_after_all index_written End size touched slots slices numbers new_numbers in
 )
 
 -- slots that are laid lie in their slices
-pub stored_inside : (inner_written : Written) (fill : List ℕ) (e : List (List ℕ)) (slices : List ℕ) (s : Slot) → IsStoredAt inner_written fill e slices s → LiesInShard (length slices) s
+pub stored_inside : (inner_written : Written) (fill : List ℕ) (e : List (List ℕ)) (slices : List ℕ) (s : Slot) → IsStoredIn inner_written fill e slices s → LiesInShard (length slices) s
 stored_inside inner_written fill e slices Absent h = tt
 stored_inside inner_written fill e slices (InRange offset size) h = h.2
 stored_inside inner_written fill e slices Bad h = absurd h

@@ -8,9 +8,9 @@ use Rattle.parts_errors.specs.Words.{Elements}
 use Rattle.parts_errors.specs.declared.error.CodecError.{CodecError}
 use Rattle.codec_traits.specs.Meanings.{Meaning}
 use Rattle.sharding_format.specs.EncodeRefusals.{RefusesToStore, StoreRefusals}
-use Rattle.sharding_format.specs.Encoding.{slot_size, BeginsAt}
+use Rattle.sharding_format.specs.Encoding.{slot_size, BeginsAt, IsStored}
 use Rattle.sharding_format.specs.Packing.{slice_of}
-use Rattle.sharding_format.specs.Laying.{IsStored, placed_slot, IsStoredAt, taken}
+use Rattle.sharding_format.specs.Laying.{placed_slot, IsStoredIn, taken}
 use Rattle.sharding_format.specs.declared.slot.Slot.{Slot}
 use Rattle.sharding_format.specs.declared.slot.Slot.TheVariants.{Bad}
 use Rattle.sharding_format.proofs.LayingLemmas.{sum_more, sum_same, begins_placed, size_placed, stored_placed, stored_stays, encoding_stored}
@@ -30,7 +30,7 @@ one_more inner_written fill e bytes more all slots grown k present h stored is g
     λ j upto. sum_same (λ i. slot_size (get_or grown i Bad)) (λ i. slot_size (get_or slots i Bad)) j (λ i below. ap slot_size (before i (omega arith))) in
     record {
       counted = ap length grows ∙ length_push slots new ∙ ap (λ n. n + 1) h.counted;
-      stored_slices = below_more (λ j. IsStoredAt inner_written fill (e j) all (get_or grown j Bad)) k
+      stored_slices = below_more (λ j. IsStoredIn inner_written fill (e j) all (get_or grown j Bad)) k
           (λ j below. rw (is, before j below) (stored_stays inner_written fill (e j) (get_or slots j Bad) bytes more (h.stored_slices j below)))
           (rw (is, here) (stored_placed inner_written fill (e k) present bytes more stored));
       begins = below_more (λ j. BeginsAt (taken grown j) (get_or grown j Bad)) k

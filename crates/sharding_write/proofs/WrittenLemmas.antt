@@ -11,7 +11,7 @@ use Rattle.codec_traits.specs.Meanings.{Meaning}
 use Rattle.sharding_format.specs.Index.{absent_number, slot_at, data_end}
 use Rattle.sharding_format.specs.Cells.{Layout}
 use Rattle.sharding_format.specs.Encoding.{StandsAt, slot_size}
-use Rattle.sharding_format.specs.Laying.{IsStoredAt, taken}
+use Rattle.sharding_format.specs.Laying.{IsStoredIn, taken}
 use Rattle.sharding_format.specs.Packing.{slice_of}
 use Rattle.sharding_format.specs.declared.slot.Slot.{Slot}
 use Rattle.sharding_format.specs.declared.slot.Slot.TheVariants.{Absent, InRange, Bad}
@@ -19,7 +19,7 @@ use Rattle.sharding_format.specs.declared.location.ShardingIndexLocation.{Shardi
 use Rattle.sharding_format.specs.declared.location.ShardingIndexLocation.TheVariants.{Start, End}
 use Rattle.sharding_format.proofs.EncodingLemmas.{shifted, shifted_entry, size_shifted, begins_shifted}
 use Rattle.sharding_format.proofs.LayingLemmas.{sum_same}
-use Rattle.sharding_write.specs.Writing.{AreAbsent, AreNewCells, cells_in, ArePlaced, IsKept, IsNew, taken_by, StandInRow, IsWriteOf, AreStoredInRow, HasPut}
+use Rattle.sharding_write.specs.Writing.{AreAbsent, AreNewCells, cells_in, ArePlaced, IsKept, IsNew, touched_size, StandInRow, IsWriteOf, AreStoredInRow, HasPut}
 
 pub inside_data : (location : ShardingIndexLocation) (size len n : ℕ) → n ≤ data_end location size len → n ≤ len
 inside_data Start size len n h = h
@@ -38,12 +38,12 @@ module _ (inner : Meaning) (l : Layout) (sub_g : ArraySpec) (subset : Subset) (u
       rw (put.entries.offsets j below, put.entries.sizes j below)
       (shifted_entry inner.written l.fill (e j) slices write_offset (length new) (get_or slots j Bad) (stored_slices.stored_slices j below) room (omega (arith, room, put.small)))
 
-  stands_there : (el : Elements) (s : Slot) → IsStoredAt inner.written l.fill el slices s → StandsAt inner.written l new el (shifted write_offset s)
+  stands_there : (el : Elements) (s : Slot) → IsStoredIn inner.written l.fill el slices s → StandsAt inner.written l new el (shifted write_offset s)
   stands_there el Absent h = h
   stands_there el (InRange o n) h = (h.0, rw (put.slice o n h.2) h.1, omega (arith, put.after_start), omega (arith, h.2, put.before_end))
   stands_there el Bad h = absurd h
 
-  taken_there : (n : ℕ) → n ≤ length touched → taken_by (length new) new_numbers touched n ≡ taken slots n
+  taken_there : (n : ℕ) → n ≤ length touched → touched_size (length new) new_numbers touched n ≡ taken slots n
   taken_there n upto = sum_same (λ j. slot_size (slot_at (length new) new_numbers (get_or touched j 0))) (λ j. slot_size (get_or slots j Bad)) n
       (λ j below. ap slot_size (slot_there j (omega (arith, below, upto))) ∙ size_shifted write_offset (get_or slots j Bad))
 

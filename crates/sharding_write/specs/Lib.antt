@@ -1,3 +1,4 @@
+pub mod Offsets
 pub mod Writing
 pub mod WriteRefusals
 pub mod Slices

@@ -1,6 +1,6 @@
 -- A write into a shard: what becomes of the object, of its index and of its cells.
 use Rattle.std.specs.Prelude.{◌≡◌, ◌≢◌, ◌≤◌, ◌<◌, ◌^◌, ◌⊎◌, ℕ, ◌+◌, ◌*◌, ◌/◌, max, List, Option, Some, None, [], length, map, slice_index, slice_index_or}
-use Rattle.std.specs.List.{All, range_with_len, sum_by}
+use Rattle.std.specs.List.{All, range_with_len}
 use Rattle.parts_errors.specs.Words.{Bytes, Elements, CellList, CellsOf, Written, Refusals}
 use Rattle.parts_errors.specs.declared.error.CodecError.{CodecError}
 use Rattle.parts_errors.specs.declared.error.CodecError.TheVariants.{TooLarge}
@@ -9,18 +9,19 @@ use Rattle.parts_row_major.specs.Subsets.{Subset, number_in}
 use Rattle.parts_row_major.specs.Pieces.{IsUpdated}
 use Rattle.parts_subsets.specs.Grid.{grid_of, cell_number}
 use Rattle.parts_subsets.specs.Touched.{Touches, AreTouched}
-use Rattle.parts_arrays.specs.ArraySpec.{ArraySpec, IsArrayOf}
+use Rattle.parts_arrays.specs.ArraySpec.{ArraySpec, IsArrayOf, array_spec}
 use Rattle.parts_arrays.specs.Arrays.{Array}
 use Rattle.parts_arrays.specs.declared.data_type.DataTypeSize.TheVariants.{Variable}
 use Rattle.storage_handles.specs.Writes.{bytes_of}
 use Rattle.codec_traits.specs.Meanings.{Meaning}
 use Rattle.sharding_format.specs.Index.{absent_number, slot_at, slice_at, index_part, data_start, data_end, element_of_number}
 use Rattle.sharding_format.specs.Cells.{Layout, cell_in}
-use Rattle.sharding_format.specs.Encoding.{StandsAt, slot_size, BeginsAt}
-use Rattle.sharding_format.specs.Laying.{IsStoredAt, taken, offset_number, size_number}
+use Rattle.sharding_format.specs.Encoding.{StandsAt, stored_size, BeginsAt}
+use Rattle.sharding_format.specs.Laying.{IsStoredIn, taken, offset_number, size_number}
+use Rattle.sharding_format.specs.Serves.{layout_of}
 use Rattle.sharding_format.specs.Packing.{slice_of}
 use Rattle.sharding_index.specs.DataPart.{IsInDataPart}
-pub use Rattle.sharding_write.specs.steps.Offsets.{slot_end, last_end, offset_after, length_after, index_after}
+pub use Rattle.sharding_write.specs.Offsets.{slot_end, last_end, offset_after, length_after, index_after}
 pub use Rattle.sharding_write.specs.OldCells.{HasSlice, AreCellsOf}
 use Rattle.sharding_format.specs.declared.location.ShardingIndexLocation.{ShardingIndexLocation}
 use Rattle.sharding_format.specs.declared.location.ShardingIndexLocation.TheVariants.{Start, End}
@@ -94,8 +95,8 @@ pub record IsNew (inner : Meaning) (l : Layout) (sub_g : ArraySpec) (subset : Su
   pub stands : StandsAt inner.written l new elements (slot_at (length new) new_numbers k)
 
 -- the bytes that the first n of the touched subchunks take
-abbrev pub taken_by : (len : ℕ) → (numbers touched : List ℕ) → (n : ℕ) → ℕ
-taken_by len numbers touched n = sum_by (λ j. slot_size (slot_at len numbers (slice_index touched j))) (range_with_len 0 n)
+abbrev pub touched_size : (len : ℕ) → (numbers touched : List ℕ) → (n : ℕ) → ℕ
+touched_size len numbers touched n = stored_size (λ j. slot_at len numbers (slice_index touched j)) (range_with_len 0 n)
 
 -- the object is a shard with this index, which stands where it belongs
 pub record HasIndex (index_written : Written) (location : ShardingIndexLocation) (index_size : ℕ) (numbers bytes : List ℕ) : Type 0 where
@@ -105,10 +106,10 @@ pub record HasIndex (index_written : Written) (location : ShardingIndexLocation)
 -- where the new slices stand: one after the other from a place on, which goes, with the length, by what was there
 pub record StandInRow (l : Layout) (subset : Subset) (touched : List ℕ) (old numbers new new_numbers : List ℕ) : Type 0 where
   pub write_offset : ℕ
-  pub placed : ArePlaced l subset (length old) numbers (taken_by (length new) new_numbers touched (length touched)) write_offset
+  pub placed : ArePlaced l subset (length old) numbers (touched_size (length new) new_numbers touched (length touched)) write_offset
       (length new)
   pub begins : (j : ℕ) → j < length touched
-      → BeginsAt (write_offset + taken_by (length new) new_numbers touched j) (slot_at (length new) new_numbers (slice_index touched j))
+      → BeginsAt (write_offset + touched_size (length new) new_numbers touched j) (slot_at (length new) new_numbers (slice_index touched j))
 
 -- no object exactly where no subchunk is stored; else an index, with the new slices in a row
 abbrev pub IsStoredAs : (index_written : Written) → Layout → Subset → (touched old numbers : List ℕ) → Option Bytes → List ℕ → Type 0
@@ -154,7 +155,7 @@ array_at arrays j = slice_index_or arrays j (record { kind = Variable; elements 
 pub record AreStoredInRow (inner_written : Written) (fill : List ℕ) (elements : ℕ → Elements) (bytes : Bytes) (slots : List Slot)
     (k : ℕ) : Type 0 where
   pub counted : length slots ≡ k
-  pub stored_slices : (j : ℕ) → j < k → IsStoredAt inner_written fill (elements j) bytes (slice_index_or slots j Bad)
+  pub stored_slices : (j : ℕ) → j < k → IsStoredIn inner_written fill (elements j) bytes (slice_index_or slots j Bad)
   pub begins : (j : ℕ) → j < k → BeginsAt (taken slots j) (slice_index_or slots j Bad)
   pub filled : taken slots k ≡ length bytes
 
@@ -268,7 +269,7 @@ pub record IsMade (inner : Meaning) (index_written : Written) (shape : List ℕ)
 -- the layout of a shard of this shape, whose subchunks are asked of the inner codec as this array spec says
 abbrev pub layout_from : List ℕ → ArraySpec → ShardingIndexLocation → (index_size : ℕ) → Layout
 layout_from shape sub_g location index_size =
-    record { shape = shape; sub = sub_g.shape; fill = sub_g.fill; location = location; index_size = index_size; order = Unordered }
+    layout_of sub_g.shape location Unordered index_size (array_spec shape sub_g.data_type sub_g.fill)
 
 -- what is held of a shard of so many bytes and n subchunks: its length can be counted; where some subchunk is stored it has room for
 -- the index; and each entry is absent or in the data part

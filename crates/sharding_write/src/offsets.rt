@@ -2,7 +2,7 @@
 ghost use Rattle.std.specs.Prelude.{◌≡◌, ◌+◌, ◌*◌, ◌/◌, ◌^◌, ◌<◌, SomeIff, length};
 ghost use Rattle.sharding_format.specs.steps.Decoding.{FitsSlot};
 ghost use Rattle.sharding_format.specs.Index.{slot_at, data_start};
-ghost use Rattle.sharding_write.specs.steps.Offsets.{slot_end, last_end, offset_after, length_after, index_after};
+ghost use Rattle.sharding_write.specs.Offsets.{slot_end, last_end, offset_after, length_after, index_after};
 
 use sharding_format::{ShardingIndexLocation, Slot, slot_of};
 

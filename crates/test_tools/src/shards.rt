@@ -90,7 +90,7 @@ fn compare_part<R: Abort + AllocGlobal>(
 }
 
 // The part at a place of the subset 1..5, 3..7 of an array of 5 by 7 in shards of 4 by 4.
-fn part_of_box(alloc: Global, position: u64) -> Result<Option<ShardPart>, CodecError> {
+fn part_of_subset(alloc: Global, position: u64) -> Result<Option<ShardPart>, CodecError> {
     let grid = grid_of(alloc, &[5, 7], &[4, 4])?;
     let requested = ArraySubset::from_ranges(alloc, &[1..5, 3..7])?;
     grid.parts(alloc, &requested)?.part(alloc, position)
@@ -99,12 +99,12 @@ fn part_of_box(alloc: Global, position: u64) -> Result<Option<ShardPart>, CodecE
 #[test]
 fn a_subset_is_made_of_a_part_of_each_shard(rt: HostRuntime) -> Result<(), Fail> {
     for number in 0..4 {
-        if let Some(part) = part_of_box(rt.alloc(), number as u64)? {
+        if let Some(part) = part_of_subset(rt.alloc(), number as u64)? {
             compare_part(&rt, number, &part)?;
         }
     }
-    same(&rt, part_of_box(rt.alloc(), 3)?.is_some(), true);
-    same(&rt, part_of_box(rt.alloc(), 4)?.is_none(), true);
+    same(&rt, part_of_subset(rt.alloc(), 3)?.is_some(), true);
+    same(&rt, part_of_subset(rt.alloc(), 4)?.is_none(), true);
     Ok(())
 }
 

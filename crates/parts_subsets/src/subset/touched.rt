@@ -57,8 +57,9 @@ fn touched_lengths(
     Ok(lengths)
 }
 
-// The subset of the grid that has the subchunks which a subset touches.
-fn touched_subset(
+/// The subset of the grid of subchunks that has those in which points of a subset of the shape lie, given by its start and its
+/// shape. Refused only as out of memory.
+pub fn touched_subset(
     alloc: Global,
     start: &[u64],
     len: &[u64],

@@ -6,7 +6,7 @@ ghost use Rattle.parts_subsets.specs.Grid.{grid_of};
 ghost use Rattle.std.specs.Cow.{cow_slice_items};
 ghost use Rattle.storage_handles.specs.Handles.{IsCounted, seen};
 ghost use Rattle.storage_handles.specs.Objects.{ObjectRefusals};
-ghost use Rattle.sharding_open.specs.steps.Slices.{cached_slot, IsRangeOf, IsSliceRead, SlotRefusals};
+ghost use Rattle.sharding_open.specs.Slices.{cached_slot, IsRangeOf, IsSliceRead, SlotRefusals};
 ghost use Rattle.sharding_codec.specs.Decoders.{index_in, IsOpen, Unmoved};
 
 use super::ShardingPartialDecoder;

@@ -7,7 +7,7 @@ use Rattle.parts_arrays.specs.ArraySpec.{ArraySpec, array_spec, IsArrayOf}
 use Rattle.parts_arrays.specs.Types.{size_of, HasElements}
 use Rattle.parts_arrays.specs.Arrays.{Array}
 use Rattle.codec_traits.specs.Meanings.{Meaning}
-use Rattle.sharding_format.specs.Laying.{IsStored}
+use Rattle.sharding_format.specs.Encoding.{IsStored}
 use Rattle.sharding_subchunks.specs.steps.Inner.{inner_meaning}
 use Rattle.sharding_subchunks.specs.declared.subchunks.Subchunks.{Subchunks}
 use Rattle.sharding_subchunks.specs.declared.encoded.Stored.{Stored}

@@ -9,7 +9,7 @@ use Rattle.parts_subsets.specs.Grid.{subchunk}
 use Rattle.codec_traits.specs.RefusalLaws.{passed_on}
 use Rattle.parts_row_major.specs.Numbering.{count_of}
 use Rattle.sharding_format.specs.WriteOrderLaws.{order_counted}
-use Rattle.sharding_format.specs.Laying.{IsStored}
+use Rattle.sharding_format.specs.Encoding.{IsStored}
 use Rattle.sharding_format.proofs.LayingLemmas.{part_stored}
 use Rattle.sharding_format.specs.EncodeRefusals.{RefusesToStore}
 use Rattle.sharding_subchunks.specs.steps.Inner.{inner_meaning}

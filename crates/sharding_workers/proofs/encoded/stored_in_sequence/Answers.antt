@@ -1,7 +1,8 @@
 use Rattle.std.proofs.Common.{◌≡◌, ◌<◌, ◌∙◌, length, get_or, set, replicate, sym, ap, subst, arith}
 use Rattle.std.proofs.lemmas.List.{length-replicate}
 use Rattle.parts_subsets.specs.Grid.{subchunk}
-use Rattle.sharding_format.specs.Laying.{IsStored, IsStoredInOrder}
+use Rattle.sharding_format.specs.Encoding.{IsStored}
+use Rattle.sharding_format.specs.Laying.{IsStoredInOrder}
 use Rattle.sharding_format.specs.WriteOrderLaws.{order_counted, order_below}
 use Rattle.sharding_format.specs.declared.slot.Slot.TheVariants.{Absent}
 use Rattle.sharding_format.proofs.LayingLemmas.{none_stored_yet, one_more_stored}

@@ -4,7 +4,7 @@ use Rattle.sharding_index.specs.steps.Plans.{spec_of}
 use Rattle.parts_arrays.specs.Types.{size_of}
 use Rattle.sharding_format.specs.Index.{index_spec}
 use Rattle.sharding_format.specs.Serves.{subchunk_spec}
-use Rattle.sharding_engine.specs.Meanings.{layout_in, sharded_meaning}
+use Rattle.sharding_engine.specs.Meanings.{shard_layout, sharded_meaning}
 use Rattle.sharding_format.proofs.EncodeRefusals.{refused_as, may_refuse_encode}
 use Rattle.sharding_workers.proofs.whole.encode_by_workers.Goals as goal
 
@@ -18,7 +18,7 @@ returns-clause-lawful g c =
     let index_g = index_spec (grid_of spec.shape s.subchunk_shape.now) in
     refused_as c.encode_planned_by_workers.result _ _
     (λ e refusals served kind array.
-    let l = layout_in s (outer.meaning s.index_codec.codec.now index_g) spec in
+    let l = shard_layout s (outer.meaning s.index_codec.codec.now index_g) spec in
     let whole = sharded_meaning s.subchunk_shape.now s.index_codec.location s.order (inner.meaning s.inner.now inner_g) (outer.meaning s.index_codec.codec.now index_g) spec in
     may_refuse_encode (inner.meaning s.inner.now inner_g) (outer.meaning s.index_codec.codec.now index_g) l (size_of c.args.spec.now.data_type.now) c.args.bytes.now whole e (λ h. h) (λ h. h) kind array.counted refusals)
     c.encode_planned_by_workers.ensures.refused

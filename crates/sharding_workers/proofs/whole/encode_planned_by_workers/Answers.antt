@@ -6,7 +6,7 @@ use Rattle.parts_arrays.specs.Types.{size_of}
 use Rattle.sharding_format.specs.Index.{absent_number, index_spec, data_start}
 use Rattle.sharding_format.specs.Laying.{IsIndexOf}
 use Rattle.sharding_format.specs.Serves.{subchunk_spec, fixed_size}
-use Rattle.sharding_engine.specs.Meanings.{layout_in}
+use Rattle.sharding_engine.specs.Meanings.{shard_layout}
 use Rattle.codec_traits.specs.RefusalLaws.{passed_on}
 use Rattle.sharding_format.specs.WriteOrder.{numbers_in_order}
 use Rattle.sharding_format.specs.WriteOrderLaws.{order_permutes, order_counted}
@@ -44,7 +44,7 @@ returns-in_err-stored_slices-clause-refused g c =
     let kind : c.args.array.now.kind ≡ size_of c.args.spec.now.data_type.now = search rules in
     let counted : length c.args.array.now.elements ≡ count_of c.args.spec.now.shape.now = omega (arith, c.requires.plan.cells) in
     let e = c.in_err-stored_slices.field-0.0 in
-    passed_on _ e _ c.from_residual-in_err-stored_slices.ensures.1 (store_next inner index (layout_in s index spec) (size_of c.args.spec.now.data_type.now) c.args.array.now e kind counted (rw c.requires.plan.grid at c.in_err-stored_slices.ensures.refused))
+    passed_on _ e _ c.from_residual-in_err-stored_slices.ensures.1 (store_next inner index (shard_layout s index spec) (size_of c.args.spec.now.data_type.now) c.args.array.now e kind counted (rw c.requires.plan.grid at c.in_err-stored_slices.ensures.refused))
 
 pub returns-then-plan-len-clause-refused : goal.returns-then-plan-len-clause-refused
 returns-then-plan-len-clause-refused g c =
@@ -58,7 +58,7 @@ returns-then-plan-len-clause-refused g c =
     let permutes = order_permutes s.order (grid_of c.args.spec.now.shape.now s.subchunk_shape.now) in
     let stored_slices = rw (c.in_ok-sequence.ensures, c.requires.plan.grid) at c.in_ok-stored_slices.ensures.stored_slices in
     let room = rw c.requires.plan.grid at c.requires.plan.index.size in
-    inr (total_next inner index (layout_in s index spec) (size_of c.args.spec.now.data_type.now) c.args.array.now c.in_ok-stored_slices.stored_slices.bytes.items c.in_ok-stored_slices.stored_slices.slots.items order permutes stored_slices kind counted
+    inr (total_next inner index (shard_layout s index spec) (size_of c.args.spec.now.data_type.now) c.args.array.now c.in_ok-stored_slices.stored_slices.bytes.items c.in_ok-stored_slices.stored_slices.slots.items order permutes stored_slices kind counted
     (omega (arith, c.if-plan-len.true, c.len-len.ensures, c.in_ok-stored_slices.stored_slices.bytes.ok.0, room)))
 
 pub returns-in_err-index-clause-refused : goal.returns-in_err-index-clause-refused
@@ -75,7 +75,7 @@ returns-in_err-index-clause-refused g c =
     let room = rw c.requires.plan.grid at c.requires.plan.index.size in
     let e = c.in_err-index.field-0.0 in
     passed_on _ e _ c.from_residual-in_err-index.ensures.1
-    (index_next inner index (layout_in s index spec) (size_of c.args.spec.now.data_type.now) c.args.array.now c.in_ok-stored_slices.stored_slices.bytes.items c.in_ok-stored_slices.stored_slices.slots.items order permutes stored_slices e kind counted
+    (index_next inner index (shard_layout s index spec) (size_of c.args.spec.now.data_type.now) c.args.array.now c.in_ok-stored_slices.stored_slices.bytes.items c.in_ok-stored_slices.stored_slices.slots.items order permutes stored_slices e kind counted
     (omega (arith, c.if-plan-len.false, c.len-len.ensures, c.in_ok-stored_slices.stored_slices.bytes.ok.0, room))
     (rw c.requires.plan.grid at c.in_err-index.ensures.refused))
 

@@ -1,5 +1,5 @@
 use Rattle.std.proofs.Common.{◌∙◌, ap}
-use Rattle.sharding_write.specs.steps.Offsets.{slot_end}
+use Rattle.sharding_write.specs.Offsets.{slot_end}
 use Rattle.sharding_write.proofs.EndLemmas.{last_more}
 use Rattle.sharding_write.proofs.offsets.last_end.Goals as goal
 

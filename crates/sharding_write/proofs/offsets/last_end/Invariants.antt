@@ -1,6 +1,6 @@
 -- The greatest end so far.
 use Rattle.std.proofs.Common.{◌≡◌}
-use Rattle.sharding_write.specs.steps.Offsets.{last_end}
+use Rattle.sharding_write.specs.Offsets.{last_end}
 use Rattle.sharding_write.proofs.offsets.last_end.Given as goal
 
 abbrev pub invariant-loop-k : goal.invariant-loop-k

@@ -4,7 +4,7 @@ use Rattle.parts_row_major.specs.Numbering.{number_of}
 use Rattle.storage_handles.specs.Objects.{ObjectRefusals}
 use Rattle.parts_errors.specs.Order.{done}
 use Rattle.sharding_open.specs.Cached.{cached_len, cached_numbers}
-use Rattle.sharding_open.specs.steps.Slices.{cached_slot}
+use Rattle.sharding_open.specs.Slices.{cached_slot}
 use Rattle.sharding_codec.specs.Decoders.{index_in}
 use Rattle.codec_traits.specs.RefusalLaws.{passed_on}
 use Rattle.sharding_open.proofs.OpenLemmas.{slot_first, slice_refused}

@@ -6,7 +6,7 @@ use Rattle.parts_arrays.specs.Types.{size_of}
 use Rattle.sharding_format.specs.Index.{index_spec}
 use Rattle.sharding_format.specs.Serves.{subchunk_spec}
 use Rattle.sharding_format.proofs.EncodeRefusals.{may_refuse_encode}
-use Rattle.sharding_engine.specs.Meanings.{layout_in, sharded_meaning}
+use Rattle.sharding_engine.specs.Meanings.{shard_layout, sharded_meaning}
 use Rattle.sharding_engine.proofs.sharding.ShardingArrayToBytesCodecTraits.encode_onto.Goals as goal
 
 pub returns-clause-lawful : goal.returns-clause-lawful
@@ -17,7 +17,7 @@ returns-clause-lawful g c =
     let index = g.X.ArrayToBytesCodecTraits.meaning s.index_codec.codec.now (index_spec (grid_of spec.shape s.subchunk_shape.now)) in
     let whole = sharded_meaning s.subchunk_shape.now s.index_codec.location s.order inner index spec in
     IfErr-weaker c.encode_or_cut.result _ _
-    (λ e refusals served kind array. may_refuse_encode inner index (layout_in s index spec) (size_of c.args.data_type.now) c.args.bytes.now whole e (λ h. h) (λ h. h) kind array.counted refusals)
+    (λ e refusals served kind array. may_refuse_encode inner index (shard_layout s index spec) (size_of c.args.data_type.now) c.args.bytes.now whole e (λ h. h) (λ h. h) kind array.counted refusals)
     c.encode_or_cut.ensures.refused
 
 pub returns-clause-refused : goal.returns-clause-refused
