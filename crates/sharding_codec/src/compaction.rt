@@ -7,7 +7,8 @@ ghost use Rattle.storage_handles.specs.Objects.{interval_part};
 ghost use Rattle.sharding_format.specs.Index.{index_spec, index_part, slice_at};
 ghost use Rattle.sharding_format.specs.Serves.{fixed_size, HasPlan, PlanRefusals};
 ghost use Rattle.sharding_format.specs.Compacting.{IsCompact, IsCompacted, CompactRefusals};
-ghost use Rattle.sharding_layout.specs.CompactionPlans.{executed, IsPlanFor, OfEachObject};
+ghost use Rattle.sharding_layout.specs.CompactionPlans.{executed, IsPlanFor, PlannedRefusals, OfEachObject};
+ghost use Rattle.sharding_layout.specs.Layouts.{OfEachLayout};
 
 use crate::codec::ShardingCodec;
 use codec_traits::ArrayToBytesCodecTraits;
@@ -81,6 +82,9 @@ impl<I, X: ArrayToBytesCodecTraits> ShardingCodec<I, X> {
         ensures refused { let s = self.now in let meaning = X.meaning s.index_codec (index_spec (grid_of shape.now s.subchunk_shape)) in
             OfEachObject shape.now s.subchunk_shape s.location meaning index.now len (λ l object.
             IfErr result (RefusedBy (CompactRefusals meaning l object))) }
+        ensures tested { let s = self.now in let meaning = X.meaning s.index_codec (index_spec (grid_of shape.now s.subchunk_shape)) in
+            OfEachLayout shape.now s.subchunk_shape s.location meaning (λ l.
+            IfErr result (RefusedBy (PlannedRefusals meaning l index.now len))) }
     {
         let index_codec = IndexCodec {
             codec: &self.index_codec,

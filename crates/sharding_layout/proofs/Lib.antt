@@ -2,3 +2,4 @@ pub mod RepackingLemmas
 mod CompactLemmas
 mod OffsetLemmas
 mod PlanLemmas
+mod PlannedLemmas

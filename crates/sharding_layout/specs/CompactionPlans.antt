@@ -1,13 +1,18 @@
 -- The plan of a compaction: what it makes of an object, and of which objects a plan is one that looks at their index alone.
-use Rattle.std.specs.Prelude.{◌≡◌, ◌<◌, ℕ, ◌*◌, ◌/◌, List, Option, Some, None, length}
+use Rattle.std.specs.Prelude.{◌≡◌, ◌<◌, ◌≤◌, ℕ, ◌*◌, ◌/◌, List, Option, Some, None, length}
+use Rattle.parts_errors.specs.Order.{◌or◌then◌}
+use Rattle.parts_errors.specs.declared.error.CodecError.{CodecError}
+use Rattle.parts_errors.specs.declared.error.CodecError.TheVariants.{ShardTooShort}
 use Rattle.parts_row_major.specs.Numbering.{count_of}
 use Rattle.parts_subsets.specs.Grid.{grid_of}
 use Rattle.storage_handles.specs.declared.bytes.Interval.{Interval}
 use Rattle.codec_traits.specs.Meanings.{Meaning}
 use Rattle.sharding_format.specs.Cells.{Layout}
-use Rattle.sharding_format.specs.Index.{slot_at, index_part}
+use Rattle.sharding_format.specs.Index.{slot_at, index_part, numbers_in_index}
 use Rattle.sharding_format.specs.Laying.{whole_shard}
-use Rattle.sharding_format.specs.Compacting.{IsGood}
+use Rattle.sharding_format.specs.Serves.{PlanRefusals}
+use Rattle.sharding_format.specs.DecodeRefusals.{IndexRefusals, slot_by}
+use Rattle.sharding_format.specs.Compacting.{IsGood, PresentRefusals}
 use Rattle.sharding_format.specs.declared.location.ShardingIndexLocation.{ShardingIndexLocation}
 use Rattle.sharding_format.specs.declared.slot.Slot.{Slot}
 use Rattle.sharding_format.specs.declared.slot.Slot.TheVariants.{Absent, InRange, Bad}
@@ -34,6 +39,14 @@ pub record IsPlanFor (l : Layout) (len : ℕ) (plan : CompactionPlan) : Type 0 w
   pub location : plan.location ≡ l.location
   pub index : length plan.new_index.items ≡ l.index_size
   pub good : (k : ℕ) → k < count_of (grid_of l.shape l.sub) → IsGood (slot_at len plan.old_index.numbers.items k)
+
+-- the tests of a plan for a shard of this length, by bytes that begin or end with its index, in their order: those of `compact`
+abbrev pub PlannedRefusals : (index : Meaning) → Layout → List ℕ → ℕ → CodecError → Type 0
+PlannedRefusals index l index_bytes len =
+    PlanRefusals index l.shape l.sub 0 (
+    l.index_size ≤ len or ShardTooShort then
+    IndexRefusals index.decode_refusals index.cells l.location l.index_size index_bytes (
+    PresentRefusals index l len (slot_by len (numbers_in_index index.cells l.location l.index_size index_bytes))))
 
 -- it holds of each object of this length that has the index which these bytes begin or end with, and of each of its layouts
 abbrev pub OfEachObject : (shape sub : List ℕ) → ShardingIndexLocation → (index : Meaning) → List ℕ → ℕ → (Layout → List ℕ → Type 0)

@@ -13,7 +13,8 @@ ghost use Rattle.sharding_format.specs.Serves.{HasPlan, fixed_size};
 ghost use Rattle.sharding_index.specs.Indexes.{index_meaning, IsIndexPlan};
 ghost use Rattle.sharding_index.specs.steps.Plans.{IsPlan};
 ghost use Rattle.sharding_layout.specs.Repacking.{packed_slots};
-ghost use Rattle.sharding_layout.specs.CompactionPlans.{interval_of, executed, IsPlanFor, OfEachObject};
+ghost use Rattle.sharding_layout.specs.CompactionPlans.{interval_of, executed, IsPlanFor, PlannedRefusals, OfEachObject};
+ghost use Rattle.sharding_layout.specs.Layouts.{OfEachLayout};
 
 use crate::packing::{compact_size, packed_numbers};
 use codec_traits::ArrayToBytesCodecTraits;
@@ -168,6 +169,9 @@ fn planned<X: ArrayToBytesCodecTraits>(
     ensures refused { let index = index_meaning X.meaning index_codec.now.codec.now (grid_of _shape.now _subchunk_shape.now) in
         OfEachObject _shape.now _subchunk_shape.now index_codec.now.location index stored.now.bytes.now stored.now.len (λ l object.
         IfErr result (RefusedBy (CompactRefusals index l object))) }
+    ensures tested { let index = index_meaning X.meaning index_codec.now.codec.now (grid_of _shape.now _subchunk_shape.now) in
+        OfEachLayout _shape.now _subchunk_shape.now index_codec.now.location index (λ l.
+        IfErr result (RefusedBy (PlannedRefusals index l stored.now.bytes.now stored.now.len))) }
 {
     let old_index = decoded(alloc, index_codec, stored, &plan.index, options)?;
     let len = compact_size(&old_index, plan.index.size)?;
@@ -210,6 +214,9 @@ pub fn plan_compaction<X: ArrayToBytesCodecTraits>(
     ensures refused { let meaning = index_meaning X.meaning index_codec.now.codec.now (grid_of shape.now subchunk_shape.now) in
         OfEachObject shape.now subchunk_shape.now index_codec.now.location meaning index.now len (λ l object.
         IfErr result (RefusedBy (CompactRefusals meaning l object))) }
+    ensures tested { let meaning = index_meaning X.meaning index_codec.now.codec.now (grid_of shape.now subchunk_shape.now) in
+        OfEachLayout shape.now subchunk_shape.now index_codec.now.location meaning (λ l.
+        IfErr result (RefusedBy (PlannedRefusals meaning l index.now len))) }
 {
     let plan = Plan::new(alloc, index_codec, shape, subchunk_shape, 0)?;
     let stored = StoredIndex { bytes: index, len };

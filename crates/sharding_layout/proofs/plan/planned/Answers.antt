@@ -12,6 +12,8 @@ use Rattle.sharding_format.proofs.CompactRefusals.{rewrite_next}
 use Rattle.sharding_index.specs.Indexes.{index_meaning}
 use Rattle.sharding_layout.proofs.CompactLemmas.{total_next}
 use Rattle.sharding_layout.proofs.PlanLemmas.{numbers_there, kept_whole, executed_long, executed_compacted}
+use Rattle.sharding_layout.specs.CompactionPlans.{PlannedRefusals}
+use Rattle.sharding_layout.proofs.PlannedLemmas.{index_tested, entries_tested, written_tested}
 use Rattle.sharding_layout.proofs.plan.planned.Goals as goal
 
 pub returns-in_err-len-clause-refused : goal.returns-in_err-len-clause-refused
@@ -106,3 +108,57 @@ returns-clause-planned g c = λ fill order object long same.
           (omega (arith, total, c.in_ok-len.ensures.small)) (λ as_long. c.if-len-stored.false (total ∙ as_long ∙ long)) index_is),
       rw len (executed_long index l object numbers there counted good new new_sized ∙ sym total),
     )
+
+pub returns-in_err-old_index-clause-tested : goal.returns-in_err-old_index-clause-tested
+returns-in_err-old_index-clause-tested g c = λ fill order.
+    let a = c.args in
+    let sub = a._subchunk_shape.now in
+    let location = a.index_codec.now.location in
+    let index : Meaning = index_meaning g.X.ArrayToBytesCodecTraits.meaning a.index_codec.now.codec.now (grid_of a._shape.now sub) in
+    let l : Layout = record { shape = a._shape.now; sub = sub; fill = fill; location = location; index_size = fixed_size index.representation; order = order } in
+    let plan = c.requires.plan in
+    let e = c.in_err-old_index.field-0.0 in
+    passed_on _ e _ c.from_residual-in_err-old_index.ensures.1
+    (index_tested index l a.stored.now.bytes.now a.stored.now.len c.requires.served e (rw (plan.index.size, plan.grid) at c.in_err-old_index.ensures.refused))
+
+pub returns-in_err-len-clause-tested : goal.returns-in_err-len-clause-tested
+returns-in_err-len-clause-tested g c = λ fill order.
+    let a = c.args in
+    let sub = a._subchunk_shape.now in
+    let location = a.index_codec.now.location in
+    let index : Meaning = index_meaning g.X.ArrayToBytesCodecTraits.meaning a.index_codec.now.codec.now (grid_of a._shape.now sub) in
+    let l : Layout = record { shape = a._shape.now; sub = sub; fill = fill; location = location; index_size = fixed_size index.representation; order = order } in
+    let plan = c.requires.plan in
+    let numbers = c.in_ok-old_index.old_index.numbers.items in
+    let len : c.in_ok-old_index.old_index.len ≡ a.stored.now.len = c.in_ok-old_index.ensures.len in
+    let told = rw (plan.index.size, plan.grid) at c.in_ok-old_index.ensures.numbers in
+    let sized : a.plan.now.index.size ≡ l.index_size = rw plan.grid at plan.index.size in
+    let enough : l.index_size ≤ a.stored.now.len = omega (arith, c.in_ok-old_index.ensures.enough, sized) in
+    let counted : length numbers ≡ 2 * count_of (grid_of l.shape l.sub) = rw plan.grid at c.in_ok-old_index.ensures.counted in
+    let e = c.in_err-len.field-0.0 in
+    passed_on _ e _ c.from_residual-in_err-len.ensures.1
+    (entries_tested index l a.stored.now.bytes.now a.stored.now.len c.requires.served enough numbers told (length numbers / 2) e (omega (arith, counted))
+    (inr (rw (len, plan.index.size, plan.grid) at c.in_err-len.ensures.refused)))
+
+pub returns-in_err-new_index-clause-tested : goal.returns-in_err-new_index-clause-tested
+returns-in_err-new_index-clause-tested g c = λ fill order.
+    let a = c.args in
+    let sub = a._subchunk_shape.now in
+    let location = a.index_codec.now.location in
+    let index : Meaning = index_meaning g.X.ArrayToBytesCodecTraits.meaning a.index_codec.now.codec.now (grid_of a._shape.now sub) in
+    let l : Layout = record { shape = a._shape.now; sub = sub; fill = fill; location = location; index_size = fixed_size index.representation; order = order } in
+    let plan = c.requires.plan in
+    let numbers = c.in_ok-old_index.old_index.numbers.items in
+    let len : c.in_ok-old_index.old_index.len ≡ a.stored.now.len = c.in_ok-old_index.ensures.len in
+    let told = rw (plan.index.size, plan.grid) at c.in_ok-old_index.ensures.numbers in
+    let sized : a.plan.now.index.size ≡ l.index_size = rw plan.grid at plan.index.size in
+    let enough : l.index_size ≤ a.stored.now.len = omega (arith, c.in_ok-old_index.ensures.enough, sized) in
+    let counted : length numbers ≡ 2 * count_of (grid_of l.shape l.sub) = rw plan.grid at c.in_ok-old_index.ensures.counted in
+    let many : length numbers / 2 ≡ count_of (grid_of l.shape l.sub) = omega (arith, counted) in
+    let good : (k : ℕ) → k < count_of (grid_of l.shape l.sub) → IsGood (slot_at a.stored.now.len numbers k) = rw (len, many) at c.in_ok-len.ensures.good in
+    let total : c.in_ok-len.len ≡ compact_size l (slot_at a.stored.now.len numbers) = rw (len, many, plan.index.size, plan.grid) at c.in_ok-len.ensures.size in
+    let e = c.in_err-new_index.field-0.0 in
+    passed_on _ e _ c.from_residual-in_err-new_index.ensures.1
+    (written_tested index l a.stored.now.bytes.now a.stored.now.len c.requires.served enough numbers told e good
+    (omega (arith, total, c.in_ok-len.ensures.small)) (λ as_long. c.if-len-stored.false (total ∙ as_long))
+    (rw plan.grid at c.in_err-new_index.ensures.refused))
