@@ -20,6 +20,7 @@ pub struct Stored {
 }
 
 /// An object that nobody wrote as a shard, and the answers that are owed to whoever takes it for one.
+#[derive(Drop)]
 pub struct HostileObject {
     pub name: &'static str,
     /// Whether the index is at the start.
@@ -45,8 +46,7 @@ const BAD_1: CodecError = CodecError::BadIndexEntry { number: 1 };
 
 const SECOND_BAD: [Wanted; 2] = [Ok(&[5, 6]), Err(BAD_1)];
 
-/// The objects.
-pub const HOSTILE_OBJECTS: [HostileObject; 8] = [
+const HOSTILE_OBJECTS: [HostileObject; 8] = [
     HostileObject {
         name: "the second entry is half absent",
         at_start: false,
@@ -170,6 +170,11 @@ pub const HOSTILE_OBJECTS: [HostileObject; 8] = [
         compacted: Err(BAD_0),
     },
 ];
+
+/// The objects. The table itself is private: a test that names it is proved over each of its values, and one that calls this is not.
+pub fn hostile_objects() -> [HostileObject; 8] {
+    HOSTILE_OBJECTS
+}
 
 /// An object of these slices, and of an index of these numbers before or after them.
 pub fn object_of(
