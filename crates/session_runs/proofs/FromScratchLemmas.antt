@@ -136,7 +136,7 @@ module _ (inner index : Meaning) (sub : List ℕ) (location : ShardingIndexLocat
 
   placed_standing : (bytes : Bytes) (e : Elements) (t : Slot) → StandsAt inner.written s.layout bytes e t → IsInDataPart location (fixed_size index.representation) (length bytes) t
   placed_standing bytes e Absent h = tt
-  placed_standing bytes e (InRange offset n) h = (h.2, h.3)
+  placed_standing bytes e (InRange offset n) h = h.2
   placed_standing bytes e Bad h = absurd h
 
   sound_mirrored : (o : Option Bytes) (m : CellMap) → Mirror o m → IsSound s o

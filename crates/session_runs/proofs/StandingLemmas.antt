@@ -76,7 +76,7 @@ module _ (inner index : Meaning) (sub : List ℕ) (location : ShardingIndexLocat
   kept_standing : (old new : Bytes) (e : Elements) (t : Slot) → slice_of new t ≡ slice_of old t → IsInDataPart location size (length new) t
       → StandsAt inner.written s.layout old e t → StandsAt inner.written s.layout new e t
   kept_standing old new e Absent same placed h = h
-  kept_standing old new e (InRange offset n) same placed h = (h.0, subst (inner.written e) (sym same) h.1, placed.0, placed.1)
+  kept_standing old new e (InRange offset n) same placed h = (h.0, subst (inner.written e) (sym same) h.1, placed)
   kept_standing old new e Bad same placed h = absurd h
 
   pub mirrors_left : (m m' : CellMap) (o o' : Option Bytes) → AreLeft m o m' o' → Mirrors o m → Mirrors o' m'

@@ -38,7 +38,7 @@ stands_moved : (inner_written : List (List ℕ) → List ℕ → Type 0) (sub : 
     → StandsAt inner_written (layout_of sub location C size g) new e t
 stands_moved inner_written sub location order size g old new e Absent t write_offset moved appended inside h = rw moved h
 stands_moved inner_written sub location order size g old new e (InRange offset n) t write_offset moved appended inside h =
-    rw moved.0 (h.0, subst (inner_written e) (sym moved.1) h.1, appended, inside)
+    rw moved.0 (h.0, subst (inner_written e) (sym moved.1) h.1, (appended, inside))
 stands_moved inner_written sub location order size g old new e Bad t write_offset moved appended inside h = absurd h
 
 begins_moved : (old new : List ℕ) (s t : Slot) (write_offset : ℕ) → IsMoved old s write_offset new t → BeginsAt write_offset t

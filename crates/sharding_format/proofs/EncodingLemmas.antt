@@ -78,7 +78,7 @@ pub stands_shifted : (inner_written : List (List ℕ) → List ℕ → Type 0) (
     → StandsAt inner_written l all e (shifted (data_start l.location l.index_size) s)
 stands_shifted inner_written l e index bytes all Absent w h = h
 stands_shifted inner_written l e index bytes all (InRange offset size) w h =
-    (h.0, rw (w.slice offset size h.2) h.1, omega arith, omega (arith, h.2, w.inside))
+    (h.0, rw (w.slice offset size h.2) h.1, (omega arith, omega (arith, h.2, w.inside)))
 stands_shifted inner_written l e index bytes all Bad w h = absurd h
 
 apart_shifted : (start p q : ℕ) (s t : Slot) → BeginsAt p s → BeginsAt q t → p + slot_size s ≤ q → AreApart (shifted start s) (shifted start t)

@@ -161,7 +161,7 @@ size_of_standing : (inner_written : Written) (sub_g : ArraySpec) (l : Layout) (b
     → IsArrayOf sub_g e → StandsAt inner_written l b e s → slot_size s ≤ m
 size_of_standing inner_written sub_g l b e Absent m law array h = omega arith
 size_of_standing inner_written sub_g l b e (InRange offset size) m law array h =
-    let inside : offset + size ≤ length b = inside_data l.location l.index_size (length b) (offset + size) h.3 in
+    let inside : offset + size ≤ length b = inside_data l.location l.index_size (length b) (offset + size) h.2.1 in
     omega (arith, law e (take size (drop offset b)) array h.1, length-take size (drop offset b), length-drop offset b)
 size_of_standing inner_written sub_g l b e Bad m law array h = absurd h
 

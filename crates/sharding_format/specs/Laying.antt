@@ -4,7 +4,7 @@ use Rattle.std.specs.List.{All, range_with_len}
 use Rattle.parts_errors.specs.Words.{Written}
 use Rattle.parts_subsets.specs.Grid.{subchunk}
 use Rattle.sharding_format.specs.Index.{absent_number, element_of_number}
-use Rattle.sharding_format.specs.Encoding.{IsAllFill, IsStoredAt, stored_size, BeginsAt}
+use Rattle.sharding_format.specs.Encoding.{IsAllFill, IsStored, IsStoredAt, stored_size, BeginsAt}
 use Rattle.sharding_format.specs.declared.slot.Slot.{Slot}
 use Rattle.sharding_format.specs.declared.slot.Slot.TheVariants.{Absent, InRange, Bad}
 use Rattle.sharding_format.specs.declared.location.ShardingIndexLocation.{ShardingIndexLocation}

@@ -176,7 +176,7 @@ part_of_standing : (inner_written : Written) (inner_encoding : List (List ℕ) �
     → slot_size s ≡ length (part_of inner_encoding l.fill e)
 part_of_standing inner_written inner_encoding l b e Absent law h = rw ((all_fill_tells l.fill e).1 h) refl
 part_of_standing inner_written inner_encoding l b e (InRange offset size) law h =
-    let inside = inside_data l.location l.index_size (length b) (offset + size) h.3 in
+    let inside = inside_data l.location l.index_size (length b) (offset + size) h.2.1 in
     rw (some_not_fill l.fill e h.0) (omega (
       arith,
       inside,
@@ -196,7 +196,7 @@ slice_of_standing : (inner_written : Written) (inner_encoding : List (List ℕ) 
 slice_of_standing inner_written inner_encoding l b e Absent write_offset law h begins = rw ((all_fill_tells l.fill e).1 h) refl
 slice_of_standing inner_written inner_encoding l b e (InRange offset size) write_offset law h begins =
     rw (some_not_fill l.fill e h.0)
-    (slice_of_data l.location l.index_size b write_offset size (omega (arith, h.3, begins))
+    (slice_of_data l.location l.index_size b write_offset size (omega (arith, h.2.1, begins))
     ∙ ap (λ m. take size (drop m b)) (sym begins) ∙ law (take size (drop offset b)) h.1)
 slice_of_standing inner_written inner_encoding l b e Bad write_offset law h begins = absurd h
 

@@ -40,7 +40,7 @@ module _ (inner : Meaning) (l : Layout) (sub_g : ArraySpec) (subset : Subset) (u
 
   stands_there : (el : Elements) (s : Slot) → IsStoredIn inner.written l.fill el slices s → StandsAt inner.written l new el (shifted write_offset s)
   stands_there el Absent h = h
-  stands_there el (InRange o n) h = (h.0, rw (put.slice o n h.2) h.1, omega (arith, put.after_start), omega (arith, h.2, put.before_end))
+  stands_there el (InRange o n) h = (h.0, rw (put.slice o n h.2) h.1, (omega (arith, put.after_start), omega (arith, h.2, put.before_end)))
   stands_there el Bad h = absurd h
 
   taken_there : (n : ℕ) → n ≤ length touched → touched_size (length new) new_numbers touched n ≡ taken slots n
