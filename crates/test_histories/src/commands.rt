@@ -16,6 +16,7 @@ type Object = Option<(&'static [u8], &'static [u64])>;
 
 // A run on a shard of so many bytes in subchunks of two: the object before, the commands and their replies, the object after,
 // and why it stops.
+#[derive(Drop)]
 struct Row {
     cells: u64,
     before: Object,
@@ -106,6 +107,10 @@ const ROWS: [Row; 6] = [
     },
 ];
 
+fn rows() -> [Row; 6] {
+    ROWS
+}
+
 fn object_of(alloc: Global, object: &Object) -> Result<Option<Vec<u8>>, CodecError> {
     let Some((data, numbers)) = object else {
         return Ok(None);
@@ -149,7 +154,7 @@ fn wanted(alloc: Global, row: &Row) -> Result<Found, CodecError> {
 
 #[test]
 fn runs_reply_and_leave_the_object_as_they_say(rt: HostRuntime) {
-    for row in ROWS.iter() {
+    for row in rows().iter() {
         same(&rt, found(rt.alloc(), row), wanted(rt.alloc(), row));
     }
 }

@@ -53,6 +53,11 @@ const COMPACT: Object = Some((
 // The object after n replies.
 const OBJECTS: [Object; 7] = [BEFORE, WRITTEN, WRITTEN, COMPACT, COMPACT, COMPACT, None];
 
+// The answers, and the object after each number of them.
+fn wanted() -> ([Answer; 6], [Object; 7]) {
+    (ANSWERS, OBJECTS)
+}
+
 type Plain = Shards<BytesCodec, BytesCodec>;
 
 // A run of the first orders over the object, of whose handle the call with this number fails.
@@ -137,7 +142,8 @@ fn stage(
         stop,
     } = ran(alloc, shards, orders, fails_at)?;
     let count = replies.len();
-    let (Some(answers), Some(object)) = (ANSWERS.get(..count), OBJECTS.get(count)) else {
+    let (answers, objects) = wanted();
+    let (Some(answers), Some(object)) = (answers.get(..count), objects.get(count)) else {
         return Err(CodecError::InvalidNumberOfElements);
     };
     if !say(&replies, answers) || !is_left(alloc, shards, handle.into_inner(), object)? {

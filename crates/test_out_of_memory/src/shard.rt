@@ -1,5 +1,5 @@
 // A shard that is worked by hand, as the calls of the library take it.
-use crate::worked::{END, NESTED, Part, START, Worked};
+use crate::worked::{self, Part, Worked};
 use std::alloc::Global;
 use zarr_codecs::{ArrayToBytesCodecTraits, BytesCodec};
 use zarr_parts::{ArraySubset, ChunkShape, CodecError, Coordinates, FillValue};
@@ -142,18 +142,18 @@ impl<I: ArrayToBytesCodecTraits + Drop> Shard<I> {
 pub(crate) fn index_at_start(alloc: Global) -> Result<Shard<BytesCodec>, CodecError> {
     let codec = plain(alloc, &[2, 2], ShardingIndexLocation::Start)?;
     let other = plain(alloc, &[4, 2], ShardingIndexLocation::End)?;
-    Shard::new(alloc, START, codec, other, 255)
+    Shard::new(alloc, worked::start(), codec, other, 255)
 }
 
 pub(crate) fn index_at_end(alloc: Global) -> Result<Shard<BytesCodec>, CodecError> {
     let codec = plain(alloc, &[2], ShardingIndexLocation::End)?;
     let other = plain(alloc, &[4], ShardingIndexLocation::End)?;
-    Shard::new(alloc, END, codec, other, 0)
+    Shard::new(alloc, worked::end(), codec, other, 0)
 }
 
 pub(crate) fn shards_of_shards(alloc: Global) -> Result<Shard<Plain>, CodecError> {
     let inner = plain(alloc, &[1], ShardingIndexLocation::End)?;
     let codec = codec_of(alloc, &[2], inner, ShardingIndexLocation::End)?;
     let other = plain(alloc, &[2], ShardingIndexLocation::End)?;
-    Shard::new(alloc, NESTED, codec, other, 0)
+    Shard::new(alloc, worked::nested(), codec, other, 0)
 }

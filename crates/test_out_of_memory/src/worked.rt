@@ -91,7 +91,7 @@ pub(crate) struct Worked {
 }
 
 // 4 by 4 elements in subchunks of 2 by 2, with the fill value 255 and the index at the start. The write straddles two subchunks.
-pub(crate) const START: Worked = Worked {
+const START: Worked = Worked {
     shape: &[4, 4],
     whole: &[0..4, 0..4],
     elements: &[0, 1, 2, 3, 4, 5, 6, 7, 8, 9, 10, 11, 12, 13, 14, 15],
@@ -124,6 +124,10 @@ pub(crate) const START: Worked = Worked {
     ],
 };
 
+pub(crate) fn start() -> Worked {
+    START
+}
+
 const START_WRITTEN: [Part; 3] = [
     Index(&[80, 4, 84, 4, 72, 4, 76, 4]),
     Bytes(&[0, 1, 4, 5, 2, 3, 6, 7, 8, 9, 12, 13, 10, 11, 14, 15]),
@@ -137,7 +141,7 @@ const START_COMPACT: [Part; 2] = [
 
 // 8 elements in subchunks of 2, with the fill value 0 and the index at the end. The writes leave two subchunks without an element
 // to store, store one of these again, and straddle two.
-pub(crate) const END: Worked = Worked {
+const END: Worked = Worked {
     shape: &[8],
     whole: &[0..8],
     elements: &[1, 2, 3, 4, 5, 6, 7, 8],
@@ -190,8 +194,12 @@ pub(crate) const END: Worked = Worked {
     resharded: &[Bytes(&[1, 2, 3, 4, 5, 6, 7, 8]), Index(&[0, 4, 4, 4])],
 };
 
+pub(crate) fn end() -> Worked {
+    END
+}
+
 // 4 elements in subchunks of 2 that are shards with subchunks of 1. The first write makes the object anew.
-pub(crate) const NESTED: Worked = Worked {
+const NESTED: Worked = Worked {
     shape: &[4],
     whole: &[0..4],
     elements: &[1, 0, 0, 0],
@@ -239,6 +247,10 @@ pub(crate) const NESTED: Worked = Worked {
     first_compact: &NESTED_FIRST,
     resharded: &[Bytes(&[1, 0]), Index(&[0, 2, ABSENT, ABSENT])],
 };
+
+pub(crate) fn nested() -> Worked {
+    NESTED
+}
 
 const NESTED_FIRST: [Part; 5] = [
     Bytes(&[1, 5]),

@@ -9,6 +9,7 @@ use zarrs_sharding::NoGate;
 const ABSENT: u64 = u64::MAX;
 
 // An array of which each element is a subchunk, unless it is 255; the slices of its shard, and where each subchunk's is.
+#[derive(Drop)]
 struct Row {
     axes: &'static [u64],
     elements: &'static [u8],
@@ -49,6 +50,10 @@ const ROWS: [Row; 4] = [
     },
 ];
 
+fn rows() -> [Row; 4] {
+    ROWS
+}
+
 const ONES: [u64; 3] = [1; 3];
 
 fn shards_of(alloc: Global, row: &Row) -> Result<Shards, CodecError> {
@@ -80,7 +85,7 @@ fn shard_of(alloc: Global, row: &Row) -> Result<Vec<u8>, CodecError> {
 
 #[test]
 fn slices_lie_along_the_curve_whoever_was_first(rt: HostRuntime) {
-    for row in ROWS.iter() {
+    for row in rows().iter() {
         for target in [1, 2, 4] {
             let found = encoded(&rt, rt.alloc(), row, target);
             same_at(&rt, (row.axes, target), found, shard_of(rt.alloc(), row));
@@ -100,7 +105,7 @@ fn decoded<R: Threads + Sync>(
 
 #[test]
 fn slices_along_the_curve_are_decoded(rt: HostRuntime) {
-    for row in ROWS.iter() {
+    for row in rows().iter() {
         for target in [1, 2, 4] {
             let found = decoded(&rt, rt.alloc(), row, target);
             same_at(&rt, (row.axes, target), said(&found), Ok(row.elements));
