@@ -1,11 +1,12 @@
 -- Numbers of eight bytes each, laid end to end.
-use Rattle.std.proofs.Common.{◌≡◌, ℕ, ◌/◌, ◌<◌, List, [], ◌∷◌, ◌++◌, length, map, drop, refl, ap, ◌∙◌}
+use Rattle.std.proofs.Common.{◌≡◌, ℕ, ◌*◌, ◌/◌, ◌<◌, List, [], ◌∷◌, ◌++◌, length, map, drop, refl, sym, ap, ◌∙◌, arith}
 use Rattle.std.specs.List.{All, concat, flat_map}
 use Rattle.std.specs.Simd.{first_chunks}
 use Rattle.std.proofs.lemmas.List.{take_at, drop_at}
 use Rattle.std.proofs.lemmas.List.Elements.{All-map, All-head, All-rest, All-from_get_or}
 use Rattle.std.proofs.Math.Nat.{div-eq_of_eq-mul_left}
-use Rattle.parts_row_major.proofs.PieceLaws.{length-concat}
+use Rattle.parts_row_major.specs.Pieces.{pieces}
+use Rattle.parts_row_major.proofs.PieceLaws.{length-concat, concat-pieces, All-pieces}
 use Rattle.sharding_format.specs.Index.{element_of_number}
 
 -- lists of one length, laid end to end and cut again
@@ -21,6 +22,11 @@ pub chunks_of : (n : ℕ) (xs : List (List ℕ)) (bytes : List ℕ) → 0 < n �
 chunks_of n xs bytes some h is =
     let many : length bytes / n ≡ length xs = div-eq_of_eq-mul_left some (ap length is ∙ length-concat n xs h) in
     ap (λ k. first_chunks n k bytes) many ∙ (ap (first_chunks n (length xs)) is ∙ cut_again n xs h)
+
+-- where pieces fill the bytes, the chunks are the pieces
+pub chunks_as_pieces : (n many : ℕ) (bytes : List ℕ) → 0 < n → length bytes ≡ many * n → first_chunks n (length bytes / n) bytes ≡ pieces n many bytes
+chunks_as_pieces n many bytes some whole =
+    chunks_of n (pieces n many bytes) bytes some (All-pieces n many bytes (omega arith)) (sym (concat-pieces n many bytes whole))
 
 -- each number has eight bytes
 pub numbers_sized : (numbers : List ℕ) → All (λ e. length e ≡ 8) (map element_of_number numbers)

@@ -4,7 +4,8 @@ ghost use Rattle.parts_errors.specs.Order.{done, RefusedBy};
 ghost use Rattle.parts_row_major.specs.Numbering.{count_of};
 ghost use Rattle.storage_handles.specs.Handles.{IsRead, IsCounted};
 ghost use Rattle.storage_handles.specs.Objects.{interval_part, HasInterval, ObjectRefusals};
-ghost use Rattle.sharding_format.specs.Index.{data_start, numbers_in_index, numbers_of_cells, element_of_number};
+ghost use Rattle.codec_traits.specs.Encodings.{IsPlain};
+ghost use Rattle.sharding_format.specs.Index.{data_start, index_spec, numbers_in_index, numbers_of_cells, element_of_number};
 ghost use Rattle.sharding_format.specs.Serves.{IndexServes, IndexCodecRefusals};
 ghost use Rattle.sharding_format.specs.DecodeRefusals.{RefusesStored, IndexRefusals};
 ghost use Rattle.sharding_format.specs.EncodeRefusals.{RefusesIndex};
@@ -14,6 +15,7 @@ ghost use Rattle.sharding_index.specs.Indexes.{index_meaning, IsIndexPlan};
 
 use crate::numbers::{array_of_chunks, chunks_of_numbers, numbers_of_array, numbers_of_slots};
 use crate::offsets::{index_bytes, start_of_data, start_of_index};
+use crate::pieces::{PIECE, read_numbers};
 use codec_traits::{ArrayToBytesCodecTraits, BytesRepresentation};
 use parts_arrays::{DataType, FillValue};
 use parts_errors::{CodecError, CodecOptions};
@@ -117,6 +119,82 @@ impl<X: ArrayToBytesCodecTraits> IndexCodec<'_, X> {
         Ok(ShardIndex { len, numbers })
     }
 
+    // Whether the index codec stores the numbers of the index as they are, one after the other.
+    fn is_plain(&self, plan: &IndexPlan) -> bool
+        requires { IsIndexPlan (index_meaning X.meaning self.now.codec.now) plan.now }
+        ensures { IsTrue result → IsPlain (index_spec plan.now.grid) (index_meaning X.meaning self.now.codec.now plan.now.grid) plan.now.size }
+    {
+        let data_type = DataType::UInt64;
+        match self.codec.plain_size(&plan.shape, &data_type, &plan.fill) {
+            Some(size) => size == plan.size,
+            None => false,
+        }
+    }
+
+    // The numbers of the index that is an interval of an object, whose bytes are read at once and decoded.
+    fn read_at_once<H: BytesPartialDecoderTraits>(
+        &self,
+        alloc: Global,
+        handle: &mut H,
+        interval: Interval,
+        plan: &IndexPlan,
+        options: &CodecOptions,
+    ) -> Result<Vec<u64>, CodecError>
+        requires plan { IsIndexPlan (index_meaning X.meaning self.now.codec.now) plan.now }
+        requires inside { IsTrue (H.state handle.old).transparent → HasInterval interval (H.state handle.old).contents }
+        ensures read { IsRead (H.state handle.old) (H.state handle.new) }
+        ensures counted { IfOk result (λ numbers. length numbers.items ≡ 2 * count_of plan.now.grid) }
+        ensures numbers { let index = index_meaning X.meaning self.now.codec.now plan.now.grid in
+            IfOk result (λ numbers. IsTrue (H.state handle.old).transparent
+            → numbers_of_cells (index.cells (interval_part interval (H.state handle.old).contents)) ≡ Some numbers.items) }
+        ensures fault { IfErr result (IsCounted (H.state handle.old) (H.state handle.new)) }
+        ensures refused { let index = index_meaning X.meaning self.now.codec.now plan.now.grid in
+            let part = interval_part interval (H.state handle.old).contents in
+            IfErr result (RefusedBy (ObjectRefusals (H.state handle.old) (H.state handle.new) (
+            RefusesStored (index.decode_refusals part) (index.cells part)))) }
+    {
+        let range = ByteRange::FromStart(interval.offset, Some(interval.size));
+        let mut room = Vec::new(alloc);
+        let Some(part) = read_range(handle, &mut room, alloc, range)? else {
+            return Err(CodecError::OutOfBounds);
+        };
+        let numbers = self.decode_part(alloc, part, plan, options)?;
+        Ok(numbers)
+    }
+
+    // The numbers of the index that is an interval of an object. A long index of numbers that are stored as they are is read in
+    // pieces, so that its bytes are not in memory beside its numbers.
+    fn read_interval<H: BytesPartialDecoderTraits>(
+        &self,
+        alloc: Global,
+        handle: &mut H,
+        interval: Interval,
+        plan: &IndexPlan,
+        options: &CodecOptions,
+    ) -> Result<Vec<u64>, CodecError>
+        requires plan { IsIndexPlan (index_meaning X.meaning self.now.codec.now) plan.now }
+        requires size { interval.size ≡ plan.now.size }
+        requires room { interval.offset + interval.size < 2 ^ 64 }
+        requires inside { IsTrue (H.state handle.old).transparent → HasInterval interval (H.state handle.old).contents }
+        ensures read { IsRead (H.state handle.old) (H.state handle.new) }
+        ensures counted { IfOk result (λ numbers. length numbers.items ≡ 2 * count_of plan.now.grid) }
+        ensures numbers { let index = index_meaning X.meaning self.now.codec.now plan.now.grid in
+            IfOk result (λ numbers. IsTrue (H.state handle.old).transparent
+            → numbers_of_cells (index.cells (interval_part interval (H.state handle.old).contents)) ≡ Some numbers.items) }
+        ensures fault { IfErr result (IsCounted (H.state handle.old) (H.state handle.new)) }
+        ensures refused { let index = index_meaning X.meaning self.now.codec.now plan.now.grid in
+            let part = interval_part interval (H.state handle.old).contents in
+            IfErr result (RefusedBy (ObjectRefusals (H.state handle.old) (H.state handle.new) (
+            RefusesStored (index.decode_refusals part) (index.cells part)))) }
+    {
+        if interval.size > 8 * PIECE && self.is_plain(plan) {
+            let numbers = read_numbers(alloc, handle, interval)?;
+            return Ok(numbers);
+        }
+        let numbers = self.read_at_once(alloc, handle, interval, plan, options)?;
+        Ok(numbers)
+    }
+
     /// The index of a shard that stands in an interval of an object. Refused, in this order, as `ShardTooShort` and as
     /// `Damaged` where the index does not decode; or as `Fault`, where the handle failed, or `OutOfMemory`.
     pub fn read<H: BytesPartialDecoderTraits>(
@@ -145,13 +223,11 @@ impl<X: ArrayToBytesCodecTraits> IndexCodec<'_, X> {
         if outer.size < plan.size {
             return Err(CodecError::ShardTooShort);
         }
-        let start = outer.offset + start_of_index(self.location, plan.size, outer.size);
-        let range = ByteRange::FromStart(start, Some(plan.size));
-        let mut room = Vec::new(alloc);
-        let Some(part) = read_range(handle, &mut room, alloc, range)? else {
-            return Err(CodecError::OutOfBounds);
+        let interval = Interval {
+            offset: outer.offset + start_of_index(self.location, plan.size, outer.size),
+            size: plan.size,
         };
-        let numbers = self.decode_part(alloc, part, plan, options)?;
+        let numbers = self.read_interval(alloc, handle, interval, plan, options)?;
         Ok(ShardIndex {
             len: outer.size,
             numbers,

@@ -6,6 +6,7 @@ mod entries;
 mod index;
 mod numbers;
 mod offsets;
+mod pieces;
 mod plan;
 mod stored_index;
 mod told;

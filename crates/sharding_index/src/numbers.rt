@@ -1,5 +1,5 @@
 // The numbers of an index: from the elements of an array and back, and from slots.
-ghost use Rattle.std.specs.Prelude.{◌≡◌, ◌<◌, ◌*◌, ◌/◌, ◌^◌, ℕ, IfOk, IfErr, map, length, slice_index_or};
+ghost use Rattle.std.specs.Prelude.{◌≡◌, ◌<◌, ◌*◌, ◌/◌, ◌^◌, ◌++◌, ℕ, IfOk, IfErr, OnOk, map, length, slice_index_or};
 ghost use Rattle.std.specs.List.{All};
 ghost use Rattle.std.specs.Simd.{first_chunks};
 ghost use Rattle.parts_arrays.specs.declared.data_type.DataTypeSize.TheVariants.{Fixed};
@@ -23,6 +23,18 @@ fn numbers_of_bytes(alloc: Global, bytes: &[u8]) -> Result<Vec<u64>, AllocError>
         .iter()
         .map(|chunk| u64::from_le_bytes(*chunk))
         .collect(alloc)
+}
+
+// Puts the numbers that bytes are, of eight bytes each, behind others.
+pub(crate) fn append_numbers(numbers: &mut Vec<u64>, bytes: &[u8]) -> Result<(), AllocError>
+    ensures { OnOk result (numbers.new.items
+        ≡ numbers.old.items ++ map number_of_element (first_chunks 8 (length bytes.now / 8) bytes.now)) }
+{
+    let (chunks, _) = bytes.as_chunks::<8>();
+    for chunk in chunks {
+        numbers.push(u64::from_le_bytes(*chunk))?;
+    }
+    Ok(())
 }
 
 // The numbers that an array's elements are.
