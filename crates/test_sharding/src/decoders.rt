@@ -63,6 +63,32 @@ fn coordinates_are_read(rt: HostRuntime) {
     same(&rt, said(&cells), Ok([15u8, 0, 7, 15, 1].as_slice()));
 }
 
+// The index of 8193 subchunks, all of them absent but the first and the last, of two bytes each.
+fn long_index(alloc: Global) -> Result<Vec<u64>, CodecError> {
+    let mut index = vec![in alloc; ABSENT; 16386]?;
+    index[0] = 0;
+    index[1] = 2;
+    index[16384] = 2;
+    index[16385] = 2;
+    Ok(index)
+}
+
+// The cells at coordinates of such a shard.
+fn read_sparse(alloc: Global, flat: &[u64]) -> Result<Vec<u8>, CodecError> {
+    let codec = plain(alloc, &[2], ShardingIndexLocation::End)?;
+    let object = shard_of(alloc, &[5, 6, 7, 8], &long_index(alloc)?)?;
+    let requested = listed(alloc, 1, flat)?;
+    let handle = MemoryHandle::new(Some(object));
+    read(alloc, &codec, handle, &[16386], &requested)
+}
+
+// An index that is read in several pieces is that of the whole shard.
+#[test]
+fn a_long_index_is_read(rt: HostRuntime) {
+    let cells = read_sparse(rt.alloc(), &[1, 8192, 16385]);
+    same(&rt, said(&cells), Ok([6u8, 0, 8].as_slice()));
+}
+
 // Reads two of sixteen cells into a target.
 fn read_two(alloc: Global, stored: &Sixteen, target: &mut FixedTarget) -> Result<(), CodecError> {
     let requested = subset_of(alloc, &[1..3, 0..1])?;
