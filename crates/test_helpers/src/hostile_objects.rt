@@ -172,7 +172,7 @@ const HOSTILE_OBJECTS: [HostileObject; 8] = [
 ];
 
 /// The objects. The table itself is private: a test that names it is proved over each of its values, and one that calls this is not.
-pub fn hostile_objects() -> [HostileObject; 8] {
+pub fn hostile_table() -> [HostileObject; 8] {
     HOSTILE_OBJECTS
 }
 

@@ -6,7 +6,7 @@ mod inverted;
 mod marked;
 mod unbounded;
 
-pub use hostile_objects::{ABSENT, HostileObject, Stored, Wanted, hostile_objects, object_of};
+pub use hostile_objects::{ABSENT, HostileObject, Stored, Wanted, hostile_table, object_of};
 pub use inverted::InvertedCodec;
 pub use marked::MarkedCodec;
 pub use unbounded::UnboundedCodec;

@@ -15,7 +15,7 @@ use std::alloc::Global;
 use std::marker::Brand;
 use std::sync::Wait;
 use std::test::Fail;
-use test_helpers::{HostileObject, Wanted, hostile_objects};
+use test_helpers::{HostileObject, Wanted, hostile_table};
 use zarr_codecs::{ArrayToBytesCodecTraits, BytesCodec, FaultingHandle, MemoryHandle};
 use zarr_parts::CodecError;
 use zarrs_sharding::{ShardingCodec, ShardingIndexLocation};
@@ -64,7 +64,7 @@ fn left(alloc: Global, hostile: &HostileObject) -> Result<Vec<u8>, CodecError> {
 
 #[test]
 fn they_are_recorded_or_given_back(rt: HostRuntime) -> Result<(), Fail> {
-    for hostile in hostile_objects().iter() {
+    for hostile in hostile_table().iter() {
         let shards = shards_for(rt.alloc(), hostile)?;
         let object = hostile.object(rt.alloc())?;
         let end = recorded_over::<_, _, Brand, _>(&rt, rt.alloc(), &shards, object);
@@ -125,7 +125,7 @@ fn left_compact(alloc: Global, hostile: &HostileObject) -> Result<Vec<u8>, Codec
 
 #[test]
 fn they_are_run_over_or_given_back(rt: HostRuntime) -> Result<(), Fail> {
-    for hostile in hostile_objects().iter() {
+    for hostile in hostile_table().iter() {
         let end = ran(rt.alloc(), hostile)?;
         same_at(&rt, hostile.name, end.stop, hostile.unopened);
         same_at(&rt, hostile.name, are_wanted(&end.replies, hostile), true);
@@ -165,7 +165,7 @@ fn damaged(wanted: Wanted) -> Option<CodecError> {
 
 #[test]
 fn shards_that_have_them_are_recorded_or_given_back(rt: HostRuntime) -> Result<(), Fail> {
-    for hostile in hostile_objects().iter() {
+    for hostile in hostile_table().iter() {
         let shards = nested_for(rt.alloc(), hostile)?;
         let object = put_into(rt.alloc(), hostile)?;
         let end = recorded_over::<_, _, Brand, _>(&rt, rt.alloc(), &shards, object);
@@ -196,7 +196,7 @@ fn inner_reply_of(wanted: Wanted) -> Answer {
 
 #[test]
 fn shards_that_have_them_are_run_over(rt: HostRuntime) -> Result<(), Fail> {
-    for hostile in hostile_objects().iter() {
+    for hostile in hostile_table().iter() {
         let end = ran_nested(rt.alloc(), hostile)?;
         let [first, second] = hostile.halves;
         let answers = [inner_reply_of(first), inner_reply_of(second), Done];

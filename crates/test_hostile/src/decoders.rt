@@ -4,7 +4,7 @@ use crate::shards::{Answer, Case, case_of, listed, over, said, subset_of};
 use std::alloc::Global;
 use std::ops::Range;
 use std::test::Fail;
-use test_helpers::{HostileObject, hostile_objects};
+use test_helpers::{HostileObject, hostile_table};
 use zarr_codecs::ByteRange;
 use zarr_parts::{CodecError, CodecOptions, FixedTarget};
 
@@ -18,7 +18,7 @@ fn read(alloc: Global, case: &Case, range: &Range<u64>) -> Answer {
 
 #[test]
 fn subsets_are_read(rt: HostRuntime) -> Result<(), Fail> {
-    for hostile in hostile_objects().iter() {
+    for hostile in hostile_table().iter() {
         let case = case_of(rt.alloc(), hostile)?;
         for (range, want) in HALVES.iter().zip(hostile.halves.iter()) {
             let found = read(rt.alloc(), &case, range);
@@ -35,7 +35,7 @@ fn read_listed(alloc: Global, case: &Case) -> Answer {
 
 #[test]
 fn listed_elements_are_read(rt: HostRuntime) -> Result<(), Fail> {
-    for hostile in hostile_objects().iter() {
+    for hostile in hostile_table().iter() {
         let case = case_of(rt.alloc(), hostile)?;
         let found = read_listed(rt.alloc(), &case);
         same_at(&rt, hostile.name, said(&found), hostile.listed);
@@ -68,7 +68,7 @@ fn read_over(
 
 #[test]
 fn subsets_are_read_into_a_target(rt: HostRuntime) -> Result<(), Fail> {
-    for hostile in hostile_objects().iter() {
+    for hostile in hostile_table().iter() {
         let case = case_of(rt.alloc(), hostile)?;
         for (range, want) in HALVES.iter().zip(hostile.halves.iter()) {
             let mut bytes = [77; 2];
@@ -110,7 +110,7 @@ fn wanted_range(hostile: &HostileObject, subchunk: u64) -> Result<Option<ByteRan
 
 #[test]
 fn subchunks_have_byte_ranges(rt: HostRuntime) -> Result<(), Fail> {
-    for hostile in hostile_objects().iter() {
+    for hostile in hostile_table().iter() {
         let case = case_of(rt.alloc(), hostile)?;
         for subchunk in [0, 1] {
             let found = range_of(rt.alloc(), &case, subchunk);
@@ -136,7 +136,7 @@ fn slice_of(alloc: Global, case: &Case, subchunk: u64) -> Answer {
 
 #[test]
 fn subchunks_are_retrieved(rt: HostRuntime) -> Result<(), Fail> {
-    for hostile in hostile_objects().iter() {
+    for hostile in hostile_table().iter() {
         let case = case_of(rt.alloc(), hostile)?;
         for (subchunk, want) in (0..2u64).zip(hostile.slices.iter()) {
             let found = slice_of(rt.alloc(), &case, subchunk);

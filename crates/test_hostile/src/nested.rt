@@ -7,7 +7,7 @@ use std::alloc::Global;
 use std::process::Abort;
 use std::test::Fail;
 use std::thread::Threads;
-use test_helpers::{ABSENT, HostileObject, Wanted, hostile_objects, object_of};
+use test_helpers::{ABSENT, HostileObject, Wanted, hostile_table, object_of};
 use zarr_codecs::{ArrayToBytesCodecTraits, BytesCodec};
 use zarr_parts::{CodecError, CodecOptions};
 use zarrs_sharding::ShardingCodec;
@@ -140,7 +140,7 @@ fn is_answered<R: Abort + Threads + Sync, I: ArrayToBytesCodecTraits + Drop + Sy
 
 #[test]
 fn one_shard_has_them(rt: HostRuntime) -> Result<(), Fail> {
-    for hostile in hostile_objects().iter() {
+    for hostile in hostile_table().iter() {
         let shards = in_one(rt.alloc(), hostile.at_start)?;
         let object = put_deep(rt.alloc(), hostile, 1)?;
         is_answered(&rt, rt.alloc(), hostile, &shards, &object);
@@ -150,7 +150,7 @@ fn one_shard_has_them(rt: HostRuntime) -> Result<(), Fail> {
 
 #[test]
 fn shards_in_shards_have_them(rt: HostRuntime) -> Result<(), Fail> {
-    for hostile in hostile_objects().iter() {
+    for hostile in hostile_table().iter() {
         let shards = in_three(rt.alloc(), hostile.at_start)?;
         let object = put_deep(rt.alloc(), hostile, 3)?;
         is_answered(&rt, rt.alloc(), hostile, &shards, &object);

@@ -3,7 +3,7 @@ use crate::compared::{same, same_at};
 use crate::shards::{Answer, Case, Plain, Shards, around, case_of, elements_of, said};
 use std::alloc::Global;
 use std::test::Fail;
-use test_helpers::{HostileObject, hostile_objects, object_of};
+use test_helpers::{HostileObject, hostile_table, object_of};
 use zarr_codecs::BytesCodec;
 use zarr_parts::{ChunkShape, CodecError, DataType, FillValue};
 use zarrs_sharding::ShardingIndexLocation::{End, Start};
@@ -38,7 +38,7 @@ fn one_subchunk(alloc: Global, hostile: &HostileObject) -> Answer {
 // Bytes that the old codec refuses are refused as it refuses to decode them, after the tests of the new codec.
 #[test]
 fn they_are_resharded(rt: HostRuntime) {
-    for hostile in hostile_objects().iter() {
+    for hostile in hostile_table().iter() {
         let found = resharded_to(rt.alloc(), hostile, 4);
         same_at(&rt, hostile.name, found, one_subchunk(rt.alloc(), hostile));
         let unserved = resharded_to(rt.alloc(), hostile, 3);

@@ -7,7 +7,7 @@ use std::alloc::Global;
 use std::ops::Range;
 use std::sync::Wait;
 use std::test::Fail;
-use test_helpers::{ABSENT, HostileObject, Stored, Wanted, hostile_objects};
+use test_helpers::{ABSENT, HostileObject, Stored, Wanted, hostile_table};
 use zarr_codecs::{BytesCodec, MemoryHandle};
 use zarr_parts::{ArrayBytes, CodecError, CodecOptions, DataType, Indexer};
 use zarrs_sharding::{ShardingIndexLocation, ShardingPartialEncoder};
@@ -25,7 +25,7 @@ fn opened(alloc: Global, case: Case) -> Opened {
 
 #[test]
 fn they_are_opened_or_given_back(rt: HostRuntime) -> Result<(), Fail> {
-    for hostile in hostile_objects().iter() {
+    for hostile in hostile_table().iter() {
         let found = opened(rt.alloc(), case_of(rt.alloc(), hostile)?);
         let object = hostile.object(rt.alloc())?;
         same_at(&rt, hostile.name, found, (hostile.unopened, Some(object)));
@@ -60,7 +60,7 @@ fn shared(alloc: Global, case: Case) -> Opened {
 
 #[test]
 fn they_are_shared_or_given_back(rt: HostRuntime) -> Result<(), Fail> {
-    for hostile in hostile_objects().iter() {
+    for hostile in hostile_table().iter() {
         let found = shared(rt.alloc(), case_of(rt.alloc(), hostile)?);
         let object = hostile.object(rt.alloc())?;
         same_at(&rt, hostile.name, found, (hostile.unopened, Some(object)));
@@ -99,7 +99,7 @@ fn wanted(hostile: &HostileObject, read: Wanted) -> Wanted {
 
 #[test]
 fn sessions_read_them(rt: HostRuntime) {
-    for hostile in hostile_objects().iter() {
+    for hostile in hostile_table().iter() {
         for (range, half) in [0..2, 2..4].iter().zip(hostile.halves.iter()) {
             let found = read_range(rt.alloc(), hostile, range);
             same_at(
@@ -139,7 +139,7 @@ fn read_shared<R: Wait>(
 
 #[test]
 fn shared_sessions_read_them(rt: HostRuntime) {
-    for hostile in hostile_objects().iter() {
+    for hostile in hostile_table().iter() {
         for (range, half) in [0..2, 2..4].iter().zip(hostile.halves.iter()) {
             let found = read_shared(&rt, rt.alloc(), hostile, range);
             same_at(

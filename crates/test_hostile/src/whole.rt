@@ -3,12 +3,12 @@ use crate::compared::same_at;
 use crate::shards::{Case, case_of, over, said, shape_of, subset_of};
 use std::alloc::Global;
 use std::test::Fail;
-use test_helpers::{HostileObject, hostile_objects};
+use test_helpers::{HostileObject, hostile_table};
 use zarr_parts::{CodecError, CodecOptions, FixedTarget};
 
 #[test]
 fn they_are_decoded(rt: HostRuntime) -> Result<(), Fail> {
-    for hostile in hostile_objects().iter() {
+    for hostile in hostile_table().iter() {
         let Case { object, shards } = case_of(rt.alloc(), hostile)?;
         let found = shards.decoded(rt.alloc(), &object);
         same_at(&rt, hostile.name, said(&found), hostile.elements);
@@ -18,7 +18,7 @@ fn they_are_decoded(rt: HostRuntime) -> Result<(), Fail> {
 
 #[test]
 fn they_are_decoded_by_workers(rt: HostRuntime) -> Result<(), Fail> {
-    for hostile in hostile_objects().iter() {
+    for hostile in hostile_table().iter() {
         let Case { object, shards } = case_of(rt.alloc(), hostile)?;
         for workers in [1, 2, 4] {
             let found = shards.decoded_by_workers(&rt, rt.alloc(), &object, workers);
@@ -38,7 +38,7 @@ fn decode_over(alloc: Global, case: &Case, bytes: &mut [u8]) -> Result<(), Codec
 // A refused decoding leaves the target as it was.
 #[test]
 fn they_are_decoded_into_a_target(rt: HostRuntime) -> Result<(), Fail> {
-    for hostile in hostile_objects().iter() {
+    for hostile in hostile_table().iter() {
         let case = case_of(rt.alloc(), hostile)?;
         let mut bytes = [77; 4];
         let answer = decode_over(rt.alloc(), &case, &mut bytes);
@@ -50,7 +50,7 @@ fn they_are_decoded_into_a_target(rt: HostRuntime) -> Result<(), Fail> {
 
 #[test]
 fn their_indices_are_read(rt: HostRuntime) -> Result<(), Fail> {
-    for hostile in hostile_objects().iter() {
+    for hostile in hostile_table().iter() {
         let found = index_of(rt.alloc(), hostile)?;
         same_at(
             &rt,
@@ -87,7 +87,7 @@ fn wanted(alloc: Global, hostile: &HostileObject) -> Compacted {
 
 #[test]
 fn they_are_compacted(rt: HostRuntime) {
-    for hostile in hostile_objects().iter() {
+    for hostile in hostile_table().iter() {
         let found = compacted(rt.alloc(), hostile);
         same_at(&rt, hostile.name, found, wanted(rt.alloc(), hostile));
     }

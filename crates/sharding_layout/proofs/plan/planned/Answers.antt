@@ -1,4 +1,4 @@
-use Rattle.std.proofs.Common.{ℕ, ◌≡◌, ◌≤◌, ◌<◌, ◌*◌, ◌/◌, ◌∙◌, sym, refl, length, arith}
+use Rattle.std.proofs.Common.{inr, ℕ, ◌≡◌, ◌≤◌, ◌<◌, ◌*◌, ◌/◌, ◌∙◌, sym, refl, length, arith}
 use Rattle.parts_subsets.specs.Grid.{grid_of}
 use Rattle.parts_row_major.specs.Numbering.{count_of}
 use Rattle.parts_errors.specs.Order.{RefusedBy}
@@ -118,7 +118,7 @@ returns-in_err-old_index-clause-tested g c = λ fill order.
     let l : Layout = record { shape = a._shape.now; sub = sub; fill = fill; location = location; index_size = fixed_size index.representation; order = order } in
     let plan = c.requires.plan in
     let e = c.in_err-old_index.field-0.0 in
-    passed_on _ e _ c.from_residual-in_err-old_index.ensures.1
+    passed_on _ e _ c.from_residual.ensures.1
     (index_tested index l a.stored.now.bytes.now a.stored.now.len c.requires.served e (rw (plan.index.size, plan.grid) at c.in_err-old_index.ensures.refused))
 
 pub returns-in_err-len-clause-tested : goal.returns-in_err-len-clause-tested
