@@ -1,6 +1,6 @@
 #!/usr/bin/env python3
 """Runs `zarr_shard` on folders that a repository cannot hold: a FIFO, a socket or a link to nothing in place of a file, a pipe that
-nobody reads, a compaction that is killed, and a shard of 128 MiB. Each command must end in time with this status and sentence.
+nobody reads, a compaction that is killed, a shard of 1 GiB, and a long index. Each command must end in time with this status and sentence.
 
     python3 tools/strangers.py [PROGRAM]     the program that the merge gate built, if no other is named
 """
@@ -21,6 +21,7 @@ BUILT = f"{TOP}/crates/zarr_shard/out/zarr_shard"
 MOST = 10  # seconds
 MOST_MEMORY = 40_000_000  # bytes
 MIB = 1 << 20
+GIB = 1 << 30
 bad = []
 
 
@@ -131,29 +132,44 @@ def killed(program, top):
             bad.append("a compaction after one that was killed: other cells")
 
 
-def expect_small(words, status):
-    """Runs a command, which must end with this status and take little memory."""
+def expect_small(words, status, most=MOST_MEMORY):
+    """Runs a command, which must end with this status and take so little memory."""
     with subprocess.Popen(words, stdout=subprocess.DEVNULL, stderr=subprocess.DEVNULL) as ran:
         _, how, used = os.wait4(ran.pid, 0)
         ran.returncode = os.waitstatus_to_exitcode(how)
-    if ran.returncode != status or used.ru_maxrss * 1024 > MOST_MEMORY:
+    if ran.returncode != status or used.ru_maxrss * 1024 > most:
         bad.append(f"{words[1:]}: status {ran.returncode}, {used.ru_maxrss} KiB of memory")
 
 
 def large(program, top):
-    """A shard of 128 MiB with a dead byte, and metadata of 1 GiB: both take little memory."""
+    """A shard of 1 GiB with a dead byte, and metadata of 1 GiB: both take little memory."""
     path = f"{top}/long"
-    array(path, [128 * MIB], [128 * MIB], [64 * MIB])
+    array(path, [GIB], [GIB], [GIB // 2])
     with open(f"{path}/0", "wb") as file:
-        file.truncate(128 * MIB + 1)
+        file.truncate(GIB + 1)
         file.seek(0, os.SEEK_END)
-        file.write(struct.pack("<4Q", 0, 64 * MIB, 64 * MIB + 1, 64 * MIB))
+        file.write(struct.pack("<4Q", 0, GIB // 2, GIB // 2 + 1, GIB // 2))
     expect_small([program, "compact", "--dry-run", path], 0)
     expect_small([program, "compact", path], 0)
-    if os.path.getsize(f"{path}/0") != 128 * MIB + 32:
-        bad.append("compact left a shard of 128 MiB with its dead byte")
-    os.truncate(f"{path}/zarr.json", 1 << 30)
+    if os.path.getsize(f"{path}/0") != GIB + 32:
+        bad.append("compact left a shard of 1 GiB with its dead byte")
+    os.remove(f"{path}/0")
+    os.truncate(f"{path}/zarr.json", GIB)
     expect_small([program, "info", path], 2)
+
+
+def indexed(program, top):
+    """A shard of 2^20 subchunks, of which the last one is stored: a read of one element holds the index of 16 MiB once."""
+    path, count = f"{top}/indexed", MIB
+    array(path, [16 * count], [16 * count], [16])
+    with open(f"{path}/0", "wb") as file:
+        file.write(bytes(range(16)) + b"\xff" * (MIB - 16))
+        for _ in range(15):
+            file.write(b"\xff" * MIB)
+        file.write(struct.pack("<QQ", 0, 16))
+    last = f"{16 * count - 1}..{16 * count}"
+    expect([program, "read", path, last], 0, "15")
+    expect_small([program, "read", path, last], 0, 24_000_000)
 
 
 if __name__ == "__main__":
@@ -164,7 +180,7 @@ if __name__ == "__main__":
     with tempfile.TemporaryDirectory(prefix="strangers-") as folder:
         shutil.copyfile(built, f"{folder}/zarr_shard")
         os.chmod(f"{folder}/zarr_shard", 0o755)
-        for case in (strangers, closed, killed, large):
+        for case in (strangers, closed, killed, large, indexed):
             case(f"{folder}/zarr_shard", folder)
     print("\n".join(bad) or "each command ended as it must")
     sys.exit(bool(bad))
