@@ -14,16 +14,16 @@ ghost use Rattle.sharding_index.specs.Indexes.{index_meaning};
 ghost use Rattle.sharding_engine.specs.Meanings.{meaning_of};
 ghost use Rattle.sharding_index.specs.steps.Plans.{spec_of, IsPlan};
 
+use crate::read::PlannedShard;
 use crate::sharding::Sharding;
 use codec_traits::ArrayToBytesCodecTraits;
 use parts_arrays::FixedTarget;
-use parts_errors::{CodecError, CodecOptions};
+use parts_errors::CodecError;
 use parts_subsets::Indexer;
-use sharding_format::ArraySpecRef;
-use sharding_index::{Plan, read_index};
-use sharding_subchunks::Subchunks;
+use sharding_index::read_index;
+use sharding_subchunks::{StoredShard, Subchunks};
 use std::alloc::Global;
-use storage_handles::{BytesPartialDecoderTraits, Interval};
+use storage_handles::BytesPartialDecoderTraits;
 
 impl<I: ArrayToBytesCodecTraits, X: ArrayToBytesCodecTraits> Sharding<'_, I, X> {
     /// The cells that `read_planned` answers, read into a target whose subset has as many elements, of the type's size: of a subset of
@@ -33,55 +33,54 @@ impl<I: ArrayToBytesCodecTraits, X: ArrayToBytesCodecTraits> Sharding<'_, I, X> 
         &self,
         alloc: Global,
         handle: &mut H,
-        interval: Interval,
-        spec: &ArraySpecRef,
-        plan: &Plan,
+        shard: &PlannedShard,
         indexer: &N,
         target: &mut FixedTarget,
-        options: &CodecOptions,
     ) -> Result<(), CodecError>
-        requires serves { (meaning_of I.meaning X.meaning self.now (spec_of spec.now)).serves }
-        requires plan { IsPlan (index_meaning X.meaning self.now.index_codec.codec.now) spec.now.shape.now self.now.subchunk_shape.now plan.now }
-        requires selection { IsSelectionOf spec.now.shape.now (N.selection indexer.now) }
-        requires points { All (λ point. IsInside point spec.now.shape.now) (N.selection indexer.now).points }
-        requires kind { size_of spec.now.data_type.now ≡ Fixed (target_element_size target.old) }
+        requires serves { (meaning_of I.meaning X.meaning self.now (spec_of shard.now.spec)).serves }
+        requires plan { IsPlan (index_meaning X.meaning self.now.index_codec.codec.now) shard.now.spec.shape.now self.now.subchunk_shape.now shard.now.plan.now }
+        requires selection { IsSelectionOf shard.now.spec.shape.now (N.selection indexer.now) }
+        requires points { All (λ point. IsInside point shard.now.spec.shape.now) (N.selection indexer.now).points }
+        requires kind { size_of shard.now.spec.data_type.now ≡ Fixed (target_element_size target.old) }
         requires counted { count_of (target_subset target.old).shape ≡ length (N.selection indexer.now).points }
         ensures read { IsRead (H.state handle.old) (H.state handle.new) }
         ensures written { IsOverwritten target.old target.new }
-        ensures cells { let m = meaning_of I.meaning X.meaning self.now (spec_of spec.now) in
+        ensures cells { let m = meaning_of I.meaning X.meaning self.now (spec_of shard.now.spec) in
             OnOk result (IsTrue (H.state handle.old).transparent
-            → HasInterval interval (H.state handle.old).contents
-            × IsDecodedInto target.old target.new (cells_at (m.cells (interval_part interval (H.state handle.old).contents)) spec.now.shape.now (N.selection indexer.now).points)) }
+            → HasInterval shard.now.interval (H.state handle.old).contents
+            × IsDecodedInto target.old target.new (cells_at (m.cells (interval_part shard.now.interval (H.state handle.old).contents)) shard.now.spec.shape.now (N.selection indexer.now).points)) }
         ensures fault { IfErr result (IsCounted (H.state handle.old) (H.state handle.new)) }
-        ensures refused { let g = spec_of spec.now in
+        ensures refused { let g = spec_of shard.now.spec in
             IfErr result (RefusedBy (ObjectRefusals (H.state handle.old) (H.state handle.new) (
-            IntervalRefusals interval (H.state handle.old).contents (λ b. (meaning_of I.meaning X.meaning self.now g).read_refusals b (N.selection indexer.now).points)))) }
+            IntervalRefusals shard.now.interval (H.state handle.old).contents (λ b. (meaning_of I.meaning X.meaning self.now g).read_refusals b (N.selection indexer.now).points)))) }
     {
         let index = read_index(
             alloc,
             &self.index_codec,
             handle,
-            interval,
-            &plan.index,
-            options,
+            shard.interval,
+            &shard.plan.index,
+            shard.options,
         )?;
         let subchunks = Subchunks {
             codec: self.inner,
             shape: self.subchunk_shape,
-            data_type: spec.data_type,
-            fill_value: spec.fill_value,
-            options,
+            data_type: shard.spec.data_type,
+            fill_value: shard.spec.fill_value,
+            options: shard.options,
         };
-        let (shape, grid) = (spec.shape, &plan.index.grid);
-        if subchunks.put_plain_requested(
-            alloc, handle, interval, &index, indexer, shape, grid, target,
-        )? {
+        let stored = StoredShard {
+            subchunks,
+            interval: shard.interval,
+            index: &index,
+            shape: shard.spec.shape,
+            cells: shard.plan.cells,
+        };
+        if stored.put_plain_requested(alloc, handle, indexer, &shard.plan.index.grid, target)? {
             return Ok(());
         }
         let count = target.num_elements();
-        let array = subchunks.read_requested(
-            alloc, handle, interval, &index, indexer, count, shape, plan.cells,
-        )?;
+        let array = stored.read_requested(alloc, handle, indexer, count)?;
         target.copy_from(&array)
     }
 }

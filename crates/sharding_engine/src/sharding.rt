@@ -11,6 +11,7 @@ ghost use Rattle.sharding_format.specs.Grids.{IsCut, ConcurrencyRefusals};
 ghost use Rattle.sharding_format.specs.Compacting.{IsCompact};
 ghost use Rattle.sharding_engine.specs.Meanings.{shard_layout, inner_of, index_of, meaning_of};
 
+use crate::read::PlannedShard;
 use codec_traits::{
     ArrayToBytesCodecTraits, BytesRepresentation, RecommendedConcurrency, StoredArray, check_target,
 };
@@ -204,9 +205,13 @@ impl<I: ArrayToBytesCodecTraits, X: ArrayToBytesCodecTraits> ArrayToBytesCodecTr
         };
         let plan = self.prepared(alloc, &spec)?;
         let count = check_requested(indexer, shape, data_type)?;
-        let cells = self.read_planned(
-            alloc, handle, interval, &spec, &plan, count, indexer, options,
-        )?;
+        let shard = PlannedShard {
+            interval,
+            spec,
+            plan: &plan,
+            options,
+        };
+        let cells = self.read_planned(alloc, handle, &shard, indexer, count)?;
         Ok(cells)
     }
 
@@ -229,16 +234,13 @@ impl<I: ArrayToBytesCodecTraits, X: ArrayToBytesCodecTraits> ArrayToBytesCodecTr
         let plan = self.prepared(alloc, &spec)?;
         check_target(target, indexer.len(), stored.data_type)?;
         let _count = check_requested(indexer, stored.shape, stored.data_type)?;
-        self.read_planned_into(
-            alloc,
-            handle,
-            stored.interval,
-            &spec,
-            &plan,
-            indexer,
-            target,
+        let shard = PlannedShard {
+            interval: stored.interval,
+            spec,
+            plan: &plan,
             options,
-        )
+        };
+        self.read_planned_into(alloc, handle, &shard, indexer, target)
     }
 
     /// As many times the inner codec's bound as there are subchunks, and the index.

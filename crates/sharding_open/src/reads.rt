@@ -18,7 +18,7 @@ use parts_errors::{CodecError, CodecOptions};
 use parts_subsets::Indexer;
 use sharding_engine::Sharding;
 use sharding_gather::filled;
-use sharding_subchunks::Subchunks;
+use sharding_subchunks::{StoredShard, Subchunks};
 use std::alloc::Global;
 use storage_handles::{BytesPartialDecoderTraits, Interval};
 
@@ -71,16 +71,14 @@ impl OpenShard {
             fill_value: &self.fill_value,
             options,
         };
-        let array = subchunks.read_requested(
-            alloc,
-            handle,
-            whole,
+        let shard = StoredShard {
+            subchunks,
+            interval: whole,
             index,
-            indexer,
-            count,
-            &self.shape,
-            self.cells,
-        )?;
+            shape: &self.shape,
+            cells: self.cells,
+        };
+        let array = shard.read_requested(alloc, handle, indexer, count)?;
         Ok(array)
     }
 }

@@ -6,3 +6,4 @@ pub mod DecodedRowLemmas
 pub mod WholeLemmas
 pub mod PutLemmas
 pub mod SubsetPutLemmas
+pub mod ShardLemmas

@@ -1,3 +1,4 @@
 pub mod PlainRows
 pub mod Reads
+pub mod ShardLaws
 pub mod steps

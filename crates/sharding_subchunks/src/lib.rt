@@ -12,9 +12,11 @@ mod plain_subset;
 mod plain_target;
 mod read;
 mod requested;
+mod stored_shard;
 mod subchunks;
 mod subsets;
 mod whole;
 
 pub use encoded::Stored;
+pub use stored_shard::StoredShard;
 pub use subchunks::Subchunks;

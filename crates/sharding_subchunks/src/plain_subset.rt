@@ -1,10 +1,10 @@
 // The cells of a subset of a shard whose inner codec stores elements as they are in memory, copied from each slice to where they lie in
 // a target.
-ghost use Rattle.std.specs.Prelude.{◌≡◌, ◌+◌, ◌*◌, ◌^◌, ◌<◌, IsTrue, IfOk, IfErr, OnErr, map, length};
+ghost use Rattle.std.specs.Prelude.{◌≡◌, ◌+◌, ◌<◌, IsTrue, IfOk, IfErr, OnErr, map, length};
 ghost use Rattle.parts_errors.specs.Order.{done, RefusedBy};
 ghost use Rattle.parts_row_major.specs.Numbering.{count_of};
 ghost use Rattle.parts_row_major.specs.Subsets.{IsServed, LiesIn, number_in, numbers_in};
-ghost use Rattle.parts_subsets.specs.Grid.{Divides, grid_of};
+ghost use Rattle.parts_subsets.specs.Grid.{grid_of};
 ghost use Rattle.parts_subsets.specs.Selections.{IsSelectionOf};
 ghost use Rattle.parts_arrays.specs.Types.{size_of};
 ghost use Rattle.parts_arrays.specs.declared.data_type.DataTypeSize.TheVariants.{Fixed};
@@ -20,17 +20,25 @@ ghost use Rattle.sharding_subchunks.specs.steps.Inner.{spec_of_subchunks, inner_
 ghost use Rattle.sharding_subchunks.specs.steps.Writes.{IsPartPut};
 
 use crate::plain_target::same_axes;
-use crate::subchunks::Subchunks;
+use crate::stored_shard::StoredShard;
 use codec_traits::ArrayToBytesCodecTraits;
 use parts_arrays::FixedTarget;
 use parts_errors::CodecError;
 use parts_subsets::{ArraySubset, ChunkShape, Indexer};
-use sharding_format::{ShardIndex, Slot};
+use sharding_format::Slot;
 use sharding_gather::{placed_part, subchunk_overlap};
 use std::alloc::Global;
-use storage_handles::{ByteRange, BytesPartialDecoderTraits, Interval, read_range};
+use storage_handles::{ByteRange, BytesPartialDecoderTraits, read_range};
 
-impl<I: ArrayToBytesCodecTraits> Subchunks<'_, I> {
+// A part of a subchunk, and the subset of a target's array that it belongs to, which has as many cells.
+#[derive(Drop)]
+struct PlacedPart<'a> {
+    in_subchunk: &'a ArraySubset,
+    in_target: &'a ArraySubset,
+    ghost same_count: { count_of in_subchunk.now.shape ≡ count_of in_target.now.shape },
+}
+
+impl<I: ArrayToBytesCodecTraits> StoredShard<'_, I> {
     // Copies a part of the subchunk that a slot names to a subset of a target's array: from its slice, or fill values where it is
     // absent. `false`, with the target as it was, where the entry is bad, the slice has another size than the elements of a subchunk
     // have together, or there is no object. Refused as `Fault`, where the handle failed, or `OutOfMemory`; that leaves the target.
@@ -38,25 +46,21 @@ impl<I: ArrayToBytesCodecTraits> Subchunks<'_, I> {
         &self,
         alloc: Global,
         handle: &mut H,
-        outer: Interval,
         slot: Slot,
         size: u64,
-        part: &ArraySubset,
-        position: &ArraySubset,
+        part: &PlacedPart,
         target: &mut FixedTarget,
     ) -> Result<bool, CodecError>
-        requires room { outer.offset + outer.size < 2 ^ 64 }
-        requires inside { IsTrue (H.state handle.old).transparent → HasInterval outer (H.state handle.old).contents }
-        requires plain { IsPlain (spec_of_subchunks self.now) (inner_meaning I.meaning self.now) size }
-        requires fits { FitsSlot outer.size slot }
-        requires part { IsServed part.now self.now.shape.now }
-        requires element { target_element_size target.old ≡ length self.now.fill_value.now }
-        requires served { IsServed position.now (target_shape target.old) }
-        requires counted { count_of part.now.shape ≡ count_of position.now.shape }
+        requires inside { IsTrue (H.state handle.old).transparent → HasInterval self.now.interval (H.state handle.old).contents }
+        requires plain { IsPlain (spec_of_subchunks self.now.subchunks) (inner_meaning I.meaning self.now.subchunks) size }
+        requires fits { FitsSlot self.now.interval.size slot }
+        requires part { IsServed part.now.in_subchunk.now self.now.subchunks.shape.now }
+        requires element { target_element_size target.old ≡ length self.now.subchunks.fill_value.now }
+        requires served { IsServed part.now.in_target.now (target_shape target.old) }
         ensures read { IsRead (H.state handle.old) (H.state handle.new) }
-        ensures put { let bytes = interval_part outer (H.state handle.old).contents in
-            IfOk result (λ put. IsTrue put → IsPartPut (IsTrue (H.state handle.old).transparent) (inner_meaning I.meaning self.now).cells self.now.fill_value.now bytes slot
-            (count_of part.now.shape) (number_in part.now self.now.shape.now) position.now target.old target.new) }
+        ensures put { let bytes = interval_part self.now.interval (H.state handle.old).contents in
+            IfOk result (λ put. IsTrue put → IsPartPut (IsTrue (H.state handle.old).transparent) (inner_meaning I.meaning self.now.subchunks).cells self.now.subchunks.fill_value.now bytes slot
+            (count_of part.now.in_subchunk.now.shape) (number_in part.now.in_subchunk.now self.now.subchunks.shape.now) part.now.in_target.now target.old target.new) }
         ensures kept { IfOk result (λ put. (¬ (IsTrue put)) → target.new ≡ target.old) }
         ensures left { OnErr result (target.new ≡ target.old) }
         ensures fault { IfErr result (IsCounted (H.state handle.old) (H.state handle.new)) }
@@ -64,7 +68,7 @@ impl<I: ArrayToBytesCodecTraits> Subchunks<'_, I> {
     {
         match slot {
             Slot::Absent => {
-                target.fill_part(position, self.fill_value.as_ne_bytes());
+                target.fill_part(part.in_target, self.subchunks.fill_value.as_ne_bytes());
                 Ok(true)
             }
             Slot::InRange {
@@ -72,53 +76,49 @@ impl<I: ArrayToBytesCodecTraits> Subchunks<'_, I> {
                 size: stored,
             } if stored == size => {
                 let mut room = Vec::new(alloc);
-                let range = ByteRange::FromStart(outer.offset + offset, Some(size));
+                let range = ByteRange::FromStart(self.interval.offset + offset, Some(size));
                 let Some(elements) = read_range(handle, &mut room, alloc, range)? else {
                     return Ok(false);
                 };
-                target.copy_subset_part(position, elements, part, self.shape.as_slice());
+                let sub = self.subchunks.shape.as_slice();
+                target.copy_subset_part(part.in_target, elements, part.in_subchunk, sub);
                 Ok(true)
             }
             _ => Ok(false),
         }
     }
 
-    // Copies the cells of a subset of a shard that stands in an interval of an object to a target, whose subset has the subset's shape, where
-    // the inner codec stores each subchunk as so many bytes that are its elements. False where it does not, or where `put_part` puts
-    // nothing. Whatever it answers, some elements of the target's subset may have changed, and no other. Refused as `Fault`, where
-    // the handle failed, or `OutOfMemory`.
+    // Copies the cells of a subset to a target, whose subset has the subset's shape, where the inner codec stores each subchunk as so
+    // many bytes that are its elements. False where it does not, or where `put_part` puts nothing. Whatever it answers, some elements
+    // of the target's subset may have changed, and no other. Refused as `Fault`, where the handle failed, or `OutOfMemory`.
     fn put_subset<H: BytesPartialDecoderTraits>(
         &self,
         alloc: Global,
         handle: &mut H,
-        outer: Interval,
-        index: &ShardIndex,
         subset: &ArraySubset,
-        shape: &ChunkShape,
         grid: &ChunkShape,
         target: &mut FixedTarget,
     ) -> Result<bool, CodecError>
-        requires room { outer.offset + outer.size < 2 ^ 64 }
-        requires inside { IsTrue (H.state handle.old).transparent → HasInterval outer (H.state handle.old).contents }
-        requires len { index.now.len ≡ outer.size }
-        requires index { length index.now.numbers.items ≡ 2 * count_of (grid_of shape.now self.now.shape.now) }
-        requires lies { LiesIn subset.now shape.now }
-        requires fits { count_of shape.now < 2 ^ 64 }
-        requires divides { Divides self.now.shape.now shape.now }
-        requires grid { grid.now ≡ grid_of shape.now self.now.shape.now }
-        requires kind { size_of self.now.data_type.now ≡ Fixed (target_element_size target.old) }
+        requires inside { IsTrue (H.state handle.old).transparent → HasInterval self.now.interval (H.state handle.old).contents }
+        requires lies { LiesIn subset.now self.now.shape.now }
+        requires grid { grid.now ≡ grid_of self.now.shape.now self.now.subchunks.shape.now }
+        requires kind { size_of self.now.subchunks.data_type.now ≡ Fixed (target_element_size target.old) }
         requires same { (target_subset target.old).shape ≡ subset.now.shape }
         ensures read { IsRead (H.state handle.old) (H.state handle.new) }
         ensures written { IsOverwritten target.old target.new }
-        ensures put { let inner = inner_meaning I.meaning self.now in let bytes = interval_part outer (H.state handle.old).contents in
+        ensures put { let s = self.now.subchunks in let inner = inner_meaning I.meaning s in let bytes = interval_part self.now.interval (H.state handle.old).contents in
             IfOk result (λ put. IsTrue put → IsTrue (H.state handle.old).transparent → IsDecodedInto target.old target.new
-            (map (indexed_cell inner.cells shape.now self.now.shape.now self.now.fill_value.now bytes index.now.numbers.items) (numbers_in subset.now shape.now))) }
+            (map (indexed_cell inner.cells self.now.shape.now s.shape.now s.fill_value.now bytes self.now.index.now.numbers.items) (numbers_in subset.now self.now.shape.now))) }
         ensures fault { IfErr result (IsCounted (H.state handle.old) (H.state handle.new)) }
         ensures refused { IfErr result (RefusedBy (ObjectRefusals (H.state handle.old) (H.state handle.new) done)) }
     {
-        let sub = self.shape;
+        let inner = &self.subchunks;
+        let (shape, sub) = (self.shape, inner.shape);
         let _lengths = target.subset().shape();
-        let Some(size) = self.codec.plain_size(sub, self.data_type, self.fill_value) else {
+        let Some(size) = inner
+            .codec
+            .plain_size(sub, inner.data_type, inner.fill_value)
+        else {
             return Ok(false);
         };
         let touched = subset.touched_subchunks(alloc, shape, sub)?;
@@ -126,45 +126,40 @@ impl<I: ArrayToBytesCodecTraits> Subchunks<'_, I> {
             let number = touched[j];
             let overlap = subchunk_overlap(alloc, number, subset, grid, shape, sub)?;
             let position = placed_part(alloc, target.subset(), &overlap.in_subset)?;
-            let slot = index.slot(number as usize);
-            let part = &overlap.in_subchunk;
-            if !self.put_part(alloc, handle, outer, slot, size, part, &position, target)? {
+            let slot = self.index.slot(number as usize);
+            let part = PlacedPart {
+                in_subchunk: &overlap.in_subchunk,
+                in_target: &position,
+            };
+            if !self.put_part(alloc, handle, slot, size, &part, target)? {
                 return Ok(false);
             }
         }
         Ok(true)
     }
 
-    /// Reads the cells that an indexer requests into a target, of a shard that stands in an interval of an object and has this index: where
-    /// they are a subset of the shape of the target's subset, and the inner codec stores the elements of each touched subchunk that is
-    /// present as they are in memory, they are copied from its slice. False where it is not so. Whatever it answers, some elements of
-    /// the target's subset may have changed, and no other. Refused as `Fault`, where the handle failed, or `OutOfMemory`.
+    /// Reads the cells that an indexer requests into a target: where they are a subset of the shape of the target's subset, and the
+    /// inner codec stores the elements of each touched subchunk that is present as they are in memory, they are copied from its
+    /// slice. False where it is not so. Whatever it answers, some elements of the target's subset may have changed, and no other.
+    /// Refused as `Fault`, where the handle failed, or `OutOfMemory`.
     pub fn put_plain_requested<H: BytesPartialDecoderTraits, N: Indexer>(
         &self,
         alloc: Global,
         handle: &mut H,
-        outer: Interval,
-        index: &ShardIndex,
         indexer: &N,
-        shape: &ChunkShape,
         grid: &ChunkShape,
         target: &mut FixedTarget,
     ) -> Result<bool, CodecError>
-        requires room { outer.offset + outer.size < 2 ^ 64 }
-        requires inside { IsTrue (H.state handle.old).transparent → HasInterval outer (H.state handle.old).contents }
-        requires len { index.now.len ≡ outer.size }
-        requires index { length index.now.numbers.items ≡ 2 * count_of (grid_of shape.now self.now.shape.now) }
-        requires selection { IsSelectionOf shape.now (N.selection indexer.now) }
-        requires fits { count_of shape.now < 2 ^ 64 }
-        requires divides { Divides self.now.shape.now shape.now }
-        requires grid { grid.now ≡ grid_of shape.now self.now.shape.now }
-        requires kind { size_of self.now.data_type.now ≡ Fixed (target_element_size target.old) }
+        requires inside { IsTrue (H.state handle.old).transparent → HasInterval self.now.interval (H.state handle.old).contents }
+        requires selection { IsSelectionOf self.now.shape.now (N.selection indexer.now) }
+        requires grid { grid.now ≡ grid_of self.now.shape.now self.now.subchunks.shape.now }
+        requires kind { size_of self.now.subchunks.data_type.now ≡ Fixed (target_element_size target.old) }
         ensures read { IsRead (H.state handle.old) (H.state handle.new) }
         ensures written { IsOverwritten target.old target.new }
-        ensures put { let inner = inner_meaning I.meaning self.now in let bytes = interval_part outer (H.state handle.old).contents in
+        ensures put { let s = self.now.subchunks in let inner = inner_meaning I.meaning s in let bytes = interval_part self.now.interval (H.state handle.old).contents in
             IfOk result (λ put. IsTrue put → IsTrue (H.state handle.old).transparent → IsDecodedInto target.old target.new
-            (map (indexed_cell inner.cells shape.now self.now.shape.now self.now.fill_value.now bytes index.now.numbers.items)
-            (numbers_of shape.now (N.selection indexer.now).points))) }
+            (map (indexed_cell inner.cells self.now.shape.now s.shape.now s.fill_value.now bytes self.now.index.now.numbers.items)
+            (numbers_of self.now.shape.now (N.selection indexer.now).points))) }
         ensures fault { IfErr result (IsCounted (H.state handle.old) (H.state handle.new)) }
         ensures refused { IfErr result (RefusedBy (ObjectRefusals (H.state handle.old) (H.state handle.new) done)) }
     {
@@ -174,6 +169,6 @@ impl<I: ArrayToBytesCodecTraits> Subchunks<'_, I> {
         if !same_axes(target.subset().shape(), subset.shape()) {
             return Ok(false);
         }
-        self.put_subset(alloc, handle, outer, index, subset, shape, grid, target)
+        self.put_subset(alloc, handle, subset, grid, target)
     }
 }
