@@ -1,13 +1,22 @@
--- Reads of a part of a subchunk to where its cells lie among others, and of one cell behind others.
+-- What a read of a shard answers, reads of a part of a subchunk to where its cells lie among others, and of one cell behind others.
 use Rattle.std.specs.Prelude.{◌≡◌, ◌++◌, ℕ, List, [], Option, Some, IsTrue, length}
+use Rattle.std.specs.List.{All}
 use Rattle.parts_errors.specs.Words.{Bytes, CellsOf}
 use Rattle.parts_row_major.specs.Pieces.{IsUpdated}
 use Rattle.parts_arrays.specs.Arrays.{Array}
+use Rattle.parts_arrays.specs.Types.{FitsKind}
+use Rattle.parts_arrays.specs.declared.data_type.DataTypeSize.{DataTypeSize}
 use Rattle.storage_handles.specs.Handles.{HandleState}
 use Rattle.sharding_format.specs.steps.Decoding.{element_at}
 use Rattle.sharding_format.specs.steps.Reading.{IsReadAt}
 use Rattle.sharding_format.specs.declared.slot.Slot.{Slot}
 use Rattle.sharding_gather.specs.steps.Gathering.{positions_there}
+
+-- an array has so many elements, each of one kind
+pub record HasElementsOf (kind : DataTypeSize) (many : ℕ) (array : Array) : Type 0 where
+  pub kind_is : array.kind ≡ kind
+  pub counted : length array.elements ≡ many
+  pub fitting : All (FitsKind kind) array.elements
 
 -- of the subchunk that a slot names the cells at some places were read, and overwrote the elements that `position` names in their order;
 -- nothing where it is absent

@@ -3,12 +3,13 @@ ghost use Rattle.std.specs.Prelude.{◌≡◌, ◌<◌, Some, IsTrue, IfOk, IfEr
 ghost use Rattle.std.specs.List.{All};
 ghost use Rattle.parts_errors.specs.Order.{RefusedBy};
 ghost use Rattle.parts_row_major.specs.Numbering.{count_of};
-ghost use Rattle.parts_arrays.specs.Types.{size_of, FitsKind};
+ghost use Rattle.parts_arrays.specs.Types.{size_of};
 ghost use Rattle.storage_handles.specs.Handles.{IsRead, IsCounted};
 ghost use Rattle.storage_handles.specs.Objects.{interval_part, HasInterval, ObjectRefusals};
 ghost use Rattle.sharding_format.specs.Cells.{indexed_cell};
 ghost use Rattle.sharding_format.specs.steps.Reading.{ReadByRefusals};
 ghost use Rattle.sharding_subchunks.specs.steps.Inner.{inner_meaning};
+ghost use Rattle.sharding_subchunks.specs.Reads.{HasElementsOf};
 
 use crate::stored_shard::StoredShard;
 use codec_traits::ArrayToBytesCodecTraits;
@@ -32,9 +33,7 @@ impl<I: ArrayToBytesCodecTraits> StoredShard<'_, I> {
         requires serves { (inner_meaning I.meaning self.now.subchunks).serves }
         requires numbers { All (λ number. number < count_of self.now.shape.now) numbers.now }
         ensures read { IsRead (H.state handle.old) (H.state handle.new) }
-        ensures kind { IfOk result (λ array. array.kind ≡ size_of self.now.subchunks.data_type.now) }
-        ensures counted { IfOk result (λ array. length array.elements ≡ length numbers.now) }
-        ensures fitting { IfOk result (λ array. All (FitsKind (size_of self.now.subchunks.data_type.now)) array.elements) }
+        ensures elements { IfOk result (HasElementsOf (size_of self.now.subchunks.data_type.now) (length numbers.now)) }
         ensures cells { let s = self.now.subchunks in let inner = inner_meaning I.meaning s in let bytes = interval_part self.now.interval (H.state handle.old).contents in
             IfOk result (λ array. IsTrue (H.state handle.old).transparent
             → map (indexed_cell inner.cells self.now.shape.now s.shape.now s.fill_value.now bytes self.now.index.now.numbers.items) numbers.now ≡ map Some array.elements) }

@@ -4,7 +4,7 @@ ghost use Rattle.std.specs.List.{All};
 ghost use Rattle.parts_errors.specs.Order.{RefusedBy};
 ghost use Rattle.parts_row_major.specs.Numbering.{count_of};
 ghost use Rattle.parts_row_major.specs.Pieces.{pieces};
-ghost use Rattle.parts_arrays.specs.Types.{size_of, FitsKind};
+ghost use Rattle.parts_arrays.specs.Types.{size_of};
 ghost use Rattle.parts_arrays.specs.declared.data_type.DataTypeSize.TheVariants.{Fixed};
 ghost use Rattle.storage_handles.specs.Handles.{IsRead, IsCounted};
 ghost use Rattle.storage_handles.specs.Objects.{interval_part, HasInterval, ObjectRefusals};
@@ -12,6 +12,7 @@ ghost use Rattle.sharding_format.specs.Cells.{indexed_cell};
 ghost use Rattle.sharding_format.specs.steps.Reading.{ReadByRefusals};
 ghost use Rattle.sharding_gather.specs.steps.Sorting.{AreSorted};
 ghost use Rattle.sharding_subchunks.specs.steps.Inner.{inner_meaning};
+ghost use Rattle.sharding_subchunks.specs.Reads.{HasElementsOf};
 
 use crate::stored_shard::StoredShard;
 use codec_traits::ArrayToBytesCodecTraits;
@@ -119,9 +120,7 @@ impl<I: ArrayToBytesCodecTraits> StoredShard<'_, I> {
         requires fixed { size_of self.now.subchunks.data_type.now ≡ Fixed (length self.now.subchunks.fill_value.now) }
         requires whole { length numbers.now * length self.now.subchunks.fill_value.now < 2 ^ 64 }
         ensures read { IsRead (H.state handle.old) (H.state handle.new) }
-        ensures kind { IfOk result (λ array. array.kind ≡ size_of self.now.subchunks.data_type.now) }
-        ensures counted { IfOk result (λ array. length array.elements ≡ length numbers.now) }
-        ensures fitting { IfOk result (λ array. All (FitsKind (size_of self.now.subchunks.data_type.now)) array.elements) }
+        ensures elements { IfOk result (HasElementsOf (size_of self.now.subchunks.data_type.now) (length numbers.now)) }
         ensures cells { let s = self.now.subchunks in let inner = inner_meaning I.meaning s in let bytes = interval_part self.now.interval (H.state handle.old).contents in
             IfOk result (λ array. IsTrue (H.state handle.old).transparent
             → map (indexed_cell inner.cells self.now.shape.now s.shape.now s.fill_value.now bytes self.now.index.now.numbers.items) numbers.now ≡ map Some array.elements) }

@@ -1,6 +1,5 @@
 // The cells that an indexer asks of a shard, read through a handle, by the shard's index.
 ghost use Rattle.std.specs.Prelude.{◌≡◌, ◌*◌, ◌^◌, ◌<◌, Some, IsTrue, IfOk, IfErr, map, length};
-ghost use Rattle.std.specs.List.{All};
 ghost use Rattle.parts_errors.specs.Order.{RefusedBy};
 ghost use Rattle.parts_subsets.specs.Selections.{IsSelectionOf};
 ghost use Rattle.parts_arrays.specs.Types.{size_of, FitsKind};
@@ -11,6 +10,7 @@ ghost use Rattle.sharding_format.specs.Cells.{indexed_cell};
 ghost use Rattle.sharding_format.specs.ReadRefusals.{numbers_of};
 ghost use Rattle.sharding_format.specs.steps.Reading.{ReadByRefusals};
 ghost use Rattle.sharding_subchunks.specs.steps.Inner.{inner_meaning};
+ghost use Rattle.sharding_subchunks.specs.Reads.{HasElementsOf};
 
 use crate::stored_shard::StoredShard;
 use crate::subchunks::Subchunks;
@@ -52,9 +52,7 @@ impl<I: ArrayToBytesCodecTraits> StoredShard<'_, I> {
         requires selection { IsSelectionOf self.now.shape.now (N.selection indexer.now) }
         requires count { count ≡ length (N.selection indexer.now).points }
         ensures read { IsRead (H.state handle.old) (H.state handle.new) }
-        ensures kind { IfOk result (λ array. array.kind ≡ size_of self.now.subchunks.data_type.now) }
-        ensures counted { IfOk result (λ array. length array.elements ≡ count) }
-        ensures fitting { IfOk result (λ array. All (FitsKind (size_of self.now.subchunks.data_type.now)) array.elements) }
+        ensures elements { IfOk result (HasElementsOf (size_of self.now.subchunks.data_type.now) count) }
         ensures cells { let s = self.now.subchunks in let inner = inner_meaning I.meaning s in let bytes = interval_part self.now.interval (H.state handle.old).contents in
             IfOk result (λ array. IsTrue (H.state handle.old).transparent
             → map (indexed_cell inner.cells self.now.shape.now s.shape.now s.fill_value.now bytes self.now.index.now.numbers.items)

@@ -6,7 +6,7 @@ ghost use Rattle.parts_row_major.specs.Numbering.{count_of};
 ghost use Rattle.parts_row_major.specs.Subsets.{IsTarget, LiesIn, number_in, numbers_in};
 ghost use Rattle.parts_subsets.specs.Selections.{subset_selection, IsSelectionOf};
 ghost use Rattle.parts_row_major.specs.Pieces.{piece, pieces};
-ghost use Rattle.parts_arrays.specs.Types.{size_of, FitsKind};
+ghost use Rattle.parts_arrays.specs.Types.{size_of};
 ghost use Rattle.parts_arrays.specs.declared.data_type.DataTypeSize.TheVariants.{Fixed};
 ghost use Rattle.storage_handles.specs.Handles.{IsRead, IsCounted};
 ghost use Rattle.storage_handles.specs.Objects.{interval_part, HasInterval, ObjectRefusals};
@@ -16,7 +16,7 @@ ghost use Rattle.sharding_format.specs.ReadRefusals.{AnswerRefusals, RefusesPosi
 ghost use Rattle.sharding_format.specs.steps.Reading.{ReadByRefusals};
 ghost use Rattle.sharding_format.specs.declared.slot.Slot.TheVariants.{Absent};
 ghost use Rattle.sharding_subchunks.specs.steps.Inner.{inner_meaning};
-ghost use Rattle.sharding_subchunks.specs.Reads.{IsReadInto};
+ghost use Rattle.sharding_subchunks.specs.Reads.{HasElementsOf, IsReadInto};
 
 use crate::stored_shard::StoredShard;
 use codec_traits::{ArrayToBytesCodecTraits, StoredArray};
@@ -164,9 +164,7 @@ impl<I: ArrayToBytesCodecTraits> StoredShard<'_, I> {
         requires count { count ≡ count_of subset.now.shape }
         requires whole { count * length self.now.subchunks.fill_value.now < 2 ^ 64 }
         ensures read { IsRead (H.state handle.old) (H.state handle.new) }
-        ensures kind { IfOk result (λ array. array.kind ≡ size_of self.now.subchunks.data_type.now) }
-        ensures counted { IfOk result (λ array. length array.elements ≡ count) }
-        ensures fitting { IfOk result (λ array. All (FitsKind (size_of self.now.subchunks.data_type.now)) array.elements) }
+        ensures elements { IfOk result (HasElementsOf (size_of self.now.subchunks.data_type.now) count) }
         ensures cells { let s = self.now.subchunks in let inner = inner_meaning I.meaning s in let bytes = interval_part self.now.interval (H.state handle.old).contents in
             IfOk result (λ array. IsTrue (H.state handle.old).transparent
             → map (indexed_cell inner.cells self.now.shape.now s.shape.now s.fill_value.now bytes self.now.index.now.numbers.items) (numbers_in subset.now self.now.shape.now) ≡ map Some array.elements) }

@@ -56,18 +56,18 @@ returns-in_err-array-clause-refused g c =
           inr (inr ((λ k below. placed k), (large.0, long))))
     ])
 
-pub returns-clause-counted : goal.returns-clause-counted
-returns-clause-counted g c =
+pub returns-clause-elements : goal.returns-clause-elements
+returns-clause-elements g c =
+    let s = c.args.self.now.subchunks in
+    let kind = size_of s.data_type.now in
+    let parts = c.in_ok-parts.parts.items in
     let elements = rw (c.deref.ensures.value, c.as_ne_bytes.ensures) at c.in_ok-array.ensures.elements in
-    elements_counted c.in_ok-groups.groups c.in_ok-parts.parts.items c.args.self.now.subchunks.fill_value.now c.in_ok-array.array.elements elements ∙ c.in_ok-groups.ensures.grouped.counted
-
-pub returns-clause-fitting : goal.returns-clause-fitting
-returns-clause-fitting g c =
-    let a = c.args in
-    let kind = size_of a.self.now.subchunks.data_type.now in
-    let elements = rw (c.deref.ensures.value, c.as_ne_bytes.ensures) at c.in_ok-array.ensures.elements in
-    let read = AreRead-parts _ _ _ kind c.in_ok-groups.groups c.in_ok-parts.parts.items c.in_ok-groups.ensures.grouped c.in_ok-parts.ensures.counted c.in_ok-parts.ensures.parts in
-    elements_fitting c.in_ok-groups.groups c.in_ok-parts.parts.items a.self.now.subchunks.fill_value.now c.in_ok-array.array.elements elements kind c.args.self.now.fill read
+    let read = AreRead-parts _ _ _ kind c.in_ok-groups.groups parts c.in_ok-groups.ensures.grouped c.in_ok-parts.ensures.counted c.in_ok-parts.ensures.parts in
+    record {
+      kind_is = c.in_ok-array.ensures.kind ∙ c.size.ensures;
+      counted = elements_counted c.in_ok-groups.groups parts s.fill_value.now c.in_ok-array.array.elements elements ∙ c.in_ok-groups.ensures.grouped.counted;
+      fitting = elements_fitting c.in_ok-groups.groups parts s.fill_value.now c.in_ok-array.array.elements elements kind c.args.self.now.fill read;
+    }
 
 pub returns-clause-cells : goal.returns-clause-cells
 returns-clause-cells g c = λ transparent.

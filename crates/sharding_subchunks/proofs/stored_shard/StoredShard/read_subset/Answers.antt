@@ -1,10 +1,9 @@
 use Rattle.std.proofs.Common.{◌≡◌, ◌∙◌, List, ℕ, ap, length, map, Some, Option, sym}
 use Rattle.parts_row_major.specs.Pieces.{pieces}
 use Rattle.parts_arrays.specs.Arrays.{Array}
-use Rattle.parts_row_major.proofs.PieceLaws.{length-pieces}
-use Rattle.parts_arrays.proofs.ArrayLaws.{whole_from_length, All-fixed_array}
+use Rattle.parts_arrays.proofs.ArrayLaws.{whole_from_length}
 use Rattle.sharding_gather.proofs.SubsetReadLemmas.{fixed_pieces}
-use Rattle.sharding_subchunks.proofs.ShardLemmas.{some_bytes}
+use Rattle.sharding_subchunks.proofs.ShardLemmas.{some_bytes, bytes_have_elements}
 use Rattle.sharding_subchunks.proofs.stored_shard.StoredShard.read_subset.Goals as goal
 
 pub unreachable-requires : goal.unreachable-requires
@@ -14,24 +13,12 @@ unreachable-requires g c =
     let fill = s.fill_value.now in
     c.in-None.ensures (rw c.as_ne_bytes-fill.ensures (whole_from_length (length fill) c.args.count c.in_ok-bytes.bytes.items positive c.in_ok-bytes.ensures.counted))
 
-pub returns-clause-counted : goal.returns-clause-counted
-returns-clause-counted g c =
+pub returns-clause-elements : goal.returns-clause-elements
+returns-clause-elements g c =
     let s = c.args.self.now.subchunks in
     let positive = some_bytes s.data_type.now s.fill_value.now c.args.self.now.supported c.requires.fixed in
-    let size = length s.fill_value.now in
-    let bytes = c.in_ok-bytes.bytes.items in
     let made = rw c.as_ne_bytes-fill.ensures at c.in-Some.ensures.1 in
-    ap (λ (array : Array). length array.elements) made
-    ∙ (ap (λ (elements : List (List ℕ)). length elements) (fixed_pieces size c.args.count bytes positive c.in_ok-bytes.ensures.counted) ∙ length-pieces size c.args.count bytes)
-
-pub returns-clause-fitting : goal.returns-clause-fitting
-returns-clause-fitting g c =
-    let s = c.args.self.now.subchunks in
-    let positive = some_bytes s.data_type.now s.fill_value.now c.args.self.now.supported c.requires.fixed in
-    let size = length s.fill_value.now in
-    let bytes = c.in_ok-bytes.bytes.items in
-    let made = rw c.as_ne_bytes-fill.ensures at c.in-Some.ensures.1 in
-    rw (c.requires.fixed, made) (All-fixed_array size bytes (whole_from_length size c.args.count bytes positive c.in_ok-bytes.ensures.counted))
+    rw c.requires.fixed (bytes_have_elements (length s.fill_value.now) c.args.count c.in_ok-bytes.bytes.items c.in-Some.array positive c.in_ok-bytes.ensures.counted made)
 
 pub returns-clause-cells : goal.returns-clause-cells
 returns-clause-cells g c = λ t.
