@@ -1,17 +1,18 @@
 // A whole shard whose elements have one size, decoded subchunk by subchunk to where each lies in one piece of memory.
 ghost use Rattle.std.specs.Prelude.{◌≡◌, ◌+◌, ◌*◌, ◌/◌, ◌^◌, ◌<◌, ℕ, Some, IsTrue, IfOk, IfErr, OnOk, map, length};
-ghost use Rattle.std.specs.List.{All, range_with_len};
+ghost use Rattle.std.specs.List.{range_with_len};
 ghost use Rattle.parts_errors.specs.Order.{done, RefusedBy};
 ghost use Rattle.parts_row_major.specs.Numbering.{count_of};
 ghost use Rattle.parts_row_major.specs.Pieces.{piece, pieces};
 ghost use Rattle.parts_subsets.specs.Grid.{Divides, grid_of, cell_number};
-ghost use Rattle.parts_arrays.specs.Types.{size_of, FitsKind};
+ghost use Rattle.parts_arrays.specs.Types.{size_of};
 ghost use Rattle.parts_arrays.specs.declared.data_type.DataTypeSize.TheVariants.{Fixed};
 ghost use Rattle.sharding_format.specs.Index.{slot_at};
 ghost use Rattle.sharding_format.specs.Cells.{indexed_cell};
 ghost use Rattle.sharding_format.specs.DecodeRefusals.{RefusesSubchunk, SubchunkRefusals};
 ghost use Rattle.sharding_format.specs.steps.Decoding.{FitsSlot};
 ghost use Rattle.sharding_format.specs.declared.slot.Slot.TheVariants.{Absent};
+ghost use Rattle.sharding_subchunks.specs.Reads.{HasElementsOf};
 ghost use Rattle.sharding_subchunks.specs.steps.Inner.{inner_meaning};
 ghost use Rattle.sharding_subchunks.specs.steps.Writes.{IsSlotWritten};
 
@@ -146,9 +147,7 @@ impl<I: ArrayToBytesCodecTraits> Subchunks<'_, I> {
         requires cells { cells ≡ count_of shape.now }
         requires whole { cells * length self.now.fill_value.now < 2 ^ 64 }
         requires divides { Divides self.now.shape.now shape.now }
-        ensures kind { IfOk result (λ array. array.kind ≡ size_of self.now.data_type.now) }
-        ensures counted { IfOk result (λ array. length array.elements ≡ cells) }
-        ensures fitting { IfOk result (λ array. All (FitsKind (size_of self.now.data_type.now)) array.elements) }
+        ensures elements { IfOk result (HasElementsOf (size_of self.now.data_type.now) cells) }
         ensures cells { let inner = inner_meaning I.meaning self.now in
             IfOk result (λ array. map (indexed_cell inner.cells shape.now self.now.shape.now self.now.fill_value.now bytes.now index.now.numbers.items) (range_with_len 0 cells)
             ≡ map Some array.elements) }

@@ -1,9 +1,9 @@
 use Rattle.std.proofs.Common.{◌≡◌, ◌∙◌, List, ℕ, ap, length, map, Some, Option, sym}
 use Rattle.parts_row_major.specs.Pieces.{pieces}
 use Rattle.parts_arrays.specs.Arrays.{Array}
-use Rattle.parts_row_major.proofs.PieceLaws.{length-pieces}
-use Rattle.parts_arrays.proofs.ArrayLaws.{whole_from_length, All-fixed_array}
+use Rattle.parts_arrays.proofs.ArrayLaws.{whole_from_length}
 use Rattle.sharding_gather.proofs.SubsetReadLemmas.{fixed_pieces}
+use Rattle.sharding_subchunks.proofs.ShardLemmas.{bytes_have_elements}
 use Rattle.sharding_subchunks.proofs.subchunks.Subchunks.decode_whole.Goals as goal
 
 pub unreachable-requires : goal.unreachable-requires
@@ -11,20 +11,11 @@ unreachable-requires g c =
     let fill = c.args.self.now.fill_value.now in
     c.in-None.ensures (rw c.as_ne_bytes-fill.ensures (whole_from_length (length fill) c.args.cells c.in_ok-whole.whole.items c.requires.some c.in_ok-whole.ensures.counted))
 
-pub returns-clause-counted : goal.returns-clause-counted
-returns-clause-counted g c =
+pub returns-clause-elements : goal.returns-clause-elements
+returns-clause-elements g c =
     let size = length c.args.self.now.fill_value.now in
-    let bytes = c.in_ok-whole.whole.items in
     let made = rw c.as_ne_bytes-fill.ensures at c.in-Some.ensures.1 in
-    ap (λ (array : Array). length array.elements) made
-    ∙ (ap (λ (elements : List (List ℕ)). length elements) (fixed_pieces size c.args.cells bytes c.requires.some c.in_ok-whole.ensures.counted) ∙ length-pieces size c.args.cells bytes)
-
-pub returns-clause-fitting : goal.returns-clause-fitting
-returns-clause-fitting g c =
-    let size = length c.args.self.now.fill_value.now in
-    let bytes = c.in_ok-whole.whole.items in
-    let made = rw c.as_ne_bytes-fill.ensures at c.in-Some.ensures.1 in
-    rw (c.requires.fixed, made) (All-fixed_array size bytes (whole_from_length size c.args.cells bytes c.requires.some c.in_ok-whole.ensures.counted))
+    rw c.requires.fixed (bytes_have_elements size c.args.cells c.in_ok-whole.whole.items c.in-Some.array c.requires.some c.in_ok-whole.ensures.counted made)
 
 pub returns-clause-cells : goal.returns-clause-cells
 returns-clause-cells g c =
