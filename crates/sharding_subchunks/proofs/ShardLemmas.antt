@@ -1,4 +1,4 @@
--- Elements of one size: they take some bytes, and bytes are so many of them.
+-- Elements of one size: they take some bytes, and what an array made of bytes holds.
 use Rattle.std.proofs.Common.{◌≡◌, ◌∙◌, ◌*◌, ◌<◌, ℕ, List, [], ◌∷◌, length, ap, refl, arith}
 use Rattle.parts_row_major.proofs.PieceLaws.{length-pieces}
 use Rattle.parts_arrays.specs.Arrays.{Array, fixed_array}

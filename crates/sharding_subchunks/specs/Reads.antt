@@ -12,7 +12,7 @@ use Rattle.sharding_format.specs.steps.Reading.{IsReadAt}
 use Rattle.sharding_format.specs.declared.slot.Slot.{Slot}
 use Rattle.sharding_gather.specs.steps.Gathering.{positions_there}
 
--- an array has so many elements, each of one kind
+-- an array holds `many` elements, each of one kind
 pub record HasElementsOf (kind : DataTypeSize) (many : ℕ) (array : Array) : Type 0 where
   pub kind_is : array.kind ≡ kind
   pub counted : length array.elements ≡ many

@@ -1,5 +1,5 @@
 -- That what is said of the shape and of the fill value of a shard's subchunks holds in one way at most.
-use Rattle.std.specs.Prelude.{◌≡◌, ◌%◌, ℕ, List, [], ◌∷◌, length}
+use Rattle.std.specs.Prelude.{◌%◌, ℕ, List, [], ◌∷◌, length}
 use Rattle.std.specs.Coded.{×_prop, Unit-prop, Coded-set, coded_ℕ}
 use Rattle.parts_subsets.specs.Grid.{Divides}
 use Rattle.parts_arrays.specs.Types.{FitsKind}

@@ -20,9 +20,9 @@ use std::alloc::Global;
 use storage_handles::BytesPartialDecoderTraits;
 
 impl<I: ArrayToBytesCodecTraits> StoredShard<'_, I> {
-    /// The cells with these row-major numbers, in their order, of the shard. Refused, in this order, as the lowest subchunk
-    /// in which cells are asked is (`BadIndexEntry` with its number, `Damaged`, `TooLarge`), and as `TooLarge` where the
-    /// lengths of the cells pass `usize::MAX`; or as `Fault`, where the handle failed, or `OutOfMemory`.
+    /// The cells with these row-major numbers, in their order, of the shard. Refused, in this order, as the lowest subchunk in
+    /// which cells are asked is (`BadIndexEntry` with its number, `Damaged`, `TooLarge`), and as `TooLarge` where the lengths
+    /// of the cells pass `usize::MAX`; or as `Fault`, where the handle failed, or `OutOfMemory`.
     pub fn read_cells<H: BytesPartialDecoderTraits>(
         &self,
         alloc: Global,

@@ -106,8 +106,8 @@ impl<I: ArrayToBytesCodecTraits> StoredShard<'_, I> {
     }
 
     /// The cells with these row-major numbers, in their order; their elements have one size, and together take fewer than 2^64
-    /// bytes. Refused as the lowest subchunk in which cells are asked is (`BadIndexEntry` with its number, `Damaged`, `TooLarge`); or as `Fault`, where the
-    /// handle failed, or `OutOfMemory`.
+    /// bytes. Refused as the lowest subchunk in which cells are asked is (`BadIndexEntry` with its number, `Damaged`,
+    /// `TooLarge`); or as `Fault`, where the handle failed, or `OutOfMemory`.
     pub fn read_listed<H: BytesPartialDecoderTraits>(
         &self,
         alloc: Global,

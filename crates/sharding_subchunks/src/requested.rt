@@ -36,10 +36,10 @@ impl<I: ArrayToBytesCodecTraits> Subchunks<'_, I> {
 }
 
 impl<I: ArrayToBytesCodecTraits> StoredShard<'_, I> {
-    /// The cells that an indexer requests, in its order; the count is theirs. Elements of one size are read by the subchunks that are touched, each
-    /// written where it stands, others group by group. Refused, in this order, as the lowest subchunk in which cells are asked
-    /// is (`BadIndexEntry` with its number, `Damaged`, `TooLarge`), and as `TooLarge` where the lengths of the cells pass
-    /// `usize::MAX`; or as `Fault`, where the handle failed, or `OutOfMemory`.
+    /// The cells that an indexer requests, in its order; the count is theirs. Elements of one size are read by the subchunks
+    /// that are touched, each written where it stands, others group by group. Refused, in this order, as the lowest subchunk in
+    /// which cells are asked is (`BadIndexEntry` with its number, `Damaged`, `TooLarge`), and as `TooLarge` where the lengths
+    /// of the cells pass `usize::MAX`; or as `Fault`, where the handle failed, or `OutOfMemory`.
     pub fn read_requested<H: BytesPartialDecoderTraits, N: Indexer>(
         &self,
         alloc: Global,

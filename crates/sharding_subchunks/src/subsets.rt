@@ -146,10 +146,10 @@ impl<I: ArrayToBytesCodecTraits> StoredShard<'_, I> {
         Ok(bytes)
     }
 
-    /// The cells of a subset, in row-major order of it; their elements have one size. The count is that of the subset's cells, whose bytes a number can say. Of each subchunk that
-    /// the subset touches the inner codec reads the subset where both meet; nothing is kept for each cell. Refused as the lowest
-    /// such subchunk is (`BadIndexEntry` with its number, `Damaged`, `TooLarge`); or as `Fault`, where the handle failed, or
-    /// `OutOfMemory`.
+    /// The cells of a subset, in row-major order of it; their elements have one size. The count is that of the subset's cells,
+    /// whose bytes a number can say. Of each subchunk that the subset touches the inner codec reads the subset where both meet;
+    /// nothing is kept for each cell. Refused as the lowest such subchunk is (`BadIndexEntry` with its number, `Damaged`,
+    /// `TooLarge`); or as `Fault`, where the handle failed, or `OutOfMemory`.
     pub fn read_subset<H: BytesPartialDecoderTraits>(
         &self,
         alloc: Global,
