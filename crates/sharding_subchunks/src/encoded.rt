@@ -10,6 +10,7 @@ ghost use Rattle.sharding_format.specs.Encoding.{IsStored};
 ghost use Rattle.sharding_format.specs.Laying.{IsStoredAfter, IsStoredInOrder};
 ghost use Rattle.sharding_format.specs.EncodeRefusals.{RefusesToStore, StoreRefusals};
 ghost use Rattle.sharding_layout.specs.Rows.{FollowBy};
+ghost use Rattle.sharding_subchunks.specs.steps.Cutting.{CanBeCut};
 ghost use Rattle.sharding_subchunks.specs.steps.Inner.{spec_of_subchunks, inner_meaning};
 
 use crate::subchunks::Subchunks;
@@ -29,6 +30,16 @@ use std::alloc::Global;
 pub struct Stored {
     pub present: bool,
     pub bytes: Vec<u8>,
+}
+
+// An array that is cut into the subchunks of a shard: its elements, its shape, the grid of the subchunks, and how many elements each has
+// where they follow one another in the array.
+#[derive(Clone, Copy)]
+struct CutArray<'a, 'b> {
+    array: &'a ArrayBytes<'b>,
+    shape: &'a ChunkShape,
+    grid: &'a ChunkShape,
+    in_row: Option<u64>,
 }
 
 impl<I: ArrayToBytesCodecTraits> Subchunks<'_, I> {
@@ -125,35 +136,27 @@ impl<I: ArrayToBytesCodecTraits> Subchunks<'_, I> {
     fn lowest_refusal(
         &self,
         alloc: Global,
-        array: &ArrayBytes,
+        cut: &CutArray,
         number: u64,
-        in_row: Option<u64>,
-        shape: &ChunkShape,
-        grid: &ChunkShape,
         refusal: CodecError,
     ) -> CodecError
         requires serves { (inner_meaning I.meaning self.now).serves }
-        requires supported { HasElements self.now.data_type.now }
-        requires kind { array.now.kind ≡ size_of self.now.data_type.now }
-        requires array { IsArrayOf (array_spec shape.now self.now.data_type.now self.now.fill_value.now) array.now.elements }
-        requires fits { count_of shape.now < 2 ^ 64 }
-        requires axes { length shape.now ≡ length self.now.shape.now }
-        requires divides { Divides self.now.shape.now shape.now }
-        requires grid { grid.now ≡ grid_of shape.now self.now.shape.now }
-        requires below { number < count_of grid.now }
-        requires in_row { IfSome in_row (FollowBy shape.now self.now.shape.now) }
+        requires cut { CanBeCut self.now cut.now }
+        requires below { number < count_of cut.now.grid.now }
         requires refusal { let inner = inner_meaning I.meaning self.now in
             RefusedBy (RefusesToStore inner.encodable inner.fits self.now.fill_value.now
-            (subchunk shape.now self.now.shape.now array.now.elements number)) refusal }
+            (subchunk cut.now.shape.now self.now.shape.now cut.now.array.now.elements number)) refusal }
         ensures { let inner = inner_meaning I.meaning self.now in
             RefusedBy (StoreRefusals inner self.now.fill_value.now
-            (subchunk shape.now self.now.shape.now array.now.elements) (count_of grid.now) done) result }
+            (subchunk cut.now.shape.now self.now.shape.now cut.now.array.now.elements) (count_of cut.now.grid.now) done) result }
     {
         if refusal == CodecError::OutOfMemory {
             return refusal;
         }
         for lower in 0..number {
-            if let Err(error) = self.stored_at(alloc, array, lower, in_row, shape, grid) {
+            if let Err(error) = self.stored_at(
+                alloc, cut.array, lower, cut.in_row, cut.shape, cut.grid,
+            ) {
                 return error;
             }
         }
@@ -165,46 +168,34 @@ impl<I: ArrayToBytesCodecTraits> Subchunks<'_, I> {
     fn store_number(
         &self,
         alloc: Global,
-        array: &ArrayBytes,
+        cut: &CutArray,
         number: u64,
-        in_row: Option<u64>,
-        shape: &ChunkShape,
-        grid: &ChunkShape,
         bytes: &mut Vec<u8>,
     ) -> Result<Slot, CodecError>
         requires serves { (inner_meaning I.meaning self.now).serves }
-        requires supported { HasElements self.now.data_type.now }
-        requires kind { array.now.kind ≡ size_of self.now.data_type.now }
-        requires array { IsArrayOf (array_spec shape.now self.now.data_type.now self.now.fill_value.now) array.now.elements }
-        requires fits { count_of shape.now < 2 ^ 64 }
-        requires axes { length shape.now ≡ length self.now.shape.now }
-        requires divides { Divides self.now.shape.now shape.now }
-        requires grid { grid.now ≡ grid_of shape.now self.now.shape.now }
-        requires below { number < count_of grid.now }
-        requires in_row { IfSome in_row (FollowBy shape.now self.now.shape.now) }
+        requires cut { CanBeCut self.now cut.now }
+        requires below { number < count_of cut.now.grid.now }
         ensures stored { let inner = inner_meaning I.meaning self.now in
             IfOk result (IsStoredAfter inner.written self.now.fill_value.now
-            (subchunk shape.now self.now.shape.now array.now.elements number) bytes.old.items bytes.new.items) }
+            (subchunk cut.now.shape.now self.now.shape.now cut.now.array.now.elements number) bytes.old.items bytes.new.items) }
         ensures kept { OnErr result (bytes.new.items ≡ bytes.old.items) }
         ensures refused { let inner = inner_meaning I.meaning self.now in
             IfErr result (RefusedBy (StoreRefusals inner self.now.fill_value.now
-            (subchunk shape.now self.now.shape.now array.now.elements) (count_of grid.now) done)) }
+            (subchunk cut.now.shape.now self.now.shape.now cut.now.array.now.elements) (count_of cut.now.grid.now) done)) }
     {
         let part = gather_subchunk(
             alloc,
-            array,
+            cut.array,
             number,
-            in_row,
-            shape,
-            grid,
+            cut.in_row,
+            cut.shape,
+            cut.grid,
             self.shape,
             self.data_type,
         )?;
         match self.store_after(alloc, &part, bytes) {
             Ok(slot) => Ok(slot),
-            Err(refusal) => {
-                Err(self.lowest_refusal(alloc, array, number, in_row, shape, grid, refusal))
-            }
+            Err(refusal) => Err(self.lowest_refusal(alloc, cut, number, refusal)),
         }
     }
 
@@ -213,30 +204,20 @@ impl<I: ArrayToBytesCodecTraits> Subchunks<'_, I> {
     fn lay_out_each(
         &self,
         alloc: Global,
-        array: &ArrayBytes,
-        in_row: Option<u64>,
-        shape: &ChunkShape,
-        grid: &ChunkShape,
+        cut: &CutArray,
         sequence: &SubchunkSequence,
         bytes: &mut Vec<u8>,
     ) -> Result<Vec<Slot>, CodecError>
         requires serves { (inner_meaning I.meaning self.now).serves }
-        requires supported { HasElements self.now.data_type.now }
-        requires kind { array.now.kind ≡ size_of self.now.data_type.now }
-        requires array { IsArrayOf (array_spec shape.now self.now.data_type.now self.now.fill_value.now) array.now.elements }
-        requires fits { count_of shape.now < 2 ^ 64 }
-        requires axes { length shape.now ≡ length self.now.shape.now }
-        requires divides { Divides self.now.shape.now shape.now }
-        requires grid { grid.now ≡ grid_of shape.now self.now.shape.now }
-        requires order { IsPermutation (range_with_len 0 (count_of grid.now)) sequence.now }
-        requires in_row { IfSome in_row (FollowBy shape.now self.now.shape.now) }
+        requires cut { CanBeCut self.now cut.now }
+        requires order { IsPermutation (range_with_len 0 (count_of cut.now.grid.now)) sequence.now }
         ensures stay { take (length bytes.old.items) bytes.new.items ≡ bytes.old.items }
         ensures stored_slices { let inner = inner_meaning I.meaning self.now in
-            IfOk result (λ slots. IsStoredInOrder inner.written self.now.fill_value.now shape.now self.now.shape.now array.now.elements
-            (drop (length bytes.old.items) bytes.new.items) slots.items sequence.now (count_of grid.now)) }
+            IfOk result (λ slots. IsStoredInOrder inner.written self.now.fill_value.now cut.now.shape.now self.now.shape.now cut.now.array.now.elements
+            (drop (length bytes.old.items) bytes.new.items) slots.items sequence.now (count_of cut.now.grid.now)) }
         ensures refused { let inner = inner_meaning I.meaning self.now in
             IfErr result (RefusedBy (StoreRefusals inner self.now.fill_value.now
-            (subchunk shape.now self.now.shape.now array.now.elements) (count_of grid.now) done)) }
+            (subchunk cut.now.shape.now self.now.shape.now cut.now.array.now.elements) (count_of cut.now.grid.now) done)) }
     {
         let start = bytes.len();
         let many = sequence.len();
@@ -252,7 +233,7 @@ impl<I: ArrayToBytesCodecTraits> Subchunks<'_, I> {
             )?;
             let number = sequence.number_at(position);
             let from = bytes.len();
-            let slot = self.store_number(alloc, array, number, in_row, shape, grid, bytes)?;
+            let slot = self.store_number(alloc, cut, number, bytes)?;
             let (offset, size) = (from - start, bytes.len() - from);
             longest = longest.max(size);
             slots[number as usize] = placed(slot != Slot::Absent, offset as u64, size as u64);
@@ -293,6 +274,12 @@ impl<I: ArrayToBytesCodecTraits> Subchunks<'_, I> {
         if let Some(slots) = self.lay_out_rows(alloc, array, in_row, shape, sequence, bytes)? {
             return Ok(slots);
         }
-        self.lay_out_each(alloc, array, in_row, shape, grid, sequence, bytes)
+        let cut = CutArray {
+            array,
+            shape,
+            grid,
+            in_row,
+        };
+        self.lay_out_each(alloc, &cut, sequence, bytes)
     }
 }

@@ -12,25 +12,25 @@ loop-position-init g c =
     let a = c.args in
     let s = a.self.now in (
       stay_themselves a.bytes.now.items,
-      none_after (g.I.ArrayToBytesCodecTraits.meaning s.codec.now (spec_of_subchunks s)).written s.fill_value.now a.shape.now s.shape.now a.array.now.elements a.bytes.now.items c.in_ok-slots.slots.items a.sequence.now (count_of a.grid.now)
-          c.requires.order (rw (c.len-many.ensures, order_counted (count_of a.grid.now) a.sequence.now c.requires.order) at c.in_ok-slots.ensures),
+      none_after (g.I.ArrayToBytesCodecTraits.meaning s.codec.now (spec_of_subchunks s)).written s.fill_value.now a.cut.now.shape.now s.shape.now a.cut.now.array.now.elements a.bytes.now.items c.in_ok-slots.slots.items a.sequence.now (count_of a.cut.now.grid.now)
+          c.requires.order (rw (c.len-many.ensures, order_counted (count_of a.cut.now.grid.now) a.sequence.now c.requires.order) at c.in_ok-slots.ensures),
     )
 
 pub store_number-requires-clause-below : goal.store_number-requires-clause-below
 store_number-requires-clause-below g c =
-    let counted = order_counted (count_of c.args.grid.now) c.args.sequence.now c.requires.order in
-    omega (arith, c.number_at-number.ensures, order_below (count_of c.args.grid.now) c.args.sequence.now c.loop-position.position c.requires.order (omega (arith, c.loop-position-test.true, c.len-many.ensures, counted)))
+    let counted = order_counted (count_of c.args.cut.now.grid.now) c.args.sequence.now c.requires.order in
+    omega (arith, c.number_at-number.ensures, order_below (count_of c.args.cut.now.grid.now) c.args.sequence.now c.loop-position.position c.requires.order (omega (arith, c.loop-position-test.true, c.len-many.ensures, counted)))
 
 pub index_mut-requires : goal.index_mut-requires
 index_mut-requires g c =
-    let counted = order_counted (count_of c.args.grid.now) c.args.sequence.now c.requires.order in
+    let counted = order_counted (count_of c.args.cut.now.grid.now) c.args.sequence.now c.requires.order in
     omega (
       arith,
       c.number_at-number.ensures,
       c.loop-position.slots.ok.0,
       c.loop-position.invariant.1.counted,
       counted,
-      order_below (count_of c.args.grid.now) c.args.sequence.now c.loop-position.position c.requires.order (omega (arith, c.loop-position-test.true, c.len-many.ensures, counted)),
+      order_below (count_of c.args.cut.now.grid.now) c.args.sequence.now c.loop-position.position c.requires.order (omega (arith, c.loop-position-test.true, c.len-many.ensures, counted)),
     )
 
 pub loop-position-preserved : goal.loop-position-preserved
@@ -38,7 +38,7 @@ loop-position-preserved g c =
     let a = c.args in
     let s = a.self.now in
     let l = c.loop-position in
-    let n = count_of a.grid.now in
+    let n = count_of a.cut.now.grid.now in
     let old = a.bytes.now.items in
     let room = c.room_for_next.new.bytes in
     let all = c.store_number.new.bytes in
@@ -54,7 +54,7 @@ loop-position-preserved g c =
     let present : c.ne.result ≡ stored.present = search rules in
     let placed : c.placed.result ≡ placed_slot stored.present (length l.bytes.items - length old) (length stored.slice) = rw (present, from, size) at c.placed.ensures in (
       stay_before old l.bytes.items stored.slice all.items l.invariant.0 appended,
-      one_more_after (g.I.ArrayToBytesCodecTraits.meaning s.codec.now (spec_of_subchunks s)).written s.fill_value.now a.shape.now s.shape.now a.array.now.elements
+      one_more_after (g.I.ArrayToBytesCodecTraits.meaning s.codec.now (spec_of_subchunks s)).written s.fill_value.now a.cut.now.shape.now s.shape.now a.cut.now.array.now.elements
           old l.bytes.items stored.slice all.items l.slots.items (set l.slots.items c.number_at-number.result c.placed.result) a.sequence.now n l.position c.number_at-number.result stored.present
           c.requires.order below number l.invariant.0 l.invariant.1 stored.stored appended (ap (λ x. set l.slots.items c.number_at-number.result x) placed),
     )
@@ -64,5 +64,5 @@ returns-clause-stored_slices g c =
     let a = c.args in
     let s = a.self.now in
     let l = c.loop-position in
-    let end : l.position ≡ count_of a.grid.now = omega (arith, c.loop-position-test.false, l.auto.position-end, c.len-many.ensures, order_counted (count_of a.grid.now) a.sequence.now c.requires.order) in
+    let end : l.position ≡ count_of a.cut.now.grid.now = omega (arith, c.loop-position-test.false, l.auto.position-end, c.len-many.ensures, order_counted (count_of a.cut.now.grid.now) a.sequence.now c.requires.order) in
     rw end at l.invariant.1

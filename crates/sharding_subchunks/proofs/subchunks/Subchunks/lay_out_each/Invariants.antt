@@ -8,5 +8,5 @@ abbrev pub invariant-loop-position : goal.invariant-loop-position
 invariant-loop-position g l =
     let old = l.fn.bytes.items in
     (take (length old) l.bytes.items ≡ old)
-    × IsStoredInOrder (g.I.ArrayToBytesCodecTraits.meaning l.self.codec.now (spec_of_subchunks l.self)).written l.self.fill_value.now l.shape l.self.shape.now l.array.elements
+    × IsStoredInOrder (g.I.ArrayToBytesCodecTraits.meaning l.self.codec.now (spec_of_subchunks l.self)).written l.self.fill_value.now l.cut.shape.now l.self.shape.now l.cut.array.now.elements
     (drop (length old) l.bytes.items) l.slots.items l.sequence l.position

@@ -7,4 +7,4 @@ use Rattle.sharding_subchunks.proofs.subchunks.Subchunks.lowest_refusal.Given as
 
 abbrev pub invariant-loop-lower : goal.invariant-loop-lower
 invariant-loop-lower g l = (j : ℕ) → j < l.lower
-    → HasPart (g.I.ArrayToBytesCodecTraits.meaning l.self.codec.now (spec_of_subchunks l.self)).written l.self.fill_value.now (subchunk l.shape l.self.shape.now l.array.elements j)
+    → HasPart (g.I.ArrayToBytesCodecTraits.meaning l.self.codec.now (spec_of_subchunks l.self)).written l.self.fill_value.now (subchunk l.cut.shape.now l.self.shape.now l.cut.array.now.elements j)

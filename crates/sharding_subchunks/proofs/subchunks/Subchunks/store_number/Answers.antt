@@ -6,6 +6,6 @@ pub store_after-requires-clause-array : goal.store_after-requires-clause-array
 store_after-requires-clause-array g c =
     let a = c.args in
     let s = a.self.now in
-    let spec = array_spec a.shape.now s.data_type.now s.fill_value.now in
+    let spec = array_spec a.cut.now.shape.now s.data_type.now s.fill_value.now in
     rw c.in_ok-part.ensures.elements
-    (IsArrayOf-subchunk s.shape.now spec a.array.now.elements a.number c.requires.divides c.requires.array (rw c.requires.grid at c.requires.below))
+    (IsArrayOf-subchunk s.shape.now spec a.cut.now.array.now.elements a.number c.requires.cut.divides c.requires.cut.array (rw c.requires.cut.grid at c.requires.below))
