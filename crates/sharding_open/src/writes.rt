@@ -27,7 +27,7 @@ use parts_subsets::ArraySubset;
 use sharding_engine::Sharding;
 use sharding_index::IndexCodec;
 use sharding_subchunks::Subchunks;
-use sharding_write::{Prepared, Writing};
+use sharding_write::{CachedIndex, Prepared, Update, Writing};
 use std::alloc::Global;
 use storage_handles::{BytesPartialDecoderTraits, BytesPartialEncoderTraits};
 
@@ -77,6 +77,7 @@ impl OpenSession {
             (H.state handle.old).contents (numbers_cached self.now.shard.cached self.now.blank.items)))) }
     {
         let shard = &self.shard;
+        let positions = shard.cells / shard.subchunks;
         let writing = Writing {
             subchunks: Subchunks {
                 codec: sharding.inner,
@@ -91,10 +92,15 @@ impl OpenSession {
             },
             plan: &self.plan,
             shape: &shard.shape,
+            positions,
         };
-        let positions = shard.cells / shard.subchunks;
         let (len, numbers) = self.cached_index();
-        let prepared = writing.prepare(alloc, handle, positions, len, numbers, subset, update)?;
+        let cached = CachedIndex { len, numbers };
+        let given = Update {
+            subset,
+            elements: update,
+        };
+        let prepared = writing.prepare(alloc, handle, &cached, &given)?;
         Ok(prepared)
     }
 

@@ -1,5 +1,5 @@
 -- Where new slices go.
-use Rattle.std.proofs.Common.{◌≡◌, ◌∙◌, ℕ, zero, suc, ◌+◌, ◌*◌, ◌^◌, ◌≤◌, ◌<◌, Bool, true, false, ◌&&◌, ◌||◌, ◌==◌, nat_le, if◌then◌else◌, List, [], ◌∷◌, map, fold, max, get_or, inl, inr, refl, sym, ap, subst, arith}
+use Rattle.std.proofs.Common.{◌≡◌, ◌∙◌, ℕ, zero, suc, ◌+◌, ◌*◌, ◌≤◌, Bool, true, false, ◌&&◌, ◌||◌, ◌==◌, nat_le, if◌then◌else◌, List, [], ◌∷◌, map, fold, max, get_or, inl, inr, refl, sym, ap, subst, arith}
 use Rattle.std.specs.List.{range_with_len}
 use Rattle.std.proofs.lemmas.List.FromFn.{map-range_with_len_more}
 use Rattle.std.proofs.lemmas.Bool.{false≢true}
@@ -7,8 +7,6 @@ use Rattle.std.proofs.lemmas.Bool.Decides.{leb_tells}
 use Rattle.std.proofs.lemmas.Grind.{fold-append}
 use Rattle.sharding_format.specs.Index.{absent_number, slot_at}
 use Rattle.sharding_format.specs.declared.slot.Slot.TheVariants.{Absent, InRange, Bad}
-use Rattle.sharding_format.specs.declared.location.ShardingIndexLocation.{ShardingIndexLocation}
-use Rattle.sharding_format.specs.declared.location.ShardingIndexLocation.TheVariants.{Start, End}
 use Rattle.sharding_write.specs.Offsets.{slot_end, last_end}
 
 -- the greatest end with one slice more

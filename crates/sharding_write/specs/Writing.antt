@@ -1,5 +1,5 @@
 -- A write into a shard: what becomes of the object, of its index and of its cells.
-use Rattle.std.specs.Prelude.{◌≡◌, ◌≢◌, ◌≤◌, ◌<◌, ◌^◌, ◌⊎◌, ℕ, ◌+◌, ◌*◌, ◌/◌, max, List, Option, Some, None, [], length, map, slice_index, slice_index_or}
+use Rattle.std.specs.Prelude.{◌≡◌, ◌≢◌, ◌≤◌, ◌<◌, ◌^◌, ◌⊎◌, ℕ, Bool, IsTrue, ◌+◌, ◌*◌, ◌/◌, max, List, Option, Some, None, [], length, map, slice_index, slice_index_or}
 use Rattle.std.specs.List.{All, range_with_len}
 use Rattle.parts_errors.specs.Words.{Bytes, Elements, CellList, CellsOf, Written, Refusals}
 use Rattle.parts_errors.specs.declared.error.CodecError.{CodecError}
@@ -278,3 +278,10 @@ pub record IsCachedIndex (location : ShardingIndexLocation) (index_size n len : 
   pub room : len + 1 < 2 ^ 64
   pub long_enough : ¬ (AreAbsent numbers) → index_size ≤ len
   pub placed : (k : ℕ) → k < n → IsInDataPart location index_size len (slot_at len numbers k)
+
+-- an index is held of an object: so much is known of its length and its numbers, and where the handle is transparent, they are the
+-- object's; `index_in` says which numbers the index of some bytes has
+pub record IsHeldIndex (index_in : Bytes → Option (List ℕ)) (location : ShardingIndexLocation) (index_size n : ℕ) (transparent : Bool)
+    (contents : Option Bytes) (len : ℕ) (numbers : List ℕ) : Type 0 where
+  pub cached : IsCachedIndex location index_size n len numbers
+  pub told : IsTrue transparent → HoldsNumbers index_in contents len numbers

@@ -1,11 +1,10 @@
 // Bytes put after slices: those of an old subchunk, and what becomes of them.
-ghost use Rattle.std.specs.Prelude.{◌≡◌, ◌≤◌, ◌<◌, ◌*◌, ◌++◌, IsTrue, ◌↔◌, IfOk, IfErr, OnOk, All, length, take, drop, replicate};
+ghost use Rattle.std.specs.Prelude.{◌≡◌, ◌≤◌, ◌<◌, ◌*◌, ◌++◌, IsTrue, ◌↔◌, IfOk, IfErr, OnOk, length, take, drop, replicate};
 ghost use Rattle.std.specs.List.{concat};
 ghost use Rattle.parts_errors.specs.Order.{done, RefusedBy};
 ghost use Rattle.parts_row_major.specs.Numbering.{count_of};
 ghost use Rattle.parts_row_major.specs.Subsets.{IsServed};
 ghost use Rattle.parts_arrays.specs.Arrays.{IsWhole, fixed_array, extracted, IsOverlaid};
-ghost use Rattle.parts_arrays.specs.Types.{FitsKind};
 ghost use Rattle.parts_errors.specs.declared.error.CodecError.TheVariants.{OutOfMemory};
 ghost use Rattle.parts_arrays.specs.declared.data_type.DataTypeSize.TheVariants.{Fixed};
 ghost use Rattle.storage_handles.specs.Handles.{IsRead, IsCounted};
@@ -16,6 +15,7 @@ ghost use Rattle.sharding_format.specs.Encoding.{IsAllFill};
 ghost use Rattle.sharding_format.specs.Laying.{IsStoredAfter};
 ghost use Rattle.sharding_write.specs.Slices.{IsPutAfter};
 
+use crate::writing::Update;
 use parts_arrays::{ArrayBytes, FillValue};
 use parts_errors::CodecError;
 use parts_strided_copy::copy_subset;
@@ -63,34 +63,21 @@ pub fn slice_after<H: BytesPartialDecoderTraits>(
 }
 
 // Writes the elements at the points of a subset of an update over those of a subchunk where both meet.
-fn overlay(
-    part: &mut [u8],
-    size: usize,
-    overlap: &SubchunkOverlap,
-    sub: &[u64],
-    update: &ArrayBytes,
-    axes: &[u64],
-)
+fn overlay(part: &mut [u8], size: usize, overlap: &SubchunkOverlap, sub: &[u64], update: &Update)
     requires some { 0 < size }
-    requires kind { update.now.kind ≡ Fixed size }
-    requires fitting { All (FitsKind (Fixed size)) update.now.elements }
-    requires all { length update.now.elements ≡ count_of axes.now }
+    requires kind { update.now.elements.now.kind ≡ Fixed size }
     requires served { IsServed overlap.now.in_subchunk sub.now }
-    requires subset_served { IsServed overlap.now.in_subset axes.now }
+    requires subset_served { IsServed overlap.now.in_subset update.now.subset.now.shape }
     requires same { count_of overlap.now.in_subset.shape ≡ count_of overlap.now.in_subchunk.shape }
     requires whole { length part.old ≡ count_of sub.now * size }
-    ensures { IsOverlaid overlap.now.in_subchunk sub.now (fixed_array size part.old) (extracted update.now overlap.now.in_subset axes.now) (fixed_array size part.new) }
+    ensures { IsOverlaid overlap.now.in_subchunk sub.now (fixed_array size part.old) (extracted update.now.elements.now overlap.now.in_subset update.now.subset.now.shape) (fixed_array size part.new) }
 {
-    let given = update.bytes();
-    copy_subset(
-        part,
-        size,
-        &overlap.in_subchunk,
-        sub,
-        given,
-        &overlap.in_subset,
-        axes,
-    );
+    let subset = update.subset;
+    let axes = subset.shape();
+    let given = update.elements.bytes();
+    let to = &overlap.in_subchunk;
+    let from = &overlap.in_subset;
+    copy_subset(part, size, to, sub, given, from, axes);
 }
 
 // The same of the subchunk that stands from a place of the slices on.
@@ -100,24 +87,21 @@ pub fn overlay_after(
     size: usize,
     overlap: &SubchunkOverlap,
     sub: &[u64],
-    update: &ArrayBytes,
-    axes: &[u64],
+    update: &Update,
 )
     requires some { 0 < size }
-    requires kind { update.now.kind ≡ Fixed size }
-    requires fitting { All (FitsKind (Fixed size)) update.now.elements }
-    requires all { length update.now.elements ≡ count_of axes.now }
+    requires kind { update.now.elements.now.kind ≡ Fixed size }
     requires served { IsServed overlap.now.in_subchunk sub.now }
-    requires subset_served { IsServed overlap.now.in_subset axes.now }
+    requires subset_served { IsServed overlap.now.in_subset update.now.subset.now.shape }
     requires same { count_of overlap.now.in_subset.shape ≡ count_of overlap.now.in_subchunk.shape }
     requires from { from ≤ length slices.old.items }
     requires whole { length (drop from slices.old.items) ≡ count_of sub.now * size }
     ensures kept { take from slices.new.items ≡ take from slices.old.items }
     ensures long { length slices.new.items ≡ length slices.old.items }
     ensures overlaid { IsOverlaid overlap.now.in_subchunk sub.now (fixed_array size (drop from slices.old.items))
-        (extracted update.now overlap.now.in_subset axes.now) (fixed_array size (drop from slices.new.items)) }
+        (extracted update.now.elements.now overlap.now.in_subset update.now.subset.now.shape) (fixed_array size (drop from slices.new.items)) }
 {
-    overlay(&mut slices[from..], size, overlap, sub, update, axes);
+    overlay(&mut slices[from..], size, overlap, sub, update);
 }
 
 // Whether elements of one size are all fill.

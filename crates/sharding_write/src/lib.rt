@@ -22,4 +22,4 @@ pub use change::{Change, Prepared};
 pub use covered::is_whole;
 pub use offsets::{fresh_offset, index_offset, length_after, offset_after, slot_in};
 pub use old::old_cells;
-pub use writing::Writing;
+pub use writing::{CachedIndex, OldEntry, Update, Writing};

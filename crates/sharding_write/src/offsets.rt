@@ -4,16 +4,18 @@ ghost use Rattle.sharding_format.specs.steps.Decoding.{FitsSlot};
 ghost use Rattle.sharding_format.specs.Index.{slot_at, data_start};
 ghost use Rattle.sharding_write.specs.Offsets.{slot_end, last_end, offset_after, length_after, index_after};
 
+use crate::writing::CachedIndex;
 use sharding_format::{ShardingIndexLocation, Slot, slot_of};
 
 // What the entry of a subchunk says.
 #[tactic(auto, unfolding(sharding_format::specs::Index::slot_at))]
-pub fn slot_in(len: u64, numbers: &[u64], subchunk: usize) -> Slot
-    requires { 2 * subchunk + 1 < length numbers.now }
-    ensures slot { result ≡ slot_at len numbers.now subchunk }
-    ensures fits { FitsSlot len result }
+pub fn slot_in(cached: &CachedIndex, subchunk: usize) -> Slot
+    requires { 2 * subchunk + 1 < length cached.now.numbers.now }
+    ensures slot { result ≡ slot_at cached.now.len cached.now.numbers.now subchunk }
+    ensures fits { FitsSlot cached.now.len result }
 {
-    slot_of(len, numbers[2 * subchunk], numbers[2 * subchunk + 1])
+    let numbers = cached.numbers;
+    slot_of(cached.len, numbers[2 * subchunk], numbers[2 * subchunk + 1])
 }
 
 // Where a slot's slice ends in a shard of so many bytes, 0 where there is none.
@@ -28,28 +30,24 @@ fn end_in(len: u64, slot: Slot) -> u64
 }
 
 // The greatest end of a slice, and no less than a number.
-fn last_end(least: u64, len: u64, numbers: &[u64]) -> u64
-    ensures { result ≡ last_end least len numbers.now (length numbers.now / 2) }
+fn last_end(least: u64, cached: &CachedIndex) -> u64
+    ensures { result ≡ last_end least cached.now.len cached.now.numbers.now (length cached.now.numbers.now / 2) }
 {
     let mut last = least;
-    for k in 0..numbers.len() / 2 {
-        let end = end_in(len, slot_in(len, numbers, k));
+    for k in 0..cached.numbers.len() / 2 {
+        let end = end_in(cached.len, slot_in(cached, k));
         last = last.max(end);
     }
     last
 }
 
 // Where new slices go after the old ones.
-pub fn offset_after(
-    location: ShardingIndexLocation,
-    index_size: u64,
-    len: u64,
-    numbers: &[u64],
-) -> u64
-    ensures { result ≡ offset_after location index_size len numbers.now (length numbers.now / 2) }
+pub fn offset_after(location: ShardingIndexLocation, index_size: u64, cached: &CachedIndex) -> u64
+    ensures { result ≡ offset_after location index_size cached.now.len cached.now.numbers.now (length cached.now.numbers.now / 2) }
 {
+    let len = cached.len;
     match location {
-        ShardingIndexLocation::Start => last_end(index_size, len, numbers),
+        ShardingIndexLocation::Start => last_end(index_size, cached),
         ShardingIndexLocation::End => len.saturating_sub(index_size),
     }
 }

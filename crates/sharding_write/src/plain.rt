@@ -1,31 +1,29 @@
 // New subchunks of a codec that stores elements as they are in memory: each one's old bytes go to where the new ones are to stand,
 // and the update is written over them there.
-ghost use Rattle.std.specs.Prelude.{◌≡◌, ◌*◌, ◌+◌, ◌^◌, ◌<◌, ℕ, IsTrue, IfOk, IfErr, IfSome, All, length};
+ghost use Rattle.std.specs.Prelude.{◌≡◌, ◌<◌, ℕ, IsTrue, IfOk, IfErr, IfSome, All, length};
 ghost use Rattle.parts_errors.specs.Order.{done, RefusedBy};
-ghost use Rattle.parts_row_major.specs.Numbering.{AllPositive, count_of};
-ghost use Rattle.parts_row_major.specs.Subsets.{IsSubset, LiesIn};
+ghost use Rattle.parts_row_major.specs.Numbering.{count_of};
+ghost use Rattle.parts_row_major.specs.Subsets.{LiesIn};
 ghost use Rattle.parts_row_major.specs.Pieces.{pieces};
-ghost use Rattle.parts_subsets.specs.Grid.{Divides, grid_of};
 ghost use Rattle.parts_subsets.specs.Touched.{Touches, AreTouched};
-ghost use Rattle.parts_arrays.specs.Types.{size_of, FitsKind};
+ghost use Rattle.parts_arrays.specs.Types.{size_of};
 ghost use Rattle.storage_handles.specs.Handles.{IsRead, IsCounted};
 ghost use Rattle.storage_handles.specs.Objects.{ObjectRefusals};
 ghost use Rattle.storage_handles.specs.Writes.{bytes_of};
 ghost use Rattle.codec_traits.specs.Encodings.{IsPlain};
-ghost use Rattle.sharding_format.specs.Index.{slot_at};
 ghost use Rattle.sharding_subchunks.specs.steps.Inner.{spec_of_subchunks, inner_meaning};
 ghost use Rattle.sharding_write.specs.Writing.{HasSlice};
+ghost use Rattle.sharding_write.specs.steps.NewCells.{HoldsSlices};
 ghost use Rattle.sharding_write.specs.WriteRefusals.{HasOldCells};
 ghost use Rattle.sharding_write.specs.Slices.{IsPutAfter, AreOldCells, IsNewAfter, AreNewSlices};
 
 use crate::appended::{overlay_after, slice_after, slot_after, zeros_after};
 use crate::covered::is_whole;
 use crate::offsets::slot_in;
-use crate::writing::Writing;
+use crate::writing::{CachedIndex, OldEntry, Update, Writing};
 use codec_traits::ArrayToBytesCodecTraits;
-use parts_arrays::{ArrayBytes, repeated};
+use parts_arrays::repeated;
 use parts_errors::CodecError;
-use parts_subsets::ArraySubset;
 use sharding_format::Slot;
 use sharding_gather::subchunk_overlap;
 use sharding_layout::StoredSlices;
@@ -108,44 +106,43 @@ impl<I: ArrayToBytesCodecTraits, X> Writing<'_, I, X> {
         &self,
         alloc: Global,
         handle: &mut H,
-        number: u64,
-        slot: Slot,
-        subset: &ArraySubset,
-        update: &ArrayBytes,
+        entry: OldEntry,
+        update: &Update,
         size: u64,
         slices: &mut Vec<u8>,
     ) -> Result<Option<Slot>, CodecError>
-        requires positive { AllPositive self.now.shape.now }
-        requires well_formed { IsSubset subset.now.start subset.now.shape }
-        requires fits { count_of self.now.shape.now < 2 ^ 64 }
-        requires divides { Divides self.now.subchunks.shape.now self.now.shape.now }
-        requires grid { self.now.plan.now.grid ≡ grid_of self.now.shape.now self.now.subchunks.shape.now }
-        requires inside { LiesIn subset.now self.now.shape.now }
-        requires below { number < count_of self.now.plan.now.grid }
-        requires touches { Touches self.now.shape.now self.now.subchunks.shape.now subset.now number }
+        requires inside { LiesIn update.now.subset.now self.now.shape.now }
+        requires below { entry.number < count_of self.now.plan.now.grid }
+        requires touches { Touches self.now.shape.now self.now.subchunks.shape.now update.now.subset.now entry.number }
         requires plain { IsPlain (spec_of_subchunks self.now.subchunks) (inner_meaning I.meaning self.now.subchunks) size }
-        requires kind { update.now.kind ≡ size_of self.now.subchunks.data_type.now }
-        requires fitting { All (FitsKind (size_of self.now.subchunks.data_type.now)) update.now.elements }
-        requires all { length update.now.elements ≡ count_of subset.now.shape }
-        requires there { IsTrue (H.state handle.old).transparent → HasSlice (H.state handle.old).contents slot }
+        requires kind { update.now.elements.now.kind ≡ size_of self.now.subchunks.data_type.now }
+        requires there { IsTrue (H.state handle.old).transparent → HasSlice (H.state handle.old).contents entry.slot }
         ensures read { IsRead (H.state handle.old) (H.state handle.new) }
         ensures stored_slices { let s = self.now.subchunks in let inner = inner_meaning I.meaning s in let state = H.state handle.old in
-            IfOk result (λ o. IfSome o (λ new. IsNewAfter inner self.now.shape.now (spec_of_subchunks s) subset.now update.now.elements state.transparent (bytes_of state.contents) slot number
+            IfOk result (λ o. IfSome o (λ new. IsNewAfter inner self.now.shape.now (spec_of_subchunks s) update.now.subset.now update.now.elements.now.elements state.transparent (bytes_of state.contents) entry.slot entry.number
             slices.old.items slices.new.items new)) }
         ensures fault { IfErr result (IsCounted (H.state handle.old) (H.state handle.new)) }
         ensures refused { IfErr result (RefusedBy (ObjectRefusals (H.state handle.old) (H.state handle.new) done)) }
     {
         let grid = &self.plan.grid;
         let sub = self.subchunks.shape;
-        let overlap = subchunk_overlap(alloc, number, subset, grid, self.shape, sub)?;
+        let subset = update.subset;
+        let overlap = subchunk_overlap(alloc, entry.number, subset, grid, self.shape, sub)?;
         let from = slices.len();
         let whole = is_whole(&overlap.in_subchunk, sub);
-        let there = before_after(&self.subchunks, alloc, handle, whole, slot, size, slices)?;
+        let there = before_after(
+            &self.subchunks,
+            alloc,
+            handle,
+            whole,
+            entry.slot,
+            size,
+            slices,
+        )?;
         if there {
             let fill = self.subchunks.fill_value;
             let len = fill.as_ne_bytes().len();
-            let axes = subset.shape();
-            overlay_after(slices, from, len, &overlap, sub.as_slice(), update, axes);
+            overlay_after(slices, from, len, &overlap, sub.as_slice(), update);
             let new = slot_after(slices, from, len, fill);
             return Ok(Some(new));
         }
@@ -159,33 +156,22 @@ impl<I: ArrayToBytesCodecTraits, X> Writing<'_, I, X> {
         &self,
         alloc: Global,
         handle: &mut H,
-        len: u64,
-        numbers: &[u64],
+        cached: &CachedIndex,
         touched: &[u64],
-        subset: &ArraySubset,
-        update: &ArrayBytes,
+        update: &Update,
     ) -> Result<Option<StoredSlices>, CodecError>
-        requires positive { AllPositive self.now.shape.now }
-        requires well_formed { IsSubset subset.now.start subset.now.shape }
-        requires fits { count_of self.now.shape.now < 2 ^ 64 }
-        requires divides { Divides self.now.subchunks.shape.now self.now.shape.now }
-        requires grid { self.now.plan.now.grid ≡ grid_of self.now.shape.now self.now.subchunks.shape.now }
-        requires inside { LiesIn subset.now self.now.shape.now }
-        requires touched { AreTouched self.now.shape.now self.now.subchunks.shape.now subset.now touched.now }
+        requires inside { LiesIn update.now.subset.now self.now.shape.now }
+        requires touched { AreTouched self.now.shape.now self.now.subchunks.shape.now update.now.subset.now touched.now }
         requires below { All (λ k. k < count_of self.now.plan.now.grid) touched.now }
-        requires counted { length numbers.now ≡ 2 * count_of self.now.plan.now.grid }
-        requires kind { update.now.kind ≡ size_of self.now.subchunks.data_type.now }
-        requires fitting { All (FitsKind (size_of self.now.subchunks.data_type.now)) update.now.elements }
-        requires all { length update.now.elements ≡ count_of subset.now.shape }
-        requires len { IsTrue (H.state handle.old).transparent → length (bytes_of (H.state handle.old).contents) ≡ len }
-        requires there { IsTrue (H.state handle.old).transparent → (k : ℕ) → k < count_of self.now.plan.now.grid → HasSlice (H.state handle.old).contents (slot_at len numbers.now k) }
+        requires kind { update.now.elements.now.kind ≡ size_of self.now.subchunks.data_type.now }
+        requires held { HoldsSlices (H.state handle.old) (count_of self.now.plan.now.grid) cached.now.len cached.now.numbers.now }
         ensures read { IsRead (H.state handle.old) (H.state handle.new) }
         ensures stored_slices { let s = self.now.subchunks in let inner = inner_meaning I.meaning s in let state = H.state handle.old in
-            IfOk result (λ o. IfSome o (λ stored_slices. AreNewSlices inner self.now.shape.now (spec_of_subchunks s) subset.now update.now.elements state.transparent (bytes_of state.contents) numbers.now touched.now
+            IfOk result (λ o. IfSome o (λ stored_slices. AreNewSlices inner self.now.shape.now (spec_of_subchunks s) update.now.subset.now update.now.elements.now.elements state.transparent (bytes_of state.contents) cached.now.numbers.now touched.now
             stored_slices.bytes.items stored_slices.slots.items (length touched.now))) }
         ensures passed { let s = self.now.subchunks in let inner = inner_meaning I.meaning s in let bytes = bytes_of (H.state handle.old).contents in
             IfOk result (λ o. IfSome o (λ stored_slices. IsTrue (H.state handle.old).transparent → (k : ℕ) → k < count_of self.now.plan.now.grid
-            → HasOldCells inner self.now.shape.now s.shape.now subset.now bytes numbers.now k)) }
+            → HasOldCells inner self.now.shape.now s.shape.now update.now.subset.now bytes cached.now.numbers.now k)) }
         ensures fault { IfErr result (IsCounted (H.state handle.old) (H.state handle.new)) }
         ensures refused { IfErr result (RefusedBy (ObjectRefusals (H.state handle.old) (H.state handle.new) done)) }
     {
@@ -198,11 +184,9 @@ impl<I: ArrayToBytesCodecTraits, X> Writing<'_, I, X> {
         let mut slots = Vec::with_capacity(alloc, touched.len())?;
         for j in 0..touched.len() {
             let number = touched[j];
-            let slot = slot_in(len, numbers, number as usize);
-            let Some(new) = self.new_after(
-                alloc, handle, number, slot, subset, update, size, &mut bytes,
-            )?
-            else {
+            let slot = slot_in(cached, number as usize);
+            let entry = OldEntry { number, slot };
+            let Some(new) = self.new_after(alloc, handle, entry, update, size, &mut bytes)? else {
                 return Ok(None);
             };
             slots.push(new)?;

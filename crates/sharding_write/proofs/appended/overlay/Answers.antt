@@ -6,10 +6,11 @@ use Rattle.sharding_write.proofs.appended.overlay.Goals as goal
 
 pub copy_subset-requires-clause-whole_update : goal.copy_subset-requires-clause-whole_update
 copy_subset-requires-clause-whole_update c =
-    rw c.bytes-given.ensures (many_bytes c.args.size (count_of c.args.axes.now) c.args.update.now c.requires.fitting c.requires.all)
+    rw (c.bytes-given.ensures, c.shape-axes.ensures.value)
+    (many_bytes c.args.size (count_of c.args.update.now.subset.now.shape) c.args.update.now.elements.now (rw c.requires.kind at c.args.update.now.fitting) c.args.update.now.counted)
 
 pub returns : goal.returns
 returns c =
-    let written = rw c.bytes-given.ensures at c.copy_subset.ensures in
-    overlaid_whole c.args.size c.args.part.now c.args.update.now c.copy_subset.new.output c.args.overlap.now.in_subchunk c.args.overlap.now.in_subset c.args.sub.now c.args.axes.now c.requires.some c.requires.whole c.requires.kind
-    c.requires.fitting c.requires.all c.requires.subset_served.0 c.requires.same (omega (arith, c.copy_subset.auto.output)) written
+    let written = rw (c.bytes-given.ensures, c.shape-axes.ensures.value) at c.copy_subset.ensures in
+    overlaid_whole c.args.size c.args.part.now c.args.update.now.elements.now c.copy_subset.new.output c.args.overlap.now.in_subchunk c.args.overlap.now.in_subset c.args.sub.now c.args.update.now.subset.now.shape c.requires.some c.requires.whole c.requires.kind
+    (rw c.requires.kind at c.args.update.now.fitting) c.args.update.now.counted c.requires.subset_served.0 c.requires.same (omega (arith, c.copy_subset.auto.output)) written

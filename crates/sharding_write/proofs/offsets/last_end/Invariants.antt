@@ -4,4 +4,4 @@ use Rattle.sharding_write.specs.Offsets.{last_end}
 use Rattle.sharding_write.proofs.offsets.last_end.Given as goal
 
 abbrev pub invariant-loop-k : goal.invariant-loop-k
-invariant-loop-k l = l.last ≡ last_end l.least l.len l.numbers l.k
+invariant-loop-k l = l.last ≡ last_end l.least l.cached.len l.cached.numbers.now l.k

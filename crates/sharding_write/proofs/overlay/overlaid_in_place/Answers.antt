@@ -11,7 +11,7 @@ copy_subset-requires-clause-whole c =
 
 pub copy_subset-requires-clause-whole_update : goal.copy_subset-requires-clause-whole_update
 copy_subset-requires-clause-whole_update c =
-    rw c.bytes-given.ensures (many_bytes c.args.size (count_of c.args.update_shape.now) c.args.update.now c.requires.update_fitting c.requires.all_update)
+    rw (c.bytes-given.ensures, c.shape-axes.ensures.value) (many_bytes c.args.size (count_of c.args.update.now.subset.now.shape) c.args.update.now.elements.now (rw c.requires.update_kind at c.args.update.now.fitting) c.args.update.now.counted)
 
 pub unreachable-requires-in-None : goal.unreachable-requires-in-None
 unreachable-requires-in-None c =
@@ -25,7 +25,7 @@ returns c =
     let items = c.in_ok-bytes.ensures ∙ c.in-Ok.ensures.bytes in
     let long : length c.copy_subset.new.output ≡ length c.in_ok-bytes.bytes.items = omega (arith, c.copy_subset.auto.output, ap length c.deref_mut.ensures.value) in
     let after = whole_after c.in_ok-bytes.bytes.len c.copy_subset.new.output c.in_ok-bytes.bytes.items long (omega (arith, c.in_ok-bytes.bytes.ok.0)) in
-    let written = rw (c.deref_mut.ensures.value, items, c.bytes-given.ensures) at c.copy_subset.ensures in
+    let written = rw (c.deref_mut.ensures.value, items, c.bytes-given.ensures, c.shape-axes.ensures.value) at c.copy_subset.ensures in
     rw (c.in-Some.ensures.1, after)
-    (overlaid_subset c.args.size c.args.old c.args.update.now c.copy_subset.new.output c.args.subset.now c.args.part.now c.args.shape.now c.args.update_shape.now c.requires.some c.requires.kind c.requires.update_kind
-    c.requires.fitting c.requires.update_fitting c.requires.all_update c.requires.part_served.0 c.requires.same (long ∙ ap length items) written)
+    (overlaid_subset c.args.size c.args.old c.args.update.now.elements.now c.copy_subset.new.output c.args.overlap.now.in_subchunk c.args.overlap.now.in_subset c.args.shape.now c.args.update.now.subset.now.shape c.requires.some c.requires.kind c.requires.update_kind
+    c.requires.fitting (rw c.requires.update_kind at c.args.update.now.fitting) c.args.update.now.counted c.requires.part_served.0 c.requires.same (long ∙ ap length items) written)

@@ -19,8 +19,8 @@ nonzero_div-positions g c =
     let some = count-positive (grid_of shape sub) (grid_positive shape sub c.requires.positive known.serves.divides) in
     omega (arith, some, known.subchunks)
 
-pub prepare-requires-clause-positions : goal.prepare-requires-clause-positions
-prepare-requires-clause-positions g c =
+pub invariant_of-writing-clause-counted : goal.invariant_of-writing-clause-counted
+invariant_of-writing-clause-counted g c =
     let shard = c.args.self.now.shard in
     let sub = c.args.sharding.now.subchunk_shape.now in
     let known = c.requires.cached.known in
@@ -45,7 +45,7 @@ returns-clause-cells g c = λ t.
     cells_after inner index sub s.index_codec.location s.order spec c.args.subset.now c.args.update.now.elements old (object_after p.change old)
     (cached_len opened.shard.cached) p.len (numbers_cached opened.shard.cached opened.blank.items) p.numbers.items serves.divides c.requires.inside
     (λ e bytes array written. law.written_cells e bytes serves.inner_served array written)
-    cached.numbers.counted (cached.cached t) (rw (cached.plan.size, cached.grid) at (made.told t)) (rw (cached.plan.size, cached.grid, c.cached_index-len.ensures.numbers) at (made.written t))
+    cached.numbers.counted (cached.cached t) (rw (cached.plan.size, cached.grid) at (made.held.told t)) (rw (cached.plan.size, cached.grid, c.cached_index-len.ensures.numbers) at (made.written t))
 
 pub returns-in_err-prepared-clause-refused : goal.returns-in_err-prepared-clause-refused
 returns-in_err-prepared-clause-refused g c =

@@ -20,12 +20,12 @@ new_cells-requires-clause-below g c = c.requires.below c.loop-j.j 0 (omega arith
 pub slot_in-slot-requires : goal.slot_in-slot-requires
 slot_in-slot-requires g c =
     let below = c.requires.below c.loop-j.j 0 (omega arith) in
-    omega (arith, below, c.requires.counted)
+    omega (arith, below, c.requires.held.counted)
 
 pub new_cells-requires-clause-there : goal.new_cells-requires-clause-there
 new_cells-requires-clause-there g c = λ t.
     let inv = c.loop-j.invariant in
-    rw (inv.read.contents_same, c.slot_in-slot.ensures.slot) (c.requires.there (rw inv.read.transparent_same at t) (get_or c.args.touched.now c.loop-j.j 0) (c.requires.below c.loop-j.j 0 (omega arith)))
+    rw (inv.read.contents_same, c.slot_in-slot.ensures.slot) (c.requires.held.there (rw inv.read.transparent_same at t) (get_or c.args.touched.now c.loop-j.j 0) (c.requires.below c.loop-j.j 0 (omega arith)))
 
 pub loop-j-preserved : goal.loop-j-preserved
 loop-j-preserved g c =
@@ -40,19 +40,19 @@ loop-j-preserved g c =
     let found = c.in_ok-array.ensures in
     let k = get_or a.touched.now c.loop-j.j 0 in
     let slot = c.slot_in-slot.ensures.slot in
-    let cells = rw (inv.read.transparent_same, inv.read.contents_same) at found.cells in
+    let new = rw (inv.read.transparent_same, inv.read.contents_same) at found.new in
     let passed = rw (inv.read.transparent_same, inv.read.contents_same) at found.passed in
     record {
       read = read_then (h.state a.handle.now) (h.state c.loop-j.handle) (h.state c.new_cells.new.handle) inv.read found.read;
       counted = arrays_counted c.loop-j.arrays.items c.push.new.self.items c.in_ok-array.array c.loop-j.j inv.counted c.in_ok-push.ensures.items;
       arrays = each_array (λ i x. (x.kind ≡ size_of s.data_type.now) × IsArrayOf sub_g x.elements) c.loop-j.arrays.items c.push.new.self.items c.in_ok-array.array c.loop-j.j
-          inv.counted inv.arrays c.in_ok-push.ensures.items (found.kind, found.array);
-      cells = λ t. each_array (λ i x. AreNewCells a.self.now.shape.now sub_g a.subset.now a.update.now.elements (cells_in inner.cells s.fill_value.now bytes a.numbers.now (get_or a.touched.now i 0)) (get_or a.touched.now i 0) x.elements)
+          inv.counted inv.arrays c.in_ok-push.ensures.items (new.kind, new.array);
+      cells = λ t. each_array (λ i x. AreNewCells a.self.now.shape.now sub_g a.update.now.subset.now a.update.now.elements.now.elements (cells_in inner.cells s.fill_value.now bytes a.cached.now.numbers.now (get_or a.touched.now i 0)) (get_or a.touched.now i 0) x.elements)
           c.loop-j.arrays.items c.push.new.self.items c.in_ok-array.array c.loop-j.j inv.counted (inv.cells t) c.in_ok-push.ensures.items
-          (new_cells_at inner.cells s.fill_value.now bytes a.numbers.now a.len a.self.now.shape.now sub_g a.subset.now a.update.now.elements c.slot_in-slot.result k c.in_ok-array.array.elements
-          (c.requires.len t) slot (cells t));
-      passed = λ t. below_more (λ i. HasOldCells inner a.self.now.shape.now s.shape.now a.subset.now bytes a.numbers.now (get_or a.touched.now i 0)) c.loop-j.j (inv.passed t)
-          (passed_one inner a.self.now.shape.now s.shape.now s.fill_value.now a.subset.now a.touched.now a.numbers.now a.len c.requires.touched bytes c.slot_in-slot.result k (c.requires.len t) slot (passed t));
+          (new_cells_at inner.cells s.fill_value.now bytes a.cached.now.numbers.now a.cached.now.len a.self.now.shape.now sub_g a.update.now.subset.now a.update.now.elements.now.elements c.slot_in-slot.result k c.in_ok-array.array.elements
+          (c.requires.held.long t) slot (new.cells t));
+      passed = λ t. below_more (λ i. HasOldCells inner a.self.now.shape.now s.shape.now a.update.now.subset.now bytes a.cached.now.numbers.now (get_or a.touched.now i 0)) c.loop-j.j (inv.passed t)
+          (passed_one inner a.self.now.shape.now s.shape.now s.fill_value.now a.update.now.subset.now a.touched.now a.cached.now.numbers.now a.cached.now.len c.requires.touched bytes c.slot_in-slot.result k (c.requires.held.long t) slot (passed t));
     }
 
 pub returns-in_err-array-clause-refused : goal.returns-in_err-array-clause-refused
@@ -64,10 +64,10 @@ returns-in_err-array-clause-refused g c =
     let inv = c.loop-j.invariant in
     let e = c.in_err-array.field-0.0 in
     let below : c.loop-j.j < length a.touched.now = omega arith in
-    let inside = rw c.requires.grid at (c.requires.below c.loop-j.j 0 below) in
+    let inside = rw c.args.self.now.grid at (c.requires.below c.loop-j.j 0 below) in
     passed_on _ e _ c.from_residual-in_err-array.ensures.1
-    (old_refused inner a.self.now.shape.now s.shape.now s.fill_value.now a.subset.now a.touched.now a.numbers.now a.len c.requires.touched
-    (h.state a.handle.now) (h.state c.loop-j.handle) (h.state c.new_cells.new.handle) c.slot_in-slot.result c.loop-j.j e inv.read c.requires.len below inside c.slot_in-slot.ensures.slot inv.passed c.in_err-array.ensures.refused)
+    (old_refused inner a.self.now.shape.now s.shape.now s.fill_value.now a.update.now.subset.now a.touched.now a.cached.now.numbers.now a.cached.now.len c.requires.touched
+    (h.state a.handle.now) (h.state c.loop-j.handle) (h.state c.new_cells.new.handle) c.slot_in-slot.result c.loop-j.j e inv.read c.requires.held.long below inside c.slot_in-slot.ensures.slot inv.passed c.in_err-array.ensures.refused)
 
 pub returns-clause-passed : goal.returns-clause-passed
 returns-clause-passed g c = λ t k below.
@@ -75,5 +75,16 @@ returns-clause-passed g c = λ t k below.
     let s = a.self.now.subchunks in
     let inner = inner_meaning g.I.ArrayToBytesCodecTraits.meaning s in
     let inv = c.loop-j.invariant in
-    all_passed inner a.self.now.shape.now s.shape.now s.fill_value.now a.subset.now a.touched.now a.numbers.now a.len c.requires.touched
+    all_passed inner a.self.now.shape.now s.shape.now s.fill_value.now a.update.now.subset.now a.touched.now a.cached.now.numbers.now a.cached.now.len c.requires.touched
     (bytes_of (g.H.BytesPartialDecoderTraits.state a.handle.now).contents) (λ i lt. inv.passed t i (omega (arith, lt))) k
+
+pub returns-clause-new : goal.returns-clause-new
+returns-clause-new g c =
+    let inv = c.loop-j.invariant in
+    record {
+      counted = omega (arith, inv.counted);
+      each = λ j below.
+          let lt : j < c.loop-j.j = omega (arith, below, inv.counted) in
+          let each = inv.arrays j lt in
+          record { kind = each.0; array = each.1; cells = λ t. inv.cells t j lt };
+    }

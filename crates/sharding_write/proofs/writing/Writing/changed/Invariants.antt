@@ -17,6 +17,6 @@ invariant-loop-j g l =
       counted : length l.arrays.items ≡ l.j;
       arrays : (i : ℕ) → i < l.j → ((array_at l.arrays.items i).kind ≡ size_of s.data_type.now) × IsArrayOf sub_g (array_at l.arrays.items i).elements;
       cells : IsTrue (h.state l.fn.handle).transparent → (i : ℕ) → i < l.j
-          → AreNewCells l.self.shape.now sub_g l.subset l.update.elements (cells_in inner.cells s.fill_value.now bytes l.numbers (get_or l.touched i 0)) (get_or l.touched i 0) (array_at l.arrays.items i).elements;
-      passed : IsTrue (h.state l.fn.handle).transparent → (i : ℕ) → i < l.j → HasOldCells inner l.self.shape.now s.shape.now l.subset bytes l.numbers (get_or l.touched i 0);
+          → AreNewCells l.self.shape.now sub_g l.update.subset.now l.update.elements.now.elements (cells_in inner.cells s.fill_value.now bytes l.cached.numbers.now (get_or l.touched i 0)) (get_or l.touched i 0) (array_at l.arrays.items i).elements;
+      passed : IsTrue (h.state l.fn.handle).transparent → (i : ℕ) → i < l.j → HasOldCells inner l.self.shape.now s.shape.now l.update.subset.now bytes l.cached.numbers.now (get_or l.touched i 0);
     }

@@ -1,6 +1,6 @@
 use Rattle.std.proofs.Common.{◌∙◌, ap, sym, refl, inl, inr}
 use Rattle.parts_row_major.specs.Numbering.{count_of}
-use Rattle.parts_arrays.specs.Arrays.{extracted}
+use Rattle.parts_arrays.specs.Arrays.{Array, extracted}
 use Rattle.std.proofs.lemmas.Bool.{false≢true}
 use Rattle.storage_handles.specs.Writes.{bytes_of}
 use Rattle.sharding_format.specs.Cells.{cell_in}
@@ -18,20 +18,27 @@ returns-in_err-part-clause-refused g c =
     let overlap = c.in_ok-overlap.overlap in
     let e = c.in_err-part.field-0.0 in
     let refused = rw c.shape-axes.ensures.value at c.in_err-part.ensures.refused in
-    let served = served_in_subset s.shape.now (spec_of_subchunks s.subchunks) a.subset.now a.number overlap.in_subchunk overlap.in_subset m c.requires.well_formed c.requires.inside c.requires.fits in
+    let served = served_in_subset s.shape.now (spec_of_subchunks s.subchunks) a.update.now.subset.now a.entry.number overlap.in_subchunk overlap.in_subset m c.args.update.now.well_formed c.requires.inside c.args.self.now.fits in
     passed_on _ e _ c.from_residual-in_err-part.ensures.1
-    (inl (taken_refused a.update.now overlap.in_subset a.subset.now.shape s.subchunks.data_type.now e m.subset_well_formed served c.requires.supported c.requires.kind c.requires.all refused))
+    (inl (taken_refused a.update.now.elements.now overlap.in_subset a.update.now.subset.now.shape s.subchunks.data_type.now e m.subset_well_formed served c.args.self.now.supported c.requires.kind c.args.update.now.counted refused))
 
-pub returns-then-is_whole-clause-cells : goal.returns-then-is_whole-clause-cells
-returns-then-is_whole-clause-cells g c = λ t.
+pub returns-then-is_whole-clause-new : goal.returns-then-is_whole-clause-new
+returns-then-is_whole-clause-new g c =
     let a = c.args in
     let s = a.self.now in
     let overlap = c.in_ok-overlap.overlap in
+    let m = c.in_ok-overlap.ensures.meets in
     let part = rw c.shape-axes.ensures.value at c.in_ok-part.ensures.extracted in
     let inner = inner_meaning g.I.ArrayToBytesCodecTraits.meaning s.subchunks in
     let whole = c.is_whole.ensures.whole.0 c.if-is_whole.true in
-    covered_cells s.shape.now (spec_of_subchunks s.subchunks) a.subset.now a.number overlap.in_subchunk overlap.in_subset c.in_ok-overlap.ensures.meets whole (axes_of overlap.in_subchunk c.in_ok-overlap.ensures.meets.sub_well_formed)
-    a.update.now c.in_ok-part.part (cell_in inner.cells s.subchunks.fill_value.now (bytes_of (g.H.BytesPartialDecoderTraits.state a.handle.now).contents) a.slot) part c.requires.all c.requires.fitting
+    let fitting = rw c.requires.kind at a.update.now.fitting in
+    record {
+      kind = ap (λ (x : Array). x.kind) {y = extracted a.update.now.elements.now overlap.in_subset a.update.now.subset.now.shape} part ∙ c.requires.kind;
+      array = covered_array s.shape.now (spec_of_subchunks s.subchunks) a.update.now.subset.now a.entry.number overlap.in_subchunk overlap.in_subset m whole (axes_of overlap.in_subchunk m.sub_well_formed)
+          a.update.now.elements.now c.in_ok-part.part part a.update.now.counted fitting;
+      cells = λ t. covered_cells s.shape.now (spec_of_subchunks s.subchunks) a.update.now.subset.now a.entry.number overlap.in_subchunk overlap.in_subset m whole (axes_of overlap.in_subchunk m.sub_well_formed)
+          a.update.now.elements.now c.in_ok-part.part (cell_in inner.cells s.subchunks.fill_value.now (bytes_of (g.H.BytesPartialDecoderTraits.state a.handle.now).contents) a.entry.slot) part a.update.now.counted fitting;
+    }
 
 pub returns-then-is_whole-clause-passed : goal.returns-then-is_whole-clause-passed
 returns-then-is_whole-clause-passed g c = λ t straddle.
@@ -39,7 +46,7 @@ returns-then-is_whole-clause-passed g c = λ t straddle.
     let s = a.self.now in
     let overlap = c.in_ok-overlap.overlap in
     let whole = c.is_whole.ensures.whole.0 c.if-is_whole.true in
-    absurd (no_straddle s.shape.now (spec_of_subchunks s.subchunks) a.subset.now a.number overlap.in_subchunk overlap.in_subset c.in_ok-overlap.ensures.meets whole
+    absurd (no_straddle s.shape.now (spec_of_subchunks s.subchunks) a.update.now.subset.now a.entry.number overlap.in_subchunk overlap.in_subset c.in_ok-overlap.ensures.meets whole
     (axes_of overlap.in_subchunk c.in_ok-overlap.ensures.meets.sub_well_formed) straddle)
 
 pub returns-in_err-old-clause-refused : goal.returns-in_err-old-clause-refused
@@ -48,7 +55,7 @@ returns-in_err-old-clause-refused g c =
     let s = a.self.now in
     let overlap = c.in_ok-overlap.overlap in
     let e = c.in_err-old.field-0.0 in
-    let straddle = straddles s.shape.now (spec_of_subchunks s.subchunks) a.subset.now a.number overlap.in_subchunk overlap.in_subset c.in_ok-overlap.ensures.meets c.is_whole.ensures.positive c.requires.touches
+    let straddle = straddles s.shape.now (spec_of_subchunks s.subchunks) a.update.now.subset.now a.entry.number overlap.in_subchunk overlap.in_subset c.in_ok-overlap.ensures.meets c.is_whole.ensures.positive c.requires.touches
     (λ whole. absurd (false≢true (sym c.if-is_whole.false ∙ c.is_whole.ensures.whole.1 whole))) in
     passed_on _ e _ c.from_residual-in_err-old.ensures.1 (elim c.in_err-old.ensures.refused [
       | inl memory ↦ inl memory
@@ -58,38 +65,6 @@ returns-in_err-old-clause-refused g c =
 pub returns-in_err-new-clause-refused : goal.returns-in_err-new-clause-refused
 returns-in_err-new-clause-refused g c = passed_on _ c.in_err-new.field-0.0 _ c.from_residual-in_err-new.ensures.1 (inl c.in_err-new.ensures.refused)
 
-pub returns-clause-cells : goal.returns-clause-cells
-returns-clause-cells g c = λ t.
-    let a = c.args in
-    let s = a.self.now in
-    let overlap = c.in_ok-overlap.overlap in
-    let part = extracted a.update.now overlap.in_subset a.subset.now.shape in
-    let updated = rw (c.as_slice-sub.ensures.value, c.shape-axes.ensures.value) at c.in_ok-new.ensures.updated in
-    let inner = inner_meaning g.I.ArrayToBytesCodecTraits.meaning s.subchunks in
-    overlaid_part s.shape.now (spec_of_subchunks s.subchunks) a.subset.now a.number overlap.in_subchunk overlap.in_subset c.in_ok-overlap.ensures.meets
-    a.update.now part c.in_ok-old.old c.in_ok-new.new (cell_in inner.cells s.subchunks.fill_value.now (bytes_of (g.H.BytesPartialDecoderTraits.state a.handle.now).contents) a.slot)
-    refl c.requires.all c.requires.fitting updated c.in_ok-old.ensures.array (c.in_ok-old.ensures.cells t)
-
-pub returns-then-is_whole-clause-array : goal.returns-then-is_whole-clause-array
-returns-then-is_whole-clause-array g c =
-    let a = c.args in
-    let s = a.self.now in
-    let overlap = c.in_ok-overlap.overlap in
-    let part = rw c.shape-axes.ensures.value at c.in_ok-part.ensures.extracted in
-    let whole = c.is_whole.ensures.whole.0 c.if-is_whole.true in
-    covered_array s.shape.now (spec_of_subchunks s.subchunks) a.subset.now a.number overlap.in_subchunk overlap.in_subset c.in_ok-overlap.ensures.meets whole (axes_of overlap.in_subchunk c.in_ok-overlap.ensures.meets.sub_well_formed)
-    a.update.now c.in_ok-part.part part c.requires.all c.requires.fitting
-
-pub returns-clause-array : goal.returns-clause-array
-returns-clause-array g c =
-    let a = c.args in
-    let s = a.self.now in
-    let overlap = c.in_ok-overlap.overlap in
-    let part = extracted a.update.now overlap.in_subset a.subset.now.shape in
-    let updated = rw (c.as_slice-sub.ensures.value, c.shape-axes.ensures.value) at c.in_ok-new.ensures.updated in
-    overlaid_array s.shape.now (spec_of_subchunks s.subchunks) a.subset.now a.number overlap.in_subchunk overlap.in_subset c.in_ok-overlap.ensures.meets
-    a.update.now part c.in_ok-old.old c.in_ok-new.new refl c.requires.all c.requires.fitting updated c.in_ok-old.ensures.array
-
 pub overlaid-requires-clause-same : goal.overlaid-requires-clause-same
 overlaid-requires-clause-same g c = ap count_of (sym c.in_ok-overlap.ensures.meets.same_shape)
 
@@ -98,5 +73,23 @@ overlaid-requires-clause-part_served g c =
     let a = c.args in
     let s = a.self.now in
     let overlap = c.in_ok-overlap.overlap in
-    rw c.shape-axes.ensures.value
-    (served_in_subset s.shape.now (spec_of_subchunks s.subchunks) a.subset.now a.number overlap.in_subchunk overlap.in_subset c.in_ok-overlap.ensures.meets c.requires.well_formed c.requires.inside c.requires.fits)
+    (served_in_subset s.shape.now (spec_of_subchunks s.subchunks) a.update.now.subset.now a.entry.number overlap.in_subchunk overlap.in_subset c.in_ok-overlap.ensures.meets c.args.update.now.well_formed c.requires.inside c.args.self.now.fits)
+
+pub returns-clause-new : goal.returns-clause-new
+returns-clause-new g c =
+    let a = c.args in
+    let s = a.self.now in
+    let overlap = c.in_ok-overlap.overlap in
+    let m = c.in_ok-overlap.ensures.meets in
+    let part = extracted a.update.now.elements.now overlap.in_subset a.update.now.subset.now.shape in
+    let updated = rw c.as_slice-sub.ensures.value at c.in_ok-new.ensures.updated in
+    let inner = inner_meaning g.I.ArrayToBytesCodecTraits.meaning s.subchunks in
+    let fitting = rw c.requires.kind at a.update.now.fitting in
+    record {
+      kind = updated.same_kind ∙ c.in_ok-old.ensures.kind;
+      array = overlaid_array s.shape.now (spec_of_subchunks s.subchunks) a.update.now.subset.now a.entry.number overlap.in_subchunk overlap.in_subset m
+          a.update.now.elements.now part c.in_ok-old.old c.in_ok-new.new refl a.update.now.counted fitting updated c.in_ok-old.ensures.array;
+      cells = λ t. overlaid_part s.shape.now (spec_of_subchunks s.subchunks) a.update.now.subset.now a.entry.number overlap.in_subchunk overlap.in_subset m
+          a.update.now.elements.now part c.in_ok-old.old c.in_ok-new.new (cell_in inner.cells s.subchunks.fill_value.now (bytes_of (g.H.BytesPartialDecoderTraits.state a.handle.now).contents) a.entry.slot)
+          refl a.update.now.counted fitting updated c.in_ok-old.ensures.array (c.in_ok-old.ensures.cells t);
+    }

@@ -12,6 +12,6 @@ invariant-loop-j g l =
     let h = g.H.BytesPartialDecoderTraits in let s = l.self.subchunks in let sub_g = spec_of_subchunks s in
     let inner = g.I.ArrayToBytesCodecTraits.meaning s.codec.now sub_g in let state = h.state l.fn.handle in record {
       read : IsRead state (h.state l.handle);
-      stored_slices : AreNewSlices inner l.self.shape.now sub_g l.subset l.update.elements state.transparent (bytes_of state.contents) l.numbers l.touched l.bytes.items l.slots.items l.j;
-      passed : IsTrue state.transparent → (i : ℕ) → i < l.j → HasOldCells inner l.self.shape.now s.shape.now l.subset (bytes_of state.contents) l.numbers (get_or l.touched i 0);
+      stored_slices : AreNewSlices inner l.self.shape.now sub_g l.update.subset.now l.update.elements.now.elements state.transparent (bytes_of state.contents) l.cached.numbers.now l.touched l.bytes.items l.slots.items l.j;
+      passed : IsTrue state.transparent → (i : ℕ) → i < l.j → HasOldCells inner l.self.shape.now s.shape.now l.update.subset.now (bytes_of state.contents) l.cached.numbers.now (get_or l.touched i 0);
     }

@@ -14,14 +14,12 @@ use Rattle.sharding_write.proofs.PutLemmas.{stored_inside}
 use Rattle.sharding_write.proofs.RefusalLemmas.{cells_first, last_refusals}
 use Rattle.sharding_write.proofs.writing.Writing.prepare.Goals as goal
 
-pub new_slices-requires-clause-counted : goal.new_slices-requires-clause-counted
-new_slices-requires-clause-counted g c = c.requires.cached.counted
-
-pub new_slices-requires-clause-len : goal.new_slices-requires-clause-len
-new_slices-requires-clause-len g c = λ t. told_len _ _ _ _ (c.requires.told t)
-
-pub new_slices-requires-clause-there : goal.new_slices-requires-clause-there
-new_slices-requires-clause-there g c = λ t k below. told_slice _ _ _ _ _ _ _ c.requires.cached (c.requires.told t) k below
+pub new_slices-requires-clause-held : goal.new_slices-requires-clause-held
+new_slices-requires-clause-held g c = record {
+  counted = c.requires.held.cached.counted;
+  long = λ t. told_len _ _ _ _ (c.requires.held.told t);
+  there = λ t k below. told_slice _ _ _ _ _ _ _ c.requires.held.cached (c.requires.held.told t) k below;
+}
 
 pub settle-requires-clause-same : goal.settle-requires-clause-same
 settle-requires-clause-same g c =
@@ -30,8 +28,8 @@ settle-requires-clause-same g c =
 
 pub settle-requires-clause-below : goal.settle-requires-clause-below
 settle-requires-clause-below g c = rw c.deref-2.ensures.value (λ j d lt.
-    let below = rw (← c.requires.grid) at (c.in_ok-touched.ensures.below j d lt) in
-    omega (arith, below, c.requires.cached.counted))
+    let below = rw (← c.args.self.now.grid) at (c.in_ok-touched.ensures.below j d lt) in
+    omega (arith, below, c.requires.held.cached.counted))
 
 pub settle-requires-clause-rising : goal.settle-requires-clause-rising
 settle-requires-clause-rising g c = rw c.deref-2.ensures.value c.in_ok-touched.ensures.touched.rising
@@ -49,7 +47,7 @@ returns-clause-made g c = λ t.
     let contents = (g.H.BytesPartialDecoderTraits.state a.handle.now).contents in
     let news = rw c.deref.ensures.value at c.in_ok-stored_slices.ensures.stored_slices in
     let touched = c.in_ok-touched.touched.items in
-    let settled = rw c.deref-2.ensures.value at (c.in_ok-prepared.ensures.settled contents (told_len _ _ _ _ (c.requires.told t))) in
+    let settled = rw c.deref-2.ensures.value at (c.in_ok-prepared.ensures.settled contents (told_len _ _ _ _ (c.requires.held.told t))) in
     record {
       touched = touched;
       are_touched = c.in_ok-touched.ensures.touched;
@@ -69,44 +67,40 @@ returns-clause-written g c = λ t.
     let inner = inner_meaning g.I.ArrayToBytesCodecTraits.meaning s in
     let index = index_meaning g.X.ArrayToBytesCodecTraits.meaning a.self.now.index_codec.codec.now a.self.now.plan.now.grid in
     let contents = (g.H.BytesPartialDecoderTraits.state a.handle.now).contents in
-    let len = told_len _ _ _ _ (c.requires.told t) in
-    let counted = rw c.requires.grid at c.requires.cached.counted in
-    let lies = rw (← len, c.requires.grid) at c.requires.cached.placed in
-    let enough = rw (← len) at c.requires.cached.long_enough in
-    made_is_write inner index a.self.now.shape.now (spec_of_subchunks s) a.self.now.index_codec.location a.self.now.plan.now.size a.subset.now a.update.now.elements a.numbers.now contents
+    let len = told_len _ _ _ _ (c.requires.held.told t) in
+    let counted = rw c.args.self.now.grid at c.requires.held.cached.counted in
+    let lies = rw (← len, c.args.self.now.grid) at c.requires.held.cached.placed in
+    let enough = rw (← len) at c.requires.held.cached.long_enough in
+    made_is_write inner index a.self.now.shape.now (spec_of_subchunks s) a.self.now.index_codec.location a.self.now.plan.now.size a.update.now.subset.now a.update.now.elements.now.elements a.cached.now.numbers.now contents
     c.in_ok-prepared.prepared.numbers.items c.in_ok-prepared.prepared.len counted lies enough _ (returns-clause-made g c t)
 
-pub returns-clause-cached : goal.returns-clause-cached
-returns-clause-cached g c =
-    let a = c.args in
-    let s = a.self.now.subchunks in
-    let inner = inner_meaning g.I.ArrayToBytesCodecTraits.meaning s in
-    let index = index_meaning g.X.ArrayToBytesCodecTraits.meaning a.self.now.index_codec.codec.now a.self.now.plan.now.grid in
-    let blank : List ℕ = replicate a.len 0 in
-    let long : length blank ≡ a.len = length-replicate a.len 0 in
-    let news = rw c.deref.ensures.value at c.in_ok-stored_slices.ensures.stored_slices in
-    let touched = c.in_ok-touched.touched.items in
-    let settled = rw c.deref-2.ensures.value at (c.in_ok-prepared.ensures.settled (Some blank) long) in
-    held_settled inner.written s.fill_value.now a.self.now.index_codec.location a.self.now.plan.now.size touched c.in_ok-stored_slices.stored_slices.slots.items c.in_ok-stored_slices.stored_slices.bytes.items
-    (λ j. get_or news.news j []) news.stored_slices (count_of a.self.now.plan.now.grid) a.numbers.now c.requires.cached.counted index.written (Some blank) c.in_ok-prepared.prepared.numbers.items
-    c.in_ok-prepared.prepared.len (rw long c.requires.cached.placed) (rw long c.requires.cached.long_enough) _ settled
-
-pub returns-clause-told : goal.returns-clause-told
-returns-clause-told g c = λ t.
+pub returns-clause-held : goal.returns-clause-held
+returns-clause-held g c =
     let a = c.args in
     let s = a.self.now.subchunks in
     let plan = a.self.now.plan.now in
     let codec = a.self.now.index_codec.codec.now in
+    let inner = inner_meaning g.I.ArrayToBytesCodecTraits.meaning s in
     let index = index_meaning g.X.ArrayToBytesCodecTraits.meaning codec plan.grid in
     let contents = (g.H.BytesPartialDecoderTraits.state a.handle.now).contents in
-    let len = told_len _ _ _ _ (c.requires.told t) in
+    let held = c.requires.held in
+    let blank : List ℕ = replicate a.cached.now.len 0 in
+    let long : length blank ≡ a.cached.now.len = length-replicate a.cached.now.len 0 in
+    let news = rw c.deref.ensures.value at c.in_ok-stored_slices.ensures.stored_slices in
     let touched = c.in_ok-touched.touched.items in
-    let settled = rw c.deref-2.ensures.value at (c.in_ok-prepared.ensures.settled contents len) in
+    let settled = rw c.deref-2.ensures.value at c.in_ok-prepared.ensures.settled in
     let law = g.met.X.ArrayToBytesCodecTraits.lawful codec (index_spec plan.grid) in
-    told_settled index.cells index.written s.shape.now (array_spec a.self.now.shape.now s.data_type.now s.fill_value.now) a.self.now.index_codec.location plan.size
-    (rw (← c.requires.grid) (λ e bytes array written. law.written_cells e bytes c.requires.plan.serves.served array written))
-    touched c.in_ok-stored_slices.stored_slices.slots.items c.in_ok-stored_slices.stored_slices.bytes.items a.numbers.now (rw (← c.requires.grid) c.requires.cached.counted) contents c.in_ok-prepared.prepared.numbers.items
-    c.in_ok-prepared.prepared.len (rw len c.requires.cached.long_enough) _ settled
+    record {
+      cached = held_settled inner.written s.fill_value.now a.self.now.index_codec.location plan.size touched c.in_ok-stored_slices.stored_slices.slots.items c.in_ok-stored_slices.stored_slices.bytes.items
+          (λ j. get_or news.news j []) news.stored_slices (count_of plan.grid) a.cached.now.numbers.now held.cached.counted index.written (Some blank) c.in_ok-prepared.prepared.numbers.items
+          c.in_ok-prepared.prepared.len (rw long held.cached.placed) (rw long held.cached.long_enough) _ (settled (Some blank) long);
+      told = λ t.
+          let len = told_len _ _ _ _ (held.told t) in
+          told_settled index.cells index.written s.shape.now (array_spec a.self.now.shape.now s.data_type.now s.fill_value.now) a.self.now.index_codec.location plan.size
+          (rw (← a.self.now.grid) (λ e bytes array written. law.written_cells e bytes c.requires.plan.serves.served array written))
+          touched c.in_ok-stored_slices.stored_slices.slots.items c.in_ok-stored_slices.stored_slices.bytes.items a.cached.now.numbers.now (rw (← a.self.now.grid) held.cached.counted) contents c.in_ok-prepared.prepared.numbers.items
+          c.in_ok-prepared.prepared.len (rw len held.cached.long_enough) _ (settled contents len);
+    }
 
 pub returns-in_err-stored_slices-clause-refused : goal.returns-in_err-stored_slices-clause-refused
 returns-in_err-stored_slices-clause-refused g c =
@@ -117,8 +111,8 @@ returns-in_err-stored_slices-clause-refused g c =
     let h = g.H.BytesPartialDecoderTraits in
     let e = c.in_err-stored_slices.field-0.0 in
     passed_on _ e _ c.from_residual-in_err-stored_slices.ensures.1
-    (cells_first inner (layout_from a.self.now.shape.now (spec_of_subchunks s) a.self.now.index_codec.location a.self.now.plan.now.size) (spec_of_subchunks s) a.subset.now a.update.now.elements
-    (bytes_of (h.state a.handle.now).contents) a.numbers.now c.in_ok-touched.touched.items (λ j. []) c.in_ok-touched.ensures.touched (λ j lt. c.in_ok-touched.ensures.below j 0 lt)
+    (cells_first inner (layout_from a.self.now.shape.now (spec_of_subchunks s) a.self.now.index_codec.location a.self.now.plan.now.size) (spec_of_subchunks s) a.update.now.subset.now a.update.now.elements.now.elements
+    (bytes_of (h.state a.handle.now).contents) a.cached.now.numbers.now c.in_ok-touched.touched.items (λ j. []) c.in_ok-touched.ensures.touched (λ j lt. c.in_ok-touched.ensures.below j 0 lt)
     index (h.state a.handle.now) (h.state c.new_slices.new.handle) e c.in_err-stored_slices.ensures.refused)
 
 pub returns-in_err-prepared-clause-refused : goal.returns-in_err-prepared-clause-refused
@@ -134,10 +128,10 @@ returns-in_err-prepared-clause-refused g c =
     passed_on _ c.in_err-prepared.field-0.0 _ c.from_residual-in_err-prepared.ensures.1 (elim refused [
       | inl memory ↦ inl memory
       | inr refusals ↦ inr (λ t.
-          let passed = rw c.requires.grid at (c.in_ok-stored_slices.ensures.passed t) in
-          let numbers_counted = rw c.requires.grid at c.requires.cached.counted in
-          inr (last_refusals inner (layout_from a.self.now.shape.now (spec_of_subchunks s) a.self.now.index_codec.location a.self.now.plan.now.size) (spec_of_subchunks s) a.subset.now a.update.now.elements
-          (bytes_of contents) a.numbers.now touched (λ j. get_or news.news j []) c.in_ok-touched.ensures.touched (λ j lt. c.in_ok-touched.ensures.below j 0 lt)
+          let passed = rw c.args.self.now.grid at (c.in_ok-stored_slices.ensures.passed t) in
+          let numbers_counted = rw c.args.self.now.grid at c.requires.held.cached.counted in
+          inr (last_refusals inner (layout_from a.self.now.shape.now (spec_of_subchunks s) a.self.now.index_codec.location a.self.now.plan.now.size) (spec_of_subchunks s) a.update.now.subset.now a.update.now.elements.now.elements
+          (bytes_of contents) a.cached.now.numbers.now touched (λ j. get_or news.news j []) c.in_ok-touched.ensures.touched (λ j lt. c.in_ok-touched.ensures.below j 0 lt)
           passed (news.cells t) c.in_ok-stored_slices.stored_slices.slots.items c.in_ok-stored_slices.stored_slices.bytes.items news.stored_slices numbers_counted index c.in_err-prepared.field-0.0
-          (rw (told_len _ _ _ _ (c.requires.told t), ← c.requires.grid) refusals)))
+          (rw (told_len _ _ _ _ (c.requires.held.told t), ← c.args.self.now.grid) refusals)))
     ])

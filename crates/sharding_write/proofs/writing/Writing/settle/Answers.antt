@@ -10,12 +10,12 @@ returns-in_default-clause-refused g c =
     let s = c.args.self.now in
     let location = s.index_codec.location in
     let size = s.plan.now.size in
-    let numbers = c.args.numbers.now in
+    let numbers = c.args.cached.now.numbers.now in
     let slices = c.args.stored_slices.bytes.items in
     let known = rw c.deref.ensures.value at c.are_absent.ensures in
     let total : c.len-total.result ≡ length slices = omega (arith, c.len-total.ensures, c.args.stored_slices.bytes.ok.0) in
     let past = rw (c.offset_after-write_offset.ensures, total) at c.in_default.ensures in
-    let large : 2 ^ 64 ≤ length_after location c.args.len (offset_after location size c.args.len numbers (length numbers / 2)) (length slices) + 1 = at_least _ past in
+    let large : 2 ^ 64 ≤ length_after location c.args.cached.now.len (offset_after location size c.args.cached.now.len numbers (length numbers / 2)) (length slices) + 1 = at_least _ past in
     inr (inl (refl, (c.in_ok-new.new.items, c.in_ok-new.ensures.cleared, inr (λ absent. false≢true (sym c.if-are_absent.false ∙ known.1 absent), large))))
 
 pub returns-then-long-clause-refused : goal.returns-then-long-clause-refused
@@ -23,12 +23,12 @@ returns-then-long-clause-refused g c =
     let s = c.args.self.now in
     let location = s.index_codec.location in
     let size = s.plan.now.size in
-    let numbers = c.args.numbers.now in
+    let numbers = c.args.cached.now.numbers.now in
     let slices = c.args.stored_slices.bytes.items in
     let known = rw c.deref.ensures.value at c.are_absent.ensures in
     let total : c.len-total.result ≡ length slices = omega (arith, c.len-total.ensures, c.args.stored_slices.bytes.ok.0) in
     let long = rw (c.offset_after-write_offset.ensures, total) at c.in-Some.ensures in
-    let large : 2 ^ 64 ≤ length_after location c.args.len (offset_after location size c.args.len numbers (length numbers / 2)) (length slices) + 1 = omega (arith, long.1, c.if-long.true) in
+    let large : 2 ^ 64 ≤ length_after location c.args.cached.now.len (offset_after location size c.args.cached.now.len numbers (length numbers / 2)) (length slices) + 1 = omega (arith, long.1, c.if-long.true) in
     inr (inl (refl, (c.in_ok-new.new.items, c.in_ok-new.ensures.cleared, inr (λ absent. false≢true (sym c.if-are_absent.false ∙ known.1 absent), large))))
 
 pub returns-clause-settled : goal.returns-clause-settled
@@ -36,7 +36,7 @@ returns-clause-settled g c = λ old same.
     let s = c.args.self.now in
     let location = s.index_codec.location in
     let size = s.plan.now.size in
-    let numbers = c.args.numbers.now in
+    let numbers = c.args.cached.now.numbers.now in
     let slices = c.args.stored_slices.bytes.items in
     let known = rw c.deref.ensures.value at c.are_absent.ensures in
     let total : c.len-total.result ≡ length slices = omega (arith, c.len-total.ensures, c.args.stored_slices.bytes.ok.0) in
@@ -47,7 +47,7 @@ returns-clause-settled g c = λ old same.
       cleared = c.in_ok-new.new.items;
       clear = c.in_ok-new.ensures.cleared;
       present = λ absent. false≢true (sym c.if-are_absent.false ∙ known.1 absent);
-      put = rw same (λ enough. put old (rw same enough) (rw same (goes_after location size c.args.len (length slices) numbers (length numbers / 2) enough)));
+      put = rw same (λ enough. put old (rw same enough) (rw same (goes_after location size c.args.cached.now.len (length slices) numbers (length numbers / 2) enough)));
       long = rw same stays;
     }))
 
@@ -56,12 +56,12 @@ returns-in_err-appended-clause-refused g c =
     let s = c.args.self.now in
     let location = s.index_codec.location in
     let size = s.plan.now.size in
-    let numbers = c.args.numbers.now in
+    let numbers = c.args.cached.now.numbers.now in
     let slices = c.args.stored_slices.bytes.items in
     let known = rw c.deref.ensures.value at c.are_absent.ensures in
     let total : c.len-total.result ≡ length slices = omega (arith, c.len-total.ensures, c.args.stored_slices.bytes.ok.0) in
     let long = rw (c.offset_after-write_offset.ensures, total) at c.in-Some.ensures in
-    let fits : length_after location c.args.len (offset_after location size c.args.len numbers (length numbers / 2)) (length slices) + 1 < 2 ^ 64 = omega (arith, long.0, long.1, c.if-long.false) in
+    let fits : length_after location c.args.cached.now.len (offset_after location size c.args.cached.now.len numbers (length numbers / 2)) (length slices) + 1 < 2 ^ 64 = omega (arith, long.0, long.1, c.if-long.false) in
     passed_on _ c.in_err-appended.field-0.0 _ c.from_residual-in_err-appended.ensures.1 (elim c.in_err-appended.ensures.refused [
       | inl memory ↦ inl memory
       | inr index ↦ inr (inr ((c.in_ok-new.new.items, c.in_ok-new.ensures.cleared, inr (λ absent. false≢true (sym c.if-are_absent.false ∙ known.1 absent), fits)), index))
