@@ -1,13 +1,11 @@
 -- The index of a shard, by its bytes.
-use Rattle.std.proofs.Common.{◌≡◌, ℕ, ◌≤◌, List, Option, Some, IsTrue, inl, inr, length, map, refl}
+use Rattle.std.proofs.Common.{◌≡◌, ℕ, ◌≤◌, List, Option, Some, inl, inr, length, map, refl}
 use Rattle.std.proofs.lemmas.Bool.{le-leb}
 use Rattle.parts_errors.specs.Order.{◌or◌then◌, ◌or_as◌then◌, done, RefusedBy}
 use Rattle.parts_errors.specs.declared.error.CodecError.{CodecError}
 use Rattle.parts_errors.specs.declared.error.CodecError.TheVariants.{OutOfMemory}
 use Rattle.codec_traits.specs.Meanings.{Meaning}
 use Rattle.codec_traits.specs.Refusals.{RefusesUnserved, MayRefuseDecode}
-use Rattle.storage_handles.specs.Handles.{HandleState}
-use Rattle.storage_handles.specs.Objects.{ObjectRefusals}
 use Rattle.sharding_format.specs.Index.{index_part, number_of_element, numbers_in_index, numbers_of_cells}
 use Rattle.codec_traits.specs.CellLaws.{all_there-map_some}
 use Rattle.sharding_format.specs.DecodeRefusals.{stored_refusal, RefusesStored, IndexRefusals}
@@ -55,10 +53,3 @@ pub part_refused : (index_decode : List ℕ → CodecError → Type 0) (index_ce
     → RefusedBy (IndexRefusals index_decode index_cells location size b done) e
 part_refused index_decode index_cells location size b part e room is h =
     elim h [ inl memory ↦ inl memory | inr refused ↦ inr (part_refusals index_decode index_cells location size b part e room is refused) ]
-
--- also where it stands in an object
-pub read_part_refused : (old new : HandleState) (index_decode : List ℕ → CodecError → Type 0) (index_cells : List ℕ → List (Option (List ℕ))) (location : ShardingIndexLocation) (size : ℕ) (b part : List ℕ)
-    (e : CodecError) → (IsTrue old.transparent → size ≤ length b) → (IsTrue old.transparent → part ≡ index_part location size b) → RefusedBy (RefusesStored (index_decode part) (index_cells part)) e
-    → RefusedBy (ObjectRefusals old new (IndexRefusals index_decode index_cells location size b done)) e
-read_part_refused old new index_decode index_cells location size b part e room is h =
-    elim h [ inl memory ↦ inl memory | inr refused ↦ inr (λ t. inr (part_refusals index_decode index_cells location size b part e (room t) (is t) refused)) ]
