@@ -50,8 +50,11 @@ fn check_command<'a>(alloc: Global) -> Result<Command<'a>, AllocError> {
         .arg(path_argument(alloc))
 }
 
+// A subset may begin with a number from the end, as -1,0..2.
 fn subset_argument<'a>(alloc: Global) -> Arg<'a> {
-    Arg::new(alloc, "BOX").help("A range for each axis, as 0..2,3..5; without it the whole array")
+    Arg::new(alloc, "BOX").allow_hyphen_values(true).help(
+        "A word for each axis, with commas, as 0..2,3..5; without it the whole array",
+    )
 }
 
 fn json_flag<'a>(alloc: Global) -> Arg<'a> {
@@ -74,7 +77,7 @@ fn boxed_command<'a>(alloc: Global) -> Result<Command<'a>, AllocError> {
     Command::new(alloc, "read")
         .about("Writes the cells of a box in row-major order, a row of the last axis a line")
         .after_help(
-            "Example: zarr_shard read weather/temperature 0..2,3..5\nA bool is 0 or 1 as text, and true or false in JSON.",
+            "Example: zarr_shard read weather/temperature 0..2,3..5\nA word: 0..2 or 0:2 to before 2; 0..=2 to 2; 3.., :5 and : to an end of the axis; 7 one coordinate; -1 the last; ... the axes that are missing.\nA bool is 0 or 1 as text, and true or false in JSON.",
         )
         .arg(path_argument(alloc))?
         .arg(subset_argument(alloc))

@@ -48,7 +48,7 @@ fn run_read<
     out: &mut W,
     progress: &mut Progress<'_, M>,
 ) -> Result<Ending, Stop> {
-    let subset = subset_of(array.alloc(), requested, &array.metadata.shape)?;
+    let subset = subset_of(array.alloc(), requested, &array.metadata.shape)?.subset;
     let cells = read_array(array, &subset, progress)?;
     progress.clear();
     let data_type = &array.metadata.data_type;

@@ -1,4 +1,4 @@
-// Tests of arrays on disk, their metadata and their shards, and of scripts whose reader or writer fails.
+// Tests of arrays on disk, their metadata and their shards, of subsets on a command line, and of scripts whose reader or writer fails.
 #![tactic(auto)]
 
 #[cfg(test)]
@@ -19,3 +19,5 @@ mod metadata;
 mod refused;
 #[cfg(test)]
 mod shards;
+#[cfg(test)]
+mod subsets;
