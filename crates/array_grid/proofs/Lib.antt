@@ -1,3 +1,4 @@
 pub mod RoundingLemmas
 pub mod PutLemmas
 pub mod PartLemmas
+pub mod PickLemmas

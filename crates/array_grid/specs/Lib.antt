@@ -1,3 +1,4 @@
 pub mod Shards
 pub mod Parts
 pub mod Cells
+pub mod Subsets

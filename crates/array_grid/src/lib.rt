@@ -1,11 +1,19 @@
-// The shards of an array: which cell of which shard stands where.
+// Which subset of an array is requested, and which shards it overlaps: which cell of which shard stands where.
 #![tactic(auto)]
 
 mod cells;
 mod grid;
+mod parsing;
 mod parts;
+mod picking;
+mod subsets;
 mod touched;
+mod words;
 
 pub use cells::SubsetCells;
 pub use grid::ShardGrid;
+pub use parsing::parse;
 pub use parts::{ShardPart, ShardParts};
+pub use picking::{Requested, resolve};
+pub use subsets::{SubsetError, subset_of};
+pub use words::{Position, Word};

@@ -3,7 +3,7 @@ ghost use Rattle.std.specs.Prelude.{◌≡◌, ◌≤◌};
 ghost use Rattle.array_opening.specs.Statuses.{status_of};
 
 use crate::refusal::Refusal;
-use array_cli::SubsetError;
+use array_grid::SubsetError;
 use array_folder::FolderError;
 use array_metadata::MetadataError;
 use parts_errors::CodecError;

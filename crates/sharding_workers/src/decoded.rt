@@ -7,11 +7,12 @@ ghost use Rattle.sharding_format.specs.steps.Decoding.{IsDecoded};
 ghost use Rattle.sharding_subchunks.specs.steps.Inner.{spec_of_subchunks, inner_meaning};
 
 use crate::gate::Gate;
-use crate::numbered::{by_number, in_order};
+use crate::numbered::in_order;
 use codec_traits::ArrayToBytesCodecTraits;
 use parts_arrays::ArrayBytes;
 use parts_errors::CodecError;
 use sharding_format::ShardIndex;
+use sharding_lock::by_number;
 use sharding_subchunks::Subchunks;
 use std::alloc::Global;
 use std::thread::Threads;

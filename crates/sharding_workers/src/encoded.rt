@@ -15,12 +15,13 @@ ghost use Rattle.sharding_layout.specs.Rows.{FollowBy};
 ghost use Rattle.sharding_workers.specs.steps.Storing.{CanStore, AreStored};
 
 use crate::gate::Gate;
-use crate::numbered::{by_number, in_order};
+use crate::numbered::in_order;
 use codec_traits::ArrayToBytesCodecTraits;
 use parts_arrays::ArrayBytes;
 use parts_errors::CodecError;
 use parts_subsets::ChunkShape;
 use sharding_layout::{StoredSlices, absent_slots, elements_in_row, placed};
+use sharding_lock::by_number;
 use sharding_order::SubchunkSequence;
 use sharding_subchunks::{Stored, Subchunks};
 use std::alloc::Global;

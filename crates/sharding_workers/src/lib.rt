@@ -8,5 +8,5 @@ mod numbered;
 mod whole;
 
 pub use gate::{Gate, NoGate};
-pub use numbered::{by_number, in_order};
+pub use numbered::in_order;
 pub use whole::{decode_by_workers, encode_by_workers};

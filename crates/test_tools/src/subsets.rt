@@ -1,6 +1,6 @@
 // Subsets as they stand on a command line.
 use crate::compared::same_at;
-use array_cli::{SubsetError, subset_of};
+use array_grid::{SubsetError, subset_of};
 use std::alloc::{AllocError, Global};
 use std::test::Fail;
 

@@ -1,5 +1,5 @@
-use Rattle.array_cli.proofs.PickLemmas.{picked_lie_in}
-use Rattle.array_cli.proofs.picking.subset_picked.Goals as goal
+use Rattle.array_grid.proofs.PickLemmas.{picked_lie_in}
+use Rattle.array_grid.proofs.picking.subset_picked.Goals as goal
 
 pub returns-in-Some-2-clause-inside : goal.returns-in-Some-2-clause-inside
 returns-in-Some-2-clause-inside c =

@@ -2,7 +2,7 @@
 ghost use Rattle.std.specs.Prelude.{◌≡◌, ◌≤◌, ◌+◌, IsTrue, ◌↔◌, IfOk, IfErr, OnOk, SomeIff, MatchOption, length, map};
 ghost use Rattle.std.specs.List.{All, position_or_len, before_first, after_first};
 ghost use Rattle.parts_row_major.specs.Subsets.{subset_of_ranges, LiesIn};
-ghost use Rattle.array_cli.specs.Subsets.{place, IsOn, IsCoordinate, picked, LiesOn, is_ellipsis, is_coordinate, axes_named, spread, HasOneEllipsis, each_picked, AllLieOn, IsForward, PickRefusal, IsRefusal};
+ghost use Rattle.array_grid.specs.Subsets.{place, IsOn, IsCoordinate, picked, LiesOn, is_ellipsis, is_coordinate, axes_named, spread, HasOneEllipsis, each_picked, AllLieOn, IsForward, PickRefusal, IsRefusal};
 
 use crate::subsets::SubsetError;
 use crate::words::{Position, Word};

@@ -29,7 +29,7 @@ pub enum SubsetError {
 
 impl From<AllocError> for SubsetError {
     ghost use Rattle.std.specs.Prelude.{◌≡◌};
-    ghost use Rattle.array_cli.specs.declared.subsets.SubsetError.TheVariants.{OutOfMemory};
+    ghost use Rattle.array_grid.specs.declared.subsets.SubsetError.TheVariants.{OutOfMemory};
 
     ghost from_gives = { λ _ error. error ≡ OutOfMemory };
 
@@ -40,7 +40,7 @@ impl From<AllocError> for SubsetError {
 
 impl<T: Drop> From<AllocFailed<T>> for SubsetError {
     ghost use Rattle.std.specs.Prelude.{◌≡◌};
-    ghost use Rattle.array_cli.specs.declared.subsets.SubsetError.TheVariants.{OutOfMemory};
+    ghost use Rattle.array_grid.specs.declared.subsets.SubsetError.TheVariants.{OutOfMemory};
 
     ghost from_gives = { λ _ error. error ≡ OutOfMemory };
 

@@ -1,6 +1,6 @@
 use Rattle.std.proofs.Common.{refl, arith}
-use Rattle.array_cli.proofs.PickLemmas.{lies_on_at, picked_more, on_more, all_zipped}
-use Rattle.array_cli.proofs.picking.each_picked_of.Goals as goal
+use Rattle.array_grid.proofs.PickLemmas.{lies_on_at, picked_more, on_more, all_zipped}
+use Rattle.array_grid.proofs.picking.each_picked_of.Goals as goal
 
 pub returns-in_default : goal.returns-in_default
 returns-in_default c = λ all. c.in_default.ensures (lies_on_at c.args.words.now c.args.shape.now c.loop-axis.axis _ c.requires (omega arith) all)

@@ -1,8 +1,8 @@
 -- The ranges so far.
 use Rattle.std.proofs.Common.{◌≡◌, map, take}
 use Rattle.std.specs.List.{All, zip}
-use Rattle.array_cli.specs.Subsets.{picked, LiesOn}
-use Rattle.array_cli.proofs.picking.each_picked_of.Given as goal
+use Rattle.array_grid.specs.Subsets.{picked, LiesOn}
+use Rattle.array_grid.proofs.picking.each_picked_of.Given as goal
 
 abbrev pub invariant-loop-axis : goal.invariant-loop-axis
 invariant-loop-axis l = record {

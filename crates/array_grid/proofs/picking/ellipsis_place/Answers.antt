@@ -1,9 +1,9 @@
 use Rattle.std.proofs.Common.{◌∙◌, length, arith, sym}
 use Rattle.std.proofs.lemmas.List.Sums.{position_or_len_is}
-use Rattle.array_cli.specs.declared.words.Position.TheVariants.{FromStart}
-use Rattle.array_cli.specs.declared.words.Word.TheVariants as word
-use Rattle.array_cli.specs.Subsets.{is_ellipsis}
-use Rattle.array_cli.proofs.picking.ellipsis_place.Goals as goal
+use Rattle.array_grid.specs.declared.words.Position.TheVariants.{FromStart}
+use Rattle.array_grid.specs.declared.words.Word.TheVariants as word
+use Rattle.array_grid.specs.Subsets.{is_ellipsis}
+use Rattle.array_grid.proofs.picking.ellipsis_place.Goals as goal
 
 pub returns-then-is_ellipsis-clause-place : goal.returns-then-is_ellipsis-clause-place
 returns-then-is_ellipsis-clause-place c =

@@ -2,12 +2,12 @@
 use Rattle.std.specs.Prelude.{◌≡◌, ◌<◌, ◌≤◌, ◌+◌, ◌-◌, ◌++◌, ℕ, ⊤, Bool, true, false, List, length, map, replicate}
 use Rattle.std.specs.List.{All, zip, count_by, before_first, after_first}
 use Rattle.std.specs.declared.ops.Range.{Range}
-use Rattle.array_cli.specs.declared.words.Position.{Position}
-use Rattle.array_cli.specs.declared.words.Position.TheVariants.{FromStart, FromEnd}
-use Rattle.array_cli.specs.declared.words.Word.{Word}
-use Rattle.array_cli.specs.declared.words.Word.TheVariants as word
-use Rattle.array_cli.specs.declared.subsets.SubsetError.{SubsetError}
-use Rattle.array_cli.specs.declared.subsets.SubsetError.TheVariants as error
+use Rattle.array_grid.specs.declared.words.Position.{Position}
+use Rattle.array_grid.specs.declared.words.Position.TheVariants.{FromStart, FromEnd}
+use Rattle.array_grid.specs.declared.words.Word.{Word}
+use Rattle.array_grid.specs.declared.words.Word.TheVariants as word
+use Rattle.array_grid.specs.declared.subsets.SubsetError.{SubsetError}
+use Rattle.array_grid.specs.declared.subsets.SubsetError.TheVariants as error
 
 -- the coordinate at which a position stands, on an axis with this number of coordinates
 abbrev pub place : Position → ℕ → ℕ

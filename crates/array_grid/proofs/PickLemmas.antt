@@ -7,11 +7,11 @@ use Rattle.std.specs.declared.ops.Range.{Range}
 use Rattle.std.proofs.lemmas.List.{map-append}
 use Rattle.std.proofs.lemmas.Slice.Zip.{length-zip, get_or-zip}
 use Rattle.parts_row_major.specs.Subsets.{subset_of_ranges, LiesIn}
-use Rattle.array_cli.specs.declared.words.Position.{Position}
-use Rattle.array_cli.specs.declared.words.Position.TheVariants.{FromStart, FromEnd}
-use Rattle.array_cli.specs.declared.words.Word.{Word}
-use Rattle.array_cli.specs.declared.words.Word.TheVariants as word
-use Rattle.array_cli.specs.Subsets.{place, IsOn, picked, LiesOn, IsForward, each_picked, AllLieOn}
+use Rattle.array_grid.specs.declared.words.Position.{Position}
+use Rattle.array_grid.specs.declared.words.Position.TheVariants.{FromStart, FromEnd}
+use Rattle.array_grid.specs.declared.words.Word.{Word}
+use Rattle.array_grid.specs.declared.words.Word.TheVariants as word
+use Rattle.array_grid.specs.Subsets.{place, IsOn, picked, LiesOn, IsForward, each_picked, AllLieOn}
 
 place_within : (position : Position) (axis : ℕ) → IsOn position axis → place position axis ≤ axis
 place_within (FromStart count) axis on = on
