@@ -40,4 +40,4 @@ wrap:
 	@python3 tools/wrap.py
 
 refuse:
-	@crates/test_out_of_memory/refuse_each.sh
+	@tests/out_of_memory/refuse_each.sh

@@ -84,7 +84,7 @@ def contracts():
     """The clauses of each function, and the ghost members of each trait and type, by name."""
     found, owner, function = {}, None, None
     for path in files(".rt"):
-        for line in read(f"{TOP}/{path}").split("\n") if "crates/test_" not in path else []:
+        for line in read(f"{TOP}/{path}").split("\n") if not path.startswith(("crates/test_", "tests/")) else []:
             head = re.match(r"(?:pub )?trait (\w+)|(?:impl\b.*?|    for )(\w+)(?:<.*>)? \{$", line)
             owner = head[1] or head[2] if head else owner
             head = re.match(r"\s*(?:pub(?:\([a-z]+\))? )?fn (\w+)", line)
@@ -155,7 +155,7 @@ def check_sizes():
         length = read(f"{TOP}/{path}").count("\n")
         if length > FILE:
             say(path, length, f"{length} lines (at most {FILE})")
-        if path.endswith(".rt"):
+        if path.startswith("crates/") and path.endswith(".rt"):
             lines[path.split("/")[1]] += length
     for name, length in lines.items():
         if length > CRATE and not name.startswith("test_"):
@@ -193,7 +193,7 @@ def counted():
                 if is_comment(path, line):
                     yield from (("retired words", path, number, word) for word in retired.findall(line))
     for path in files(".rt"):
-        if "crates/test_" not in path:
+        if not path.startswith(("crates/test_", "tests/")):
             for item in all_functions(items(read(f"{TOP}/{path}").split("\n"), path)):
                 if item.parameters() > PARAMETERS:
                     yield f"functions of more than {PARAMETERS} parameters", path, item.name, item.parameters()

@@ -1,4 +1,4 @@
-// Tests of the sharding codec, over its public calls alone. What a script can say of it is data of the program test_worked_scripts.
+// Tests of the sharding codec, over its public calls alone. What a script can say of it stands in tests/scripts.
 #![tactic(auto)]
 
 #[cfg(test)]
