@@ -1,5 +1,6 @@
 -- Laws of the register of CRC-32C: its steps keep sums of numbers of two values, so that a byte's eight bits can be taken at once.
-use Rattle.std.proofs.Common.{◌≡◌, ◌≢◌, ◌⊎◌, ℕ, zero, suc, ◌+◌, ◌*◌, ◌/◌, ◌%◌, ◌^◌, ◌<◌, refl, sym, ap, ◌∙◌, arith, inl, inr, bit_xor, pow-suc, List, length, map, get_or}
+use Rattle.std.proofs.Common.{◌≡◌, ◌≢◌, ◌⊎◌, ℕ, zero, suc, ◌+◌, ◌*◌, ◌/◌, ◌%◌, ◌^◌, ◌<◌, refl, sym, ap, ◌∙◌, arith, inl, inr, bit_xor, pow-suc, List, [], ◌∷◌, length, map, get_or, fold}
+use Rattle.std.specs.List.{All}
 use Rattle.std.specs.List.{range_with_len}
 use Rattle.std.proofs.lemmas.List.{get_or-map}
 use Rattle.std.proofs.lemmas.List.FromFn.{length-range_with_len, get_or-range_with_len}
@@ -80,8 +81,73 @@ with_byte-table register byte small =
     ap (with_bits 8) (sym right ∙ (sym block ∙ left)) ∙ (with_bits-xor 8 low (rest * 2 ^ 8)
     ∙ ap (bit_xor (with_bits 8 low)) (with_bits-shifted 8 rest ∙ high))
 
--- a table of what each byte leaves in the register
-pub remainder_at : (table : List ℕ) (byte : ℕ) → byte < 256 → table ≡ map (with_bits 8) (range_with_len 0 256) → get_or table byte 0 ≡ with_bits 8 byte
-remainder_at table byte small is =
+-- bits in two steps
+with_bits-more : (n m r : ℕ) → with_bits (n + m) r ≡ with_bits n (with_bits m r)
+unfolding with_bits
+with_bits-more zero m r = let same : 0 + m ≡ m = omega arith in ap (λ k. with_bits k r) same
+with_bits-more (suc n) m r =
+    let more : suc n + m ≡ suc (n + m) = omega arith in
+    ap (λ k. with_bits k r) more ∙ ap with_bit (with_bits-more n m r)
+
+-- a number with its lowest eight bits apart
+apart : (low rest : ℕ) → low < 256 → low + 256 * rest ≡ bit_xor low (rest * 2 ^ 8)
+apart low rest small =
+    let block : bit_xor (0 * 2 ^ 8 + low) (rest * 2 ^ 8 + 0) ≡ bit_xor 0 rest * 2 ^ 8 + bit_xor low 0 = xor_block 8 0 rest low 0 small (omega arith) in
+    let left : bit_xor (0 * 2 ^ 8 + low) (rest * 2 ^ 8 + 0) ≡ bit_xor low (rest * 2 ^ 8) =
+    ap (λ k. bit_xor k (rest * 2 ^ 8 + 0)) (omega arith) ∙ ap (bit_xor low) (omega arith) in
+    let right : bit_xor 0 rest * 2 ^ 8 + bit_xor low 0 ≡ low + 256 * rest =
+    ap (λ k. k * 2 ^ 8 + bit_xor low 0) (xor_zero_l rest) ∙ (ap (λ k. rest * 2 ^ 8 + k) (xor_zero_r low) ∙ omega arith) in
+    sym right ∙ (sym block ∙ left)
+
+-- eight bits of a sum leave the register, and then others
+with_bits-apart : (n r low rest : ℕ) → low < 256 → with_bits (n + 8) (bit_xor r (low + 256 * rest)) ≡ with_bits n (bit_xor (with_byte r low) rest)
+with_bits-apart n r low rest small =
+    let whole : bit_xor r (low + 256 * rest) ≡ bit_xor (bit_xor r low) (rest * 2 ^ 8) = ap (bit_xor r) (apart low rest small) ∙ sym (xor_assoc r low (rest * 2 ^ 8)) in
+    let eight : with_bits 8 (bit_xor r (low + 256 * rest)) ≡ bit_xor (with_byte r low) rest =
+    ap (with_bits 8) whole ∙ (with_bits-xor 8 (bit_xor r low) (rest * 2 ^ 8) ∙ ap (bit_xor (with_byte r low)) (with_bits-shifted 8 rest)) in
+    with_bits-more n 8 (bit_xor r (low + 256 * rest)) ∙ ap (with_bits n) eight
+
+-- bytes as one number, the first byte the lowest
+unfoldable pub number_of : List ℕ → ℕ
+number_of [] = 0
+number_of (b ∷ bytes) = b + 256 * number_of bytes
+
+-- the bits of bytes leave a register at once as they do one byte after the other
+pub with_bits-bytes : (bytes : List ℕ) (r : ℕ) → All (λ b. b < 256) bytes → with_bits (length bytes * 8) (bit_xor r (number_of bytes)) ≡ fold with_byte r bytes
+unfolding with_bits number_of
+with_bits-bytes [] r small = let none : 0 * 8 ≡ 0 = omega arith in ap (λ n. with_bits n (bit_xor r 0)) none ∙ xor_zero_r r
+with_bits-bytes (b ∷ bytes) r small =
+    let more : length (b ∷ bytes) * 8 ≡ length bytes * 8 + 8 = omega arith in
+    ap (λ n. with_bits n (bit_xor r (b + 256 * number_of bytes))) more
+    ∙ (with_bits-apart (length bytes * 8) r b (number_of bytes) (small 0 0 (omega arith)) ∙ with_bits-bytes bytes (with_byte r b) (λ k d lt. small (suc k) d (omega arith)))
+
+-- the bits of a number, by what its lowest eight leave
+pub with_bits-split : (n x : ℕ) → with_bits (n + 8) x ≡ bit_xor (with_bits (n + 8) (x % 256)) (with_bits n (x / 256))
+with_bits-split n x =
+    let low = x % 256 in
+    let rest = x / 256 in
+    let digits : x ≡ low + 256 * rest = omega arith in
+    let whole : x ≡ bit_xor low (rest * 2 ^ 8) = digits ∙ apart low rest (omega arith) in
+    let shifted : with_bits (n + 8) (rest * 2 ^ 8) ≡ with_bits n rest = with_bits-more n 8 (rest * 2 ^ 8) ∙ ap (with_bits n) (with_bits-shifted 8 rest) in
+    ap (with_bits (n + 8)) whole ∙ (with_bits-xor (n + 8) low (rest * 2 ^ 8) ∙ ap (bit_xor (with_bits (n + 8) low)) shifted)
+
+-- a table of what each byte leaves in the register after so many bits
+pub remainder_at : (bits : ℕ) (table : List ℕ) (byte : ℕ) → byte < 256 → table ≡ map (with_bits bits) (range_with_len 0 256) → get_or table byte 0 ≡ with_bits bits byte
+remainder_at bits table byte small is =
     let below : byte < length (range_with_len 0 256) = rw (length-range_with_len 0 256) small in
-    rw is (get_or-map (with_bits 8) (range_with_len 0 256) byte 0 0 below ∙ ap (with_bits 8) (get_or-range_with_len 0 256 byte 0 small ∙ omega arith))
+    rw is (get_or-map (with_bits bits) (range_with_len 0 256) byte 0 0 below ∙ ap (with_bits bits) (get_or-range_with_len 0 256 byte 0 small ∙ omega arith))
+
+-- what each byte leaves in the register, where so many bytes that are 0 stand behind it
+abbrev pub row : ℕ → List ℕ
+row zeros = map (with_bits (8 * (1 + zeros))) (range_with_len 0 256)
+
+unfoldable pub tables : List (List ℕ)
+tables = map row (range_with_len 0 8)
+
+pub remainder_in : (found : List (List ℕ)) (zeros byte : ℕ) → zeros < 8 → byte < 256 → found ≡ tables → get_or (get_or found zeros []) byte 0 ≡ with_bits (8 * (1 + zeros)) byte
+unfolding tables
+remainder_in found zeros byte few small is =
+    let below : zeros < length (range_with_len 0 8) = rw (length-range_with_len 0 8) few in
+    let found_row : get_or found zeros [] ≡ row zeros =
+    rw is (get_or-map row (range_with_len 0 8) zeros 0 [] below ∙ ap row (get_or-range_with_len 0 8 zeros 0 few ∙ omega arith)) in
+    remainder_at (8 * (1 + zeros)) (get_or found zeros []) byte small found_row
