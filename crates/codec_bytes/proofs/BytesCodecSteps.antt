@@ -1,5 +1,5 @@
 -- The steps of the calls of the codec `bytes`.
-use Rattle.std.proofs.Common.{◌≡◌, ◌≢◌, ℕ, ◌+◌, ◌*◌, ◌/◌, ◌^◌, ◌<◌, ◌≤◌, Bool, true, false, List, [], ◌∷◌, Option, Some, length, take, drop, map, get_or, reverse, refl, sym, ap, ◌∙◌, arith, below_more}
+use Rattle.std.proofs.Common.{◌≡◌, ◌≢◌, ℕ, zero, suc, ◌+◌, ◌*◌, ◌/◌, ◌^◌, ◌<◌, ◌≤◌, Bool, true, false, List, [], ◌∷◌, Option, Some, length, take, drop, map, get_or, reverse, refl, sym, ap, ◌∙◌, arith, below_more}
 use Rattle.std.proofs.Math.Nat.{div-eq_of_eq-mul_left}
 use Rattle.std.proofs.lemmas.List.{length-map, length-reverse}
 use Rattle.std.proofs.lemmas.List.Elements.{All-head, All-tail, All-map}
@@ -15,6 +15,7 @@ use Rattle.parts_arrays.specs.ArraySpec.{ArraySpec, IsArrayOf}
 use Rattle.parts_arrays.specs.Types.{size_of, byte_size, FitsKind}
 use Rattle.parts_row_major.specs.Pieces.{piece, pieces}
 use Rattle.parts_arrays.specs.Arrays.{Array, IsWhole, fixed_array}
+use Rattle.parts_arrays.specs.Refusals.{IsValid}
 use Rattle.parts_arrays.specs.declared.data_type.DataType.{DataType}
 use Rattle.parts_arrays.specs.declared.data_type.DataTypeSize.TheVariants.{Fixed}
 use Rattle.parts_row_major.proofs.NumberingLaws.{count_positive}
@@ -130,6 +131,23 @@ decoded endianness g size count total reversed b items array m long is made =
       cells = bytes_cells-whole endianness g b len ∙ sym (map-map Some codec_swaps stored);
     })
 
+-- stored elements as they are in memory
+abbrev pub in_memory : ℕ → Bool → List ℕ → Array
+in_memory n reversed b = fixed_array n (concat (map (swapped reversed) (fixed_array n b).elements))
+
+-- stored bytes of an array are a valid array, before their elements are swapped
+pub stored_valid : (endianness : Option Endianness) (g : ArraySpec) (size count total : ℕ) (reversed : Bool) (b : List ℕ) → IsMeasured endianness g size count total reversed
+    → length b ≡ total → IsValid (fixed_array size b) (count_of g.shape) g.data_type
+stored_valid endianness g size count total reversed b m long =
+    let n = element_size g in
+    let some = m.serves.supported.positive in
+    let len : length b ≡ count_of g.shape * n = long ∙ m.total_is in
+    record {
+      supported = λ none. omega (arith, some, ap byte_size none);
+      kind = ap Fixed m.size_is ∙ sym m.serves.supported.fixed;
+      counted = ap (λ s. length (fixed_array s b).elements) m.size_is ∙ (length-pieces n (length b / n) b ∙ div-eq_of_eq-mul_left some len);
+    }
+
 -- what `encode` answers
 pub encoded : (endianness : Option Endianness) (g : ArraySpec) (size count total : ℕ) (reversed : Bool) (array : Array) (bytes items : List ℕ) → IsMeasured endianness g size count total reversed
     → IsArrayOf g array.elements → bytes ≡ concat array.elements → items ≡ concat (map (swapped reversed) (fixed_array size bytes).elements) → items ≡ bytes_of endianness g array.elements
@@ -204,3 +222,71 @@ plain endianness g size count total reversed m kept =
           let sized = elements_sized endianness g a m.serves is in
           ap concat (sym (map_swapped-false a) ∙ swaps_same endianness g.data_type false a swaps sized);
     }
+
+-- an element of others that are swapped
+get_or-swapped : (reversed : Bool) (elements : List (List ℕ)) (i : ℕ) → get_or (map (swapped reversed) elements) i [] ≡ swapped reversed (get_or elements i [])
+get_or-swapped false [] i = refl
+get_or-swapped true [] i = refl
+get_or-swapped reversed (e ∷ es) zero = refl
+get_or-swapped reversed (e ∷ es) (suc i) = get_or-swapped reversed es i
+
+map-swapped : (reversed : Bool) (elements : List (List ℕ)) (numbers : List ℕ)
+    → map (λ i. get_or (map (swapped reversed) elements) i []) numbers ≡ map (swapped reversed) (map (λ i. get_or elements i []) numbers)
+map-swapped reversed elements [] = refl
+map-swapped reversed elements (i ∷ numbers) = λ k. get_or-swapped reversed elements i k ∷ map-swapped reversed elements numbers k
+
+-- elements that are swapped, as an array
+pub array_swapped : (n : ℕ) (reversed : Bool) (b : List ℕ) → IsWhole n b
+    → fixed_array n (concat (map (swapped reversed) (fixed_array n b).elements)) ≡ record { kind = Fixed n; elements = map (swapped reversed) (fixed_array n b).elements }
+array_swapped n reversed b whole =
+    let elements = (fixed_array n b).elements in
+    fixed_array-concat n (map (swapped reversed) elements) whole.0 (All-swapped n reversed elements (All-fixed_array n b whole))
+
+-- elements with these numbers
+abbrev pub picked_in : List ℕ → Array → Array
+picked_in numbers a = record { kind = a.kind; elements = map (λ i. get_or a.elements i []) numbers }
+
+-- stored elements that stay as they are
+pub array_kept : (n : ℕ) (b : List ℕ) (array : Array) → IsWhole n b → array ≡ fixed_array n (concat (map (swapped false) (fixed_array n b).elements)) → array ≡ fixed_array n b
+array_kept n b array whole is = is ∙ ap (fixed_array n) (sym (kept_elements n b whole))
+
+-- the requested ones of stored elements
+pub record AreRequested (n : ℕ) (b : List ℕ) (numbers : List ℕ) (requested : Array) : Type 0 where
+  pub elements : requested.elements ≡ map (λ i. get_or (fixed_array n b).elements i []) numbers
+  pub kind : requested.kind ≡ Fixed n
+  pub below : All (λ i. i < length (fixed_array n b).elements) numbers
+
+pub requested_of : (n : ℕ) (b : List ℕ) (shape : List ℕ) (points : List (List ℕ)) (array requested : Array) → length (fixed_array n b).elements ≡ count_of shape
+    → All (λ point. IsInside point shape) points → array ≡ fixed_array n b → requested ≡ picked_in (map (λ point. number_of point shape) points) array
+    → AreRequested n b (map (λ point. number_of point shape) points) requested
+requested_of n b shape points array requested counted inside stored is =
+    let numbers = map (λ point. number_of point shape) points in
+    record {
+      elements = ap (λ (a : Array). a.elements) is ∙ ap (λ (a : Array). map (λ i. get_or a.elements i []) numbers) stored;
+      kind = ap (λ (a : Array). a.kind) is ∙ ap (λ (a : Array). a.kind) stored;
+      below = rw counted (numbers_below shape points inside);
+    }
+
+pub requested_whole : (n : ℕ) (b : List ℕ) (numbers : List ℕ) (requested : Array) → IsWhole n b → AreRequested n b numbers requested → IsWhole n (concat requested.elements)
+requested_whole n b numbers requested whole r =
+    let stored = (fixed_array n b).elements in
+    rw r.elements (whole-concat n (map (λ i. get_or stored i []) numbers) whole.0
+    (All-map (λ e. length e ≡ n) (λ i. get_or stored i []) numbers (λ k d lt. All-fixed_array n b whole (get_or numbers k d) [] (r.below k d lt))))
+
+-- the requested ones of stored elements, of which each is swapped then, are the requested ones of swapped elements
+pub requested_swapped : (n : ℕ) (reversed : Bool) (b items : List ℕ) (numbers : List ℕ) (requested array : Array) → IsWhole n b → AreRequested n b numbers requested
+    → items ≡ concat (map (swapped reversed) (fixed_array n (concat requested.elements)).elements) → array ≡ fixed_array n items
+    → let swapped_array = fixed_array n (concat (map (swapped reversed) (fixed_array n b).elements)) in
+    array ≡ record { kind = swapped_array.kind; elements = map (λ i. get_or swapped_array.elements i []) numbers }
+requested_swapped n reversed b items numbers requested array whole r is made =
+    let stored = (fixed_array n b).elements in
+    let picked = map (λ i. get_or stored i []) numbers in
+    let sized : All (λ e. length e ≡ n) picked = All-map (λ e. length e ≡ n) (λ i. get_or stored i []) numbers (λ k d lt. All-fixed_array n b whole (get_or numbers k d) [] (r.below k d lt)) in
+    let cut : (fixed_array n (concat requested.elements)).elements ≡ picked =
+    ap (λ es. (fixed_array n (concat es)).elements) r.elements ∙ ap (λ (a : Array). a.elements) (fixed_array-concat n picked whole.0 sized) in
+    let items_are : items ≡ concat (map (swapped reversed) picked) = is ∙ ap (λ es. concat (map (swapped reversed) es)) cut in
+    let turned = map (swapped reversed) picked in
+    let array_is : array ≡ record { kind = Fixed n; elements = turned } =
+    made ∙ (ap (fixed_array n) items_are ∙ fixed_array-concat n turned whole.0 (All-swapped n reversed picked sized)) in
+    let same : map (swapped reversed) picked ≡ map (λ i. get_or (map (swapped reversed) stored) i []) numbers = sym (map-swapped reversed stored numbers) in
+    array_is ∙ (ap (λ es. record { kind = Fixed n; elements = es }) same ∙ ap (picked_in numbers) (sym (array_swapped n reversed b whole)))

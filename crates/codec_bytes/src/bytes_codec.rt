@@ -1,23 +1,19 @@
 // The codec `bytes`.
-ghost use Rattle.std.specs.Prelude.{◌≡◌, ◌++◌, ℕ, Bool, List, Some, IfOk, IfErr, IfSome, IfNone, OnOk, OnErr, map, reverse};
-ghost use Rattle.std.specs.List.{concat};
-ghost use Rattle.std.specs.Cow.{cow_slice_items};
+ghost use Rattle.std.specs.Prelude.{◌≡◌, Some, IfOk, IfErr, IfSome, IfNone, OnErr};
 ghost use Rattle.parts_arrays.specs.ArraySpec.{array_spec};
 ghost use Rattle.parts_arrays.specs.Types.{size_of, byte_size};
-ghost use Rattle.parts_arrays.specs.Arrays.{IsWhole, fixed_array};
-ghost use Rattle.parts_arrays.specs.declared.data_type.DataTypeSize.TheVariants.{Fixed};
-ghost use Rattle.codec_bytes.specs.BytesCodec.{is_whole_number, swapped, KnowsOrder, SwapsAs, IsMeasured, BytesServes, BytesCheckRefusals};
+ghost use Rattle.codec_bytes.specs.BytesCodec.{is_whole_number, KnowsOrder, SwapsAs, IsMeasured, BytesServes, BytesCheckRefusals};
 ghost use Rattle.codec_bytes.specs.declared.bytes_codec.Endianness.TheVariants.{Little, Big};
 
+use crate::byte_order::{ElementOrder, append, array_of_bytes, put_in_memory, requested_in_memory};
 use codec_traits::{
     ArrayToBytesCodecTraits, BytesRepresentation, FunctionalCodec, RecommendedConcurrency,
-    StoredArray, check_target, put_requested, requested_elements,
+    StoredArray, check_target,
 };
 use parts_arrays::{ArrayBytes, DataType, DataTypeSize, FillValue, FixedTarget};
 use parts_errors::{CodecError, CodecOptions};
 use parts_subsets::{ChunkShape, Indexer, check_selection};
-use std::alloc::{AllocError, Global};
-use std::borrow::CowSlice;
+use std::alloc::Global;
 use std::marker::Model;
 use storage_handles::{ByteRange, BytesPartialDecoderTraits, Interval, check_interval, read_range};
 
@@ -167,82 +163,6 @@ fn is_whole(data_type: &DataType) -> bool
         data_type,
         DataType::Bool | DataType::Raw(_) | DataType::Bytes | DataType::Optional
     )
-}
-
-// Reverses the bytes of each element.
-fn reverse_elements(bytes: &mut [u8], size: usize)
-    requires { IsWhole size bytes.old }
-    ensures { bytes.new ≡ concat (map reverse (fixed_array size bytes.old).elements) }
-{
-    for i in 0..bytes.len() / size {
-        let from = i * size;
-        bytes[from..from + size].reverse();
-    }
-}
-
-// A copy of the elements, with the bytes of each reversed where that is asked.
-fn copied(alloc: Global, bytes: &[u8], size: usize, reversed: bool) -> Result<Vec<u8>, AllocError>
-    requires { IsWhole size bytes.now }
-    ensures { IfOk result (λ copy. copy.items ≡ concat (map (swapped reversed) (fixed_array size bytes.now).elements)) }
-{
-    let mut copy = Vec::from_slice(alloc, bytes)?;
-    if reversed {
-        reverse_elements(&mut copy, size);
-    }
-    Ok(copy)
-}
-
-// Puts a copy of the elements behind bytes that are there, with the bytes of each reversed where that is asked. A refusal
-// leaves them.
-fn append(
-    encoded: &mut Vec<u8>,
-    bytes: &[u8],
-    size: usize,
-    reversed: bool,
-) -> Result<(), AllocError>
-    requires { IsWhole size bytes.now }
-    ensures appended { OnOk result (encoded.new.items ≡ encoded.old.items ++ concat (map (swapped reversed) (fixed_array size bytes.now).elements)) }
-    ensures kept { OnErr result (encoded.new.items ≡ encoded.old.items) }
-{
-    let from = encoded.len();
-    encoded.extend_from_slice(bytes)?;
-    if reversed {
-        reverse_elements(&mut encoded[from..], size);
-    }
-    Ok(())
-}
-
-// The elements as they are in memory, lent on where they are stored so.
-fn in_memory<'a>(
-    alloc: Global,
-    bytes: &'a [u8],
-    size: usize,
-    reversed: bool,
-) -> Result<CowSlice<'a, u8>, AllocError>
-    requires { IsWhole size bytes.now }
-    ensures { IfOk result (λ elements. cow_slice_items elements ≡ concat (map (swapped reversed) (fixed_array size bytes.now).elements)) }
-{
-    if !reversed {
-        return Ok(CowSlice::Borrowed(bytes));
-    }
-    Ok(CowSlice::Owned(copied(alloc, bytes, size, reversed)?))
-}
-
-// The array that stored elements are.
-fn array_of_bytes<'a>(
-    alloc: Global,
-    bytes: &'a [u8],
-    size: usize,
-    reversed: bool,
-) -> Result<ArrayBytes<'a>, AllocError>
-    requires { IsWhole size bytes.now }
-    ensures { IfOk result (λ array. array ≡ fixed_array size (concat (map (swapped reversed) (fixed_array size bytes.now).elements))) }
-{
-    let elements = in_memory(alloc, bytes, size, reversed)?;
-    match ArrayBytes::new_flen(elements, size) {
-        Some(array) => Ok(array),
-        None => unreachable!(),
-    }
 }
 
 impl ArrayToBytesCodecTraits for BytesCodec {
@@ -411,8 +331,10 @@ impl ArrayToBytesCodecTraits for BytesCodec {
         let Some(bytes) = read_range(handle, &mut room, alloc, range)? else {
             return Err(CodecError::OutOfBounds);
         };
-        let array = array_of_bytes(alloc, bytes, size, reversed)?;
-        let requested = requested_elements(alloc, &array, indexer, count, shape, data_type)?;
+        let element = ElementOrder { size, reversed };
+        let requested = requested_in_memory(
+            alloc, bytes, element, indexer, count, shape, data_type,
+        )?;
         Ok(requested)
     }
 
@@ -453,8 +375,8 @@ impl ArrayToBytesCodecTraits for BytesCodec {
         let Some(bytes) = read_range(handle, &mut room, alloc, range)? else {
             return Err(CodecError::OutOfBounds);
         };
-        let array = array_of_bytes(alloc, bytes, size, reversed)?;
-        put_requested(alloc, &array, indexer, count, shape, data_type, target)
+        let element = ElementOrder { size, reversed };
+        put_in_memory(alloc, bytes, element, stored, indexer, count, target)
     }
 
     /// Each encoding has this length. Refused as `check` refuses.

@@ -1,10 +1,9 @@
-use Rattle.std.proofs.Common.{◌∙◌, refl, sym, ap, inl, inr, map, arith}
+use Rattle.std.proofs.Common.{◌∙◌, refl, sym, inl, inr, map}
 use Rattle.parts_arrays.specs.ArraySpec.{array_spec}
 use Rattle.parts_row_major.specs.Numbering.{number_of}
-use Rattle.parts_arrays.specs.Types.{byte_size}
 use Rattle.parts_subsets.proofs.SelectionLemmas.{numbers_below}
 use Rattle.codec_bytes.specs.BytesCodecLaws.{bytes_damaged}
-use Rattle.codec_bytes.proofs.BytesCodecSteps.{whole_elements, decoded, requested_past}
+use Rattle.codec_bytes.proofs.BytesCodecSteps.{whole_elements, decoded, requested_past, stored_valid}
 use Rattle.codec_traits.proofs.ReadLemmas.{length-interval_part, requested_answer, elements_at, interval_read}
 use Rattle.codec_bytes.proofs.bytes_codec.BytesCodecArrayToBytesCodecTraits.partial_decode.Goals as goal
 
@@ -22,30 +21,29 @@ returns-in_default-clause-lawful g c s transparent axes within has =
     inr (inr (inl (requested_past c.args.self.now (array_spec c.args.shape.now c.args.data_type.now c.args.fill_value.now) c.in_ok-size.field-0.size c.in_ok-size.field-0.count c.in_ok-size.field-0.total c.in_ok-size.field-0.reversed
     c.in_ok-count.count _ _ m (long ∙ c.if-interval-total.false) c.in_ok-count.ensures.inside c.in_ok-count.ensures.count past)))
 
-pub array_of_bytes-requires : goal.array_of_bytes-requires
-array_of_bytes-requires g c =
+pub requested_in_memory-requires-clause-whole : goal.requested_in_memory-requires-clause-whole
+requested_in_memory-requires-clause-whole g c =
     whole_elements c.args.self.now (array_spec c.args.shape.now c.args.data_type.now c.args.fill_value.now) _ _ _ _ c.in-Some-2.bytes.now c.in_ok-size.ensures.measured
     (rw c.in-Some-2.is at c.in_ok-bytes.ensures.told).requested
 
-pub requested_elements-requires-clause-valid : goal.requested_elements-requires-clause-valid
-requested_elements-requires-clause-valid g c =
-    let d = decoded c.args.self.now (array_spec c.args.shape.now c.args.data_type.now c.args.fill_value.now) _ _ _ _ c.in-Some-2.bytes.now _ c.in_ok-array.array
-    c.in_ok-size.ensures.measured (rw c.in-Some-2.is at c.in_ok-bytes.ensures.told).requested refl c.in_ok-array.ensures in
-    record { supported = λ none. omega (arith, c.in_ok-size.ensures.measured.serves.supported.positive, ap byte_size none); kind = d.kind; counted = d.is_array.counted }
+pub requested_in_memory-requires-clause-valid : goal.requested_in_memory-requires-clause-valid
+requested_in_memory-requires-clause-valid g c =
+    stored_valid c.args.self.now (array_spec c.args.shape.now c.args.data_type.now c.args.fill_value.now) _ _ _ _ c.in-Some-2.bytes.now c.in_ok-size.ensures.measured
+    (rw c.in-Some-2.is at c.in_ok-bytes.ensures.told).requested
 
 pub returns-clause-answer : goal.returns-clause-answer
 returns-clause-answer g c =
-    let d = decoded c.args.self.now (array_spec c.args.shape.now c.args.data_type.now c.args.fill_value.now) _ _ _ _ c.in-Some-2.bytes.now _ c.in_ok-array.array
-    c.in_ok-size.ensures.measured (rw c.in-Some-2.is at c.in_ok-bytes.ensures.told).requested refl c.in_ok-array.ensures in
+    let d = decoded c.args.self.now (array_spec c.args.shape.now c.args.data_type.now c.args.fill_value.now) _ _ _ _ c.in-Some-2.bytes.now _ _
+    c.in_ok-size.ensures.measured (rw c.in-Some-2.is at c.in_ok-bytes.ensures.told).requested refl refl in
     let shape = c.args.shape.now in
     let selection = g.N.Indexer.selection c.args.indexer.now in
-    requested_answer (array_spec shape c.args.data_type.now c.args.fill_value.now) selection (map (λ point. number_of point shape) selection.points) c.in_ok-array.array c.in_ok-requested.requested
+    requested_answer (array_spec shape c.args.data_type.now c.args.fill_value.now) selection (map (λ point. number_of point shape) selection.points) _ c.in_ok-requested.requested
     c.in_ok-count.ensures.selection d.kind d.is_array refl (numbers_below shape selection.points c.in_ok-count.ensures.inside) c.in_ok-requested.ensures.requested
 
 pub returns-clause-cells : goal.returns-clause-cells
 returns-clause-cells g c transparent =
-    let d = decoded c.args.self.now (array_spec c.args.shape.now c.args.data_type.now c.args.fill_value.now) _ _ _ _ c.in-Some-2.bytes.now _ c.in_ok-array.array
-    c.in_ok-size.ensures.measured (rw c.in-Some-2.is at c.in_ok-bytes.ensures.told).requested refl c.in_ok-array.ensures in
+    let d = decoded c.args.self.now (array_spec c.args.shape.now c.args.data_type.now c.args.fill_value.now) _ _ _ _ c.in-Some-2.bytes.now _ _
+    c.in_ok-size.ensures.measured (rw c.in-Some-2.is at c.in_ok-bytes.ensures.told).requested refl refl in
     let a = c.args in
     let has = c.in_ok-check_interval.ensures.inside transparent in
     let read = c.in_ok-check_interval.ensures.read in
@@ -54,5 +52,5 @@ returns-clause-cells g c transparent =
     let requested = c.in_ok-requested.ensures.requested in
     record {
       inside = has;
-      read = rw (← bytes_are, requested) (elements_at _ c.in_ok-array.array.elements a.shape.now _ d.cells d.is_array.counted c.in_ok-count.ensures.inside);
+      read = rw (← bytes_are, requested) (elements_at _ _ a.shape.now _ d.cells d.is_array.counted c.in_ok-count.ensures.inside);
     }

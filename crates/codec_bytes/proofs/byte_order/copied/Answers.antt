@@ -1,8 +1,8 @@
 use Rattle.std.proofs.Common.{◌∙◌, ap, arith, length}
 use Rattle.parts_errors.proofs.ListLaws.{whole_after}
 use Rattle.codec_bytes.proofs.BytesCodecSteps.{kept_elements, turned_elements}
-use Rattle.codec_bytes.proofs.bytes_codec.copied.Goals as goal
-use Rattle.codec_bytes.proofs.bytes_codec.copied.Goals.{then-reversed, else-reversed}
+use Rattle.codec_bytes.proofs.byte_order.copied.Goals as goal
+use Rattle.codec_bytes.proofs.byte_order.copied.Goals.{then-reversed, else-reversed}
 
 pub returns : goal.returns
 returns c =

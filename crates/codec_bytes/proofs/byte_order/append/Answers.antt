@@ -1,6 +1,6 @@
 use Rattle.std.proofs.Common.{◌++◌, ◌∙◌, ap}
 use Rattle.codec_bytes.proofs.BytesCodecSteps.{kept_elements}
-use Rattle.codec_bytes.proofs.bytes_codec.append.Goals as goal
+use Rattle.codec_bytes.proofs.byte_order.append.Goals as goal
 
 pub returns-else-reversed-clause-appended : goal.returns-else-reversed-clause-appended
 returns-else-reversed-clause-appended c =

@@ -1,7 +1,7 @@
 use Rattle.std.proofs.Common.{◌≡◌, ◌+◌, ◌*◌, ◌≤◌, ◌/◌, arith, length}
 use Rattle.parts_arrays.proofs.ArrayLaws.{piece_within}
 use Rattle.codec_bytes.proofs.BytesCodecSteps.{reversed_more, reversed_elements}
-use Rattle.codec_bytes.proofs.bytes_codec.reverse_elements.Goals as goal
+use Rattle.codec_bytes.proofs.byte_order.reverse_each.Goals as goal
 
 pub loop-i-preserved : goal.loop-i-preserved
 loop-i-preserved c =
