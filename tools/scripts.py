@@ -1,5 +1,5 @@
 #!/usr/bin/env python3
-"""Runs `shard_tool` on the worked scripts of tests/scripts, and compares what each answers with what stands behind it.
+"""Runs `shard_tool` on the worked scripts of tests/scripts, and compares what each answers with what stands after it.
 
 In a file a line `> TEXT` is a line of a script, and `$ TEXT` its last where no line feed ends it; `# TEXT` says what scripts show; other
 lines are the answers that were worked by hand, and `status NUMBER` is the last of a script's.

@@ -137,7 +137,7 @@ remainder_at bits table byte small is =
     let below : byte < length (range_with_len 0 256) = rw (length-range_with_len 0 256) small in
     rw is (get_or-map (with_bits bits) (range_with_len 0 256) byte 0 0 below ∙ ap (with_bits bits) (get_or-range_with_len 0 256 byte 0 small ∙ omega arith))
 
--- what each byte leaves in the register, where so many bytes that are 0 stand behind it
+-- what each byte leaves in the register, where so many bytes that are 0 come after it
 abbrev pub row : ℕ → List ℕ
 row zeros = map (with_bits (8 * (1 + zeros))) (range_with_len 0 256)
 

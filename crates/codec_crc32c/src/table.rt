@@ -319,7 +319,7 @@ const REMAINDERS: [[u32; 256]; 8] = [
     ],
 ];
 
-// The register, once the eight bits of a byte have left it, which were all that stood in it, and behind them as many bytes that are 0.
+// The register, once the eight bits of a byte have left it, which were all that stood in it, and then those of as many bytes that are 0.
 pub(crate) fn remainder_after(byte: u8, zeros: usize) -> u32
     requires { zeros < 8 }
     ensures { result ≡ with_bits (8 * (1 + zeros)) byte }
