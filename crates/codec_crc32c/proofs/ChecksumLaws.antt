@@ -131,13 +131,13 @@ with_bits-split n x =
     let shifted : with_bits (n + 8) (rest * 2 ^ 8) ≡ with_bits n rest = with_bits-more n 8 (rest * 2 ^ 8) ∙ ap (with_bits n) (with_bits-shifted 8 rest) in
     ap (with_bits (n + 8)) whole ∙ (with_bits-xor (n + 8) low (rest * 2 ^ 8) ∙ ap (bit_xor (with_bits (n + 8) low)) shifted)
 
--- a table of what each byte leaves in the register after so many bits
+-- a table of what each byte leaves in the register after a number of bits
 pub remainder_at : (bits : ℕ) (table : List ℕ) (byte : ℕ) → byte < 256 → table ≡ map (with_bits bits) (range_with_len 0 256) → get_or table byte 0 ≡ with_bits bits byte
 remainder_at bits table byte small is =
     let below : byte < length (range_with_len 0 256) = rw (length-range_with_len 0 256) small in
     rw is (get_or-map (with_bits bits) (range_with_len 0 256) byte 0 0 below ∙ ap (with_bits bits) (get_or-range_with_len 0 256 byte 0 small ∙ omega arith))
 
--- what each byte leaves in the register, where so many bytes that are 0 come after it
+-- what each byte leaves in the register, where a number of bytes that are 0 come after it
 abbrev pub row : ℕ → List ℕ
 row zeros = map (with_bits (8 * (1 + zeros))) (range_with_len 0 256)
 
