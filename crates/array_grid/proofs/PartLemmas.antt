@@ -1,12 +1,11 @@
 -- The shards that a subset meets, one after the other.
-use Rattle.std.proofs.Common.{◌≡◌, ℕ, ◌<◌, ◌^◌, List, length, get_or, ap, sym, ◌∙◌, arith, refl}
+use Rattle.std.proofs.Common.{◌≡◌, ℕ, ◌<◌, ◌^◌, List, length, get_or, ap, arith}
 use Rattle.std.proofs.lemmas.List.FromFn.{get_or-map-range_with_len, length-map-range_with_len}
-use Rattle.parts_row_major.specs.Numbering.{AllPositive, count_of}
+use Rattle.parts_row_major.specs.Numbering.{count_of}
 use Rattle.parts_row_major.specs.Subsets.{Subset, IsSubset, LiesIn, number_in, numbers_in}
-use Rattle.parts_subsets.specs.Grid.{Divides, grid_of}
 use Rattle.parts_subsets.specs.Touched.{Touches, AreTouched, IsTouchedSubset}
 use Rattle.parts_subsets.proofs.TouchedLaws.{touched_lies_in, are_touched}
-use Rattle.array_grid.specs.Shards.{ShardedArray, IsSharded, whole_shards}
+use Rattle.array_grid.specs.Shards.{IsSharded}
 use Rattle.array_grid.proofs.RoundingLemmas.{lies_in_whole, shards_fit}
 
 -- an array in shards, a subset of it, and the shards that it meets as a subset of the grid
