@@ -8,8 +8,9 @@ ghost use Rattle.parts_arrays.specs.Types.{FitsKind};
 ghost use Rattle.parts_arrays.specs.declared.data_type.DataTypeSize.TheVariants.{Fixed, Variable};
 ghost use Rattle.parts_errors.specs.declared.error.CodecError.TheVariants.{OutOfMemory, TooLarge};
 ghost use Rattle.sharding_format.specs.steps.Decoding.{AreChunks, IsChunkOf, element_at, element_in, bytes_in, bytes_gathered};
+ghost use Rattle.sharding_gather.specs.steps.Gathering.{CanBeGathered, elements_of};
 
-use crate::laying::written_rows;
+use crate::laying::{DecodedShard, written_rows};
 use parts_arrays::{ArrayBuilder, ArrayBytes, DataTypeSize};
 use parts_errors::CodecError;
 use parts_subsets::{ChunkShape, Located, locate};
@@ -118,25 +119,19 @@ fn push_positions(
 // decoded subchunk.
 fn listed(
     alloc: Global,
-    subchunks: &[Option<ArrayBytes>],
-    cells: u64,
-    positions: u64,
-    shape: &ChunkShape,
-    sub: &ChunkShape,
-    fill: &[u8],
+    shard: &DecodedShard,
     bytes: u64,
 ) -> Result<ArrayBytes<'static>, CodecError>
-    requires cells { cells ≡ count_of shape.now }
-    requires positions { positions ≡ count_of sub.now }
-    requires divides { Divides sub.now shape.now }
-    requires subchunks { AreChunks Variable sub.now (count_of (grid_of shape.now sub.now)) subchunks.now }
+    requires shard { CanBeGathered Variable shard.now }
     ensures refused { IfErr result (λ e. e ≡ OutOfMemory) }
     ensures kind { IfOk result (λ array. array.kind ≡ Variable) }
-    ensures elements { IfOk result (λ array. array.elements ≡ map (element_in subchunks.now fill.now shape.now sub.now) (range_with_len 0 (count_of shape.now))) }
+    ensures elements { IfOk result (λ array. array.elements ≡ elements_of shard.now) }
 {
+    let subchunks = shard.subchunks;
     let many = subchunks.len() as u64;
-    let axes = shape.as_slice();
-    let parts = sub.as_slice();
+    let axes = shard.shape.as_slice();
+    let parts = shard.sub.as_slice();
+    let (cells, positions) = (shard.cells, shard.positions);
     let run = run_length(parts);
     let mut elements = ArrayBuilder::new(alloc, DataTypeSize::Variable)?;
     elements.reserve(cells as usize, bytes as usize)?;
@@ -147,7 +142,7 @@ fn listed(
             &subchunks[subchunk as usize],
             position,
             run,
-            fill,
+            shard.fill,
         )?;
     }
     Ok(elements.finish())
@@ -179,13 +174,17 @@ pub fn gathered(
 {
     let positions = cells / subchunks.len() as u64;
     let bytes = check_lengths(subchunks, positions, kind, fill)?;
+    let shard = DecodedShard {
+        subchunks,
+        shape,
+        sub,
+        cells,
+        positions,
+        fill,
+    };
     let array = match kind {
-        DataTypeSize::Variable => listed(
-            alloc, subchunks, cells, positions, shape, sub, fill, bytes,
-        )?,
-        DataTypeSize::Fixed(_) => written_rows(
-            alloc, subchunks, cells, positions, shape, sub, fill,
-        )?,
+        DataTypeSize::Variable => listed(alloc, &shard, bytes)?,
+        DataTypeSize::Fixed(_) => written_rows(alloc, &shard)?,
     };
     Ok(array)
 }

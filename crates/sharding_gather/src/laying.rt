@@ -1,13 +1,13 @@
 // The cells of a shard whose elements have one size, laid where they belong: subchunk by subchunk, in one piece of memory.
-ghost use Rattle.std.specs.Prelude.{◌≡◌, ◌+◌, ◌*◌, ◌^◌, ◌<◌, ℕ, [], Option, None, IsTrue, IfOk, IfErr, OnOk, map, length, drop, replicate, slice_index_or};
-ghost use Rattle.std.specs.List.{concat, range_with_len};
+ghost use Rattle.std.specs.Prelude.{◌≡◌, ◌+◌, ◌*◌, ◌^◌, ◌<◌, ℕ, [], Option, None, IsTrue, IfOk, IfErr, OnOk, length, drop, replicate, slice_index_or};
+ghost use Rattle.std.specs.List.{concat};
 ghost use Rattle.parts_row_major.specs.Numbering.{count_of};
 ghost use Rattle.parts_subsets.specs.Grid.{Divides, grid_of, cell_number};
 ghost use Rattle.parts_row_major.specs.Pieces.{piece, IsUpdated};
 ghost use Rattle.parts_arrays.specs.declared.data_type.DataTypeSize.TheVariants.{Fixed};
 ghost use Rattle.parts_errors.specs.declared.error.CodecError.TheVariants.{OutOfMemory};
-ghost use Rattle.sharding_format.specs.steps.Decoding.{AreChunks, IsPartOf, element_at, element_in};
-ghost use Rattle.sharding_gather.specs.steps.Gathering.{elements_in, positions_there};
+ghost use Rattle.sharding_format.specs.steps.Decoding.{IsPartOf, element_at};
+ghost use Rattle.sharding_gather.specs.steps.Gathering.{CanBeGathered, elements_of, elements_in, positions_there};
 
 use parts_arrays::{ArrayBytes, repeated};
 use parts_errors::CodecError;
@@ -16,6 +16,18 @@ use parts_subsets::{ChunkShape, subchunks_follow};
 use sharding_format::{calculate_chunks_per_shard, subchunk_subset};
 use std::alloc::{AllocError, Global};
 use std::borrow::CowSlice;
+
+/// The decoded subchunks of a shard whose cells are gathered from them, with the shapes of both, how many cells the shard has and how
+/// many each subchunk, and the fill value.
+#[derive(Clone, Copy)]
+pub(crate) struct DecodedShard<'a, 'b> {
+    pub(crate) subchunks: &'a [Option<ArrayBytes<'b>>],
+    pub(crate) shape: &'a ChunkShape,
+    pub(crate) sub: &'a ChunkShape,
+    pub(crate) cells: u64,
+    pub(crate) positions: u64,
+    pub(crate) fill: &'a [u8],
+}
 
 // Whether some subchunk is absent.
 fn any_absent(subchunks: &[Option<ArrayBytes>]) -> bool
@@ -63,64 +75,53 @@ fn blank(
 }
 
 // The bytes of a shard's elements where each subchunk is one run of it: the subchunks end to end.
-fn appended(
-    alloc: Global,
-    subchunks: &[Option<ArrayBytes>],
-    cells: u64,
-    positions: u64,
-    _shape: &ChunkShape,
-    _sub: &ChunkShape,
-    fill: &[u8],
-) -> Result<Vec<u8>, AllocError>
-    requires subchunks { AreChunks (Fixed (length fill.now)) _sub.now (count_of (grid_of _shape.now _sub.now)) subchunks.now }
-    requires cells { cells ≡ count_of _shape.now }
-    requires positions { positions ≡ count_of _sub.now }
-    requires fits { count_of _shape.now * length fill.now < 2 ^ 64 }
-    requires divides { Divides _sub.now _shape.now }
-    requires some { 0 < count_of _shape.now }
-    requires axes { 0 < length _shape.now }
-    requires contiguous { drop 1 _shape.now ≡ drop 1 _sub.now }
-    ensures { IfOk result (λ bytes. bytes.items ≡ concat (map (element_in subchunks.now fill.now _shape.now _sub.now) (range_with_len 0 (count_of _shape.now)))) }
+fn appended(alloc: Global, shard: &DecodedShard) -> Result<Vec<u8>, AllocError>
+    requires shard { CanBeGathered (Fixed (length shard.now.fill.now)) shard.now }
+    requires fits { count_of shard.now.shape.now * length shard.now.fill.now < 2 ^ 64 }
+    requires some { 0 < count_of shard.now.shape.now }
+    requires axes { 0 < length shard.now.shape.now }
+    requires contiguous { drop 1 shard.now.shape.now ≡ drop 1 shard.now.sub.now }
+    ensures { IfOk result (λ bytes. bytes.items ≡ concat (elements_of shard.now)) }
 {
-    let absent = blank(alloc, subchunks, positions as usize, fill)?;
-    let mut bytes = Vec::with_capacity(alloc, cells as usize * fill.len())?;
+    let (subchunks, fill) = (shard.subchunks, shard.fill);
+    let absent = blank(alloc, subchunks, shard.positions as usize, fill)?;
+    let mut bytes = Vec::with_capacity(alloc, shard.cells as usize * fill.len())?;
     for k in 0..subchunks.len() {
-        let part = bytes_of(&subchunks[k], &absent, positions, fill);
+        let part = bytes_of(&subchunks[k], &absent, shard.positions, fill);
         bytes.extend_from_slice(part)?;
     }
     Ok(bytes)
 }
 
-// Writes the elements of a decoded subchunk at the cells of its subset, if it is there.
+// Writes the elements of a decoded subchunk of a shard at the cells of its subset, if it is there.
 fn put_subchunk(
     alloc: Global,
     bytes: &mut [u8],
-    subchunk: &Option<ArrayBytes>,
-    number: u64,
-    shape: &ChunkShape,
+    shard: &DecodedShard,
     grid: &ChunkShape,
-    sub: &ChunkShape,
-    size: usize,
+    number: u64,
+    subchunk: &Option<ArrayBytes>,
 ) -> Result<(), CodecError>
-    requires some { 0 < size }
-    requires part { IsPartOf (Fixed size) (count_of sub.now) subchunk.now }
-    requires whole { length bytes.old ≡ count_of shape.now * size }
-    requires fits { count_of shape.now < 2 ^ 64 }
-    requires divides { Divides sub.now shape.now }
-    requires grid { grid.now ≡ grid_of shape.now sub.now }
+    requires some { 0 < length shard.now.fill.now }
+    requires part { IsPartOf (Fixed (length shard.now.fill.now)) (count_of shard.now.sub.now) subchunk.now }
+    requires whole { length bytes.old ≡ count_of shard.now.shape.now * length shard.now.fill.now }
+    requires fits { count_of shard.now.shape.now < 2 ^ 64 }
+    requires divides { Divides shard.now.sub.now shard.now.shape.now }
+    requires grid { grid.now ≡ grid_of shard.now.shape.now shard.now.sub.now }
     requires below { number < count_of grid.now }
-    ensures written { OnOk result (IsUpdated (positions_there (count_of sub.now) subchunk.now) (cell_number shape.now sub.now number)
+    ensures written { let size = length shard.now.fill.now in
+        OnOk result (IsUpdated (positions_there (count_of shard.now.sub.now) subchunk.now) (cell_number shard.now.shape.now shard.now.sub.now number)
         (piece size bytes.old) (element_at [] subchunk.now) (piece size bytes.new)) }
     ensures refused { IfErr result (λ e. e ≡ OutOfMemory) }
 {
     let Some(array) = subchunk else {
         return Ok(());
     };
-    let axes = shape.as_slice();
-    let Some(subset) = subchunk_subset(alloc, number, grid, sub)? else {
+    let axes = shard.shape.as_slice();
+    let Some(subset) = subchunk_subset(alloc, number, grid, shard.sub)? else {
         unreachable!()
     };
-    scatter(bytes, size, &subset, axes, array.bytes());
+    scatter(bytes, shard.fill.len(), &subset, axes, array.bytes());
     Ok(())
 }
 
@@ -145,91 +146,60 @@ pub fn room_for(
 // The bytes of a shard's elements, of which those of each subchunk are written at the cells of its subset.
 fn bytes_by_subset(
     alloc: Global,
-    subchunks: &[Option<ArrayBytes>],
-    cells: u64,
-    shape: &ChunkShape,
+    shard: &DecodedShard,
     grid: &ChunkShape,
-    sub: &ChunkShape,
-    fill: &[u8],
 ) -> Result<Vec<u8>, CodecError>
-    requires some { 0 < length fill.now }
-    requires subchunks { AreChunks (Fixed (length fill.now)) sub.now (count_of (grid_of shape.now sub.now)) subchunks.now }
-    requires cells { cells ≡ count_of shape.now }
-    requires fits { count_of shape.now * length fill.now < 2 ^ 64 }
-    requires divides { Divides sub.now shape.now }
-    requires grid { grid.now ≡ grid_of shape.now sub.now }
+    requires some { 0 < length shard.now.fill.now }
+    requires shard { CanBeGathered (Fixed (length shard.now.fill.now)) shard.now }
+    requires fits { count_of shard.now.shape.now * length shard.now.fill.now < 2 ^ 64 }
+    requires grid { grid.now ≡ grid_of shard.now.shape.now shard.now.sub.now }
     ensures refused { IfErr result (λ e. e ≡ OutOfMemory) }
-    ensures bytes { IfOk result (λ bytes. bytes.items ≡ concat (map (element_in subchunks.now fill.now shape.now sub.now) (range_with_len 0 (count_of shape.now)))) }
+    ensures bytes { IfOk result (λ bytes. bytes.items ≡ concat (elements_of shard.now)) }
 {
-    let mut bytes = room_for(alloc, any_absent(subchunks), cells as usize, fill)?;
+    let subchunks = shard.subchunks;
+    let filled = any_absent(subchunks);
+    let mut bytes = room_for(alloc, filled, shard.cells as usize, shard.fill)?;
     for k in 0..subchunks.len() {
-        put_subchunk(
-            alloc,
-            &mut bytes,
-            &subchunks[k],
-            k as u64,
-            shape,
-            grid,
-            sub,
-            fill.len(),
-        )?;
+        put_subchunk(alloc, &mut bytes, shard, grid, k as u64, &subchunks[k])?;
     }
     Ok(bytes)
 }
 
 // The bytes of a shard's elements, which have one size. Where no number says how many these are, memory is asked that no
 // machine has.
-fn filled_bytes(
-    alloc: Global,
-    subchunks: &[Option<ArrayBytes>],
-    cells: u64,
-    positions: u64,
-    shape: &ChunkShape,
-    sub: &ChunkShape,
-    fill: &[u8],
-) -> Result<Vec<u8>, CodecError>
-    requires some { 0 < length fill.now }
-    requires subchunks { AreChunks (Fixed (length fill.now)) sub.now (count_of (grid_of shape.now sub.now)) subchunks.now }
-    requires cells { cells ≡ count_of shape.now }
-    requires positions { positions ≡ count_of sub.now }
-    requires divides { Divides sub.now shape.now }
+fn filled_bytes(alloc: Global, shard: &DecodedShard) -> Result<Vec<u8>, CodecError>
+    requires some { 0 < length shard.now.fill.now }
+    requires shard { CanBeGathered (Fixed (length shard.now.fill.now)) shard.now }
     ensures refused { IfErr result (λ e. e ≡ OutOfMemory) }
-    ensures bytes { IfOk result (λ bytes. bytes.items ≡ concat (map (element_in subchunks.now fill.now shape.now sub.now) (range_with_len 0 (count_of shape.now)))) }
+    ensures bytes { IfOk result (λ bytes. bytes.items ≡ concat (elements_of shard.now)) }
 {
-    if cells.checked_mul(fill.len() as u64).is_none() {
+    let size = shard.fill.len() as u64;
+    if shard.cells.checked_mul(size).is_none() {
         let _: Vec<u8> = Vec::with_capacity(alloc, usize::MAX)?;
         return Err(CodecError::OutOfMemory);
     }
-    if subchunks_follow(shape.as_slice(), sub.as_slice()) {
-        let bytes = appended(alloc, subchunks, cells, positions, shape, sub, fill)?;
+    if subchunks_follow(shard.shape.as_slice(), shard.sub.as_slice()) {
+        let bytes = appended(alloc, shard)?;
         return Ok(bytes);
     }
-    let grid = calculate_chunks_per_shard(alloc, shape, sub)?;
-    let bytes = bytes_by_subset(alloc, subchunks, cells, shape, &grid, sub, fill)?;
+    let grid = calculate_chunks_per_shard(alloc, shard.shape, shard.sub)?;
+    let bytes = bytes_by_subset(alloc, shard, &grid)?;
     Ok(bytes)
 }
 
 /// The cells of a shard whose elements have one size, that of the fill value. Refused only as out of memory.
 pub(crate) fn written_rows(
     alloc: Global,
-    subchunks: &[Option<ArrayBytes>],
-    cells: u64,
-    positions: u64,
-    shape: &ChunkShape,
-    sub: &ChunkShape,
-    fill: &[u8],
+    shard: &DecodedShard,
 ) -> Result<ArrayBytes<'static>, CodecError>
-    requires some { 0 < length fill.now }
-    requires subchunks { AreChunks (Fixed (length fill.now)) sub.now (count_of (grid_of shape.now sub.now)) subchunks.now }
-    requires cells { cells ≡ count_of shape.now }
-    requires positions { positions ≡ count_of sub.now }
-    requires divides { Divides sub.now shape.now }
+    requires some { 0 < length shard.now.fill.now }
+    requires shard { CanBeGathered (Fixed (length shard.now.fill.now)) shard.now }
     ensures refused { IfErr result (λ e. e ≡ OutOfMemory) }
-    ensures kind { IfOk result (λ array. array.kind ≡ Fixed (length fill.now)) }
-    ensures elements { IfOk result (λ array. array.elements ≡ map (element_in subchunks.now fill.now shape.now sub.now) (range_with_len 0 (count_of shape.now))) }
+    ensures kind { IfOk result (λ array. array.kind ≡ Fixed (length shard.now.fill.now)) }
+    ensures elements { IfOk result (λ array. array.elements ≡ elements_of shard.now) }
 {
-    let bytes = filled_bytes(alloc, subchunks, cells, positions, shape, sub, fill)?;
-    match ArrayBytes::new_flen(CowSlice::Owned(bytes), fill.len()) {
+    let bytes = filled_bytes(alloc, shard)?;
+    match ArrayBytes::new_flen(CowSlice::Owned(bytes), shard.fill.len()) {
         Some(array) => Ok(array),
         None => unreachable!(),
     }

@@ -1,12 +1,15 @@
 -- The cells of decoded subchunks put together, and the requested cells, from what was read of each subchunk.
-use Rattle.std.specs.Prelude.{◌<◌, ℕ, List, Option, Some, None, length, replicate, slice_index_or}
+use Rattle.std.specs.Prelude.{◌≡◌, ◌<◌, ℕ, List, Option, Some, None, map, length, replicate, slice_index_or}
 use Rattle.std.specs.List.{sum_by, range_with_len}
 use Rattle.parts_errors.specs.Words.{Bytes, Elements}
+use Rattle.parts_row_major.specs.Numbering.{count_of}
+use Rattle.parts_subsets.specs.Grid.{Divides, grid_of}
 use Rattle.parts_arrays.specs.Arrays.{Array}
 use Rattle.parts_arrays.specs.declared.data_type.DataTypeSize.{DataTypeSize}
-use Rattle.sharding_format.specs.steps.Decoding.{element_at, IsChunkOf}
+use Rattle.sharding_format.specs.steps.Decoding.{AreChunks, element_at, element_in, IsChunkOf}
 use Rattle.sharding_gather.specs.steps.Grouping.{standing_at}
 use Rattle.sharding_gather.specs.declared.grouping.Grouping.{Grouping}
+use Rattle.sharding_gather.specs.declared.laying.DecodedShard.{DecodedShard}
 
 -- the element of the requested cell with a place among the requested ones
 abbrev pub element_read : Grouping → List (Option Array) → List ℕ → ℕ → List ℕ
@@ -31,3 +34,15 @@ elements_in fill positions (Some a) = a.elements
 abbrev pub positions_there : ℕ → Option Array → ℕ
 positions_there positions None = 0
 positions_there positions (Some a) = positions
+
+-- the subchunks make up the shard, each with elements of one kind for its cells; the cells of both are counted
+pub record CanBeGathered (kind : DataTypeSize) (shard : DecodedShard) : Type 0 where
+  pub subchunks : AreChunks kind shard.sub.now (count_of (grid_of shard.shape.now shard.sub.now)) shard.subchunks.now
+  pub cells : shard.cells ≡ count_of shard.shape.now
+  pub positions : shard.positions ≡ count_of shard.sub.now
+  pub divides : Divides shard.sub.now shard.shape.now
+
+-- the elements of the shard
+abbrev pub elements_of : DecodedShard → Elements
+elements_of shard =
+    map (element_in shard.subchunks.now shard.fill.now shard.shape.now shard.sub.now) (range_with_len 0 (count_of shard.shape.now))

@@ -16,11 +16,25 @@ returns-in_err-bytes-clause-refused c =
     let refused = rw (positions (goal.at.returns-in_err-bytes-clause-refused c).After-check_lengths) at c.in_err-bytes.ensures.refused in
     passed_on _ c.in_err-bytes.field-0.0 _ c.from_residual.ensures.1 (inl (λ fits. absurd (omega (arith, fits refused.1, refused.2)), refused.0))
 
-pub listed-requires-clause-positions : goal.listed-requires-clause-positions
-listed-requires-clause-positions c = positions (goal.at.listed-requires-clause-positions c).After-check_lengths
+pub listed-requires : goal.listed-requires
+listed-requires c = record {
+  shard = record {
+    subchunks = rw c.in-Variable.is at c.requires.subchunks;
+    cells = c.requires.cells;
+    positions = positions (goal.at.listed-requires c).After-check_lengths;
+    divides = c.requires.divides;
+  };
+}
 
-pub written_rows-requires-clause-positions : goal.written_rows-requires-clause-positions
-written_rows-requires-clause-positions c = positions (goal.at.written_rows-requires-clause-positions c).After-check_lengths
+pub written_rows-requires-clause-shard : goal.written_rows-requires-clause-shard
+written_rows-requires-clause-shard c =
+    let size = rw c.in-Fixed.is at c.requires.fill in
+    record {
+      subchunks = rw size (rw c.in-Fixed.is at c.requires.subchunks);
+      cells = c.requires.cells;
+      positions = positions (goal.at.written_rows-requires-clause-shard c).After-check_lengths;
+      divides = c.requires.divides;
+    }
 
 pub returns-in_err-array-in-Variable-clause-refused : goal.returns-in_err-array-in-Variable-clause-refused
 returns-in_err-array-in-Variable-clause-refused c =

@@ -7,5 +7,5 @@ use Rattle.sharding_gather.proofs.gathering.listed.Given as goal
 abbrev pub invariant-loop-q : goal.invariant-loop-q
 invariant-loop-q l = record {
   kind : l.elements.kind ≡ Variable;
-  elements : l.elements.elements ≡ map (element_in l.subchunks l.fill l.shape l.sub) (range_with_len 0 (l.q * l.run));
+  elements : l.elements.elements ≡ map (element_in l.shard.subchunks.now l.shard.fill.now l.shard.shape.now l.shard.sub.now) (range_with_len 0 (l.q * l.run));
 }

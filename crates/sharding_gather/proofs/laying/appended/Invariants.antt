@@ -5,4 +5,4 @@ use Rattle.sharding_format.specs.steps.Decoding.{element_in}
 use Rattle.sharding_gather.proofs.laying.appended.Given as goal
 
 abbrev pub invariant-loop-k : goal.invariant-loop-k
-invariant-loop-k l = l.bytes.items ≡ concat (map (element_in l.subchunks l.fill l._shape l._sub) (range_with_len 0 (l.k * count_of l._sub)))
+invariant-loop-k l = l.bytes.items ≡ concat (map (element_in l.shard.subchunks.now l.shard.fill.now l.shard.shape.now l.shard.sub.now) (range_with_len 0 (l.k * count_of l.shard.sub.now)))

@@ -5,6 +5,6 @@ use Rattle.sharding_gather.proofs.laying.bytes_by_subset.Given as goal
 
 abbrev pub invariant-loop-k : goal.invariant-loop-k
 invariant-loop-k l = record {
-  whole : length l.bytes.items ≡ count_of l.shape * length l.fill;
-  so_far : IsFilledTo l.subchunks l.fill l.shape l.sub (length l.fill) l.k l.bytes.items;
+  whole : length l.bytes.items ≡ count_of l.shard.shape.now * length l.shard.fill.now;
+  so_far : IsFilledTo l.shard.subchunks.now l.shard.fill.now l.shard.shape.now l.shard.sub.now (length l.shard.fill.now) l.k l.bytes.items;
 }
