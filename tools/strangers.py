@@ -159,17 +159,25 @@ def large(program, top):
 
 
 def indexed(program, top):
-    """A shard of 2^20 subchunks, of which the last one is stored: a read of one element holds the index of 16 MiB once."""
+    """A shard of 2^20 subchunks, of which the last one is stored behind a dead byte: each command holds the index of 16 MiB once, but
+    one that writes a new index four times."""
     path, count = f"{top}/indexed", MIB
     array(path, [16 * count], [16 * count], [16])
     with open(f"{path}/0", "wb") as file:
-        file.write(bytes(range(16)) + b"\xff" * (MIB - 16))
+        file.write(b"\xee" + bytes(range(16)) + b"\xff" * (MIB - 16))
         for _ in range(15):
             file.write(b"\xff" * MIB)
-        file.write(struct.pack("<QQ", 0, 16))
+        file.write(struct.pack("<QQ", 1, 16))
     last = f"{16 * count - 1}..{16 * count}"
     expect([program, "read", path, last], 0, "15")
     expect_small([program, "read", path, last], 0, 24_000_000)
+    expect([program, "info", path], 0, f"0: {16 * count + 17} bytes, 1 present, {count - 1} absent, 1 dead bytes")
+    for command in (["info"], ["check"], ["compact", "--dry-run"]):
+        expect_small([program, *command, path], 0, 24_000_000)
+    expect_small([program, "compact", path], 0, 74_000_000)
+    if os.path.getsize(f"{path}/0") != 16 * count + 16:
+        bad.append("compact left a shard with a long index and a dead byte")
+    expect([program, "read", path, last], 0, "15")
 
 
 if __name__ == "__main__":
