@@ -115,7 +115,7 @@ fn compact_file<
     ) {
         Ok(Planned::Nothing) => Ok(Outcome::Compact),
         Ok(Planned::Longer(longer)) => Ok(Outcome::Longer(longer)),
-        Ok(Planned::Saves { bytes, plan }) => { put(array, shard, file, bytes, plan.as_ref(), out) }
+        Ok(Planned::Saves { bytes, plan }) => put(array, shard, file, bytes, plan.as_ref(), out),
         Err(error) => {
             let refusal = array.refusal(shard, file, error, Place::opening(&error))?;
             Ok(Outcome::Refused(refusal))

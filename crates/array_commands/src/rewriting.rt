@@ -45,11 +45,14 @@ pub fn plan_of<I, X: ArrayToBytesCodecTraits, H: BytesPartialDecoderTraits>(
     let interval = codec.index_interval(alloc, length, shape)?;
     let index = whole_index(alloc, codec, shape, file, length)?;
     let compacted = compact_size(&index, interval.size)?;
+    if compacted == length {
+        return Ok(Planned::Nothing);
+    }
     if compacted > length {
         return Ok(Planned::Longer(compacted - length));
     }
     let bytes = length - compacted;
-    if is_dry && bytes > 0 {
+    if is_dry {
         return Ok(Planned::Saves { bytes, plan: None });
     }
     match codec.plan_compaction_of_index(alloc, index, shape, &CodecOptions::default())? {
