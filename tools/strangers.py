@@ -1,6 +1,7 @@
 #!/usr/bin/env python3
 """Runs `zarr_shard` on folders that a repository cannot hold: a FIFO, a socket or a link to nothing in place of a file, a pipe that
-nobody reads, a compaction that is killed, a shard of 1 GiB, and a long index. Each command must end in time with this status and sentence.
+nobody reads, a compaction that is killed, a shard of 1 GiB, a long index, another owner, 40,000 axes. Each command must end in time with
+this status and sentence.
 
     python3 tools/strangers.py [PROGRAM]     the program that the merge gate built, if no other is named
 """
@@ -56,10 +57,10 @@ def shard(path, parts, dead):
         file.write(index)
 
 
-def expect(words, status, text):
+def expect(words, status, text, **how):
     """Runs a command, which must end with this status and have this text in its output or its messages."""
     try:
-        ran = subprocess.run(words, capture_output=True, timeout=MOST, stdin=subprocess.DEVNULL)
+        ran = subprocess.run(words, capture_output=True, timeout=MOST, stdin=subprocess.DEVNULL, **how)
     except subprocess.TimeoutExpired:
         bad.append(f"{words[1:]}: did not end in {MOST} s")
         return
@@ -77,6 +78,9 @@ def strangers(program, top):
     os.symlink("nowhere", f"{top}/link/0")
     os.makedirs(f"{top}/fifo_metadata")
     os.mkfifo(f"{top}/fifo_metadata/zarr.json")
+    os.makedirs(f"{top}/link_metadata")
+    os.symlink("nowhere", f"{top}/link_metadata/zarr.json")
+    os.symlink("nowhere", f"{top}/link_array")
     os.makedirs(f"{top}/socket_metadata")
     with socket.socket(socket.AF_UNIX) as one, socket.socket(socket.AF_UNIX) as two:
         one.bind(f"{top}/socket/0")
@@ -85,6 +89,8 @@ def strangers(program, top):
         expect([program, *command, f"{top}/fifo"], 2, "0: is a FIFO, not a regular file")
         expect([program, *command, f"{top}/socket"], 2, "0: is a socket, not a regular file")
         expect([program, *command, f"{top}/link"], 2, "0: is a link to nothing")
+        expect([program, *command, f"{top}/link_metadata"], 2, "zarr.json: is a link to nothing")
+        expect([program, *command, f"{top}/link_array"], 2, "link_array: is a link to nothing")
         expect([program, *command, f"{top}/fifo_metadata"], 2, "zarr.json: is a FIFO, not a regular file")
         expect([program, *command, f"{top}/socket_metadata"], 2, "zarr.json: is a socket, not a regular file")
     expect([program, "info", b"\xff"], 2, "an argument is not UTF-8")
@@ -159,17 +165,65 @@ def large(program, top):
 
 
 def indexed(program, top):
-    """A shard of 2^20 subchunks, of which the last one is stored: a read of one element holds the index of 16 MiB once."""
+    """A shard of 2^20 subchunks, of which the last one is stored behind a dead byte: each command holds the index of 16 MiB once, but
+    one that writes a new index four times."""
     path, count = f"{top}/indexed", MIB
     array(path, [16 * count], [16 * count], [16])
     with open(f"{path}/0", "wb") as file:
-        file.write(bytes(range(16)) + b"\xff" * (MIB - 16))
+        file.write(b"\xee" + bytes(range(16)) + b"\xff" * (MIB - 16))
         for _ in range(15):
             file.write(b"\xff" * MIB)
-        file.write(struct.pack("<QQ", 0, 16))
+        file.write(struct.pack("<QQ", 1, 16))
     last = f"{16 * count - 1}..{16 * count}"
     expect([program, "read", path, last], 0, "15")
     expect_small([program, "read", path, last], 0, 24_000_000)
+    expect([program, "info", path], 0, f"0: {16 * count + 17} bytes, 1 present, {count - 1} absent, 1 dead bytes")
+    for command in (["info"], ["check"], ["compact", "--dry-run"]):
+        expect_small([program, *command, path], 0, 24_000_000)
+    expect_small([program, "compact", path], 0, 74_000_000)
+    if os.path.getsize(f"{path}/0") != 16 * count + 16:
+        bad.append("compact left a shard with a long index and a dead byte")
+    expect([program, "read", path, last], 0, "15")
+
+
+def owners(program, top):
+    """A compaction keeps owner, group and permissions where the system lets it, and else says so. Only the superuser can try it."""
+    if os.geteuid():
+        return
+    path = f"{top}/owners"
+    array(path, [4], [4], [2])
+    os.chmod(top, 0o711)
+    refused = "0: this program may not give its new file the owner and group of the old one"
+    for user, text, want in ((0, "0: 6 bytes saved", (1234, 4321, 0o664)), (2000, refused, (2000, 2000, 0o644))):
+        shard(f"{path}/0", [b"ab", b"cd"], 3)
+        os.chmod(f"{path}/0", 0o664)
+        os.chown(f"{path}/0", 1234, 4321)
+        os.chown(path, user, user)
+        expect([program, "compact", path], 0, text, user=user, group=user, extra_groups=[])
+        found = os.stat(f"{path}/0")
+        kept = (found.st_uid, found.st_gid, found.st_mode & 0o777)
+        if kept != want:
+            bad.append(f"compact by user {user}: owner, group and permissions {kept}, wanted {want}")
+
+
+def limits(program, top):
+    """What would take long or much memory if it were done for each axis, each slice, each chunk, or for a whole answer at once."""
+    many = [1] * 40_000
+    array(f"{top}/axes", many, many, many)
+    expect([program, "read", f"{top}/axes"], 2, "arrays of more than 64 axes are not read, and this has 40000")
+    path = f"{top}/overlap"
+    array(path, [4096 * MIB], [4096 * MIB], [MIB])
+    with open(f"{path}/0", "wb") as file:
+        file.write(bytes(MIB) + struct.pack("<2Q", 0, MIB) * 4096)
+    for command in (["compact", "--dry-run"], ["compact"]):
+        expect([program, *command, path], 0, f"0: {4095 * MIB} bytes longer if compacted: overlapping slices")
+        expect_small([program, *command, path], 0, 24_000_000)
+    if os.path.getsize(f"{path}/0") != MIB + 4096 * 16:
+        bad.append("compact changed a shard whose slices overlap")
+    array(f"{top}/absent", [400_000], [1], [1])
+    expect_small([program, "read", f"{top}/absent"], 0, 24_000_000)
+    array(f"{top}/streamed", [8000, 1000], [8000, 1000], [80, 10])
+    expect_small([program, "read", "--json", f"{top}/streamed"], 0, 24_000_000)
 
 
 if __name__ == "__main__":
@@ -180,7 +234,7 @@ if __name__ == "__main__":
     with tempfile.TemporaryDirectory(prefix="strangers-") as folder:
         shutil.copyfile(built, f"{folder}/zarr_shard")
         os.chmod(f"{folder}/zarr_shard", 0o755)
-        for case in (strangers, closed, killed, large, indexed):
+        for case in (strangers, closed, killed, large, indexed, owners, limits):
             case(f"{folder}/zarr_shard", folder)
     print("\n".join(bad) or "each command ended as it must")
     sys.exit(bool(bad))

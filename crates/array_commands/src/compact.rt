@@ -5,6 +5,7 @@ use array_cli::Progress;
 use array_opening::{Array, Ending, Place, Refusal, Shard, ShardFile, Stop, written};
 use codec_traits::ArrayToBytesCodecTraits;
 use parts_escaped_text::escaped;
+use sharding_layout::CompactionPlan;
 use std::io::Write;
 use std::rt::{Clock, Files};
 use std::{fs, io};
@@ -66,13 +67,13 @@ enum Outcome {
     Busy(String),
 }
 
-// Compacts a shard to save bytes, if no new file stands beside it.
+// Compacts a shard by a plan to save these bytes, if no new file stands beside it. Without a plan no file is written.
 fn put<'a, R: Files + AllocGlobal, I, X, W: Write>(
     array: &Array<'a, R, I, X>,
     shard: &Shard<'_>,
     file: &mut ShardFile<'a, R>,
-    planned: &Planned,
-    is_dry: bool,
+    bytes: u64,
+    plan: Option<&CompactionPlan>,
     out: &mut W,
 ) -> Result<Outcome, Stop> {
     let path = array.path_of(shard.key)?;
@@ -80,13 +81,12 @@ fn put<'a, R: Files + AllocGlobal, I, X, W: Write>(
         Ok(beside) => beside,
         Err(error) => return Err(Stop::system(array.alloc(), &path, error)),
     };
-    let is_free = if is_dry {
-        fs::symlink_metadata(array.rt, &beside).is_err()
-    } else {
-        replace(array, shard, file, &beside, &planned.plan, out)?
+    let is_free = match plan {
+        Some(plan) => replace(array, shard, file, &beside, plan, out)?,
+        None => fs::symlink_metadata(array.rt, &beside).is_err(),
     };
     Ok(if is_free {
-        Outcome::Saved(planned.length.saturating_sub(planned.plan.len()))
+        Outcome::Saved(bytes)
     } else {
         Outcome::Busy(beside)
     })
@@ -106,15 +106,16 @@ fn compact_file<
     is_dry: bool,
     out: &mut W,
 ) -> Result<Outcome, Stop> {
-    match plan_of(array.alloc(), array.codec, array.metadata, file) {
-        Ok(Some(planned)) => {
-            let longer = planned.plan.len().saturating_sub(planned.length);
-            if longer > 0 {
-                return Ok(Outcome::Longer(longer));
-            }
-            put(array, shard, file, &planned, is_dry, out)
-        }
-        Ok(None) => Ok(Outcome::Compact),
+    match plan_of(
+        array.alloc(),
+        array.codec,
+        &array.metadata.shard,
+        file,
+        is_dry,
+    ) {
+        Ok(Planned::Nothing) => Ok(Outcome::Compact),
+        Ok(Planned::Longer(longer)) => Ok(Outcome::Longer(longer)),
+        Ok(Planned::Saves { bytes, plan }) => put(array, shard, file, bytes, plan.as_ref(), out),
         Err(error) => {
             let refusal = array.refusal(shard, file, error, Place::opening(&error))?;
             Ok(Outcome::Refused(refusal))

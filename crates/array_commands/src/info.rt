@@ -1,16 +1,19 @@
 // What an array on disk holds, and its shards.
 use crate::folder::{Counted, write_folder};
-use crate::index_info::{IndexInfo, index_info, index_range, index_size};
+use crate::index_info::{IndexInfo, index_info, index_range, index_size, info_of, whole_index};
 use array_cli::{Progress, write_numbers, write_rows};
 use array_folder::{ChunkFile, ChunkFiles, FolderFiles};
 use array_metadata::ArrayMetadata;
 use array_opening::{Array, Ending, Place, Refusal, Shard, Stop, written};
 use codec_traits::ArrayToBytesCodecTraits;
 use parts_errors::CodecError;
+use parts_subsets::ChunkShape;
+use sharding_codec::ShardingCodec;
+use std::alloc::Global;
 use std::io;
 use std::io::Write;
 use std::rt::{Clock, Files};
-use storage_handles::ByteRange;
+use storage_handles::BytesPartialDecoderTraits;
 
 /// What is known of a shard that is there.
 #[derive(Debug, Drop)]
@@ -31,6 +34,9 @@ struct Sums {
     refused: u64,
 }
 
+// The longest index, in bytes, that is read at once.
+const LONGEST_AT_ONCE: u64 = 65_536;
+
 // What the index of a shard says, which has these bytes, or why it is refused.
 fn index_of<R: Files + AllocGlobal, I, X: ArrayToBytesCodecTraits>(
     array: &Array<'_, R, I, X>,
@@ -45,13 +51,14 @@ fn index_of<R: Files + AllocGlobal, I, X: ArrayToBytesCodecTraits>(
     }
 }
 
-// What is known of a shard, whose index stands at a range of its file; nothing where that is gone.
-fn shard_info<R: Files + AllocGlobal, I, X: ArrayToBytesCodecTraits>(
+// What is known of a shard, whose index has a size and is read at once; nothing where its file is gone.
+fn read_at_once<R: Files + AllocGlobal, I, X: ArrayToBytesCodecTraits>(
     array: &Array<'_, R, I, X>,
     shard: &Shard<'_>,
-    range: ByteRange,
+    size: u64,
     files: &mut FolderFiles<'_, R>,
 ) -> Result<Option<ShardInfo>, Stop> {
+    let range = index_range(array.codec.location, size);
     match files.read(shard.key, range) {
         Ok(Some((length, bytes))) => {
             let index = index_of(array, shard, bytes, length)?;
@@ -62,11 +69,49 @@ fn shard_info<R: Files + AllocGlobal, I, X: ArrayToBytesCodecTraits>(
     }
 }
 
-// What is known of the shards in these files, whose indexes stand at a range; nothing of one whose file is gone.
+// The length of the shard in a file and what its index says, which has a size and is read in pieces; nothing where there is no file.
+fn info_in_pieces<I, X: ArrayToBytesCodecTraits, H: BytesPartialDecoderTraits>(
+    alloc: Global,
+    codec: &ShardingCodec<I, X>,
+    shape: &ChunkShape,
+    size: u64,
+    file: &mut H,
+) -> Result<Option<(u64, Result<IndexInfo, CodecError>)>, CodecError> {
+    let Some(length) = file.len()? else {
+        return Ok(None);
+    };
+    let info = match whole_index(alloc, codec, shape, file, length) {
+        Ok(index) => info_of(index.numbers, codec.location, size, length),
+        Err(error) => Err(error),
+    };
+    Ok(Some((length, info)))
+}
+
+// What is known of a shard, whose index has a size and is read in pieces; nothing where its file is gone.
+fn read_in_pieces<R: Files + AllocGlobal, I, X: ArrayToBytesCodecTraits>(
+    array: &Array<'_, R, I, X>,
+    shard: &Shard<'_>,
+    size: u64,
+) -> Result<Option<ShardInfo>, Stop> {
+    let mut file = array.file(shard.key)?;
+    let shape = &array.metadata.shard;
+    let (length, index) = match info_in_pieces(array.alloc(), array.codec, shape, size, &mut file) {
+        Ok(Some((length, Ok(info)))) => (length, Ok(info)),
+        Ok(Some((length, Err(error)))) => {
+            let refusal = array.refusal(shard, &file, error, Place::opening(&error))?;
+            (length, Err(refusal))
+        }
+        Ok(None) => return Ok(None),
+        Err(error) => return Err(Stop::Refused(array.refusal(shard, &file, error, Place::Shard)?)),
+    };
+    Ok(Some(ShardInfo { length, index }))
+}
+
+// What is known of the shards in these files, whose indexes have a size; nothing of one whose file is gone.
 fn listed<R: Files + AllocGlobal, I, X: ArrayToBytesCodecTraits, M: Write>(
     array: &Array<'_, R, I, X>,
     chunks: &[ChunkFile],
-    range: ByteRange,
+    size: u64,
     progress: &mut Progress<'_, M>,
 ) -> Result<Vec<Option<ShardInfo>>, Stop> {
     let mut shards: Vec<Option<ShardInfo>> = Vec::with_capacity(array.alloc(), chunks.len())?;
@@ -77,7 +122,12 @@ fn listed<R: Files + AllocGlobal, I, X: ArrayToBytesCodecTraits, M: Write>(
             key: &chunk.key,
             coordinates: &chunk.coordinates,
         };
-        shards.push(shard_info(array, &shard, range, &mut files)?)?;
+        let info = if size > LONGEST_AT_ONCE {
+            read_in_pieces(array, &shard, size)?
+        } else {
+            read_at_once(array, &shard, size, &mut files)?
+        };
+        shards.push(info)?;
     }
     Ok(shards)
 }
@@ -227,8 +277,7 @@ pub fn info<
 >(array: &Array<'_, R, I, X>, out: &mut W, progress: &mut Progress<'_, M>) -> Result<Ending, Stop> {
     let size = index_size(array.alloc(), &array.codec.index_codec, &array.subchunks)?;
     let files = array.files()?;
-    let range = index_range(array.codec.location, size);
-    let shards = listed(array, &files.chunks, range, progress)?;
+    let shards = listed(array, &files.chunks, size, progress)?;
     progress.clear();
     let sums = Sums::of(&shards);
     let ending = if sums.refused == 0 {

@@ -1,11 +1,12 @@
 // A compact shard that is written in the place of a shard's file.
-use array_metadata::ArrayMetadata;
+use crate::index_info::whole_index;
 use array_opening::{Array, Place, Shard, ShardFile, Stop};
 use codec_traits::ArrayToBytesCodecTraits;
 use parts_errors::{CodecError, CodecOptions};
+use parts_subsets::ChunkShape;
 use sharding_codec::ShardingCodec;
 use sharding_format::ShardingIndexLocation;
-use sharding_layout::CompactionPlan;
+use sharding_layout::{CompactionPlan, compact_size};
 use std::alloc::Global;
 use std::io;
 use std::io::{ErrorKind, Write};
@@ -16,33 +17,50 @@ use storage_handles::{ByteRange, BytesPartialDecoderTraits, read_range};
 // How many bytes of a slice are held at once.
 const PIECE: usize = 1_048_576;
 
-/// A shard that is not compact: how long it is, and how its compaction is put together.
+/// What a compaction does to a shard.
 #[derive(Drop)]
-pub struct Planned {
-    pub length: u64,
-    pub plan: CompactionPlan,
+pub enum Planned {
+    /// Nothing: there is no file, or the shard is compact.
+    Nothing,
+    /// It would make it longer, by these bytes.
+    Longer(u64),
+    /// It saves bytes, by a plan, which a dry run does not make.
+    Saves {
+        bytes: u64,
+        plan: Option<CompactionPlan>,
+    },
 }
 
-/// How the shard in a file is compacted, or `None` where there is no file, or it is compact. Only its index is read.
+/// What a compaction does to the shard in a file. Only its index is read, and is in memory once until a plan is made.
 pub fn plan_of<I, X: ArrayToBytesCodecTraits, H: BytesPartialDecoderTraits>(
     alloc: Global,
     codec: &ShardingCodec<I, X>,
-    metadata: &ArrayMetadata,
+    shape: &ChunkShape,
     file: &mut H,
-) -> Result<Option<Planned>, CodecError> {
+    is_dry: bool,
+) -> Result<Planned, CodecError> {
     let Some(length) = file.len()? else {
-        return Ok(None);
+        return Ok(Planned::Nothing);
     };
-    let index = codec.index_interval(alloc, length, &metadata.shard)?;
-    let range = ByteRange::FromStart(index.offset, Some(index.size));
-    let mut room: Vec<u8> = Vec::new(alloc);
-    let Some(index) = read_range(file, &mut room, alloc, range)? else {
-        return Ok(None);
-    };
-    let options = CodecOptions::default();
-    match codec.plan_compaction(alloc, index, length, &metadata.shard, &options)? {
-        Some(plan) => Ok(Some(Planned { length, plan })),
-        None => Ok(None),
+    let interval = codec.index_interval(alloc, length, shape)?;
+    let index = whole_index(alloc, codec, shape, file, length)?;
+    let compacted = compact_size(&index, interval.size)?;
+    if compacted == length {
+        return Ok(Planned::Nothing);
+    }
+    if compacted > length {
+        return Ok(Planned::Longer(compacted - length));
+    }
+    let bytes = length - compacted;
+    if is_dry {
+        return Ok(Planned::Saves { bytes, plan: None });
+    }
+    match codec.plan_compaction_of_index(alloc, index, shape, &CodecOptions::default())? {
+        Some(plan) => Ok(Planned::Saves {
+            bytes,
+            plan: Some(plan),
+        }),
+        None => Ok(Planned::Nothing),
     }
 }
 

@@ -11,6 +11,7 @@ mod locked;
 mod options;
 mod partial_decoder;
 mod state;
+mod stored_index;
 mod workers;
 
 pub use codec::ShardingCodec;

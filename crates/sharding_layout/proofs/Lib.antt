@@ -1,5 +1,4 @@
 pub mod RepackingLemmas
-mod CompactLemmas
 mod OffsetLemmas
 mod PlanLemmas
-mod PlannedLemmas
+pub mod PlannedLemmas

@@ -1,6 +1,7 @@
 -- The plan of a compaction: what it makes of an object, and of which objects a plan is one that looks at their index alone.
-use Rattle.std.specs.Prelude.{◌≡◌, ◌<◌, ◌≤◌, ℕ, ◌*◌, ◌/◌, List, Option, Some, None, length}
+use Rattle.std.specs.Prelude.{◌≡◌, ◌<◌, ◌≤◌, ◌^◌, ℕ, ◌+◌, ◌*◌, ◌/◌, List, Option, Some, None, length}
 use Rattle.parts_errors.specs.Order.{◌or◌then◌}
+use Rattle.parts_errors.specs.Words.{CellsOf}
 use Rattle.parts_errors.specs.declared.error.CodecError.{CodecError}
 use Rattle.parts_errors.specs.declared.error.CodecError.TheVariants.{ShardTooShort}
 use Rattle.parts_row_major.specs.Numbering.{count_of}
@@ -12,7 +13,7 @@ use Rattle.sharding_format.specs.Index.{slot_at, index_part, numbers_in_index}
 use Rattle.sharding_format.specs.Laying.{whole_shard}
 use Rattle.sharding_format.specs.Serves.{PlanRefusals}
 use Rattle.sharding_format.specs.DecodeRefusals.{IndexRefusals, slot_by}
-use Rattle.sharding_format.specs.Compacting.{IsGood, PresentRefusals}
+use Rattle.sharding_format.specs.Compacting.{IsGood, compact_size, PresentRefusals}
 use Rattle.sharding_format.specs.declared.location.ShardingIndexLocation.{ShardingIndexLocation}
 use Rattle.sharding_format.specs.declared.slot.Slot.{Slot}
 use Rattle.sharding_format.specs.declared.slot.Slot.TheVariants.{Absent, InRange, Bad}
@@ -47,6 +48,33 @@ PlannedRefusals index l index_bytes len =
     l.index_size ≤ len or ShardTooShort then
     IndexRefusals index.decode_refusals index.cells l.location l.index_size index_bytes (
     PresentRefusals index l len (slot_by len (numbers_in_index index.cells l.location l.index_size index_bytes))))
+
+-- the same tests, but that of the index's bytes, of which these are the numbers
+abbrev pub NumberedRefusals : (index : Meaning) → Layout → List ℕ → ℕ → CodecError → Type 0
+NumberedRefusals index l numbers len =
+    PlanRefusals index l.shape l.sub 0 (
+    l.index_size ≤ len or ShardTooShort then
+    PresentRefusals index l len (slot_at len numbers))
+
+-- what they find of the shard and of the numbers of its index
+pub record HasGoodEntries (l : Layout) (numbers : List ℕ) (len : ℕ) : Type 0 where
+  pub long : l.index_size ≤ len
+  pub good : (k : ℕ) → k < count_of (grid_of l.shape l.sub) → IsGood (slot_at len numbers k)
+  pub small : compact_size l (slot_at len numbers) + 1 < 2 ^ 64
+
+-- and of the bytes: these are long enough, and their index has such numbers
+pub record HasGoodIndex (index_cells : CellsOf) (l : Layout) (index_bytes : List ℕ) (len : ℕ) : Type 0 where
+  pub numbers : List ℕ
+  pub enough : l.index_size ≤ length index_bytes
+  pub told : numbers_in_index index_cells l.location l.index_size index_bytes ≡ Some numbers
+  pub entries : HasGoodEntries l numbers len
+
+-- it holds of each object of this length whose index has these numbers, and of each of its layouts
+abbrev pub OfEachNumbered : (shape sub : List ℕ) → ShardingIndexLocation → (index : Meaning) → List ℕ → ℕ → (Layout → List ℕ → Type 0)
+    → Type 0
+OfEachNumbered shape sub location index numbers len Holds =
+    OfEachLayout shape sub location index (λ l. (object : List ℕ) → length object ≡ len
+    → numbers_in_index index.cells l.location l.index_size object ≡ Some numbers → Holds l object)
 
 -- it holds of each object of this length that has the index which these bytes begin or end with, and of each of its layouts
 abbrev pub OfEachObject : (shape sub : List ℕ) → ShardingIndexLocation → (index : Meaning) → List ℕ → ℕ → (Layout → List ℕ → Type 0)

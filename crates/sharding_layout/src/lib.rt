@@ -13,5 +13,5 @@ pub use laying::{
     room_for_next,
 };
 pub use packing::{compact_size, packed_numbers, push_slices};
-pub use plan::{CompactionPlan, plan_compaction};
+pub use plan::{CompactionPlan, plan_compaction, plan_compaction_of_index};
 pub use storing::store_after;

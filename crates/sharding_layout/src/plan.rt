@@ -8,12 +8,12 @@ ghost use Rattle.sharding_format.specs.Index.{slot_at, data_start, index_part, n
 ghost use Rattle.sharding_format.specs.Laying.{IsIndexOf};
 ghost use Rattle.sharding_format.specs.DecodeRefusals.{IndexRefusals};
 ghost use Rattle.sharding_format.specs.EncodeRefusals.{RefusesIndex};
-ghost use Rattle.sharding_format.specs.Compacting.{IsGood, IsCompact, IsCompacted, present_size, CompactRefusals};
+ghost use Rattle.sharding_format.specs.Compacting.{IsGood, IsCompact, IsCompacted, present_size, PresentRefusals, CompactRefusals};
 ghost use Rattle.sharding_format.specs.Serves.{HasPlan, fixed_size};
 ghost use Rattle.sharding_index.specs.Indexes.{index_meaning, IsIndexPlan};
 ghost use Rattle.sharding_index.specs.steps.Plans.{IsPlan};
 ghost use Rattle.sharding_layout.specs.Repacking.{packed_slots};
-ghost use Rattle.sharding_layout.specs.CompactionPlans.{interval_of, executed, IsPlanFor, PlannedRefusals, OfEachObject};
+ghost use Rattle.sharding_layout.specs.CompactionPlans.{interval_of, executed, IsPlanFor, PlannedRefusals, NumberedRefusals, HasGoodEntries, HasGoodIndex, OfEachObject, OfEachNumbered};
 ghost use Rattle.sharding_layout.specs.Layouts.{OfEachLayout};
 
 use crate::packing::{compact_size, packed_numbers};
@@ -146,11 +146,11 @@ fn packed_index<X: ArrayToBytesCodecTraits>(
     Ok(index)
 }
 
-// The plan of the compaction of a stored shard, after the tests of its shape.
-fn planned<X: ArrayToBytesCodecTraits>(
+// The plan of the compaction of a shard of this index, after the tests of its shape and of its length.
+fn planned_of<X: ArrayToBytesCodecTraits>(
     alloc: Global,
     index_codec: &IndexCodec<'_, X>,
-    stored: &StoredIndex,
+    old_index: ShardIndex,
     plan: &Plan,
     options: &CodecOptions,
     _shape: &ChunkShape,
@@ -159,23 +159,25 @@ fn planned<X: ArrayToBytesCodecTraits>(
     requires plan { IsPlan (index_meaning X.meaning index_codec.now.codec.now) _shape.now _subchunk_shape.now plan.now }
     requires served { let index = index_meaning X.meaning index_codec.now.codec.now (grid_of _shape.now _subchunk_shape.now) in
         HasPlan index _shape.now _subchunk_shape.now 0 }
+    requires counted { length old_index.numbers.items ≡ 2 * count_of (grid_of _shape.now _subchunk_shape.now) }
+    requires long { let index = index_meaning X.meaning index_codec.now.codec.now (grid_of _shape.now _subchunk_shape.now) in
+        fixed_size index.representation ≤ old_index.len }
     ensures planned { let index = index_meaning X.meaning index_codec.now.codec.now (grid_of _shape.now _subchunk_shape.now) in
-        OfEachObject _shape.now _subchunk_shape.now index_codec.now.location index stored.now.bytes.now stored.now.len (λ l object.
-        IfOk result (λ answer. IfSome answer (λ new. IsPlanFor l stored.now.len new × IsCompacted index l object (executed new object)
+        OfEachNumbered _shape.now _subchunk_shape.now index_codec.now.location index old_index.numbers.items old_index.len (λ l object.
+        IfOk result (λ answer. IfSome answer (λ new. IsPlanFor l old_index.len new × IsCompacted index l object (executed new object)
         × (length (executed new object) ≡ new.len)))) }
     ensures kept { let index = index_meaning X.meaning index_codec.now.codec.now (grid_of _shape.now _subchunk_shape.now) in
-        OfEachObject _shape.now _subchunk_shape.now index_codec.now.location index stored.now.bytes.now stored.now.len (λ l object.
+        OfEachNumbered _shape.now _subchunk_shape.now index_codec.now.location index old_index.numbers.items old_index.len (λ l object.
         IfOk result (λ answer. IfNone answer (IsCompact index.cells l object))) }
-    ensures refused { let index = index_meaning X.meaning index_codec.now.codec.now (grid_of _shape.now _subchunk_shape.now) in
-        OfEachObject _shape.now _subchunk_shape.now index_codec.now.location index stored.now.bytes.now stored.now.len (λ l object.
-        IfErr result (RefusedBy (CompactRefusals index l object))) }
-    ensures tested { let index = index_meaning X.meaning index_codec.now.codec.now (grid_of _shape.now _subchunk_shape.now) in
+    ensures passed { let index = index_meaning X.meaning index_codec.now.codec.now (grid_of _shape.now _subchunk_shape.now) in
         OfEachLayout _shape.now _subchunk_shape.now index_codec.now.location index (λ l.
-        IfErr result (RefusedBy (PlannedRefusals index l stored.now.bytes.now stored.now.len))) }
+        OnOk result (HasGoodEntries l old_index.numbers.items old_index.len)) }
+    ensures refused { let index = index_meaning X.meaning index_codec.now.codec.now (grid_of _shape.now _subchunk_shape.now) in
+        OfEachLayout _shape.now _subchunk_shape.now index_codec.now.location index (λ l.
+        IfErr result (RefusedBy (PresentRefusals index l old_index.len (slot_at old_index.len old_index.numbers.items)))) }
 {
-    let old_index = decoded(alloc, index_codec, stored, &plan.index, options)?;
     let len = compact_size(&old_index, plan.index.size)?;
-    if len == stored.len {
+    if len == old_index.len {
         return Ok(None);
     }
     let new_index = packed_index(alloc, index_codec, &old_index, &plan.index, options)?;
@@ -185,6 +187,48 @@ fn planned<X: ArrayToBytesCodecTraits>(
         location: index_codec.location,
         len,
     }))
+}
+
+// The plan of the compaction of a stored shard, after the tests of its shape.
+fn planned<X: ArrayToBytesCodecTraits>(
+    alloc: Global,
+    index_codec: &IndexCodec<'_, X>,
+    stored: &StoredIndex,
+    plan: &Plan,
+    options: &CodecOptions,
+    shape: &ChunkShape,
+    subchunk_shape: &ChunkShape,
+) -> Result<Option<CompactionPlan>, CodecError>
+    requires plan { IsPlan (index_meaning X.meaning index_codec.now.codec.now) shape.now subchunk_shape.now plan.now }
+    requires served { let index = index_meaning X.meaning index_codec.now.codec.now (grid_of shape.now subchunk_shape.now) in
+        HasPlan index shape.now subchunk_shape.now 0 }
+    ensures planned { let index = index_meaning X.meaning index_codec.now.codec.now (grid_of shape.now subchunk_shape.now) in
+        OfEachObject shape.now subchunk_shape.now index_codec.now.location index stored.now.bytes.now stored.now.len (λ l object.
+        IfOk result (λ answer. IfSome answer (λ new. IsPlanFor l stored.now.len new × IsCompacted index l object (executed new object)
+        × (length (executed new object) ≡ new.len)))) }
+    ensures kept { let index = index_meaning X.meaning index_codec.now.codec.now (grid_of shape.now subchunk_shape.now) in
+        OfEachObject shape.now subchunk_shape.now index_codec.now.location index stored.now.bytes.now stored.now.len (λ l object.
+        IfOk result (λ answer. IfNone answer (IsCompact index.cells l object))) }
+    ensures passed { let index = index_meaning X.meaning index_codec.now.codec.now (grid_of shape.now subchunk_shape.now) in
+        OfEachLayout shape.now subchunk_shape.now index_codec.now.location index (λ l.
+        OnOk result (HasGoodIndex index.cells l stored.now.bytes.now stored.now.len)) }
+    ensures refused { let index = index_meaning X.meaning index_codec.now.codec.now (grid_of shape.now subchunk_shape.now) in
+        OfEachObject shape.now subchunk_shape.now index_codec.now.location index stored.now.bytes.now stored.now.len (λ l object.
+        IfErr result (RefusedBy (CompactRefusals index l object))) }
+    ensures tested { let index = index_meaning X.meaning index_codec.now.codec.now (grid_of shape.now subchunk_shape.now) in
+        OfEachLayout shape.now subchunk_shape.now index_codec.now.location index (λ l.
+        IfErr result (RefusedBy (PlannedRefusals index l stored.now.bytes.now stored.now.len))) }
+{
+    let old_index = decoded(alloc, index_codec, stored, &plan.index, options)?;
+    planned_of(
+        alloc,
+        index_codec,
+        old_index,
+        plan,
+        options,
+        shape,
+        subchunk_shape,
+    )
 }
 
 /// The plan of the compaction of a shard of this length, by bytes that begin or end with its index, as it stands there; or nothing
@@ -214,6 +258,9 @@ pub fn plan_compaction<X: ArrayToBytesCodecTraits>(
     ensures refused { let meaning = index_meaning X.meaning index_codec.now.codec.now (grid_of shape.now subchunk_shape.now) in
         OfEachObject shape.now subchunk_shape.now index_codec.now.location meaning index.now len (λ l object.
         IfErr result (RefusedBy (CompactRefusals meaning l object))) }
+    ensures passed { let meaning = index_meaning X.meaning index_codec.now.codec.now (grid_of shape.now subchunk_shape.now) in
+        OfEachLayout shape.now subchunk_shape.now index_codec.now.location meaning (λ l.
+        OnOk result (HasGoodIndex meaning.cells l index.now len)) }
     ensures tested { let meaning = index_meaning X.meaning index_codec.now.codec.now (grid_of shape.now subchunk_shape.now) in
         OfEachLayout shape.now subchunk_shape.now index_codec.now.location meaning (λ l.
         IfErr result (RefusedBy (PlannedRefusals meaning l index.now len))) }
@@ -225,6 +272,51 @@ pub fn plan_compaction<X: ArrayToBytesCodecTraits>(
         index_codec,
         &stored,
         &plan,
+        options,
+        shape,
+        subchunk_shape,
+    )
+}
+
+/// The plan of the compaction of a shard whose index was read; or nothing if the index and the present slices have as many bytes as
+/// the shard. Refused, in this order, as `Plan::new` refuses the shape, as `ShardTooShort` where the shard has fewer bytes than an
+/// index, as `BadIndexEntry` for the lowest bad entry, as `TooLarge` where no shard can have as many bytes, and as the index codec
+/// refuses; or as `OutOfMemory`.
+pub fn plan_compaction_of_index<X: ArrayToBytesCodecTraits>(
+    alloc: Global,
+    index_codec: &IndexCodec<'_, X>,
+    index: ShardIndex,
+    shape: &ChunkShape,
+    subchunk_shape: &ChunkShape,
+    options: &CodecOptions,
+) -> Result<Option<CompactionPlan>, CodecError>
+    requires { length index.numbers.items ≡ 2 * count_of (grid_of shape.now subchunk_shape.now) }
+    ensures positive { AllPositive shape.now }
+    ensures served { let meaning = index_meaning X.meaning index_codec.now.codec.now (grid_of shape.now subchunk_shape.now) in
+        OnOk result (HasPlan meaning shape.now subchunk_shape.now 0) }
+    ensures planned { let meaning = index_meaning X.meaning index_codec.now.codec.now (grid_of shape.now subchunk_shape.now) in
+        OfEachNumbered shape.now subchunk_shape.now index_codec.now.location meaning index.numbers.items index.len (λ l object.
+        IfOk result (λ answer. IfSome answer (λ plan. IsPlanFor l index.len plan × IsCompacted meaning l object (executed plan object)
+        × (length (executed plan object) ≡ plan.len)))) }
+    ensures kept { let meaning = index_meaning X.meaning index_codec.now.codec.now (grid_of shape.now subchunk_shape.now) in
+        OfEachNumbered shape.now subchunk_shape.now index_codec.now.location meaning index.numbers.items index.len (λ l object.
+        IfOk result (λ answer. IfNone answer (IsCompact meaning.cells l object))) }
+    ensures passed { let meaning = index_meaning X.meaning index_codec.now.codec.now (grid_of shape.now subchunk_shape.now) in
+        OfEachLayout shape.now subchunk_shape.now index_codec.now.location meaning (λ l.
+        OnOk result (HasGoodEntries l index.numbers.items index.len)) }
+    ensures refused { let meaning = index_meaning X.meaning index_codec.now.codec.now (grid_of shape.now subchunk_shape.now) in
+        OfEachLayout shape.now subchunk_shape.now index_codec.now.location meaning (λ l.
+        IfErr result (RefusedBy (NumberedRefusals meaning l index.numbers.items index.len))) }
+{
+    let tested = Plan::new(alloc, index_codec, shape, subchunk_shape, 0)?;
+    if index.len < tested.index.size {
+        return Err(CodecError::ShardTooShort);
+    }
+    planned_of(
+        alloc,
+        index_codec,
+        index,
+        &tested,
         options,
         shape,
         subchunk_shape,

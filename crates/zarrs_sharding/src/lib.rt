@@ -20,7 +20,7 @@ pub use sharding_codec::{
 };
 pub use sharding_configuration::{ShardingCodecConfiguration, ShardingCodecConfigurationV1};
 pub use sharding_format::{
-    PartialDecoderCapability, PartialEncoderCapability, ShardingCodecOptions,
+    PartialDecoderCapability, PartialEncoderCapability, ShardIndex, ShardingCodecOptions,
     ShardingIndexLocation, SubchunkWriteOrder, calculate_chunks_per_shard, sharding_index_shape,
 };
 pub use sharding_layout::CompactionPlan;

@@ -1,164 +1,114 @@
-use Rattle.std.proofs.Common.{inr, ℕ, ◌≡◌, ◌≤◌, ◌<◌, ◌*◌, ◌/◌, ◌∙◌, sym, refl, length, arith}
+use Rattle.std.proofs.Common.{◌≡◌, ◌≤◌, ◌∙◌, sym, arith}
+use Rattle.std.proofs.lemmas.Result.{IfErr-weaker, on_ok_weaker}
 use Rattle.parts_subsets.specs.Grid.{grid_of}
-use Rattle.parts_row_major.specs.Numbering.{count_of}
-use Rattle.parts_errors.specs.Order.{RefusedBy}
 use Rattle.codec_traits.specs.Meanings.{Meaning}
 use Rattle.codec_traits.specs.RefusalLaws.{passed_on}
-use Rattle.sharding_format.specs.Index.{slot_at}
 use Rattle.sharding_format.specs.Cells.{Layout}
 use Rattle.sharding_format.specs.Serves.{fixed_size}
-use Rattle.sharding_format.specs.Compacting.{IsGood, compact_size, CompactRefusals}
-use Rattle.sharding_format.proofs.CompactRefusals.{rewrite_next}
+use Rattle.sharding_format.proofs.RefusalLemmas.{long_enough}
 use Rattle.sharding_index.specs.Indexes.{index_meaning}
-use Rattle.sharding_layout.proofs.CompactLemmas.{total_next}
-use Rattle.sharding_layout.proofs.PlanLemmas.{numbers_there, kept_whole, executed_long, executed_compacted}
-use Rattle.sharding_layout.specs.CompactionPlans.{PlannedRefusals}
-use Rattle.sharding_layout.proofs.PlannedLemmas.{index_tested, entries_tested, written_tested}
+use Rattle.sharding_layout.proofs.PlanLemmas.{numbers_there}
+use Rattle.sharding_layout.proofs.PlannedLemmas.{index_tested, numbers_tested, numbers_compacted}
 use Rattle.sharding_layout.proofs.plan.planned.Goals as goal
-
-pub returns-in_err-len-clause-refused : goal.returns-in_err-len-clause-refused
-returns-in_err-len-clause-refused g c = λ fill order object long same.
-    let a = c.args in
-    let sub = a._subchunk_shape.now in
-    let location = a.index_codec.now.location in
-    let index : Meaning = index_meaning g.X.ArrayToBytesCodecTraits.meaning a.index_codec.now.codec.now (grid_of a._shape.now sub) in
-    let l : Layout = record { shape = a._shape.now; sub = sub; fill = fill; location = location; index_size = fixed_size index.representation; order = order } in
-    let plan = c.requires.plan in
-    let numbers = c.in_ok-old_index.old_index.numbers.items in
-    let len : c.in_ok-old_index.old_index.len ≡ length object = c.in_ok-old_index.ensures.len ∙ sym long in
-    let told = rw (plan.index.size, plan.grid) at c.in_ok-old_index.ensures.numbers in
-    let sized : a.plan.now.index.size ≡ l.index_size = rw plan.grid at plan.index.size in
-    let enough : l.index_size ≤ length object = omega (arith, c.in_ok-old_index.ensures.enough, sized, long) in
-    let there = numbers_there index.cells l.location l.index_size a.stored.now.bytes.now object numbers enough same told in
-    let counted : length numbers ≡ 2 * count_of (grid_of l.shape l.sub) = rw plan.grid at c.in_ok-old_index.ensures.counted in
-    let many : length numbers / 2 ≡ count_of (grid_of l.shape l.sub) = omega (arith, counted) in
-    let e = c.in_err-len.field-0.0 in
-    let refusals = total_next index l object c.requires.served numbers there (length numbers / 2) e many
-    (rw (len, plan.index.size, plan.grid) at c.in_err-len.ensures.refused) in
-    passed_on c.from_residual-in_err-len.result e (RefusedBy (CompactRefusals index l object)) c.from_residual-in_err-len.ensures.1 refusals
-
-pub returns-then-len-stored-clause-kept : goal.returns-then-len-stored-clause-kept
-returns-then-len-stored-clause-kept g c = λ fill order object long same.
-    let a = c.args in
-    let sub = a._subchunk_shape.now in
-    let location = a.index_codec.now.location in
-    let index : Meaning = index_meaning g.X.ArrayToBytesCodecTraits.meaning a.index_codec.now.codec.now (grid_of a._shape.now sub) in
-    let l : Layout = record { shape = a._shape.now; sub = sub; fill = fill; location = location; index_size = fixed_size index.representation; order = order } in
-    let plan = c.requires.plan in
-    let numbers = c.in_ok-old_index.old_index.numbers.items in
-    let len : c.in_ok-old_index.old_index.len ≡ length object = c.in_ok-old_index.ensures.len ∙ sym long in
-    let told = rw (plan.index.size, plan.grid) at c.in_ok-old_index.ensures.numbers in
-    let sized : a.plan.now.index.size ≡ l.index_size = rw plan.grid at plan.index.size in
-    let enough : l.index_size ≤ length object = omega (arith, c.in_ok-old_index.ensures.enough, sized, long) in
-    let there = numbers_there index.cells l.location l.index_size a.stored.now.bytes.now object numbers enough same told in
-    let counted : length numbers ≡ 2 * count_of (grid_of l.shape l.sub) = rw plan.grid at c.in_ok-old_index.ensures.counted in
-    let many : length numbers / 2 ≡ count_of (grid_of l.shape l.sub) = omega (arith, counted) in
-    let good : (k : ℕ) → k < count_of (grid_of l.shape l.sub) → IsGood (slot_at (length object) numbers k) = rw (len, many) at c.in_ok-len.ensures.good in
-    let total : c.in_ok-len.len ≡ compact_size l (slot_at (length object) numbers) = rw (len, many, plan.index.size, plan.grid) at c.in_ok-len.ensures.size in
-    kept_whole index l object numbers there counted good (sym total ∙ c.if-len-stored.true ∙ sym long)
-
-pub returns-in_err-new_index-clause-refused : goal.returns-in_err-new_index-clause-refused
-returns-in_err-new_index-clause-refused g c = λ fill order object long same.
-    let a = c.args in
-    let sub = a._subchunk_shape.now in
-    let location = a.index_codec.now.location in
-    let index : Meaning = index_meaning g.X.ArrayToBytesCodecTraits.meaning a.index_codec.now.codec.now (grid_of a._shape.now sub) in
-    let l : Layout = record { shape = a._shape.now; sub = sub; fill = fill; location = location; index_size = fixed_size index.representation; order = order } in
-    let plan = c.requires.plan in
-    let numbers = c.in_ok-old_index.old_index.numbers.items in
-    let len : c.in_ok-old_index.old_index.len ≡ length object = c.in_ok-old_index.ensures.len ∙ sym long in
-    let told = rw (plan.index.size, plan.grid) at c.in_ok-old_index.ensures.numbers in
-    let sized : a.plan.now.index.size ≡ l.index_size = rw plan.grid at plan.index.size in
-    let enough : l.index_size ≤ length object = omega (arith, c.in_ok-old_index.ensures.enough, sized, long) in
-    let there = numbers_there index.cells l.location l.index_size a.stored.now.bytes.now object numbers enough same told in
-    let counted : length numbers ≡ 2 * count_of (grid_of l.shape l.sub) = rw plan.grid at c.in_ok-old_index.ensures.counted in
-    let many : length numbers / 2 ≡ count_of (grid_of l.shape l.sub) = omega (arith, counted) in
-    let good : (k : ℕ) → k < count_of (grid_of l.shape l.sub) → IsGood (slot_at (length object) numbers k) = rw (len, many) at c.in_ok-len.ensures.good in
-    let total : c.in_ok-len.len ≡ compact_size l (slot_at (length object) numbers) = rw (len, many, plan.index.size, plan.grid) at c.in_ok-len.ensures.size in
-    let e = c.in_err-new_index.field-0.0 in
-    passed_on _ e _ c.from_residual-in_err-new_index.ensures.1
-    (rewrite_next index l object c.requires.served numbers there good e
-    (omega (arith, total, c.in_ok-len.ensures.small)) (λ as_long. c.if-len-stored.false (total ∙ as_long ∙ long))
-    (rw plan.grid at c.in_err-new_index.ensures.refused))
 
 pub returns-clause-planned : goal.returns-clause-planned
 returns-clause-planned g c = λ fill order object long same.
     let a = c.args in
-    let sub = a._subchunk_shape.now in
+    let sub = a.subchunk_shape.now in
     let location = a.index_codec.now.location in
-    let index : Meaning = index_meaning g.X.ArrayToBytesCodecTraits.meaning a.index_codec.now.codec.now (grid_of a._shape.now sub) in
-    let l : Layout = record { shape = a._shape.now; sub = sub; fill = fill; location = location; index_size = fixed_size index.representation; order = order } in
+    let index : Meaning = index_meaning g.X.ArrayToBytesCodecTraits.meaning a.index_codec.now.codec.now (grid_of a.shape.now sub) in
+    let l : Layout = record { shape = a.shape.now; sub = sub; fill = fill; location = location; index_size = fixed_size index.representation; order = order } in
     let plan = c.requires.plan in
+    let bytes = a.stored.now.bytes.now in
     let numbers = c.in_ok-old_index.old_index.numbers.items in
-    let len : c.in_ok-old_index.old_index.len ≡ length object = c.in_ok-old_index.ensures.len ∙ sym long in
+    let len : c.in_ok-old_index.old_index.len ≡ a.stored.now.len = c.in_ok-old_index.ensures.len in
     let told = rw (plan.index.size, plan.grid) at c.in_ok-old_index.ensures.numbers in
     let sized : a.plan.now.index.size ≡ l.index_size = rw plan.grid at plan.index.size in
-    let enough : l.index_size ≤ length object = omega (arith, c.in_ok-old_index.ensures.enough, sized, long) in
-    let there = numbers_there index.cells l.location l.index_size a.stored.now.bytes.now object numbers enough same told in
-    let counted : length numbers ≡ 2 * count_of (grid_of l.shape l.sub) = rw plan.grid at c.in_ok-old_index.ensures.counted in
-    let many : length numbers / 2 ≡ count_of (grid_of l.shape l.sub) = omega (arith, counted) in
-    let good : (k : ℕ) → k < count_of (grid_of l.shape l.sub) → IsGood (slot_at (length object) numbers k) = rw (len, many) at c.in_ok-len.ensures.good in
-    let total : c.in_ok-len.len ≡ compact_size l (slot_at (length object) numbers) = rw (len, many, plan.index.size, plan.grid) at c.in_ok-len.ensures.size in
-    let new = c.in_ok-new_index.new_index.items in
-    let new_sized : length new ≡ l.index_size = c.in_ok-new_index.ensures.size ∙ sized in
-    let index_is = rw (len, plan.index.size, plan.grid) at c.in_ok-new_index.ensures.index in
-    let good_entries : (k : ℕ) → k < count_of (grid_of l.shape l.sub) → IsGood (slot_at a.stored.now.len numbers k) = rw (c.in_ok-old_index.ensures.len, many) at c.in_ok-len.ensures.good in (
-      record { old_len = c.in_ok-old_index.ensures.len; subchunks = counted; location = refl; index = new_sized; good = good_entries },
-      rw len (executed_compacted index l object numbers there counted good new new_sized
-          (omega (arith, total, c.in_ok-len.ensures.small)) (λ as_long. c.if-len-stored.false (total ∙ as_long ∙ long)) index_is),
-      rw len (executed_long index l object numbers there counted good new new_sized ∙ sym total),
-    )
+    let enough : l.index_size ≤ a.stored.now.len = omega (arith, c.in_ok-old_index.ensures.enough, sized) in
+    let there = numbers_there index.cells location l.index_size bytes object numbers (omega (arith, enough, long)) same told in
+    rw len at (c.planned_of.ensures.planned fill order object (long ∙ sym len) there)
+
+pub returns-clause-kept : goal.returns-clause-kept
+returns-clause-kept g c = λ fill order object long same.
+    let a = c.args in
+    let sub = a.subchunk_shape.now in
+    let location = a.index_codec.now.location in
+    let index : Meaning = index_meaning g.X.ArrayToBytesCodecTraits.meaning a.index_codec.now.codec.now (grid_of a.shape.now sub) in
+    let l : Layout = record { shape = a.shape.now; sub = sub; fill = fill; location = location; index_size = fixed_size index.representation; order = order } in
+    let plan = c.requires.plan in
+    let bytes = a.stored.now.bytes.now in
+    let numbers = c.in_ok-old_index.old_index.numbers.items in
+    let len : c.in_ok-old_index.old_index.len ≡ a.stored.now.len = c.in_ok-old_index.ensures.len in
+    let told = rw (plan.index.size, plan.grid) at c.in_ok-old_index.ensures.numbers in
+    let sized : a.plan.now.index.size ≡ l.index_size = rw plan.grid at plan.index.size in
+    let enough : l.index_size ≤ a.stored.now.len = omega (arith, c.in_ok-old_index.ensures.enough, sized) in
+    let there = numbers_there index.cells location l.index_size bytes object numbers (omega (arith, enough, long)) same told in
+    c.planned_of.ensures.kept fill order object (long ∙ sym len) there
+
+pub returns-clause-passed : goal.returns-clause-passed
+returns-clause-passed g c = λ fill order.
+    let a = c.args in
+    let sub = a.subchunk_shape.now in
+    let location = a.index_codec.now.location in
+    let index : Meaning = index_meaning g.X.ArrayToBytesCodecTraits.meaning a.index_codec.now.codec.now (grid_of a.shape.now sub) in
+    let l : Layout = record { shape = a.shape.now; sub = sub; fill = fill; location = location; index_size = fixed_size index.representation; order = order } in
+    let plan = c.requires.plan in
+    let bytes = a.stored.now.bytes.now in
+    let numbers = c.in_ok-old_index.old_index.numbers.items in
+    let len : c.in_ok-old_index.old_index.len ≡ a.stored.now.len = c.in_ok-old_index.ensures.len in
+    let told = rw (plan.index.size, plan.grid) at c.in_ok-old_index.ensures.numbers in
+    let sized : a.plan.now.index.size ≡ l.index_size = rw plan.grid at plan.index.size in
+    let enough : l.index_size ≤ a.stored.now.len = omega (arith, c.in_ok-old_index.ensures.enough, sized) in
+    on_ok_weaker c.planned_of.result
+    (λ entries. record { numbers = numbers; enough = long_enough index.cells location l.index_size bytes numbers told; told = told; entries = rw len at entries })
+    (c.planned_of.ensures.passed fill order)
+
+pub returns-clause-refused : goal.returns-clause-refused
+returns-clause-refused g c = λ fill order object long same.
+    let a = c.args in
+    let sub = a.subchunk_shape.now in
+    let location = a.index_codec.now.location in
+    let index : Meaning = index_meaning g.X.ArrayToBytesCodecTraits.meaning a.index_codec.now.codec.now (grid_of a.shape.now sub) in
+    let l : Layout = record { shape = a.shape.now; sub = sub; fill = fill; location = location; index_size = fixed_size index.representation; order = order } in
+    let plan = c.requires.plan in
+    let bytes = a.stored.now.bytes.now in
+    let numbers = c.in_ok-old_index.old_index.numbers.items in
+    let len : c.in_ok-old_index.old_index.len ≡ a.stored.now.len = c.in_ok-old_index.ensures.len in
+    let told = rw (plan.index.size, plan.grid) at c.in_ok-old_index.ensures.numbers in
+    let sized : a.plan.now.index.size ≡ l.index_size = rw plan.grid at plan.index.size in
+    let enough : l.index_size ≤ a.stored.now.len = omega (arith, c.in_ok-old_index.ensures.enough, sized) in
+    let there = numbers_there index.cells location l.index_size bytes object numbers (omega (arith, enough, long)) same told in
+    IfErr-weaker c.planned_of.result _ _
+    (λ e refused. numbers_compacted index l bytes a.stored.now.len c.requires.served enough numbers told object long there e (rw len at refused))
+    (c.planned_of.ensures.refused fill order)
 
 pub returns-in_err-old_index-clause-tested : goal.returns-in_err-old_index-clause-tested
 returns-in_err-old_index-clause-tested g c = λ fill order.
     let a = c.args in
-    let sub = a._subchunk_shape.now in
+    let sub = a.subchunk_shape.now in
     let location = a.index_codec.now.location in
-    let index : Meaning = index_meaning g.X.ArrayToBytesCodecTraits.meaning a.index_codec.now.codec.now (grid_of a._shape.now sub) in
-    let l : Layout = record { shape = a._shape.now; sub = sub; fill = fill; location = location; index_size = fixed_size index.representation; order = order } in
+    let index : Meaning = index_meaning g.X.ArrayToBytesCodecTraits.meaning a.index_codec.now.codec.now (grid_of a.shape.now sub) in
+    let l : Layout = record { shape = a.shape.now; sub = sub; fill = fill; location = location; index_size = fixed_size index.representation; order = order } in
     let plan = c.requires.plan in
+    let bytes = a.stored.now.bytes.now in
     let e = c.in_err-old_index.field-0.0 in
     passed_on _ e _ c.from_residual.ensures.1
-    (index_tested index l a.stored.now.bytes.now a.stored.now.len c.requires.served e (rw (plan.index.size, plan.grid) at c.in_err-old_index.ensures.refused))
+    (index_tested index l bytes a.stored.now.len c.requires.served e (rw (plan.index.size, plan.grid) at c.in_err-old_index.ensures.refused))
 
-pub returns-in_err-len-clause-tested : goal.returns-in_err-len-clause-tested
-returns-in_err-len-clause-tested g c = λ fill order.
+pub returns-clause-tested : goal.returns-clause-tested
+returns-clause-tested g c = λ fill order.
     let a = c.args in
-    let sub = a._subchunk_shape.now in
+    let sub = a.subchunk_shape.now in
     let location = a.index_codec.now.location in
-    let index : Meaning = index_meaning g.X.ArrayToBytesCodecTraits.meaning a.index_codec.now.codec.now (grid_of a._shape.now sub) in
-    let l : Layout = record { shape = a._shape.now; sub = sub; fill = fill; location = location; index_size = fixed_size index.representation; order = order } in
+    let index : Meaning = index_meaning g.X.ArrayToBytesCodecTraits.meaning a.index_codec.now.codec.now (grid_of a.shape.now sub) in
+    let l : Layout = record { shape = a.shape.now; sub = sub; fill = fill; location = location; index_size = fixed_size index.representation; order = order } in
     let plan = c.requires.plan in
+    let bytes = a.stored.now.bytes.now in
     let numbers = c.in_ok-old_index.old_index.numbers.items in
     let len : c.in_ok-old_index.old_index.len ≡ a.stored.now.len = c.in_ok-old_index.ensures.len in
     let told = rw (plan.index.size, plan.grid) at c.in_ok-old_index.ensures.numbers in
     let sized : a.plan.now.index.size ≡ l.index_size = rw plan.grid at plan.index.size in
     let enough : l.index_size ≤ a.stored.now.len = omega (arith, c.in_ok-old_index.ensures.enough, sized) in
-    let counted : length numbers ≡ 2 * count_of (grid_of l.shape l.sub) = rw plan.grid at c.in_ok-old_index.ensures.counted in
-    let e = c.in_err-len.field-0.0 in
-    passed_on _ e _ c.from_residual-in_err-len.ensures.1
-    (entries_tested index l a.stored.now.bytes.now a.stored.now.len c.requires.served enough numbers told (length numbers / 2) e (omega (arith, counted))
-    (inr (rw (len, plan.index.size, plan.grid) at c.in_err-len.ensures.refused)))
-
-pub returns-in_err-new_index-clause-tested : goal.returns-in_err-new_index-clause-tested
-returns-in_err-new_index-clause-tested g c = λ fill order.
-    let a = c.args in
-    let sub = a._subchunk_shape.now in
-    let location = a.index_codec.now.location in
-    let index : Meaning = index_meaning g.X.ArrayToBytesCodecTraits.meaning a.index_codec.now.codec.now (grid_of a._shape.now sub) in
-    let l : Layout = record { shape = a._shape.now; sub = sub; fill = fill; location = location; index_size = fixed_size index.representation; order = order } in
-    let plan = c.requires.plan in
-    let numbers = c.in_ok-old_index.old_index.numbers.items in
-    let len : c.in_ok-old_index.old_index.len ≡ a.stored.now.len = c.in_ok-old_index.ensures.len in
-    let told = rw (plan.index.size, plan.grid) at c.in_ok-old_index.ensures.numbers in
-    let sized : a.plan.now.index.size ≡ l.index_size = rw plan.grid at plan.index.size in
-    let enough : l.index_size ≤ a.stored.now.len = omega (arith, c.in_ok-old_index.ensures.enough, sized) in
-    let counted : length numbers ≡ 2 * count_of (grid_of l.shape l.sub) = rw plan.grid at c.in_ok-old_index.ensures.counted in
-    let many : length numbers / 2 ≡ count_of (grid_of l.shape l.sub) = omega (arith, counted) in
-    let good : (k : ℕ) → k < count_of (grid_of l.shape l.sub) → IsGood (slot_at a.stored.now.len numbers k) = rw (len, many) at c.in_ok-len.ensures.good in
-    let total : c.in_ok-len.len ≡ compact_size l (slot_at a.stored.now.len numbers) = rw (len, many, plan.index.size, plan.grid) at c.in_ok-len.ensures.size in
-    let e = c.in_err-new_index.field-0.0 in
-    passed_on _ e _ c.from_residual-in_err-new_index.ensures.1
-    (written_tested index l a.stored.now.bytes.now a.stored.now.len c.requires.served enough numbers told e good
-    (omega (arith, total, c.in_ok-len.ensures.small)) (λ as_long. c.if-len-stored.false (total ∙ as_long))
-    (rw plan.grid at c.in_err-new_index.ensures.refused))
+    IfErr-weaker c.planned_of.result _ _
+    (λ e refused. numbers_tested index l bytes a.stored.now.len c.requires.served enough numbers told e (rw len at refused))
+    (c.planned_of.ensures.refused fill order)
