@@ -74,8 +74,8 @@ pub(crate) fn numbers_of_slots(
     let mut numbers = Vec::with_capacity(alloc, 2 * slots.len())?;
     for k in 0..slots.len() {
         let (offset, size) = entry_of(slots[k], start);
-        numbers.push(offset)?;
-        numbers.push(size)?;
+        numbers.push_reserved(offset);
+        numbers.push_reserved(size);
     }
     Ok(numbers)
 }
@@ -86,7 +86,7 @@ pub(crate) fn chunks_of_numbers(alloc: Global, numbers: &[u64]) -> Result<Vec<[u
 {
     let mut chunks = Vec::with_capacity(alloc, numbers.len())?;
     for number in numbers {
-        chunks.push(number.to_le_bytes())?;
+        chunks.push_reserved(number.to_le_bytes());
     }
     Ok(chunks)
 }
