@@ -1,15 +1,13 @@
 // Objects that nobody wrote as a shard, as the bytes of inner shards: in one shard, and in three.
 use crate::compared::same_at;
-use crate::shards::{
-    Answer, Plain, Shards, around, elements_of, location_of, said, shards_of, subset_of,
-};
+use crate::shards::{Answer, Plain, Shards, around, location_of, said, shards_of, subset_of};
 use std::alloc::Global;
 use std::process::Abort;
 use std::test::Fail;
 use std::thread::Threads;
 use test_helpers::{ABSENT, HostileObject, Wanted, hostile_table, object_of};
 use zarr_codecs::{ArrayToBytesCodecTraits, BytesCodec};
-use zarr_parts::{CodecError, CodecOptions};
+use zarr_parts::CodecError;
 use zarrs_sharding::ShardingCodec;
 use zarrs_sharding::ShardingIndexLocation::End;
 
@@ -96,16 +94,40 @@ fn read_in_session<I: ArrayToBytesCodecTraits + Drop>(
     element: u64,
 ) -> Answer {
     let requested = subset_of(alloc, &(element..element.saturating_add(1)))?;
-    match shards.open(alloc, object.to_vec(alloc)?) {
-        Ok(mut session) => {
-            let array = session.partial_decode(alloc, &requested, &CodecOptions::default());
-            elements_of(alloc, array)
-        }
-        Err((_, error)) => Err(error),
-    }
+    shards.read_opened(alloc, object.to_vec(alloc)?, &requested)
 }
 
-// Reads each element of an object in shards by a decoder and in a session, and decodes all of them, also in parallel.
+// Reads an element of an object in shards by a decoder and in a session.
+fn is_read<R: Abort, I: ArrayToBytesCodecTraits + Drop>(
+    rt: &R,
+    case: (&str, u64),
+    shards: &Shards<I>,
+    object: &[u8],
+    alloc: Global,
+    want: Wanted,
+) {
+    let found = read(alloc, shards, object, case.1);
+    same_at(rt, case, said(&found), want);
+    let found = read_in_session(alloc, shards, object, case.1);
+    same_at(rt, case, said(&found), want);
+}
+
+// Decodes an object in shards, also in parallel.
+fn is_decoded<R: Abort + Threads + Sync, I: ArrayToBytesCodecTraits + Drop + Sync>(
+    rt: &R,
+    alloc: Global,
+    hostile: &HostileObject,
+    shards: &Shards<I>,
+    object: &[u8],
+) {
+    let want = wanted(hostile.elements);
+    let found = shards.decoded(alloc, object);
+    same_at(rt, hostile.name, first_four(&found), want);
+    let found = shards.decoded_by_workers(rt, alloc, object, 2);
+    same_at(rt, hostile.name, first_four(&found), want);
+}
+
+// Reads each element of an object in shards, and decodes all of them.
 fn is_answered<R: Abort + Threads + Sync, I: ArrayToBytesCodecTraits + Drop + Sync>(
     rt: &R,
     alloc: Global,
@@ -113,29 +135,21 @@ fn is_answered<R: Abort + Threads + Sync, I: ArrayToBytesCodecTraits + Drop + Sy
     shards: &Shards<I>,
     object: &[u8],
 ) {
-    for (elements, half) in [[0, 1], [2, 3]].iter().zip(hostile.halves.iter()) {
-        let wanted = one_by_one(*half);
-        for (element, want) in elements.iter().zip(wanted.iter()) {
-            let found = read(alloc, shards, object, *element);
-            same_at(rt, (hostile.name, *element), said(&found), *want);
-            let found = read_in_session(alloc, shards, object, *element);
-            same_at(rt, (hostile.name, *element), said(&found), *want);
+    for subchunk in 0..2usize {
+        let wanted = one_by_one(hostile.halves[subchunk]);
+        for within in 0..2usize {
+            let element = (2 * subchunk + within) as u64;
+            is_read(
+                rt,
+                (hostile.name, element),
+                shards,
+                object,
+                alloc,
+                wanted[within],
+            );
         }
     }
-    let found = shards.decoded(alloc, object);
-    same_at(
-        rt,
-        hostile.name,
-        first_four(&found),
-        wanted(hostile.elements),
-    );
-    let found = shards.decoded_by_workers(rt, alloc, object, 2);
-    same_at(
-        rt,
-        hostile.name,
-        first_four(&found),
-        wanted(hostile.elements),
-    );
+    is_decoded(rt, alloc, hostile, shards, object);
 }
 
 #[test]

@@ -84,55 +84,72 @@ fn in_halves(alloc: Global) -> Answer {
     Ok(object_of(alloc, false, &slices, &[0, 8, 8, 8])?)
 }
 
-// Squares as halves, whose codec has one encoding of each array.
-fn halved(alloc: Global, object: &[u8]) -> Answer {
-    let Sixteen { shape, fill } = sixteen_elements(alloc)?;
+// The codec of two halves of two columns each before their index.
+fn halves(alloc: Global) -> Result<Plain, CodecError> {
     let little = BytesCodec::little();
-    let to = ShardingCodec::new(
-        axes_of(alloc, &[4, 2])?,
-        little,
-        little,
-        End,
-    ).with_subchunk_write_order(SubchunkWriteOrder::C);
-    let from = squares(alloc)?;
-    reshard_functional(alloc, &from, &to, object, &shape, &DataType::UInt8, &fill)
+    let codec = ShardingCodec::new(axes_of(alloc, &[4, 2])?, little, little, End);
+    Ok(codec.with_subchunk_write_order(SubchunkWriteOrder::C))
+}
+
+// Both codecs.
+#[derive(Drop)]
+struct Both {
+    squares: Plain,
+    halves: Plain,
+    sixteen: Sixteen,
+}
+
+fn both(alloc: Global) -> Result<Both, CodecError> {
+    let sixteen = sixteen_elements(alloc)?;
+    let squares = squares(alloc)?;
+    let halves = halves(alloc)?;
+    Ok(Both {
+        squares,
+        halves,
+        sixteen,
+    })
+}
+
+// Squares as halves, whose codec has one encoding of each array.
+fn halved(alloc: Global, both: &Both, object: &[u8]) -> Answer {
+    let Sixteen { shape, fill } = &both.sixteen;
+    let (from, to) = (&both.squares, &both.halves);
+    reshard_functional(alloc, from, to, object, shape, &DataType::UInt8, fill)
 }
 
 // Halves as squares.
-fn squared(alloc: Global, object: &[u8]) -> Answer {
-    let Sixteen { shape, fill } = sixteen_elements(alloc)?;
-    let little = BytesCodec::little();
-    let from = ShardingCodec::new(axes_of(alloc, &[4, 2])?, little, little, End);
-    let to = squares(alloc)?;
-    reshard(alloc, &from, &to, object, &shape, &DataType::UInt8, &fill)
+fn squared(alloc: Global, both: &Both, object: &[u8]) -> Answer {
+    let Sixteen { shape, fill } = &both.sixteen;
+    let (from, to) = (&both.halves, &both.squares);
+    reshard(alloc, from, to, object, shape, &DataType::UInt8, fill)
 }
 
 #[test]
 fn squares_become_halves_and_squares_again(rt: HostRuntime) -> Result<(), Fail> {
+    let both = both(rt.alloc())?;
     let squares = in_squares(rt.alloc())?;
     let halves = in_halves(rt.alloc())?;
-    let found = halved(rt.alloc(), &squares);
+    let found = halved(rt.alloc(), &both, &squares);
     same(&rt, said(&found), Ok(halves.as_slice()));
-    let found = squared(rt.alloc(), &halves);
+    let found = squared(rt.alloc(), &both, &halves);
     same(&rt, said(&found), Ok(squares.as_slice()));
     Ok(())
 }
 
 // The elements of halves that were squares.
-fn decoded_halves(alloc: Global, object: &[u8]) -> Answer {
-    let Sixteen { shape, fill } = sixteen_elements(alloc)?;
-    let (bytes, little) = (&DataType::UInt8, BytesCodec::little());
-    let from = squares(alloc)?;
-    let to = ShardingCodec::new(axes_of(alloc, &[4, 2])?, little, little, End);
-    let halves = reshard(alloc, &from, &to, object, &shape, bytes, &fill)?;
-    let array = decode_after_reshard(alloc, &from, &to, object, &halves, &shape, bytes, &fill);
+fn decoded_halves(alloc: Global, both: &Both, object: &[u8]) -> Answer {
+    let Sixteen { shape, fill } = &both.sixteen;
+    let (from, to, bytes) = (&both.squares, &both.halves, &DataType::UInt8);
+    let halves = reshard(alloc, from, to, object, shape, bytes, fill)?;
+    let array = decode_after_reshard(alloc, from, to, object, &halves, shape, bytes, fill);
     elements_of(alloc, array)
 }
 
 #[test]
 fn what_is_resharded_decodes_to_the_same(rt: HostRuntime) -> Result<(), Fail> {
+    let both = both(rt.alloc())?;
     let squares = in_squares(rt.alloc())?;
-    let found = decoded_halves(rt.alloc(), &squares);
+    let found = decoded_halves(rt.alloc(), &both, &squares);
     let want = [0, 1, 2, 3, 4, 5, 6, 7, 8, 9, 10, 11, 12, 13, 14, 15];
     same(&rt, said(&found), Ok(want.as_slice()));
     Ok(())

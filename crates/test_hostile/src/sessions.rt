@@ -70,13 +70,7 @@ fn they_are_shared_or_given_back(rt: HostRuntime) -> Result<(), Fail> {
 
 fn read<N: Indexer>(alloc: Global, case: Case, requested: &N) -> Answer {
     let Case { object, shards } = case;
-    match shards.open(alloc, object) {
-        Ok(mut session) => elements_of(
-            alloc,
-            session.partial_decode(alloc, requested, &CodecOptions::default()),
-        ),
-        Err((_, error)) => Err(error),
-    }
+    shards.read_opened(alloc, object, requested)
 }
 
 fn read_range(alloc: Global, hostile: &HostileObject, range: &Range<u64>) -> Answer {
@@ -119,6 +113,17 @@ fn sessions_read_them(rt: HostRuntime) {
     }
 }
 
+fn read_by<R: Wait, N: Indexer>(rt: &R, alloc: Global, case: Case, requested: &N) -> Answer {
+    let Case { object, shards } = case;
+    match share(&shards, alloc, object) {
+        Ok(encoder) => elements_of(
+            alloc,
+            encoder.partial_decode(rt, alloc, requested, &CodecOptions::default()),
+        ),
+        Err((_, error)) => Err(error),
+    }
+}
+
 // The two elements of a subchunk that a shared session reads.
 fn read_shared<R: Wait>(
     rt: &R,
@@ -127,14 +132,7 @@ fn read_shared<R: Wait>(
     range: &Range<u64>,
 ) -> Answer {
     let requested = subset_of(alloc, range)?;
-    let Case { object, shards } = case_of(alloc, hostile)?;
-    match share(&shards, alloc, object) {
-        Ok(encoder) => elements_of(
-            alloc,
-            encoder.partial_decode(rt, alloc, &requested, &CodecOptions::default()),
-        ),
-        Err((_, error)) => Err(error),
-    }
+    read_by(rt, alloc, case_of(alloc, hostile)?, &requested)
 }
 
 #[test]

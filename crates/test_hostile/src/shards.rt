@@ -204,6 +204,22 @@ impl<I: ArrayToBytesCodecTraits + Drop> Shards<I> {
         )
     }
 
+    // The requested elements of an object that a session reads.
+    pub(crate) fn read_opened<N: Indexer>(
+        &self,
+        alloc: Global,
+        object: Vec<u8>,
+        requested: &N,
+    ) -> Answer {
+        match self.open(alloc, object) {
+            Ok(mut session) => elements_of(
+                alloc,
+                session.partial_decode(alloc, requested, &CodecOptions::default()),
+            ),
+            Err((_, error)) => Err(error),
+        }
+    }
+
     // The elements that a decoder of an object reads.
     pub(crate) fn read<N: Indexer>(&self, alloc: Global, object: &[u8], requested: &N) -> Answer {
         let mut decoder = self.decoder(alloc, object)?;
