@@ -87,8 +87,7 @@ fn in_halves(alloc: Global) -> Answer {
 // The codec of two halves of two columns each before their index.
 fn halves(alloc: Global) -> Result<Plain, CodecError> {
     let little = BytesCodec::little();
-    let codec = ShardingCodec::new(axes_of(alloc, &[4, 2])?, little, little, End);
-    Ok(codec.with_subchunk_write_order(SubchunkWriteOrder::C))
+    Ok(ShardingCodec::new(axes_of(alloc, &[4, 2])?, little, little, End))
 }
 
 // Both codecs.
@@ -99,7 +98,7 @@ struct Both {
     sixteen: Sixteen,
 }
 
-fn both(alloc: Global) -> Result<Both, CodecError> {
+fn codecs(alloc: Global) -> Result<Both, CodecError> {
     let sixteen = sixteen_elements(alloc)?;
     let squares = squares(alloc)?;
     let halves = halves(alloc)?;
@@ -113,8 +112,16 @@ fn both(alloc: Global) -> Result<Both, CodecError> {
 // Squares as halves, whose codec has one encoding of each array.
 fn halved(alloc: Global, both: &Both, object: &[u8]) -> Answer {
     let Sixteen { shape, fill } = &both.sixteen;
-    let (from, to) = (&both.squares, &both.halves);
-    reshard_functional(alloc, from, to, object, shape, &DataType::UInt8, fill)
+    let to = halves(alloc)?.with_subchunk_write_order(SubchunkWriteOrder::C);
+    reshard_functional(
+        alloc,
+        &both.squares,
+        &to,
+        object,
+        shape,
+        &DataType::UInt8,
+        fill,
+    )
 }
 
 // Halves as squares.
@@ -126,7 +133,7 @@ fn squared(alloc: Global, both: &Both, object: &[u8]) -> Answer {
 
 #[test]
 fn squares_become_halves_and_squares_again(rt: HostRuntime) -> Result<(), Fail> {
-    let both = both(rt.alloc())?;
+    let both = codecs(rt.alloc())?;
     let squares = in_squares(rt.alloc())?;
     let halves = in_halves(rt.alloc())?;
     let found = halved(rt.alloc(), &both, &squares);
@@ -147,7 +154,7 @@ fn decoded_halves(alloc: Global, both: &Both, object: &[u8]) -> Answer {
 
 #[test]
 fn what_is_resharded_decodes_to_the_same(rt: HostRuntime) -> Result<(), Fail> {
-    let both = both(rt.alloc())?;
+    let both = codecs(rt.alloc())?;
     let squares = in_squares(rt.alloc())?;
     let found = decoded_halves(rt.alloc(), &both, &squares);
     let want = [0, 1, 2, 3, 4, 5, 6, 7, 8, 9, 10, 11, 12, 13, 14, 15];
