@@ -3,3 +3,4 @@ pub mod KeyEncodings
 pub mod FillValues
 pub mod ArrayCodecs
 pub mod CodecNames
+pub mod AcceptedMetadata

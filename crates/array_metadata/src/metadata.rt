@@ -2,11 +2,10 @@
 ghost use Rattle.std.specs.Prelude.{◌≡◌, ◌≤◌, Some, None, Ok, IfOk, OnOk, IsTrue, codes, length, option_and_then, option_map, unwrap_or, vec_len};
 ghost use Rattle.serde_json.specs.Data.{no_items};
 ghost use Rattle.serde_json.specs.Find.{as_str, as_array, get};
-ghost use Rattle.serde_json.specs.Read.{read as read_text};
 ghost use Rattle.serde_json.specs.View.{view, members_view};
 ghost use Rattle.codec_metadata.specs.Metadata.{name_in, first_refused, members_in};
-ghost use Rattle.array_metadata.specs.MetadataFields.{member_in, configured_in, whole_number_in, whole_numbers_in, is_understood};
-ghost use Rattle.array_metadata.specs.KeyEncodings.{encoding_name, default_separator, separator_text};
+ghost use Rattle.array_metadata.specs.AcceptedMetadata.{IsServedText, IsReadAs, FitsTogether};
+ghost use Rattle.array_metadata.specs.MetadataFields.{configured_in, whole_number_in, whole_numbers_in, is_understood};
 ghost use Rattle.array_metadata.specs.FillValues.{number_in, number_of};
 ghost use Rattle.array_metadata.specs.ArrayCodecs.{chunks_in, shards_in, subchunks_in};
 ghost use Rattle.sharding_configuration.specs.Configuration.{shape_in};
@@ -290,33 +289,9 @@ impl ArrayMetadata {
     /// type) and `codecs` (`sharding_indexed` alone, with `bytes`, `bytes` and `crc32c`, or `sharding_indexed` once more inside)
     /// in turn: each with its place, and a sentence that says what is not served; or as `OutOfMemory`.
     pub fn from_text(alloc: Global, text: &str) -> Result<Self, MetadataError>
-        ensures format_read { OnOk result (option_and_then whole_number_in (member_in (codes "zarr_format") text.now) ≡ Some 3) }
-        ensures node_type_read { OnOk result (option_and_then as_str (member_in (codes "node_type") text.now) ≡ Some (codes "array")) }
-        ensures understood { OnOk result (option_map (λ d. first_refused is_understood (members_in d)) (read_text text.now) ≡ Some None) }
-        ensures transformers { OnOk result (unwrap_or (option_map as_array (member_in (codes "storage_transformers") text.now)) (Some no_items) ≡ Some no_items) }
-        ensures grid_read { OnOk result (option_and_then name_in (member_in (codes "chunk_grid") text.now) ≡ Some (codes "regular")) }
-        ensures shape_read { IfOk result (λ metadata. option_and_then whole_numbers_in (member_in (codes "shape") text.now) ≡ Some metadata.shape.items) }
-        ensures data_type_read { IfOk result (λ metadata. option_and_then as_str (member_in (codes "data_type") text.now) ≡ type_name metadata.data_type) }
-        ensures shard_read { IfOk result (λ metadata.
-            option_and_then whole_numbers_in (option_and_then (configured_in (codes "chunk_shape")) (member_in (codes "chunk_grid") text.now)) ≡ Some metadata.shard) }
-        ensures encoding_read { IfOk result (λ metadata.
-            option_and_then name_in (member_in (codes "chunk_key_encoding") text.now) ≡ Some (encoding_name metadata.keys.encoding)) }
-        ensures separator_read { IfOk result (λ metadata.
-            unwrap_or (option_and_then as_str (option_and_then (configured_in (codes "separator")) (member_in (codes "chunk_key_encoding") text.now)))
-            (default_separator metadata.keys.encoding) ≡ separator_text metadata.keys.slashes) }
-        ensures fill_value_read { IfOk result (λ metadata.
-            option_and_then (number_in metadata.data_type) (member_in (codes "fill_value") text.now) ≡ Some (number_of metadata.data_type metadata.fill_value)) }
-        ensures subchunk_read { IfOk result (λ metadata.
-            option_and_then shape_in (option_and_then (configured_in (codes "chunk_shape")) (option_and_then chunks_in (member_in (codes "codecs") text.now))) ≡ Some metadata.subchunk) }
-        ensures codecs_read { IfOk result (λ metadata.
-            option_map (shards_in subchunks_in) (option_and_then chunks_in (member_in (codes "codecs") text.now)) ≡ Some (Ok metadata.codec)) }
-        ensures few { IfOk result (λ metadata. vec_len metadata.shape ≤ 64) }
-        ensures shard { IfOk result (λ metadata. length metadata.shard ≡ vec_len metadata.shape) }
-        ensures subchunk { IfOk result (λ metadata. length metadata.subchunk ≡ vec_len metadata.shape) }
-        ensures divides { IfOk result (λ metadata. Divides metadata.subchunk metadata.shard) }
-        ensures codec { IfOk result (λ metadata. metadata.codec.subchunk_shape ≡ metadata.subchunk) }
-        ensures elements { IfOk result (λ metadata. HasElements metadata.data_type) }
-        ensures fill_value { IfOk result (λ metadata. size_of metadata.data_type ≡ Fixed (length metadata.fill_value)) }
+        ensures served { OnOk result (IsServedText text.now) }
+        ensures read { IfOk result (IsReadAs text.now) }
+        ensures fits { IfOk result FitsTogether }
     {
         let value = value_in(alloc, text)?;
         let whole = Placed::whole(alloc, &value)?;

@@ -1,10 +1,10 @@
 // Writes into a session: all that is read and encoded first, and the one writing call of its handle.
-ghost use Rattle.std.specs.Prelude.{◌≡◌, ◌+◌, ◌<◌, ◌^◌, IsTrue, IfOk, IfErr, IfSome, IfNone, OnOk, OnErr, All, length, replicate};
+ghost use Rattle.std.specs.Prelude.{◌≡◌, ◌+◌, ◌<◌, ◌^◌, IsTrue, IfOk, IfErr, IfSome, IfNone, OnOk, OnErr, length, replicate};
 ghost use Rattle.parts_errors.specs.Order.{done, RefusedBy};
 ghost use Rattle.parts_row_major.specs.Numbering.{AllPositive, count_of};
-ghost use Rattle.parts_row_major.specs.Subsets.{IsSubset, LiesIn};
+ghost use Rattle.parts_row_major.specs.Subsets.{LiesIn};
 ghost use Rattle.parts_subsets.specs.Grid.{grid_of};
-ghost use Rattle.parts_arrays.specs.Types.{size_of, FitsKind};
+ghost use Rattle.parts_arrays.specs.Types.{size_of};
 ghost use Rattle.storage_handles.specs.Handles.{IsRead, IsCounted};
 ghost use Rattle.storage_handles.specs.Objects.{ObjectRefusals};
 ghost use Rattle.storage_handles.specs.Writes.{IsWriting, KeptUnlessFault};
@@ -21,9 +21,7 @@ ghost use Rattle.sharding_open.specs.PreparedWrites.{IsWrittenTo, WriteToRefusal
 
 use crate::session::OpenSession;
 use codec_traits::ArrayToBytesCodecTraits;
-use parts_arrays::ArrayBytes;
 use parts_errors::{CodecError, CodecOptions};
-use parts_subsets::ArraySubset;
 use sharding_engine::Sharding;
 use sharding_index::IndexCodec;
 use sharding_subchunks::Subchunks;
@@ -32,7 +30,7 @@ use std::alloc::Global;
 use storage_handles::{BytesPartialDecoderTraits, BytesPartialEncoderTraits};
 
 impl OpenSession {
-    /// All that a write of an update over the cells of a subset reads, grows and encodes before its one writing call. Refused, in
+    /// All that a write of an update reads, grows and encodes before its one writing call. Refused, in
     /// this order, as the lowest refused subchunk is that is read (`Damaged`, `TooLarge`), as the lowest refused new one is
     /// (`CannotEncode`, `TooLarge`), as `TooLarge` where the object would reach `usize::MAX` bytes, and as the index codec
     /// refuses the index; or as `Fault`, where the handle failed, or `OutOfMemory`.
@@ -45,18 +43,14 @@ impl OpenSession {
         sharding: &Sharding<'_, I, X>,
         alloc: Global,
         handle: &mut H,
-        subset: &ArraySubset,
-        update: &ArrayBytes,
+        update: &Update,
         options: &CodecOptions,
     ) -> Result<Prepared, CodecError>
         requires cached { let s = sharding.now in
             IsOpenSession (meaning_of I.meaning X.meaning s) (index_meaning X.meaning s.index_codec.codec.now) s.index_codec.location s.subchunk_shape.now H.state handle.old self.now }
-        requires well_formed { IsSubset subset.now.start subset.now.shape }
         requires positive { AllPositive self.now.shard.shape }
-        requires inside { LiesIn subset.now self.now.shard.shape }
-        requires kind { update.now.kind ≡ size_of self.now.shard.data_type }
-        requires fitting { All (FitsKind update.now.kind) update.now.elements }
-        requires counted { length update.now.elements ≡ count_of subset.now.shape }
+        requires inside { LiesIn update.now.subset.now self.now.shard.shape }
+        requires kind { update.now.elements.now.kind ≡ size_of self.now.shard.data_type }
         ensures read { IsRead (H.state handle.old) (H.state handle.new) }
         ensures cached { let s = sharding.now in
             IfOk result (λ p. IsCachedIndex s.index_codec.location self.now.plan.size (count_of (grid_of self.now.shard.shape s.subchunk_shape.now)) p.len p.numbers.items) }
@@ -64,16 +58,16 @@ impl OpenSession {
             → HoldsNumbers (numbers_by X.meaning sharding.now (shard_spec self.now.shard)) (object_after p.change (H.state handle.old).contents) p.len p.numbers.items) }
         ensures written { let s = sharding.now in let g = shard_spec self.now.shard in
             IfOk result (λ p. IsTrue (H.state handle.old).transparent
-            → IsWrittenTo (inner_of I.meaning s g) (index_of X.meaning s g) s.index_codec.location (subchunk_spec s.subchunk_shape.now g) g subset.now update.now.elements
+            → IsWrittenTo (inner_of I.meaning s g) (index_of X.meaning s g) s.index_codec.location (subchunk_spec s.subchunk_shape.now g) g update.now.subset.now update.now.elements.now.elements
             (H.state handle.old).contents (numbers_cached self.now.shard.cached self.now.blank.items) (object_after p.change (H.state handle.old).contents) p.numbers.items) }
         ensures cells { let g = shard_spec self.now.shard in let shard = meaning_of I.meaning X.meaning sharding.now g in
             IfOk result (λ p. IsTrue (H.state handle.old).transparent
-            → AreOverlaid g.shape subset.now update.now.elements (object_cells shard.cells g (H.state handle.old).contents)
+            → AreOverlaid g.shape update.now.subset.now update.now.elements.now.elements (object_cells shard.cells g (H.state handle.old).contents)
             (object_cells shard.cells g (object_after p.change (H.state handle.old).contents))) }
         ensures fault { IfErr result (IsCounted (H.state handle.old) (H.state handle.new)) }
         ensures refused { let s = sharding.now in let g = shard_spec self.now.shard in
             IfErr result (RefusedBy (ObjectRefusals (H.state handle.old) (H.state handle.new) (
-            WriteToRefusals (inner_of I.meaning s g) (index_of X.meaning s g) s.index_codec.location (subchunk_spec s.subchunk_shape.now g) g subset.now update.now.elements
+            WriteToRefusals (inner_of I.meaning s g) (index_of X.meaning s g) s.index_codec.location (subchunk_spec s.subchunk_shape.now g) g update.now.subset.now update.now.elements.now.elements
             (H.state handle.old).contents (numbers_cached self.now.shard.cached self.now.blank.items)))) }
     {
         let shard = &self.shard;
@@ -96,11 +90,7 @@ impl OpenSession {
         };
         let (len, numbers) = self.cached_index();
         let cached = CachedIndex { len, numbers };
-        let given = Update {
-            subset,
-            elements: update,
-        };
-        let prepared = writing.prepare(alloc, handle, &cached, &given)?;
+        let prepared = writing.prepare(alloc, handle, &cached, update)?;
         Ok(prepared)
     }
 

@@ -16,9 +16,10 @@ use zarrs_sharding::{ShardingCodec, ShardingIndexLocation, read_after_write};
 
 type Codec = ShardingCodec<BytesCodec, BytesCodec>;
 
-// What a codec is asked to serve.
+// A codec, and what it is asked to serve.
 #[derive(Drop)]
-struct ArraySpec {
+struct Coded {
+    codec: Codec,
     shape: ChunkShape,
     data_type: DataType,
     fill: FillValue,
@@ -27,24 +28,23 @@ struct ArraySpec {
 // What a decoder that is opened anew reads of an object into which an update was written, and which had other bytes before.
 fn read_written(
     alloc: Global,
-    codec: &Codec,
-    spec: &ArraySpec,
+    coded: &Coded,
     before: &[u8],
     after: MemoryHandle,
     subset: &ArraySubset,
     update: &ArrayBytes,
     all: &ArraySubset,
 ) -> Result<ArrayBytes<'static>, CodecError>
-    requires { let c = ⟦<Codec as ArrayToBytesCodecTraits>⟧ in let g = array_spec spec.now.shape spec.now.data_type spec.now.fill in
-        AreOverlaid g.shape subset.now update.now.elements (object_cells (c.meaning codec.now g).cells g (Some before.now)) (object_cells (c.meaning codec.now g).cells g after) }
+    requires { let c = ⟦<Codec as ArrayToBytesCodecTraits>⟧ in let g = array_spec coded.now.shape coded.now.data_type coded.now.fill in
+        AreOverlaid g.shape subset.now update.now.elements (object_cells (c.meaning coded.now.codec g).cells g (Some before.now)) (object_cells (c.meaning coded.now.codec g).cells g after) }
 {
     let options = CodecOptions::default();
-    let opened = codec.partial_decoder(
+    let opened = coded.codec.partial_decoder(
         alloc,
         after,
-        &spec.shape,
-        &spec.data_type,
-        &spec.fill,
+        &coded.shape,
+        &coded.data_type,
+        &coded.fill,
         &options,
     );
     match opened {
@@ -64,8 +64,7 @@ fn read_written(
 // What is read of an object after a write into it.
 fn written_and_read(
     alloc: Global,
-    codec: &Codec,
-    spec: &ArraySpec,
+    coded: &Coded,
     before: &[u8],
     subset: &ArraySubset,
     update: &ArrayBytes,
@@ -73,12 +72,12 @@ fn written_and_read(
 ) -> Result<ArrayBytes<'static>, CodecError> {
     let handle = MemoryHandle::new(Some(before.to_vec(alloc)?));
     let options = CodecOptions::default();
-    let opened = codec.open_state(
+    let opened = coded.codec.open_state(
         alloc,
         handle,
-        &spec.shape,
-        &spec.data_type,
-        &spec.fill,
+        &coded.shape,
+        &coded.data_type,
+        &coded.fill,
         &options,
     );
     match opened {
@@ -86,14 +85,15 @@ fn written_and_read(
             let written = session.partial_encode(alloc, subset, update, &options);
             let after = session.close();
             written?;
-            read_written(alloc, codec, spec, before, after, subset, update, all)
+            read_written(alloc, coded, before, after, subset, update, all)
         }
         Err((_, error)) => Err(error),
     }
 }
 
-fn four_cells(alloc: Global) -> Result<ArraySpec, CodecError> {
-    Ok(ArraySpec {
+fn four_cells(alloc: Global) -> Result<Coded, CodecError> {
+    Ok(Coded {
+        codec: codec(alloc)?,
         shape: shape_of(alloc, &[4])?,
         data_type: DataType::UInt8,
         fill: FillValue::from_number(alloc, 0u8)?,
@@ -109,29 +109,27 @@ fn codec(alloc: Global) -> Result<Codec, CodecError> {
 // The cells of an object after an update was written over the first.
 fn updated(
     alloc: Global,
-    codec: &Codec,
-    spec: &ArraySpec,
+    coded: &Coded,
     before: &[u8],
     update: &ArrayBytes,
 ) -> Result<Vec<u8>, CodecError> {
     let first = subset_of(alloc, 0..1)?;
     let all = subset_of(alloc, 0..4)?;
-    let cells = written_and_read(alloc, codec, spec, before, &first, update, &all);
+    let cells = written_and_read(alloc, coded, before, &first, update, &all);
     elements_of(alloc, cells)
 }
 
 // The cells 0, 7, 0, 0 after 5 was written over the first.
-fn five_and_seven(alloc: Global, codec: &Codec, spec: &ArraySpec) -> Result<Vec<u8>, CodecError> {
+fn five_and_seven(alloc: Global, coded: &Coded) -> Result<Vec<u8>, CodecError> {
     let before = seven(alloc)?;
     let update = ArrayBytes::from_numbers(alloc, &[5u8])?;
-    updated(alloc, codec, spec, &before, &update)
+    updated(alloc, coded, &before, &update)
 }
 
 #[test]
 fn a_read_after_a_write_has_its_cells(rt: HostRuntime) -> Result<(), Fail> {
-    let codec = codec(rt.alloc())?;
-    let spec = four_cells(rt.alloc())?;
-    let found = five_and_seven(rt.alloc(), &codec, &spec)?;
+    let coded = four_cells(rt.alloc())?;
+    let found = five_and_seven(rt.alloc(), &coded)?;
     same(&rt, found.as_slice(), [5u8, 7, 0, 0].as_slice());
     Ok(())
 }

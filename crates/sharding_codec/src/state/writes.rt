@@ -17,6 +17,7 @@ use parts_arrays::ArrayBytes;
 use parts_errors::{CodecError, CodecOptions};
 use parts_subsets::Indexer;
 use sharding_gather::check_update;
+use sharding_write::Update;
 use std::alloc::Global;
 use storage_handles::BytesPartialEncoderTraits;
 
@@ -67,12 +68,15 @@ impl<
         }
         let shard = &self.opened.shard;
         let subset = check_update(indexer, &shard.shape, &shard.data_type, bytes)?;
+        let update = Update {
+            subset,
+            elements: bytes,
+        };
         let prepared = self.opened.prepare_write(
             &borrowed!(self.codec),
             alloc,
             &mut self.handle,
-            subset,
-            bytes,
+            &update,
             options,
         )?;
         if let Err(error) = self.opened.write(alloc, &mut self.handle, prepared) {

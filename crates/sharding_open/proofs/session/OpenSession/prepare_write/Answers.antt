@@ -42,7 +42,7 @@ returns-clause-cells g c = λ t.
     let p = c.in_ok-prepared.prepared in
     let made = c.in_ok-prepared.ensures in
     let law = g.met.I.ArrayToBytesCodecTraits.lawful s.inner.now (subchunk_spec sub spec) in
-    cells_after inner index sub s.index_codec.location s.order spec c.args.subset.now c.args.update.now.elements old (object_after p.change old)
+    cells_after inner index sub s.index_codec.location s.order spec c.args.update.now.subset.now c.args.update.now.elements.now.elements old (object_after p.change old)
     (cached_len opened.shard.cached) p.len (numbers_cached opened.shard.cached opened.blank.items) p.numbers.items serves.divides c.requires.inside
     (λ e bytes array written. law.written_cells e bytes serves.inner_served array written)
     cached.numbers.counted (cached.cached t) (rw (cached.plan.size, cached.grid) at (made.held.told t)) (rw (cached.plan.size, cached.grid, c.cached_index-len.ensures.numbers) at (made.written t))
