@@ -14,7 +14,13 @@ pub enum Form {
 #[derive(Debug, Clone, Copy, PartialEq, Eq)]
 pub enum Work<'a> {
     Info,
-    Check,
+    Check {
+        is_index_alone: bool,
+    },
+    Extract {
+        key: &'a str,
+        number: &'a str,
+    },
     Read {
         requested: Option<&'a str>,
         form: Form,
@@ -39,6 +45,13 @@ fn info_command<'a>(alloc: Global) -> Result<Command<'a>, AllocError> {
         .arg(path_argument(alloc))
 }
 
+fn index_flag<'a>(alloc: Global) -> Arg<'a> {
+    Arg::new(alloc, "index")
+        .long("index")
+        .action(ArgAction::SetTrue)
+        .help("Checks the indexes alone, and reads no subchunk")
+}
+
 fn check_command<'a>(alloc: Global) -> Result<Command<'a>, AllocError> {
     Command::new(alloc, "check")
         .about(
@@ -47,7 +60,29 @@ fn check_command<'a>(alloc: Global) -> Result<Command<'a>, AllocError> {
         .after_help(
             "Example: zarr_shard check weather/temperature\nA line has the shard's key, the number and name of the refusal, and where and why.",
         )
-        .arg(path_argument(alloc))
+        .arg(path_argument(alloc))?
+        .arg(index_flag(alloc))
+}
+
+fn key_argument<'a>(alloc: Global) -> Arg<'a> {
+    Arg::new(alloc, "KEY")
+        .required(true)
+        .help("The key of the shard, as c/0/3")
+}
+
+fn number_argument<'a>(alloc: Global) -> Arg<'a> {
+    Arg::new(alloc, "NUMBER").required(true).help(
+        "The row-major number of the subchunk in the shard, from 0 on",
+    )
+}
+
+fn extract_command<'a>(alloc: Global) -> Result<Command<'a>, AllocError> {
+    Command::new(alloc, "extract")
+        .about("Writes the bytes of a subchunk as they are stored, and nothing else")
+        .after_help("Example: zarr_shard extract weather/temperature c/0/3 12 | zstd -d")
+        .arg(path_argument(alloc))?
+        .arg(key_argument(alloc))?
+        .arg(number_argument(alloc))
 }
 
 // A subset may begin with a number from the end, as -1,0..2.
@@ -131,6 +166,7 @@ pub fn program<'a>(alloc: Global) -> Result<Command<'a>, AllocError> {
     let program = with(bare_program(alloc), info_command(alloc))?;
     let program = with(program, check_command(alloc))?;
     let program = with(program, read_command(alloc))?;
+    let program = with(program, extract_command(alloc))?;
     with(program, compact_command(alloc))
 }
 
@@ -148,7 +184,13 @@ fn form_of(matches: &ArgMatches<'_>) -> Form {
 /// What the command of a name does.
 pub fn work_of<'a>(name: &str, matches: &ArgMatches<'a>) -> Work<'a> {
     match name {
-        "check" => Work::Check,
+        "check" => Work::Check {
+            is_index_alone: matches.get_flag("index"),
+        },
+        "extract" => Work::Extract {
+            key: matches.get_str("KEY").unwrap_or(""),
+            number: matches.get_str("NUMBER").unwrap_or(""),
+        },
         "read" => Work::Read {
             requested: matches.get_str("BOX"),
             form: form_of(matches),

@@ -3,7 +3,8 @@ use crate::folder::{Counted, write_folder};
 use array_cli::Progress;
 use array_folder::ChunkFiles;
 use array_opening::{
-    Array, Decoder, Ending, Place, Refusal, Shard, ShardFile, Stop, read_through, written,
+    Array, Decoder, Ending, Place, Refusal, Shard, ShardFile, Stop, is_present, read_through,
+    written,
 };
 use codec_traits::ArrayToBytesCodecTraits;
 use parts_errors::CodecError;
@@ -24,6 +25,8 @@ pub struct Checked {
     pub subchunks: u64,
     /// How many shards there are in all.
     pub all: u64,
+    /// Whether subchunks are not looked into.
+    pub is_index_alone: bool,
 }
 
 // Where a check shows how far it is, and what is refused.
@@ -47,7 +50,7 @@ impl<W: Write, M: Write> Told<'_, '_, W, M> {
     }
 }
 
-// Reads a subchunk of a shard, and says whether it is present.
+// Reads a subchunk of a shard, or looks it up in the index alone, and says whether it is present.
 fn check_subchunk<
     R: Files + AllocGlobal,
     I: ArrayToBytesCodecTraits,
@@ -55,11 +58,13 @@ fn check_subchunk<
     H: BytesPartialDecoderTraits,
 >(
     array: &Array<'_, R, I, X>,
+    is_index_alone: bool,
     decoder: &mut ShardingPartialDecoder<'_, I, X, H>,
     number: u64,
 ) -> Result<bool, CodecError> {
     let alloc = array.alloc();
     match unravel_index(alloc, number, array.subchunks.as_slice())? {
+        Some(subchunk) if is_index_alone => is_present(decoder, &subchunk),
         Some(subchunk) => read_through(alloc, decoder, array.codec, array.metadata, &subchunk),
         None => Ok(false),
     }
@@ -121,7 +126,7 @@ fn check_each<
     let mut read = Read::nothing();
     for number in 0..count {
         told.progress.step(before.saturating_add(number), all);
-        match check_subchunk(array, decoder, number) {
+        match check_subchunk(array, checked.is_index_alone, decoder, number) {
             Ok(is_present) => read.present = read.present.saturating_add(is_present as u64),
             Err(CodecError::BadIndexEntry { number }) => read.add_bad(number),
             Err(error) if matches!(error, CodecError::Fault | CodecError::OutOfMemory) => {
@@ -249,6 +254,7 @@ fn check_all<
 >(
     array: &Array<'_, R, I, X>,
     files: &ChunkFiles,
+    is_index_alone: bool,
     told: &mut Told<'_, '_, W, M>,
 ) -> Result<Checked, Stop> {
     let mut checked = Checked {
@@ -256,6 +262,7 @@ fn check_all<
         refused: 0,
         subchunks: 0,
         all: files.chunks.len() as u64,
+        is_index_alone,
     };
     for file in files.chunks.iter() {
         let shard = Shard {
@@ -268,35 +275,67 @@ fn check_all<
     Ok(checked)
 }
 
+// Writes how many subchunks were not looked into, and for which codec.
+fn write_unread<W: Write>(out: &mut W, checked: &Checked, unread: Option<&str>) -> io::Result<()> {
+    let subchunks = Counted(checked.subchunks, "subchunk");
+    match unread {
+        Some(name) => writeln!(
+            out,
+            "{subchunks} not looked into: the codec {name} is not served"
+        ),
+        None => writeln!(out, "{subchunks} not looked into"),
+    }
+}
+
 // Writes what was checked.
 fn write_checked<W: Write>(out: &mut W, checked: &Checked) -> io::Result<()> {
     let shards = Counted(checked.shards, "shard");
     let subchunks = Counted(checked.subchunks, "subchunk");
     match checked.refused {
+        0 if checked.is_index_alone => writeln!(out, "{shards}: all indexes sound"),
         0 => writeln!(out, "{shards}, {subchunks}: all sound"),
         1 => writeln!(out, "{shards}: 1 is refused"),
         refused => writeln!(out, "{shards}: {refused} are refused"),
     }
 }
 
-/// Decodes each index and each subchunk of the shards that are there, and writes a line for each that is refused as it comes,
-/// what else stands in the folder, and what was checked.
+// How a check ends of which this came. What is asked is not done where there are subchunks that should have been looked into.
+fn ending_of(checked: &Checked, is_index_asked: bool) -> Ending {
+    if checked.refused > 0 {
+        Ending::Refused
+    } else if checked.is_index_alone && !is_index_asked && checked.subchunks > 0 {
+        Ending::Undone
+    } else {
+        Ending::Done
+    }
+}
+
+/// Decodes each index of the shards that are there, and each subchunk if its codec is served and the indexes are not all that is
+/// asked; writes a line for each that is refused as it comes, what else stands in the folder, how many subchunks were not looked
+/// into, and what was checked.
 pub fn check<
     R: Files + AllocGlobal + Clock,
     W: Write,
     M: Write,
     I: ArrayToBytesCodecTraits,
     X: ArrayToBytesCodecTraits,
->(array: &Array<'_, R, I, X>, out: &mut W, progress: &mut Progress<'_, M>) -> Result<Ending, Stop> {
+>(
+    array: &Array<'_, R, I, X>,
+    is_index_asked: bool,
+    out: &mut W,
+    progress: &mut Progress<'_, M>,
+) -> Result<Ending, Stop> {
     let files = array.files()?;
+    let unread = array.unread()?;
     let mut told = Told { out, progress };
-    let checked = check_all(array, &files, &mut told)?;
-    let ending = if checked.refused == 0 {
-        Ending::Done
-    } else {
-        Ending::Refused
-    };
+    let is_index_alone = is_index_asked || unread.is_some();
+    let checked = check_all(array, &files, is_index_alone, &mut told)?;
+    let ending = ending_of(&checked, is_index_asked);
     written(write_folder(array, told.out, &files), ending)?;
+    if is_index_alone && checked.subchunks > 0 {
+        let unread = unread.as_ref().map(String::as_str);
+        written(write_unread(told.out, &checked, unread), ending)?;
+    }
     written(write_checked(told.out, &checked), ending)?;
     Ok(ending)
 }

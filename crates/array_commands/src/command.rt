@@ -3,6 +3,7 @@ ghost use Rattle.std.specs.Prelude.{◌≤◌, IfOk};
 
 use crate::check::check;
 use crate::compact::compact;
+use crate::extract::extract;
 use crate::info::info;
 use crate::read::read_array;
 use array_cli::{Form, Progress, Work, program, work_of, write_json, write_rows};
@@ -49,6 +50,7 @@ fn run_read<
     out: &mut W,
     progress: &mut Progress<'_, M>,
 ) -> Result<Ending, Stop> {
+    array.test_read()?;
     let subset = subset_of(array.alloc(), requested, &array.metadata.shape)?.subset;
     let cells = read_array(array, &subset, progress)?;
     progress.clear();
@@ -73,7 +75,8 @@ fn run_work<
 ) -> Result<Ending, Stop> {
     match work {
         Work::Info => info(array, out, progress),
-        Work::Check => check(array, out, progress),
+        Work::Check { is_index_alone } => check(array, is_index_alone, out, progress),
+        Work::Extract { key, number } => extract(array, key, number, out),
         Work::Read { requested, form } => run_read(array, requested, form, out, progress),
         Work::Compact { is_dry } => compact(array, is_dry, out, progress),
     }

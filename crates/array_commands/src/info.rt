@@ -166,11 +166,12 @@ impl Sums {
     }
 }
 
-// Writes what the metadata says.
-fn write_metadata<W: Write>(out: &mut W, metadata: &ArrayMetadata) -> io::Result<()> {
-    write_numbers(out, "shape", &metadata.shape)?;
-    write_numbers(out, "chunks", metadata.shard.as_slice())?;
-    write_numbers(out, "subchunks", metadata.subchunk.as_slice())?;
+// Writes what the metadata says of elements.
+fn write_type<W: Write>(out: &mut W, metadata: &ArrayMetadata) -> io::Result<()> {
+    if let Some(unread) = &metadata.unread_type {
+        let (data_type, fill_value) = (&unread.data_type, &unread.fill_value);
+        return writeln!(out, "data type: {data_type}\nfill value: {fill_value}");
+    }
     writeln!(
         out,
         "data type: {}",
@@ -182,8 +183,27 @@ fn write_metadata<W: Write>(out: &mut W, metadata: &ArrayMetadata) -> io::Result
         &metadata.data_type,
         metadata.fill_value.as_ne_bytes(),
         &[],
-    )?;
+    )
+}
+
+// Writes what the metadata says.
+fn write_metadata<W: Write>(out: &mut W, metadata: &ArrayMetadata) -> io::Result<()> {
+    write_numbers(out, "shape", &metadata.shape)?;
+    write_numbers(out, "chunks", metadata.shard.as_slice())?;
+    write_numbers(out, "subchunks", metadata.subchunk.as_slice())?;
+    write_type(out, metadata)?;
     writeln!(out, "codecs: {}", metadata.codecs)
+}
+
+// Writes the codec for which no subchunk is looked into, if there is one.
+fn write_unread<W: Write>(out: &mut W, unread: Option<String>) -> io::Result<()> {
+    match unread {
+        Some(name) => writeln!(
+            out,
+            "no subchunk is looked into: the codec {name} is not served"
+        ),
+        None => Ok(()),
+    }
 }
 
 // Writes numbers, each with words behind it, and ends the line.
@@ -260,6 +280,7 @@ fn write_info<R: Files + AllocGlobal + Clock, I, X, W: Write>(
     sums: &Sums,
 ) -> io::Result<()> {
     write_metadata(out, array.metadata)?;
+    write_unread(out, array.unread()?)?;
     let possible = array.grid.count(array.alloc())?;
     writeln!(out, "shards: {} of {possible}", sums.shards)?;
     write_shards(out, files, shards)?;

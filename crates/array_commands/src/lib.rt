@@ -4,6 +4,7 @@
 mod check;
 mod command;
 mod compact;
+mod extract;
 mod folder;
 mod index_info;
 mod info;

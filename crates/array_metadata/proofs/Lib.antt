@@ -1,2 +1,4 @@
+pub mod Lengths
 pub mod Elements
+pub mod Types
 pub mod Lists

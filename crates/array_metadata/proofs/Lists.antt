@@ -8,7 +8,7 @@ use Rattle.codec_metadata.specs.Metadata.{first_refused, unless_refused}
 use Rattle.sharding_configuration.specs.Configuration.{Configuration, configuration_in, is_configuration_member, field, shape_in}
 use Rattle.array_metadata.specs.declared.codecs.NamedCodec.{NamedCodec}
 use Rattle.array_metadata.specs.MetadataFields.{configured_in}
-use Rattle.array_metadata.specs.ArrayCodecs.{sole_shards}
+use Rattle.array_metadata.specs.UnreadCodecs.{sole_shards}
 use Rattle.array_metadata.specs.CodecNames.{listed}
 
 -- a list of other than one codec names no shards alone

@@ -1,18 +1,20 @@
 -- The metadata of an array that is accepted, by its text.
-use Rattle.std.specs.Prelude.{◌≡◌, ◌≤◌, Some, None, Ok, codes, length, option_and_then, option_map, unwrap_or, vec_len}
+use Rattle.std.specs.Prelude.{◌≡◌, ◌≤◌, Some, None, Ok, codes, length, option_and_then, option_map, string_bytes, unwrap_or, vec_len}
 use Rattle.serde_json.specs.Data.{no_items}
 use Rattle.serde_json.specs.Find.{as_str, as_array}
 use Rattle.serde_json.specs.Read.{read}
 use Rattle.parts_errors.specs.Words.{Bytes}
 use Rattle.codec_metadata.specs.Metadata.{name_in, first_refused, members_in}
 use Rattle.parts_subsets.specs.Grid.{Divides}
-use Rattle.parts_arrays.specs.Types.{size_of, type_name, HasElements}
+use Rattle.parts_arrays.specs.Types.{size_of, HasElements}
 use Rattle.parts_arrays.specs.declared.data_type.DataTypeSize.TheVariants.{Fixed}
 use Rattle.sharding_configuration.specs.Configuration.{shape_in}
 use Rattle.array_metadata.specs.MetadataFields.{member_in, configured_in, whole_number_in, whole_numbers_in, is_understood}
 use Rattle.array_metadata.specs.KeyEncodings.{encoding_name, default_separator, separator_text}
 use Rattle.array_metadata.specs.FillValues.{number_in, number_of}
-use Rattle.array_metadata.specs.ArrayCodecs.{chunks_in, shards_in, subchunks_in}
+use Rattle.array_metadata.specs.ArrayCodecs.{shards_in, subchunks_in}
+use Rattle.array_metadata.specs.ElementTypes.{IsTypeIn}
+use Rattle.array_metadata.specs.UnreadCodecs.{chunks_in, unread_codec_in}
 use Rattle.array_metadata.specs.declared.metadata.ArrayMetadata.{ArrayMetadata}
 
 -- a text is the metadata of an array of Zarr V3 whose chunk grid is regular, and of which all is understood
@@ -26,7 +28,7 @@ pub record IsServedText (text : Bytes) : Type 0 where
 -- metadata says what its text says
 pub record IsReadAs (text : Bytes) (metadata : ArrayMetadata) : Type 0 where
   pub shape : option_and_then whole_numbers_in (member_in (codes "shape") text) ≡ Some metadata.shape.items
-  pub data_type : option_and_then as_str (member_in (codes "data_type") text) ≡ type_name metadata.data_type
+  pub data_type : IsTypeIn (option_map string_bytes metadata.unread) (option_and_then name_in (member_in (codes "data_type") text)) metadata.data_type
   pub shard : option_and_then whole_numbers_in (option_and_then (configured_in (codes "chunk_shape")) (member_in (codes "chunk_grid") text))
       ≡ Some metadata.shard
   pub encoding : option_and_then name_in (member_in (codes "chunk_key_encoding") text) ≡ Some (encoding_name metadata.keys.encoding)
@@ -38,6 +40,7 @@ pub record IsReadAs (text : Bytes) (metadata : ArrayMetadata) : Type 0 where
       (option_and_then chunks_in (member_in (codes "codecs") text))) ≡ Some metadata.subchunk
   pub codecs : option_map (shards_in subchunks_in) (option_and_then chunks_in (member_in (codes "codecs") text))
       ≡ Some (Ok metadata.codec)
+  pub unread : option_map string_bytes metadata.unread ≡ unread_codec_in (option_and_then chunks_in (member_in (codes "codecs") text))
 
 -- the parts of metadata fit together: as many axes everywhere, subchunks that divide shards evenly, a fill value of the type's size
 pub record FitsTogether (metadata : ArrayMetadata) : Type 0 where

@@ -1,9 +1,9 @@
 -- The codecs that the metadata of an array names.
-use Rattle.std.specs.Prelude.{Option, Ok, Err, Some, None, if◌then◌else◌, codes, bytes_eq, option_map, option_and_then, unwrap_or, false}
+use Rattle.std.specs.Prelude.{Bool, true, false, Option, Ok, Err, Some, None, codes, bytes_eq}
+use Rattle.parts_errors.specs.Words.{Bytes}
 use Rattle.serde_json.specs.Data.{Data, Items, no_items, item}
-use Rattle.serde_json.specs.Find.{as_array}
-use Rattle.codec_metadata.specs.CreateErrors.{Reading, and_then, unsupported_chain}
-use Rattle.codec_metadata.specs.Metadata.{name_in, codec_of}
+use Rattle.codec_metadata.specs.CreateErrors.{Reading, and_then, unsupported_chain, bad_field}
+use Rattle.codec_metadata.specs.Metadata.{codec_of}
 use Rattle.codec_metadata.specs.BytesMetadata.{bytes_configured}
 use Rattle.codec_bytes.specs.declared.bytes_codec.Endianness.{Endianness}
 use Rattle.codec_chains.specs.declared.bytes_chain.BytesChain.{BytesChain}
@@ -12,14 +12,20 @@ use Rattle.codec_chains.specs.declared.either_codec.EitherCodec.{EitherCodec}
 use Rattle.codec_chains.specs.declared.either_codec.EitherCodec.TheVariants.{First, Second}
 use Rattle.sharding_codec.specs.declared.codec.ShardingCodec.{ShardingCodec}
 use Rattle.sharding_codec.specs.ShardMetadata.{shard_configured}
+use Rattle.array_metadata.specs.declared.opaque_codec.OpaqueCodec.{OpaqueCodec}
+use Rattle.array_metadata.specs.UnreadCodecs.{sole_shards, innermost, unserved_in, have_names}
 
 -- `bytes` by its byte order, or `bytes` and `crc32c` behind it
 abbrev pub Elements : Type 0
 Elements = EitherCodec (Option Endianness) (BytesChain (Option Endianness) Crc32cCodec)
 
 -- a codec of elements, or of shards once more
+abbrev pub Served : Type 0
+Served = EitherCodec Elements (ShardingCodec Elements Elements)
+
+-- a codec that is looked into, or one that is not
 abbrev pub Subchunks : Type 0
-Subchunks = EitherCodec Elements (ShardingCodec Elements Elements)
+Subchunks = EitherCodec Served OpaqueCodec
 
 -- the codec of the name `bytes`
 abbrev pub bytes_in : Data → Reading (Option Endianness)
@@ -41,19 +47,20 @@ elements_in list = Err unsupported_chain
 abbrev pub shards_in : {I : Type 0} → (Items → Reading I) → Data → Reading (ShardingCodec I Elements)
 shards_in inner_in = codec_of (bytes_eq (codes "sharding_indexed")) (λ name. shard_configured inner_in elements_in)
 
--- the metadata of the only codec of a list, where its name is `sharding_indexed`
-abbrev pub sole_shards : Items → Option Data
-sole_shards (item d no_items) = if unwrap_or (option_map (bytes_eq (codes "sharding_indexed")) (name_in d)) false then Some d else None
-sole_shards list = None
-
--- the codec of subchunks that a list names: of shards where it is such a list, else of elements
-abbrev pub shards_or : Option Data → Reading Elements → Reading Subchunks
+-- the codec that is looked into of subchunks that a list names: of shards where it is such a list, else of elements
+abbrev pub shards_or : Option Data → Reading Elements → Reading Served
 shards_or (Some d) elements = and_then (shards_in elements_in d) (λ shards. Ok (Second shards))
 shards_or None elements = and_then elements (λ codec. Ok (First codec))
 
-abbrev pub subchunks_in : Items → Reading Subchunks
-subchunks_in list = shards_or (sole_shards list) (elements_in list)
+abbrev pub served_in : Items → Reading Served
+served_in list = shards_or (sole_shards list) (elements_in list)
 
--- the metadata of the codec of chunks, where a list has that of shards alone
-abbrev pub chunks_in : Data → Option Data
-chunks_in d = option_and_then sole_shards (as_array d)
+-- the codec of subchunks that a list names: where elements go through a codec that is not served, one that isn't looked into, if each
+-- of these codecs has a name
+abbrev pub served_or : Option Bytes → Bool → Reading Served → Reading Subchunks
+served_or None named served = and_then served (λ codec. Ok (First codec))
+served_or (Some name) true served = Ok (Second (record {}))
+served_or (Some name) false served = Err (bad_field (codes "codecs"))
+
+abbrev pub subchunks_in : Items → Reading Subchunks
+subchunks_in list = served_or (unserved_in (innermost list)) (have_names (innermost list)) (served_in list)

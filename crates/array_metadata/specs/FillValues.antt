@@ -1,5 +1,5 @@
 -- The fill value that the metadata gives: of `bool` true or false, of the other types a whole number.
-use Rattle.std.specs.Prelude.{ℤ, pos, Option, option_map, option_and_then}
+use Rattle.std.specs.Prelude.{ℤ, pos, Option, Some, option_map, option_and_then}
 use Rattle.std.specs.Int.{w8, w16, w32, w64, from_bool, from_le_bytes, cast_signed}
 use Rattle.parts_errors.specs.Words.{Bytes as Text}
 use Rattle.parts_arrays.specs.declared.data_type.DataType.{DataType}
@@ -22,7 +22,8 @@ number_of (Raw n) element = pos 0
 number_of Bytes element = pos 0
 number_of Optional element = pos 0
 
--- the whole number that a value says of an element: of `bool` 1 for true and 0 for false
+-- the whole number that a value says of an element: of `bool` 1 for true and 0 for false; of types that are not read nothing is said
 abbrev pub number_in : DataType → Data → Option ℤ
 number_in Bool d = option_map (λ b. pos (from_bool b)) (as_bool d)
+number_in (Raw n) d = Some (pos 0)
 number_in data_type d = option_and_then as_integer (as_number d)

@@ -1,6 +1,10 @@
 pub mod MetadataFields
 pub mod KeyEncodings
+pub mod ElementTypes
 pub mod FillValues
+pub mod OpaqueCodec
+pub mod OpaqueLaws
+pub mod UnreadCodecs
 pub mod ArrayCodecs
 pub mod CodecNames
 pub mod AcceptedMetadata

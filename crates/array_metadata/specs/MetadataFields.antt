@@ -1,8 +1,8 @@
 -- What stands in the text of an array's metadata.
-use Rattle.std.specs.Prelude.{ℕ, Bool, true, not, ◌||◌, List, [], ◌∷◌, codes, bytes_eq, Option, Some, option_map, option_and_then, unwrap_or}
+use Rattle.std.specs.Prelude.{ℕ, Bool, true, not, ◌||◌, ◌&&◌, is_some, List, [], ◌∷◌, codes, bytes_eq, Option, Some, option_map, option_and_then, unwrap_or}
 use Rattle.parts_errors.specs.Words.{Bytes}
 use Rattle.serde_json.specs.Data.{Data, Items, no_items, item}
-use Rattle.serde_json.specs.Find.{get, as_array, as_bool, as_number, as_u64}
+use Rattle.serde_json.specs.Find.{get, as_array, as_bool, as_null, as_number, as_u64}
 use Rattle.serde_json.specs.Read.{read}
 
 -- what stands under a key of the object that a text is
@@ -33,6 +33,10 @@ is_known key = bytes_eq key (codes "zarr_format") || bytes_eq key (codes "node_t
     || bytes_eq key (codes "fill_value") || bytes_eq key (codes "codecs") || bytes_eq key (codes "attributes")
     || bytes_eq key (codes "dimension_names") || bytes_eq key (codes "storage_transformers")
 
--- whether a member is known, or says that it need not be understood
+-- a member that some writers leave, with nothing in it
+abbrev pub is_left : Bytes → Data → Bool
+is_left key d = bytes_eq key (codes "consolidated_metadata") && is_some (as_null d)
+
+-- whether a member is known, or left with nothing in it, or says that it need not be understood
 abbrev pub is_understood : Bytes → Data → Bool
-is_understood key d = is_known key || not (unwrap_or (option_and_then as_bool (get (codes "must_understand") d)) true)
+is_understood key d = is_known key || is_left key d || not (unwrap_or (option_and_then as_bool (get (codes "must_understand") d)) true)

@@ -6,11 +6,14 @@ ghost use Rattle.serde_json.specs.View.{view, items_view};
 ghost use Rattle.sharding_configuration.specs.Configuration.{configuration_in, shape_in};
 ghost use Rattle.sharding_configuration.specs.Configurations.{configuration_of};
 ghost use Rattle.array_metadata.specs.MetadataFields.{configured_in};
-ghost use Rattle.array_metadata.specs.ArrayCodecs.{bytes_in, crc32c_in, elements_in, shards_in, subchunks_in, sole_shards, chunks_in};
+ghost use Rattle.array_metadata.specs.ArrayCodecs.{bytes_in, crc32c_in, elements_in, shards_in, served_in, subchunks_in};
+ghost use Rattle.array_metadata.specs.UnreadCodecs.{sole_shards, chunks_in};
 ghost use Rattle.array_metadata.specs.CodecNames.{codec_name, Names, IsNamed, listed};
 
 use crate::error::MetadataError;
 use crate::fields::Placed;
+use crate::opaque_codec::OpaqueCodec;
+use crate::unread::{first_unserved, innermost, test_names};
 use codec_bytes::BytesCodec;
 use codec_chains::{BytesChain, EitherCodec};
 use codec_crc32c::Crc32cCodec;
@@ -28,8 +31,11 @@ pub type ElementCodec = EitherCodec<BytesCodec, BytesChain<BytesCodec, Crc32cCod
 /// The codec of a shard's index.
 pub type IndexCodec = ElementCodec;
 
-/// The codec of a shard's subchunks: of elements, or of shards once more.
-pub type InnerCodec = EitherCodec<ElementCodec, ShardingCodec<ElementCodec, IndexCodec>>;
+/// The codec of subchunks that are looked into: of elements, or of shards once more.
+pub type ServedCodec = EitherCodec<ElementCodec, ShardingCodec<ElementCodec, IndexCodec>>;
+
+/// The codec of a shard's subchunks, which are looked into or not.
+pub type InnerCodec = EitherCodec<ServedCodec, OpaqueCodec>;
 
 /// The codec of an array whose chunks are shards.
 pub type ArrayCodec = ShardingCodec<InnerCodec, IndexCodec>;
@@ -79,7 +85,7 @@ struct ShardParts {
 }
 
 // Why a codec of another name is refused.
-fn unserved(name: &str) -> &'static str {
+pub fn unserved(name: &str) -> &'static str {
     match name {
         "zstd" | "gzip" | "blosc" | "zlib" | "lz4" | "bz2" | "lzma" => {
             "this program reads no compressed chunks"
@@ -200,7 +206,8 @@ fn bytes_codec(
         Ok(codec) => codec,
         Err(error) => return Err(metadata.refused_by(alloc, error)),
     };
-    if codec.endianness().is_none() && data_type.size() != DataTypeSize::Fixed(1) {
+    let has_order = !matches!(data_type, DataType::Raw(_));
+    if codec.endianness().is_none() && has_order && data_type.size() != DataTypeSize::Fixed(1) {
         let error = PluginCreateError::missing_field(alloc, "endian");
         return Err(metadata.refused(
             alloc,
@@ -313,7 +320,26 @@ fn innermost_shards(
     Ok(ShardingCodec::new(chunk_shape, inner, index_codec, index_location))
 }
 
-// The codec of subchunks: of elements, or of shards.
+// The codec of subchunks that are looked into: of elements, or of shards.
+fn served_codec(
+    alloc: Global,
+    values: &[Value],
+    place: String,
+    data_type: DataType,
+    axes: usize,
+) -> Result<ServedCodec, MetadataError>
+    ensures read { IfOk result (λ codec. served_in (items_view values.now) ≡ Ok codec) }
+{
+    let list = CodecList::named(alloc, values, "codecs", place)?;
+    match list.sole_sharding() {
+        Some(metadata) => Ok(EitherCodec::Second(innermost_shards(
+            alloc, metadata, data_type, axes,
+        )?)),
+        None => Ok(EitherCodec::First(list.element_codec(alloc, data_type)?)),
+    }
+}
+
+// The codec of subchunks, which are not looked into where elements go through a codec that is not served.
 fn inner_codec(
     alloc: Global,
     values: &[Value],
@@ -323,12 +349,16 @@ fn inner_codec(
 ) -> Result<InnerCodec, MetadataError>
     ensures read { IfOk result (λ codec. subchunks_in (items_view values.now) ≡ Ok codec) }
 {
-    let list = CodecList::named(alloc, values, "codecs", place)?;
-    match list.sole_sharding() {
-        Some(metadata) => Ok(EitherCodec::Second(innermost_shards(
-            alloc, metadata, data_type, axes,
-        )?)),
-        None => Ok(EitherCodec::First(list.element_codec(alloc, data_type)?)),
+    let elements = innermost(values);
+    match first_unserved(elements) {
+        Some(_) => {
+            test_names(alloc, elements, place.as_str())?;
+            Ok(EitherCodec::Second(OpaqueCodec))
+        }
+        None => {
+            let served = served_codec(alloc, values, place, data_type, axes)?;
+            Ok(EitherCodec::First(served))
+        }
     }
 }
 

@@ -1,38 +1,17 @@
-// The data type and the fill value.
+// The fill value.
 ghost use Rattle.std.specs.Prelude.{◌≡◌, ◌≤◌, ◌≤ℤ◌, ℤ, pos, Some, IfOk, IfSome, length, take, option_and_then};
 ghost use Rattle.std.specs.Int.{w64, to_le_bytes};
-ghost use Rattle.serde_json.specs.Find.{as_str, as_number, as_integer};
+ghost use Rattle.serde_json.specs.Find.{as_number, as_integer};
 ghost use Rattle.serde_json.specs.View.{view};
-ghost use Rattle.parts_arrays.specs.Types.{size_of, byte_size, type_name, HasElements};
+ghost use Rattle.parts_arrays.specs.Types.{size_of, byte_size};
 ghost use Rattle.parts_arrays.specs.declared.data_type.DataTypeSize.TheVariants.{Fixed};
 ghost use Rattle.array_metadata.specs.FillValues.{number_in, number_of};
 
 use crate::error::MetadataError;
 use crate::fields::Placed;
 use parts_arrays::{DataType, DataTypeSize, FillValue};
-use parts_escaped_text::escaped;
 use serde_json::Value;
 use std::alloc::Global;
-
-// The type of elements that a value names. Refused as `BadField`.
-pub fn data_type_in(alloc: Global, named: &Placed) -> Result<DataType, MetadataError>
-    ensures elements { IfOk result HasElements }
-    ensures named { IfOk result (λ data_type. as_str (view named.now.value.now) ≡ type_name data_type) }
-{
-    let Some(name) = named.value.as_str() else {
-        return Err(named.bad(alloc, "only data types that a string names are read"));
-    };
-    match DataType::from_name(name) {
-        Some(DataType::Bytes) | None => {
-            let name = escaped(alloc, name)?;
-            let sentence = format!(in alloc;
-                "elements of the data type {name} are not read, only bool, int8 to int64 and uint8 to uint64"
-            )?;
-            Err(named.bad(alloc, sentence.as_str()))
-        }
-        Some(data_type) => Ok(data_type),
-    }
-}
 
 // The number of a value that fits an unsigned element of which the largest is `most`.
 fn unsigned(value: &Value, most: u64) -> Option<u64>

@@ -1,5 +1,5 @@
 // An array's metadata.
-ghost use Rattle.std.specs.Prelude.{◌≡◌, ◌≤◌, Some, None, Ok, IfOk, OnOk, IsTrue, codes, length, option_and_then, option_map, unwrap_or, vec_len};
+ghost use Rattle.std.specs.Prelude.{◌≡◌, ◌≤◌, Some, None, Ok, IfOk, OnOk, IsTrue, codes, length, option_and_then, option_map, string_bytes, unwrap_or, vec_len};
 ghost use Rattle.serde_json.specs.Data.{no_items};
 ghost use Rattle.serde_json.specs.Find.{as_str, as_array, get};
 ghost use Rattle.serde_json.specs.View.{view, members_view};
@@ -7,27 +7,38 @@ ghost use Rattle.codec_metadata.specs.Metadata.{name_in, first_refused, members_
 ghost use Rattle.array_metadata.specs.AcceptedMetadata.{IsServedText, IsReadAs, FitsTogether};
 ghost use Rattle.array_metadata.specs.MetadataFields.{configured_in, whole_number_in, whole_numbers_in, is_understood};
 ghost use Rattle.array_metadata.specs.FillValues.{number_in, number_of};
-ghost use Rattle.array_metadata.specs.ArrayCodecs.{chunks_in, shards_in, subchunks_in};
+ghost use Rattle.array_metadata.specs.ArrayCodecs.{shards_in, subchunks_in};
+ghost use Rattle.array_metadata.specs.UnreadCodecs.{chunks_in, unread_codec_in};
+ghost use Rattle.array_metadata.specs.ElementTypes.{IsTypeIn};
 ghost use Rattle.sharding_configuration.specs.Configuration.{shape_in};
 ghost use Rattle.parts_subsets.specs.Grid.{Divides};
-ghost use Rattle.parts_arrays.specs.Types.{size_of, type_name, HasElements};
+ghost use Rattle.parts_arrays.specs.Types.{size_of, HasElements};
 ghost use Rattle.parts_arrays.specs.declared.data_type.DataTypeSize.TheVariants.{Fixed};
 
-use crate::codecs::{ArrayCodec, InnerCodec, array_codec};
+use crate::codecs::{ArrayCodec, InnerCodec, ServedCodec, array_codec, unserved};
+use crate::element_types::{data_type_in, unread_type};
 use crate::error::MetadataError;
 use crate::fields::Placed;
-use crate::fill::{data_type_in, fill_value_in};
+use crate::fill::fill_value_in;
 use crate::json::value_in;
 use crate::keys::{ChunkKeys, keys_in};
+use crate::unread::unread_codec;
 use codec_metadata::PluginCreateError;
 use parts_arrays::{DataType, FillValue};
-use parts_escaped_text::escaped;
+use parts_escaped_text::{escaped, escaped_whole};
 use parts_subsets::ChunkShape;
 use serde_json::{Map, Value};
 use std::alloc::Global;
 
 /// How many axes an array may have whose metadata is read. The codecs know no such bound.
 pub const MOST_AXES: usize = 64;
+
+/// The values of `data_type` and `fill_value` of an array whose elements are not read, as they stand in the text, for a terminal.
+#[derive(Debug, Drop)]
+pub struct UnreadType {
+    pub data_type: String,
+    pub fill_value: String,
+}
 
 /// The metadata of an array whose chunks are shards (Zarr V3 core, "Array metadata").
 #[derive(Drop)]
@@ -43,11 +54,16 @@ pub struct ArrayMetadata {
     pub data_type: DataType,
     pub fill_value: FillValue,
     pub codec: ArrayCodec,
-    /// The value of `codecs`, as it stands in the text.
+    /// The name of the first codec that elements go through and that is not served; then no subchunk is looked into.
+    pub unread: Option<String>,
+    /// Of elements that are not read, what stands in the text. Then `data_type` is as many bytes, and `fill_value` has zeros in the
+    /// place of its own.
+    pub unread_type: Option<UnreadType>,
+    /// The value of `codecs`, as it stands in the text, for a terminal.
     pub codecs: String,
 }
 
-// Whether a member of the metadata is known, or says that it need not be.
+// Whether a member of the metadata is known, or left with nothing in it, or says that it need not be understood.
 fn is_understood(key: &str, value: &Value) -> bool
     ensures { result ≡ is_understood key.now (view value.now) }
 {
@@ -55,6 +71,7 @@ fn is_understood(key: &str, value: &Value) -> bool
         "zarr_format" | "node_type" | "shape" | "data_type" | "chunk_grid" => true,
         "chunk_key_encoding" | "fill_value" | "codecs" | "attributes" => true,
         "dimension_names" | "storage_transformers" => true,
+        "consolidated_metadata" if value.is_null() => true,
         _ => value.get("must_understand").and_then(Value::as_bool) == Some(false),
     }
 }
@@ -153,10 +170,11 @@ fn axes_in(alloc: Global, shape: &Placed) -> Result<Vec<u64>, MetadataError>
     Ok(axes)
 }
 
-// The cells of an array. Refused for `shape`, `data_type` and `chunk_grid` in turn.
-fn cells_in(alloc: Global, whole: &Placed) -> Result<Cells, MetadataError>
+// The cells of an array, whose elements go through a codec that is not served where one is named. Refused for `shape`, `data_type` and
+// `chunk_grid` in turn.
+fn cells_in(alloc: Global, whole: &Placed, codec: &Option<String>) -> Result<Cells, MetadataError>
     ensures shape_read { IfOk result (λ cells. option_and_then whole_numbers_in (get (codes "shape") (view whole.now.value.now)) ≡ Some cells.shape.items) }
-    ensures data_type_read { IfOk result (λ cells. option_and_then as_str (get (codes "data_type") (view whole.now.value.now)) ≡ type_name cells.data_type) }
+    ensures data_type_read { IfOk result (λ cells. IsTypeIn (option_map string_bytes codec.now) (option_and_then name_in (get (codes "data_type") (view whole.now.value.now))) cells.data_type) }
     ensures shard_read { IfOk result (λ cells.
         option_and_then whole_numbers_in (option_and_then (configured_in (codes "chunk_shape")) (get (codes "chunk_grid") (view whole.now.value.now))) ≡ Some cells.shard) }
     ensures grid_read { OnOk result (option_and_then name_in (get (codes "chunk_grid") (view whole.now.value.now)) ≡ Some (codes "regular")) }
@@ -165,7 +183,7 @@ fn cells_in(alloc: Global, whole: &Placed) -> Result<Cells, MetadataError>
     ensures elements { IfOk result (λ cells. HasElements cells.data_type) }
 {
     let shape = axes_in(alloc, &whole.required(alloc, "shape")?)?;
-    let data_type = data_type_in(alloc, &whole.required(alloc, "data_type")?)?;
+    let data_type = data_type_in(alloc, &whole.required(alloc, "data_type")?, codec)?;
     let shard = shard_in(alloc, &whole.required(alloc, "chunk_grid")?, shape.len())?;
     Ok(Cells {
         shape,
@@ -181,7 +199,45 @@ fn fill_in(alloc: Global, whole: &Placed, data_type: DataType) -> Result<FillVal
         option_and_then (number_in data_type) (get (codes "fill_value") (view whole.now.value.now)) ≡ Some (number_of data_type fill_value)) }
 {
     let fill = whole.required(alloc, "fill_value")?;
+    if let DataType::Raw(size) = data_type {
+        return Ok(FillValue::new(Vec::from_elem(alloc, 0u8, size)?));
+    }
     fill_value_in(alloc, &fill, data_type)
+}
+
+// What stands under a key, for a terminal.
+fn shown(alloc: Global, whole: &Placed, key: &'static str) -> Result<String, MetadataError> {
+    let value = whole.required(alloc, key)?.value;
+    let text = match value.as_str() {
+        Some(text) if key == "data_type" => String::from_str(alloc, text)?,
+        _ => value.to_string(alloc)?,
+    };
+    Ok(escaped_whole(alloc, text.as_str())?)
+}
+
+// The data type and the fill value of an array, where elements of the type are not read.
+fn unread_type_in(
+    alloc: Global,
+    whole: &Placed,
+    data_type: DataType,
+) -> Result<Option<UnreadType>, MetadataError> {
+    if !matches!(data_type, DataType::Raw(_)) {
+        return Ok(None);
+    }
+    Ok(Some(UnreadType {
+        data_type: shown(alloc, whole, "data_type")?,
+        fill_value: shown(alloc, whole, "fill_value")?,
+    }))
+}
+
+// The name of the first codec that elements go through and that is not served.
+fn unread_in(alloc: Global, whole: &Placed) -> Result<Option<String>, MetadataError>
+    ensures { IfOk result (λ unread. option_map string_bytes unread ≡ unread_codec_in (option_and_then chunks_in (get (codes "codecs") (view whole.now.value.now)))) }
+{
+    match whole.member(alloc, "codecs")? {
+        Some(codecs) => Ok(unread_codec(alloc, &codecs)?),
+        None => Ok(None),
+    }
 }
 
 // Whether subchunks divide a shape with as many axes evenly.
@@ -231,11 +287,11 @@ fn test_subchunks(
     let place = "codecs[0].configuration.chunk_shape";
     test_division(alloc, place, shard, &codec.subchunk_shape)?;
     match &codec.inner {
-        InnerCodec::Second(inner) => {
+        InnerCodec::First(ServedCodec::Second(inner)) => {
             let place = "codecs[0].configuration.codecs[0].configuration.chunk_shape";
             test_division(alloc, place, &codec.subchunk_shape, &inner.subchunk_shape)
         }
-        InnerCodec::First(_) => Ok(()),
+        _ => Ok(()),
     }
 }
 
@@ -259,6 +315,8 @@ fn with_codecs(
         option_and_then shape_in (option_and_then (configured_in (codes "chunk_shape")) (option_and_then chunks_in (get (codes "codecs") (view whole.now.value.now)))) ≡ Some metadata.subchunk) }
     ensures codecs_read { IfOk result (λ metadata.
         option_map (shards_in subchunks_in) (option_and_then chunks_in (get (codes "codecs") (view whole.now.value.now))) ≡ Some (Ok metadata.codec)) }
+    ensures unread { IfOk result (λ metadata.
+        option_map string_bytes metadata.unread ≡ unread_codec_in (option_and_then chunks_in (get (codes "codecs") (view whole.now.value.now)))) }
 {
     let codecs = whole.required(alloc, "codecs")?;
     let Cells {
@@ -267,27 +325,49 @@ fn with_codecs(
         shard,
     } = cells;
     let codec = array_codec(alloc, &codecs, data_type, shape.len())?;
+    let unread = unread_codec(alloc, &codecs)?;
     test_subchunks(alloc, &shard, &codec)?;
     Ok(ArrayMetadata {
         subchunk: codec.subchunk_shape.try_clone(alloc)?,
-        codecs: codecs.value.to_string(alloc)?,
+        codecs: escaped_whole(alloc, codecs.value.to_string(alloc)?.as_str())?,
+        unread_type: unread_type_in(alloc, whole, data_type)?,
         shape,
         shard,
         keys,
         data_type,
         fill_value,
         codec,
+        unread,
     })
 }
 
 impl ArrayMetadata {
+    /// Tests that the elements are read. Refused, in this order, as `UnsupportedCodec` with the codec that they go through and that is
+    /// not served, and as `BadField` where their type is not read.
+    pub fn test_read(&self, alloc: Global) -> Result<(), MetadataError>
+        ensures codec { OnOk result (self.now.unread ≡ None) }
+        ensures data_type { OnOk result (self.now.unread_type ≡ None) }
+    {
+        if let Some(name) = &self.unread {
+            let error = PluginCreateError::unsupported_codec(alloc, name);
+            let place = "codecs[0].configuration.codecs";
+            return Err(MetadataError::refused(alloc, error, place, unserved(name)));
+        }
+        match &self.unread_type {
+            Some(unread) => Err(unread_type(alloc, &unread.data_type)?),
+            None => Ok(()),
+        }
+    }
+
     /// The metadata that a `zarr.json` holds (Zarr V3 core, "Array metadata"). Refused, in this order, where the text is no JSON,
     /// nests deeper than is read, has a number past the range of a
     /// float, is no object, of another `zarr_format` than 3, of another `node_type` than `array`, has an unknown member that must be
     /// understood, or `storage_transformers`; and then for `shape` (whole numbers), `data_type` (`bool`, `int8` to `int64`,
-    /// `uint8` to `uint64`), `chunk_grid` (`regular`), `chunk_key_encoding` (`default` or `v2`), `fill_value` (an element of the
-    /// type) and `codecs` (`sharding_indexed` alone, with `bytes`, `bytes` and `crc32c`, or `sharding_indexed` once more inside)
-    /// in turn: each with its place, and a sentence that says what is not served; or as `OutOfMemory`.
+    /// `uint8` to `uint64`, or a type whose elements have a known size), `chunk_grid` (`regular`), `chunk_key_encoding` (`default` or `v2`), `fill_value` (an element of the
+    /// type, or of one that is not read any value) and `codecs` (`sharding_indexed` alone, with `bytes`, `bytes` and `crc32c`,
+    /// `sharding_indexed` once more inside, or codecs of other names, which are not looked into) in turn: each with its place, and
+    /// a sentence that says what is not served; or as `OutOfMemory`. Where elements go through a codec of another name, their type
+    /// may have any name.
     pub fn from_text(alloc: Global, text: &str) -> Result<Self, MetadataError>
         ensures served { OnOk result (IsServedText text.now) }
         ensures read { IfOk result (IsReadAs text.now) }
@@ -296,7 +376,8 @@ impl ArrayMetadata {
         let value = value_in(alloc, text)?;
         let whole = Placed::whole(alloc, &value)?;
         test_members_of(alloc, &whole)?;
-        let cells = cells_in(alloc, &whole)?;
+        let unread = unread_in(alloc, &whole)?;
+        let cells = cells_in(alloc, &whole, &unread)?;
         let keys = keys_in(alloc, &whole.required(alloc, "chunk_key_encoding")?)?;
         let fill_value = fill_in(alloc, &whole, cells.data_type)?;
         with_codecs(alloc, &whole, cells, keys, fill_value)

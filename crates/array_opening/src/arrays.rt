@@ -151,6 +151,15 @@ fn decode_subchunk<I: ArrayToBytesCodecTraits, X>(
     }
 }
 
+/// Whether a subchunk of a shard that is open is present. Reads nothing.
+pub fn is_present<
+    I: ArrayToBytesCodecTraits,
+    X: ArrayToBytesCodecTraits,
+    H: BytesPartialDecoderTraits,
+>(decoder: &ShardingPartialDecoder<'_, I, X, H>, subchunk: &[u64]) -> Result<bool, CodecError> {
+    Ok(decoder.subchunk_byte_range(subchunk)?.is_some())
+}
+
 /// Reads the bytes of a subchunk of a shard that is open, decodes them, and lets the elements go. Says whether it is present.
 pub fn read_through<
     I: ArrayToBytesCodecTraits,
@@ -176,6 +185,24 @@ impl<'a, R: Files + AllocGlobal, I, X> Array<'a, R, I, X> {
     /// The allocator.
     pub fn alloc(&self) -> Global {
         self.rt.alloc()
+    }
+
+    /// The name, for a terminal, of the codec for which no subchunk is looked into; `None` where they are.
+    pub fn unread(&self) -> Result<Option<String>, AllocError> {
+        match &self.metadata.unread {
+            Some(name) => Ok(Some(escaped(self.alloc(), name)?)),
+            None => Ok(None),
+        }
+    }
+
+    /// Tests that the elements of the array are read.
+    pub fn test_read(&self) -> Result<(), Stop> {
+        let document = self.path_of("zarr.json")?;
+        named(
+            self.alloc(),
+            &document,
+            self.metadata.test_read(self.alloc()),
+        )
     }
 
     /// The files of the array's chunks.

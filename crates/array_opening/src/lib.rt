@@ -5,6 +5,8 @@ mod arrays;
 mod refusal;
 mod stop;
 
-pub use arrays::{Array, Decoder, Shard, ShardFile, decode_subset, metadata_of, read_through};
+pub use arrays::{
+    Array, Decoder, Shard, ShardFile, decode_subset, is_present, metadata_of, read_through,
+};
 pub use refusal::{Place, Refusal};
 pub use stop::{Ending, Stop, written};

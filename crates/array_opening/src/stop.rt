@@ -70,6 +70,15 @@ pub enum Stop {
     /// A shard that is refused.
     #[error("{0}")]
     Refused(Refusal),
+    /// A subchunk that is absent, which has no bytes.
+    #[error("{key}: subchunk {number} is absent: all its elements are the fill value")]
+    Absent { key: String, number: u64 },
+    /// A key that no shard has.
+    #[error("no shard of this array has the key {0}")]
+    NoShard(String),
+    /// What is no number of a subchunk.
+    #[error("{number} is no number of a subchunk, which are 0 to {last}")]
+    NoSubchunk { number: String, last: u64 },
     /// A subset that is refused.
     #[error("{0}")]
     Box(SubsetError),
@@ -104,13 +113,13 @@ impl Stop {
         }
     }
 
-    /// The status for the program to end with: 1 where a shard is refused, else 2.
+    /// The status for the program to end with: 1 where a shard is refused or a subchunk is absent, else 2.
     pub fn status(&self) -> u8
         ensures bound { result ≤ 2 }
         ensures status { result ≡ status_of self.now }
     {
         match self {
-            Stop::Refused(_) => 1,
+            Stop::Refused(_) | Stop::Absent { .. } => 1,
             _ => 2,
         }
     }

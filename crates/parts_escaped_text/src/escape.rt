@@ -75,6 +75,18 @@ fn escaped_front(alloc: Global, text: &str) -> Result<(String, bool), AllocError
     Ok((shown, false))
 }
 
+/// A text as `escaped` shows it, but whole, however long it is. Refused only as out of memory.
+pub fn escaped_whole(alloc: Global, text: &str) -> Result<String, AllocError>
+    ensures printed { IfOk result (λ shown. All IsPrinted (chars (string_bytes shown))) }
+    ensures same { All IsPrinted (chars text.now) → IfOk result (λ shown. string_bytes shown ≡ text.now) }
+{
+    let mut shown = String::new(alloc);
+    for c in text.chars() {
+        push_escaped(alloc, &mut shown, c)?;
+    }
+    Ok(shown)
+}
+
 /// A text of somebody else for a terminal: what would act there, as a newline, an escape sequence or a mark that turns the direction
 /// of a text, and what is not seen there, stands as an escape (`\n`, `\u{1b}`). Of a longer text the first 200 characters are shown,
 /// and how many it has. Refused only as out of memory.

@@ -4,4 +4,4 @@
 mod escape;
 mod printed;
 
-pub use escape::escaped;
+pub use escape::{escaped, escaped_whole};

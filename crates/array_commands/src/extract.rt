@@ -1,0 +1,97 @@
+// The bytes of a subchunk as they are stored.
+use array_folder::ChunkFiles;
+use array_opening::{Array, Decoder, Ending, Place, Shard, Stop, written};
+use codec_traits::ArrayToBytesCodecTraits;
+use parts_errors::CodecError;
+use parts_escaped_text::escaped;
+use parts_row_major::unravel_index;
+use std::borrow::CowSlice;
+use std::io::Write;
+use std::rt::Files;
+
+// The shard that has a key.
+fn shard_of<'s, R: Files + AllocGlobal, I, X>(
+    array: &Array<'_, R, I, X>,
+    files: &'s ChunkFiles,
+    key: &str,
+) -> Result<Shard<'s>, Stop> {
+    for file in files.chunks.iter() {
+        if file.key.as_str() == key {
+            return Ok(Shard {
+                key: &file.key,
+                coordinates: &file.coordinates,
+            });
+        }
+    }
+    Err(Stop::NoShard(escaped(array.alloc(), key)?))
+}
+
+// The number of a subchunk that a word is.
+fn number_of<R: Files + AllocGlobal, I, X>(
+    array: &Array<'_, R, I, X>,
+    word: &str,
+) -> Result<u64, Stop> {
+    let count = array.subchunks.num_elements().unwrap_or(u64::MAX);
+    match word.parse::<u64>() {
+        Ok(number) if number < count => Ok(number),
+        _ => Err(Stop::NoSubchunk {
+            number: escaped(array.alloc(), word)?,
+            last: count.saturating_sub(1),
+        }),
+    }
+}
+
+// The bytes of a subchunk of a shard that is open; `None` where it is absent.
+fn stored<R: Files + AllocGlobal, I: ArrayToBytesCodecTraits, X: ArrayToBytesCodecTraits>(
+    array: &Array<'_, R, I, X>,
+    decoder: &mut Decoder<'_, R, I, X>,
+    number: u64,
+) -> Result<Option<CowSlice<'static, u8>>, CodecError> {
+    let alloc = array.alloc();
+    match unravel_index(alloc, number, array.subchunks.as_slice())? {
+        Some(subchunk) => decoder.retrieve_subchunk_encoded(alloc, &subchunk),
+        None => Ok(None),
+    }
+}
+
+// The bytes of a subchunk of a shard that is open.
+fn extracted<R: Files + AllocGlobal, I: ArrayToBytesCodecTraits, X: ArrayToBytesCodecTraits>(
+    array: &Array<'_, R, I, X>,
+    shard: &Shard<'_>,
+    number: u64,
+    mut decoder: Decoder<'_, R, I, X>,
+) -> Result<CowSlice<'static, u8>, Stop> {
+    let bytes = stored(array, &mut decoder, number);
+    let file = decoder.close();
+    match bytes {
+        Ok(Some(bytes)) => Ok(bytes),
+        Ok(None) => Err(Stop::Absent {
+            key: String::from_str(array.alloc(), shard.key)?,
+            number,
+        }),
+        Err(error) => {
+            let refusal = array.refusal(shard, &file, error, Place::reading(&error))?;
+            Err(Stop::Refused(refusal))
+        }
+    }
+}
+
+/// Writes the bytes of a subchunk as they are stored, by the key of its shard and its row-major number in it. Refused where no
+/// shard has the key, where the word is no number of a subchunk, where the index is refused or its entry of the subchunk, and
+/// where the subchunk is absent.
+pub fn extract<
+    R: Files + AllocGlobal,
+    I: ArrayToBytesCodecTraits,
+    X: ArrayToBytesCodecTraits,
+    W: Write,
+>(array: &Array<'_, R, I, X>, key: &str, number: &str, out: &mut W) -> Result<Ending, Stop> {
+    let files = array.files()?;
+    let shard = shard_of(array, &files, key)?;
+    let number = number_of(array, number)?;
+    let bytes = match array.decoder(&shard, array.file(shard.key)?)? {
+        Ok(decoder) => extracted(array, &shard, number, decoder)?,
+        Err(refusal) => return Err(Stop::Refused(refusal)),
+    };
+    written(out.write_all(&bytes), Ending::Done)?;
+    Ok(Ending::Done)
+}

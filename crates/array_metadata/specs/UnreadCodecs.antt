@@ -1,0 +1,54 @@
+-- Codecs of elements that are not served, by their names.
+use Rattle.std.specs.Prelude.{Bool, true, false, not, ◌||◌, ◌&&◌, Option, Some, None, if◌then◌else◌, codes, bytes_eq, is_some, option_map, option_and_then, unwrap_or}
+use Rattle.parts_errors.specs.Words.{Bytes}
+use Rattle.serde_json.specs.Data.{Data, Items, no_items, item}
+use Rattle.serde_json.specs.Find.{as_array}
+use Rattle.codec_metadata.specs.Metadata.{name_in, is_metadata_member, first_refused, members_in}
+use Rattle.array_metadata.specs.MetadataFields.{configured_in}
+
+-- the metadata of the only codec of a list, where its name is `sharding_indexed`
+abbrev pub sole_shards : Items → Option Data
+sole_shards (item d no_items) = if unwrap_or (option_map (bytes_eq (codes "sharding_indexed")) (name_in d)) false then Some d else None
+sole_shards list = None
+
+-- the metadata of the codec of chunks, where a list has that of shards alone
+abbrev pub chunks_in : Data → Option Data
+chunks_in d = option_and_then sole_shards (as_array d)
+
+-- the codecs in the configuration of one
+abbrev pub configured_codecs : Data → Items
+configured_codecs d = unwrap_or (option_and_then as_array (configured_in (codes "codecs") d)) no_items
+
+-- the codecs that elements go through: where a list names shards alone, those in its configuration
+abbrev pub elements_or : Items → Option Data → Items
+elements_or list None = list
+elements_or list (Some d) = configured_codecs d
+
+abbrev pub innermost : Items → Items
+innermost list = elements_or list (sole_shards list)
+
+-- the codecs that elements are served with
+abbrev pub is_element_codec : Bytes → Bool
+is_element_codec name = bytes_eq name (codes "bytes") || bytes_eq name (codes "crc32c")
+
+-- the name of the first codec that elements are not served with
+abbrev pub unserved_or : Option Bytes → Option Bytes → Option Bytes
+unserved_or None later = later
+unserved_or (Some name) later = if is_element_codec name then later else Some name
+
+abbrev pub unserved_in : Items → Option Bytes
+unserved_in no_items = None
+unserved_in (item d later) = unserved_or (name_in d) (unserved_in later)
+
+-- metadata has a name, and no members but those that metadata may have
+abbrev pub has_name : Data → Bool
+has_name d = is_some (name_in d) && not (is_some (first_refused is_metadata_member (members_in d)))
+
+abbrev pub have_names : Items → Bool
+have_names no_items = true
+have_names (item d later) = has_name d && have_names later
+
+-- the name of the first codec that the elements of an array's subchunks go through and are not served with
+abbrev pub unread_codec_in : Option Data → Option Bytes
+unread_codec_in None = None
+unread_codec_in (Some shards) = unserved_in (innermost (configured_codecs shards))
