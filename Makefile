@@ -40,4 +40,4 @@ wrap:
 	@python3 tools/wrap.py
 
 refuse:
-	@tests/out_of_memory/refuse_each.sh
+	@crates/test_out_of_memory/refuse_each.sh

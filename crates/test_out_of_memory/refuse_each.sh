@@ -2,16 +2,11 @@
 # Refuses each allocation of this program in turn: each run must print what `stdout` holds. The allocation that is refused has the same
 # number in all runs; the program makes as many before its own as its input has bytes. With no input, none of its own may be refused.
 # Where the input begins with a 1, the calls are left out that take no memory: the program must make as many allocations as with them.
-# The program states nothing, so it is not proved: it is compiled in a copy of the repository, over the crates as they stand.
 number=740
-here=$(cd "$(dirname "$0")" && pwd) || exit 2
+cd "$(dirname "$0")" || exit 2
 folder=$(mktemp -d) || exit 2
 trap 'kill $tries 2>/dev/null; rm -r "$folder"' EXIT
 trap 'exit 143' TERM HUP INT
-(cd "$here/../.." && tar -c --exclude=out crates crates.txt HANDLES) | tar -x -C "$folder" || exit 2
-cp -r "$here" "$folder/crates/out_of_memory" || exit 2
-echo 'out_of_memory: parts_arrays zarr_parts zarr_codecs zarrs_sharding shard_sessions serde_json anyhow' >> "$folder/crates.txt"
-cd "$folder/crates/out_of_memory" || exit 2
 
 # The cases of a folder, in the background; what is said of them goes to a file beside it.
 try() {
