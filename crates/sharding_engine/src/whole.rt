@@ -19,7 +19,7 @@ use parts_subsets::ChunkShape;
 use sharding_gather::gathered;
 use sharding_index::{IndexCodec, Plan};
 use sharding_layout::elements_in_row;
-use sharding_subchunks::Subchunks;
+use sharding_subchunks::{HeldShard, Subchunks};
 use std::alloc::Global;
 
 /// The elements of a shard that is served: straight from the bytes where subchunks follow one another and their elements stand in
@@ -49,12 +49,19 @@ pub fn decode_shard<'a, I: ArrayToBytesCodecTraits, X: ArrayToBytesCodecTraits>(
         IfErr result (RefusedBy (DecodeRefusals inner index l bytes.now))) }
 {
     let index = index_codec.decode(alloc, bytes, &plan.index, subchunks.options)?;
-    let rows = subchunks.decode_rows(alloc, bytes, &index, shape, plan.cells)?;
+    let held = HeldShard {
+        subchunks,
+        bytes,
+        index: &index,
+        shape,
+        cells: plan.cells,
+    };
+    let rows = held.decode_rows(alloc)?;
     if let Some(straight) = rows {
         return Ok(straight);
     }
     if subchunks.has_room(plan.cells) && elements_in_row(shape, subchunks.shape).is_none() {
-        let whole = subchunks.decode_whole(alloc, bytes, &index, shape, plan.cells)?;
+        let whole = held.decode_whole(alloc)?;
         return Ok(whole);
     }
     let decoded = subchunks.decode(alloc, bytes, &index)?;
