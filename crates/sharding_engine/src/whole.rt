@@ -27,12 +27,12 @@ use std::alloc::Global;
 /// Refused, in this order, as `ShardTooShort`, as `Damaged` where the index does not decode, as the lowest refused subchunk is
 /// (`BadIndexEntry` with its number, `Damaged`, `TooLarge`), and as `TooLarge` where the elements' lengths pass `usize::MAX`; or as
 /// `OutOfMemory`.
-pub fn decode_shard<'a, I: ArrayToBytesCodecTraits, X: ArrayToBytesCodecTraits>(
+pub fn decode_shard<'a, 's, I: ArrayToBytesCodecTraits, X: ArrayToBytesCodecTraits>(
     alloc: Global,
-    subchunks: &Subchunks<'_, I>,
+    subchunks: &'s Subchunks<'s, I>,
     index_codec: &IndexCodec<'_, X>,
     bytes: &'a [u8],
-    shape: &ChunkShape,
+    shape: &'s ChunkShape,
     plan: &Plan,
 ) -> Result<ArrayBytes<'a>, CodecError>
     requires serves { let index = index_meaning X.meaning index_codec.now.codec.now (grid_of shape.now subchunks.now.shape.now) in

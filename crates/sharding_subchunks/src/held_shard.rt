@@ -11,9 +11,9 @@ use sharding_format::ShardIndex;
 /// A whole shard whose bytes are held in memory, by its index: its subchunks, its bytes, what its index says, its shape and how many
 /// cells the shape has.
 #[derive(Drop)]
-pub struct HeldShard<'a, I> {
+pub struct HeldShard<'a, 'b, I> {
     pub subchunks: &'a Subchunks<'a, I>,
-    pub bytes: &'a [u8],
+    pub bytes: &'b [u8],
     pub index: &'a ShardIndex,
     pub shape: &'a ChunkShape,
     pub cells: u64,

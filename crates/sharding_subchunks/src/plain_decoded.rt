@@ -144,7 +144,7 @@ fn rows(
     Ok(Some(bytes))
 }
 
-impl<I: ArrayToBytesCodecTraits> HeldShard<'_, I> {
+impl<I: ArrayToBytesCodecTraits> HeldShard<'_, '_, I> {
     /// The elements of a shard straight from its bytes: where the inner codec stores elements as they are in memory, subchunks follow
     /// one another in the shape, and each that is there has as many bytes as it must have. Nothing where that isn't so. Refused only as
     /// out of memory.

@@ -114,7 +114,7 @@ impl<I: ArrayToBytesCodecTraits> Subchunks<'_, I> {
     }
 }
 
-impl<I: ArrayToBytesCodecTraits> HeldShard<'_, I> {
+impl<I: ArrayToBytesCodecTraits> HeldShard<'_, '_, I> {
     /// Copies a whole shard into a target, where the inner codec stores each subchunk as so many bytes that are its elements, the
     /// target's subset has the shard's shape, and each subchunk is absent or has a slice of so many bytes. False where it is not
     /// so; the target is then as it was. Refused only as out of memory, which leaves the target.

@@ -38,7 +38,7 @@ fn any_absent(index: &ShardIndex) -> bool
     false
 }
 
-impl<I: ArrayToBytesCodecTraits> HeldShard<'_, I> {
+impl<I: ArrayToBytesCodecTraits> HeldShard<'_, '_, I> {
     // Decodes the subchunk that a slot names to the cells of its subset, in the shard's elements, which have these bytes; nothing where
     // it is absent.
     fn decode_to(

@@ -1,4 +1,4 @@
-use Rattle.std.proofs.Common.{◌∙◌, refl}
+use Rattle.std.proofs.Common.{◌∙◌, inl, inr, refl}
 use Rattle.sharding_index.specs.steps.Plans.{spec_of}
 use Rattle.parts_subsets.specs.Grid.{grid_of}
 use Rattle.storage_handles.specs.Objects.{interval_part}
@@ -7,7 +7,6 @@ use Rattle.sharding_format.specs.Serves.{subchunk_spec, layout}
 use Rattle.sharding_format.specs.ReadRefusals.{numbers_of}
 use Rattle.codec_traits.specs.RefusalLaws.{passed_on}
 use Rattle.sharding_format.proofs.ReadLemmas.{requested_cells, cells_refused}
-use Rattle.sharding_engine.proofs.IndexRefusals.{index_refused}
 use Rattle.sharding_engine.proofs.sharding.Sharding.read_planned.Goals as goal
 
 pub returns-in_err-index-clause-refused : goal.returns-in_err-index-clause-refused
@@ -15,7 +14,23 @@ returns-in_err-index-clause-refused g c =
     let plan = c.requires.plan in
     let e = c.in_err-index.field-0.0 in
     let refused = rw (plan.index.size, plan.grid) at c.in_err-index.ensures.refused in
-    passed_on _ e _ c.from_residual.ensures.1 (index_refused _ _ _ _ _ _ _ _ _ e refused)
+    passed_on _ e _ c.from_residual.ensures.1
+    (elim refused [
+      | inl memory ↦ inl memory
+      | inr refusals ↦ inr (λ t. elim (refusals t) [
+        | inl fault ↦ inl fault
+        | inr interval ↦ inr (elim interval [
+          | inl outside ↦ inl outside
+          | inr index ↦ inr (
+            index.0,
+            elim index.1 [
+              | inl short ↦ inl short
+              | inr long ↦ inr (long.0, elim long.1 [ inl damaged ↦ inl damaged | inr none ↦ absurd none.1 ])
+            ],
+          )
+        ])
+      ])
+    ])
 
 pub returns-in_err-array-clause-refused : goal.returns-in_err-array-clause-refused
 returns-in_err-array-clause-refused g c =

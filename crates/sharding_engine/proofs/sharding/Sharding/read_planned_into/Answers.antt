@@ -1,4 +1,4 @@
-use Rattle.std.proofs.Common.{◌∙◌, IsTrue, refl, rules}
+use Rattle.std.proofs.Common.{◌∙◌, IsTrue, inl, inr, refl, rules}
 use Rattle.std.proofs.lemmas.Result.{on_ok_weaker}
 use Rattle.parts_arrays.specs.Arrays.{element_of}
 use Rattle.parts_subsets.specs.Grid.{grid_of}
@@ -11,7 +11,6 @@ use Rattle.sharding_format.specs.ReadRefusals.{numbers_of}
 use Rattle.sharding_format.proofs.ReadLemmas.{requested_cells, cells_refused}
 use Rattle.sharding_gather.proofs.ReadGroupLemmas.{read_then}
 use Rattle.sharding_index.specs.steps.Plans.{spec_of}
-use Rattle.sharding_engine.proofs.IndexRefusals.{index_refused}
 use Rattle.sharding_engine.proofs.sharding.Sharding.read_planned_into.Goals as goal
 
 pub returns-in_err-put_plain_requested-clause-read : goal.returns-in_err-put_plain_requested-clause-read
@@ -35,7 +34,23 @@ returns-in_err-index-clause-refused g c =
     let plan = c.requires.plan in
     let e = c.in_err-index.field-0.0 in
     let refused = rw (plan.index.size, plan.grid) at c.in_err-index.ensures.refused in
-    passed_on _ e _ c.from_residual.ensures.1 (index_refused _ _ _ _ _ _ _ _ _ e refused)
+    passed_on _ e _ c.from_residual.ensures.1
+    (elim refused [
+      | inl memory ↦ inl memory
+      | inr refusals ↦ inr (λ t. elim (refusals t) [
+        | inl fault ↦ inl fault
+        | inr interval ↦ inr (elim interval [
+          | inl outside ↦ inl outside
+          | inr index ↦ inr (
+            index.0,
+            elim index.1 [
+              | inl short ↦ inl short
+              | inr long ↦ inr (long.0, elim long.1 [ inl damaged ↦ inl damaged | inr none ↦ absurd none.1 ])
+            ],
+          )
+        ])
+      ])
+    ])
 
 pub returns-then-branch-clause-cells : goal.returns-then-branch-clause-cells
 returns-then-branch-clause-cells g c = λ t.
