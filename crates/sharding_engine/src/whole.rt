@@ -50,10 +50,10 @@ pub fn decode_shard<'a, 's, I: ArrayToBytesCodecTraits, X: ArrayToBytesCodecTrai
 {
     let index = index_codec.decode(alloc, bytes, &plan.index, subchunks.options)?;
     let held = HeldShard {
-        subchunks,
+        subchunks: &*subchunks,
         bytes,
         index: &index,
-        shape,
+        shape: &*shape,
         cells: plan.cells,
     };
     let rows = held.decode_rows(alloc)?;
