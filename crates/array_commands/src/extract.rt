@@ -5,9 +5,12 @@ use codec_traits::ArrayToBytesCodecTraits;
 use parts_errors::CodecError;
 use parts_escaped_text::escaped;
 use parts_row_major::unravel_index;
+use sharding_codec::ShardingPartialDecoder;
+use std::alloc::Global;
 use std::borrow::CowSlice;
 use std::io::Write;
 use std::rt::Files;
+use storage_handles::BytesPartialDecoderTraits;
 
 // The shard that has a key.
 fn shard_of<'s, R: Files + AllocGlobal, I, X>(
@@ -41,15 +44,28 @@ fn number_of<R: Files + AllocGlobal, I, X>(
     }
 }
 
-// The bytes of a subchunk of a shard that is open; `None` where it is absent.
+// The bytes of the subchunk with these coordinates; `None` where it is absent.
+fn stored_at<I: ArrayToBytesCodecTraits, X: ArrayToBytesCodecTraits, H: BytesPartialDecoderTraits>(
+    alloc: Global,
+    decoder: &mut ShardingPartialDecoder<'_, I, X, H>,
+    subchunk: &[u64],
+) -> Result<Option<Vec<u8>>, CodecError> {
+    match decoder.retrieve_subchunk_encoded(alloc, subchunk)? {
+        Some(CowSlice::Owned(bytes)) => Ok(Some(bytes)),
+        Some(CowSlice::Borrowed(bytes)) => Ok(Some(Vec::from_slice(alloc, bytes)?)),
+        None => Ok(None),
+    }
+}
+
+// The bytes of the subchunk with this number; `None` where it is absent.
 fn stored<R: Files + AllocGlobal, I: ArrayToBytesCodecTraits, X: ArrayToBytesCodecTraits>(
     array: &Array<'_, R, I, X>,
     decoder: &mut Decoder<'_, R, I, X>,
     number: u64,
-) -> Result<Option<CowSlice<'static, u8>>, CodecError> {
+) -> Result<Option<Vec<u8>>, CodecError> {
     let alloc = array.alloc();
     match unravel_index(alloc, number, array.subchunks.as_slice())? {
-        Some(subchunk) => decoder.retrieve_subchunk_encoded(alloc, &subchunk),
+        Some(subchunk) => stored_at(alloc, decoder, &subchunk),
         None => Ok(None),
     }
 }
@@ -60,7 +76,7 @@ fn extracted<R: Files + AllocGlobal, I: ArrayToBytesCodecTraits, X: ArrayToBytes
     shard: &Shard<'_>,
     number: u64,
     mut decoder: Decoder<'_, R, I, X>,
-) -> Result<CowSlice<'static, u8>, Stop> {
+) -> Result<Vec<u8>, Stop> {
     let bytes = stored(array, &mut decoder, number);
     let file = decoder.close();
     match bytes {
