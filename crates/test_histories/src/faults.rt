@@ -14,7 +14,7 @@ use std::marker::Brand;
 use std::sync::Wait;
 use std::test::Fail;
 use zarr_codecs::{ArrayToBytesCodecTraits, FaultingHandle};
-use zarr_parts::{ArraySubset, CodecError, CodecOptions, DataType};
+use zarr_parts::{ArrayBytes, ArraySubset, CodecError, CodecOptions, DataType};
 
 // What a run answers to a write and to a read after it, by the numbers of their refusals, 0 where there is none; how it ends, and
 // by which refusal; and the first cell of the object that is left.
@@ -106,6 +106,27 @@ fn a_fault_is_no_event(rt: HostRuntime) -> Result<(), Fail> {
     Ok(())
 }
 
+// The cells of an object that is opened anew.
+fn cells_anew<I: ArrayToBytesCodecTraits, X: ArrayToBytesCodecTraits>(
+    alloc: Global,
+    shards: &Shards<I, X>,
+    handle: FaultingHandle,
+    all: &ArraySubset,
+) -> Result<ArrayBytes<'static>, CodecError> {
+    let options = CodecOptions::default();
+    match shards.codec.open_state(
+        alloc,
+        handle,
+        &shards.shape,
+        &DataType::UInt8,
+        &shards.fill,
+        &options,
+    ) {
+        Ok(mut session) => session.partial_decode(alloc, all, &options),
+        Err((_, error)) => Err(error),
+    }
+}
+
 // Whether an object is opened anew, with the cells that it had.
 fn has_cells<I: ArrayToBytesCodecTraits, X: ArrayToBytesCodecTraits>(
     alloc: Global,
@@ -113,22 +134,8 @@ fn has_cells<I: ArrayToBytesCodecTraits, X: ArrayToBytesCodecTraits>(
     handle: FaultingHandle,
 ) -> Result<bool, CodecError> {
     let all = ArraySubset::from_ranges(alloc, &[0..4])?;
-    let options = CodecOptions::default();
-    let opened = shards.codec.open_state(
-        alloc,
-        handle,
-        &shards.shape,
-        &DataType::UInt8,
-        &shards.fill,
-        &options,
-    );
-    match opened {
-        Ok(mut session) => {
-            let array = session.partial_decode(alloc, &all, &options)?;
-            Ok(array.fixed_bytes() == Some(&[0, 7, 0, 0]))
-        }
-        Err((_, error)) => Err(error),
-    }
+    let array = cells_anew(alloc, shards, handle, &all)?;
+    Ok(array.fixed_bytes() == Some(&[0, 7, 0, 0]))
 }
 
 // The same of the handle of a session that failed at a write; none where it did not fail.
