@@ -65,22 +65,6 @@ with_bits-shifted (suc n) y =
     let twice : y * 2 ^ suc n ≡ (y * 2) * 2 ^ n = ap (λ k. y * k) (pow-suc 2 n) ∙ grind arith in
     ap (λ x. with_bit (with_bits n x)) twice ∙ (ap with_bit (with_bits-shifted n (y * 2)) ∙ (with_bit-even (y * 2) (omega arith) ∙ omega arith))
 
--- eight bits more, by what the lowest eight take with them
-pub with_byte-table : (register byte : ℕ) → byte < 256
-    → with_byte register byte ≡ bit_xor (with_bits 8 (bit_xor register byte % 256)) (register / 256)
-with_byte-table register byte small =
-    let x = bit_xor register byte in
-    let low = x % 256 in
-    let rest = x / 256 in
-    let high : rest ≡ register / 256 = xor_shr register byte 8 ∙ (ap (bit_xor (register / 2 ^ 8)) (omega arith) ∙ xor_zero_r (register / 2 ^ 8)) in
-    let block : bit_xor (0 * 2 ^ 8 + low) (rest * 2 ^ 8 + 0) ≡ bit_xor 0 rest * 2 ^ 8 + bit_xor low 0 = xor_block 8 0 rest low 0 (omega arith) (omega arith) in
-    let left : bit_xor (0 * 2 ^ 8 + low) (rest * 2 ^ 8 + 0) ≡ bit_xor low (rest * 2 ^ 8) =
-    ap (λ k. bit_xor k (rest * 2 ^ 8 + 0)) (omega arith) ∙ ap (bit_xor low) (omega arith) in
-    let right : bit_xor 0 rest * 2 ^ 8 + bit_xor low 0 ≡ x =
-    ap (λ k. k * 2 ^ 8 + bit_xor low 0) (xor_zero_l rest) ∙ (ap (λ k. rest * 2 ^ 8 + k) (xor_zero_r low) ∙ omega arith) in
-    ap (with_bits 8) (sym right ∙ (sym block ∙ left)) ∙ (with_bits-xor 8 low (rest * 2 ^ 8)
-    ∙ ap (bit_xor (with_bits 8 low)) (with_bits-shifted 8 rest ∙ high))
-
 -- bits in two steps
 with_bits-more : (n m r : ℕ) → with_bits (n + m) r ≡ with_bits n (with_bits m r)
 unfolding with_bits
@@ -130,6 +114,15 @@ with_bits-split n x =
     let whole : x ≡ bit_xor low (rest * 2 ^ 8) = digits ∙ apart low rest (omega arith) in
     let shifted : with_bits (n + 8) (rest * 2 ^ 8) ≡ with_bits n rest = with_bits-more n 8 (rest * 2 ^ 8) ∙ ap (with_bits n) (with_bits-shifted 8 rest) in
     ap (with_bits (n + 8)) whole ∙ (with_bits-xor (n + 8) low (rest * 2 ^ 8) ∙ ap (bit_xor (with_bits (n + 8) low)) shifted)
+
+-- eight bits more, by what the lowest eight take with them
+pub with_byte-table : (register byte : ℕ) → byte < 256
+    → with_byte register byte ≡ bit_xor (with_bits 8 (bit_xor register byte % 256)) (register / 256)
+unfolding with_bits
+with_byte-table register byte small =
+    let x = bit_xor register byte in
+    let high : x / 256 ≡ register / 256 = xor_shr register byte 8 ∙ (ap (bit_xor (register / 2 ^ 8)) (omega arith) ∙ xor_zero_r (register / 2 ^ 8)) in
+    with_bits-split 0 x ∙ ap (bit_xor (with_bits 8 (x % 256))) high
 
 -- a table of what each byte leaves in the register after a number of bits
 pub remainder_at : (bits : ℕ) (table : List ℕ) (byte : ℕ) → byte < 256 → table ≡ map (with_bits bits) (range_with_len 0 256) → get_or table byte 0 ≡ with_bits bits byte
