@@ -5,6 +5,7 @@ use crate::orders::Order::{Compact, Erase, Read, ReadCells, Reopen, Write};
 use crate::orders::{Answer, Order, commands_of, run, say, shape_of};
 use shard_sessions::{Command, CommandRun};
 use std::alloc::Global;
+use std::process::Abort;
 use zarr_codecs::{BytesCodec, MemoryHandle};
 use zarr_parts::CodecError;
 use zarrs_sharding::{ShardingCodec, ShardingIndexLocation};
@@ -111,50 +112,57 @@ fn rows() -> [Row; 6] {
     ROWS
 }
 
-fn object_of(alloc: Global, object: &Object) -> Result<Option<Vec<u8>>, CodecError> {
+fn object_of<R: Abort>(rt: &R, alloc: Global, object: &Object) -> Option<Vec<u8>> {
     let Some((data, numbers)) = object else {
-        return Ok(None);
+        return None;
     };
-    let mut bytes = data.to_vec(alloc)?;
+    let mut bytes = data.to_vec(alloc).expect(rt, "memory");
     for number in numbers.iter() {
-        bytes.extend_from_slice(&number.to_le_bytes())?;
+        bytes
+            .extend_from_slice(&number.to_le_bytes())
+            .expect(rt, "memory");
     }
-    Ok(Some(bytes))
+    Some(bytes)
 }
 
 // Whether a run replies as the row says, the object then, and why it stops.
 type Found = (bool, Option<Vec<u8>>, Option<CodecError>);
 
-fn codec(alloc: Global) -> Result<ShardingCodec<BytesCodec, BytesCodec>, CodecError> {
+fn codec<R: Abort>(rt: &R, alloc: Global) -> ShardingCodec<BytesCodec, BytesCodec> {
     let little = BytesCodec::little();
-    let sub = shape_of(alloc, &[2])?;
-    Ok(ShardingCodec::new(sub, little, little, ShardingIndexLocation::End))
+    let sub = shape_of(rt, alloc, &[2]);
+    ShardingCodec::new(sub, little, little, ShardingIndexLocation::End)
 }
 
-fn ended(
+fn ended<R: Abort>(
+    rt: &R,
     alloc: Global,
     row: &Row,
     commands: &[Command],
-) -> Result<CommandRun<MemoryHandle>, CodecError> {
-    let codec = codec(alloc)?;
-    let before = object_of(alloc, &row.before)?;
-    run(alloc, &codec, row.cells, before, commands)
+) -> CommandRun<MemoryHandle> {
+    let codec = codec(rt, alloc);
+    let before = object_of(rt, alloc, &row.before);
+    run(rt, alloc, &codec, row.cells, before, commands)
 }
 
-fn found(alloc: Global, row: &Row) -> Result<Found, CodecError> {
-    let commands = commands_of(alloc, row.orders)?;
-    let ended = ended(alloc, row, &commands)?;
+fn found<R: Abort>(rt: &R, alloc: Global, row: &Row) -> Result<Found, CodecError> {
+    let commands = commands_of(rt, alloc, row.orders);
+    let ended = ended(rt, alloc, row, &commands);
     let same = say(&ended.replies, row.answers);
     Ok((same, ended.handle.into_inner(), ended.stop))
 }
 
-fn wanted(alloc: Global, row: &Row) -> Result<Found, CodecError> {
-    Ok((true, object_of(alloc, &row.after)?, row.stop))
+fn wanted<R: Abort>(rt: &R, alloc: Global, row: &Row) -> Result<Found, CodecError> {
+    Ok((true, object_of(rt, alloc, &row.after), row.stop))
 }
 
 #[test]
 fn runs_reply_and_leave_the_object_as_they_say(rt: HostRuntime) {
     for row in rows().iter() {
-        same(&rt, found(rt.alloc(), row), wanted(rt.alloc(), row));
+        same(
+            &rt,
+            found(&rt, rt.alloc(), row),
+            wanted(&rt, rt.alloc(), row),
+        );
     }
 }

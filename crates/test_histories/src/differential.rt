@@ -5,8 +5,8 @@ use crate::compared::same;
 use crate::orders::{run, shape_of, subset_of, write_of};
 use shard_sessions::{Command, Reply};
 use std::alloc::Global;
+use std::process::Abort;
 use zarr_codecs::{ArrayToBytesCodecTraits, BytesCodec};
-use zarr_parts::CodecError;
 use zarrs_sharding::ShardingIndexLocation::{End, Start};
 use zarrs_sharding::{ShardingCodec, ShardingIndexLocation};
 
@@ -46,46 +46,46 @@ fn overwrite(cells: &mut [u8], start: u64, end: u64, value: u8) {
     }
 }
 
-fn part_of(alloc: Global, cells: &[u8], start: u64, end: u64) -> Result<Vec<u8>, CodecError> {
+fn part_of<R: Abort>(rt: &R, alloc: Global, cells: &[u8], start: u64, end: u64) -> Vec<u8> {
     let mut part = Vec::new(alloc);
     for at in start..end {
         if let Some(cell) = cells.get(at as usize) {
-            part.push(*cell)?;
+            part.push(*cell).expect(rt, "memory");
         }
     }
-    Ok(part)
+    part
 }
 
 // A command, and what it is to read.
 type ArraySpecRef = (Command, Option<Vec<u8>>);
 
-fn write_from(alloc: Global, number: u64, cells: &mut [u8]) -> Result<ArraySpecRef, CodecError> {
+fn write_from<R: Abort>(rt: &R, alloc: Global, number: u64, cells: &mut [u8]) -> ArraySpecRef {
     let (start, end) = range_of(number);
     let value = value_of(number);
     overwrite(cells, start, end, value);
-    let update = vec![in alloc; value; (end - start) as usize]?;
-    let command = write_of(alloc, start, end, &update)?;
-    Ok((command, None))
+    let update = vec![in alloc; value; (end - start) as usize].expect(rt, "memory");
+    let command = write_of(rt, alloc, start, end, &update);
+    (command, None)
 }
 
-fn read_from(alloc: Global, number: u64, cells: &[u8]) -> Result<ArraySpecRef, CodecError> {
+fn read_from<R: Abort>(rt: &R, alloc: Global, number: u64, cells: &[u8]) -> ArraySpecRef {
     let (start, end) = range_of(number);
-    let subset = subset_of(alloc, start, end)?;
-    let part = part_of(alloc, cells, start, end)?;
-    Ok((Command::Read { subset }, Some(part)))
+    let subset = subset_of(rt, alloc, start, end);
+    let part = part_of(rt, alloc, cells, start, end);
+    (Command::Read { subset }, Some(part))
 }
 
 // The command of a number, which changes the cells, and what it is to read.
-fn command_of(alloc: Global, number: u64, cells: &mut [u8]) -> Result<ArraySpecRef, CodecError> {
+fn command_of<R: Abort>(rt: &R, alloc: Global, number: u64, cells: &mut [u8]) -> ArraySpecRef {
     match (number / 4_294_967_296) % 16 {
-        0 | 1 => Ok((Command::Compact, None)),
-        2 | 3 => Ok((Command::Reopen, None)),
+        0 | 1 => (Command::Compact, None),
+        2 | 3 => (Command::Reopen, None),
         4 => {
             overwrite(cells, 0, 16, 0);
-            Ok((Command::Erase, None))
+            (Command::Erase, None)
         }
-        5..=9 => read_from(alloc, number, cells),
-        _ => write_from(alloc, number, cells),
+        5..=9 => read_from(rt, alloc, number, cells),
+        _ => write_from(rt, alloc, number, cells),
     }
 }
 
@@ -99,57 +99,59 @@ fn agrees(reply: &Reply, wanted: &Option<Vec<u8>>) -> bool {
 }
 
 // Five hundred commands, and what each is to read.
-fn requested(alloc: Global) -> Result<(Vec<Command>, Vec<Option<Vec<u8>>>), CodecError> {
+fn requested<R: Abort>(rt: &R, alloc: Global) -> (Vec<Command>, Vec<Option<Vec<u8>>>) {
     let mut cells = [0u8; 16];
     let mut commands = Vec::new(alloc);
     let mut wanted = Vec::new(alloc);
     let mut number = 1;
     for _ in 0..500 {
         number = next(number);
-        let (command, read) = command_of(alloc, number, &mut cells)?;
-        commands.push(command)?;
-        wanted.push(read)?;
+        let (command, read) = command_of(rt, alloc, number, &mut cells);
+        commands.push(command).expect(rt, "memory");
+        wanted.push(read).expect(rt, "memory");
     }
-    Ok((commands, wanted))
+    (commands, wanted)
 }
 
 // How many of the replies of a run of these are those of the plain list.
-fn agreed<I: ArrayToBytesCodecTraits, X: ArrayToBytesCodecTraits>(
+fn agreed<I: ArrayToBytesCodecTraits, X: ArrayToBytesCodecTraits, R: Abort>(
+    rt: &R,
     alloc: Global,
     codec: &ShardingCodec<I, X>,
-) -> Result<usize, CodecError> {
-    let (commands, wanted) = requested(alloc)?;
-    let ended = run(alloc, codec, 16, None, &commands)?;
+) -> usize {
+    let (commands, wanted) = requested(rt, alloc);
+    let ended = run(rt, alloc, codec, 16, None, &commands);
     let pairs = ended.replies.iter().zip(wanted.iter());
-    Ok(pairs.filter(|(reply, read)| agrees(reply, read)).count())
+    pairs.filter(|(reply, read)| agrees(reply, read)).count()
 }
 
-fn plain(
+fn plain<R: Abort>(
+    rt: &R,
     alloc: Global,
     location: ShardingIndexLocation,
-) -> Result<ShardingCodec<BytesCodec, BytesCodec>, CodecError> {
+) -> ShardingCodec<BytesCodec, BytesCodec> {
     let little = BytesCodec::little();
-    let sub = shape_of(alloc, &[4])?;
-    Ok(ShardingCodec::new(sub, little, little, location))
+    let sub = shape_of(rt, alloc, &[4]);
+    ShardingCodec::new(sub, little, little, location)
 }
 
-fn agreed_plain(alloc: Global, location: ShardingIndexLocation) -> Result<usize, CodecError> {
-    let codec = plain(alloc, location)?;
-    agreed(alloc, &codec)
+fn agreed_plain<R: Abort>(rt: &R, alloc: Global, location: ShardingIndexLocation) -> usize {
+    let codec = plain(rt, alloc, location);
+    agreed(rt, alloc, &codec)
 }
 
 // The same of shards in shards.
-fn agreed_nested(alloc: Global, location: ShardingIndexLocation) -> Result<usize, CodecError> {
-    let inner = plain(alloc, location)?;
-    let sub = shape_of(alloc, &[8])?;
+fn agreed_nested<R: Abort>(rt: &R, alloc: Global, location: ShardingIndexLocation) -> usize {
+    let inner = plain(rt, alloc, location);
+    let sub = shape_of(rt, alloc, &[8]);
     let codec = ShardingCodec::new(sub, inner, BytesCodec::little(), location);
-    agreed(alloc, &codec)
+    agreed(rt, alloc, &codec)
 }
 
 #[test]
 fn a_long_run_reads_what_a_plain_list_has(rt: HostRuntime) {
     for location in [End, Start] {
-        same(&rt, agreed_plain(rt.alloc(), location), Ok(500));
-        same(&rt, agreed_nested(rt.alloc(), location), Ok(500));
+        same(&rt, agreed_plain(&rt, rt.alloc(), location), 500);
+        same(&rt, agreed_nested(&rt, rt.alloc(), location), 500);
     }
 }

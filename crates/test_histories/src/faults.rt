@@ -11,8 +11,8 @@ use crate::shards::{
 use shard_sessions::{CloseError, Naming, Seat};
 use std::alloc::Global;
 use std::marker::Brand;
+use std::process::Abort;
 use std::sync::Wait;
-use std::test::Fail;
 use zarr_codecs::{ArrayToBytesCodecTraits, FaultingHandle};
 use zarr_parts::{ArrayBytes, ArraySubset, CodecError, CodecOptions, DataType};
 
@@ -30,36 +30,42 @@ fn number(answer: &Answer) -> u8 {
 }
 
 // The first cell of the object that is left, of two that are stored.
-fn first_cell(alloc: Global, left: &Option<Vec<u8>>) -> Result<u8, CodecError> {
+fn first_cell<R: Abort>(rt: &R, alloc: Global, left: &Option<Vec<u8>>) -> Result<u8, CodecError> {
     for cell in [0, 1] {
-        if is_object(alloc, left, &[cell, 7], &INDEX)? {
+        if is_object(rt, alloc, left, &[cell, 7], &INDEX) {
             return Ok(cell);
         }
     }
     Err(CodecError::Damaged)
 }
 
-fn stage(alloc: Global, written: u8, read: u8, end: Ended) -> Result<Stage, CodecError> {
-    let cell = first_cell(alloc, &end.object)?;
+fn stage<R: Abort>(
+    rt: &R,
+    alloc: Global,
+    written: u8,
+    read: u8,
+    end: Ended,
+) -> Result<Stage, CodecError> {
+    let cell = first_cell(rt, alloc, &end.object)?;
     let error = end.error.map_or(0, |error| error.number());
     Ok((written, read, end.how, error, cell))
 }
 
 // How a write and a read after it are refused, and how the session ends.
-fn run_opened<I: ArrayToBytesCodecTraits, X: ArrayToBytesCodecTraits, J: Naming<I, X>, R: Wait>(
-    rt: &R,
-    alloc: Global,
-    encoder: Encoder<'_, I, X, J>,
-    seat: Seat,
-) -> Result<Stage, CodecError> {
+fn run_opened<
+    I: ArrayToBytesCodecTraits,
+    X: ArrayToBytesCodecTraits,
+    J: Naming<I, X>,
+    R: Wait + Abort,
+>(rt: &R, alloc: Global, encoder: Encoder<'_, I, X, J>, seat: Seat) -> Result<Stage, CodecError> {
     let write = Call::Write { cell: 0, value: 1 };
     let (seat, written) = called(rt, alloc, &encoder, seat, write);
     let (seat, read) = called(rt, alloc, &encoder, seat, Call::Read { first: 0, end: 2 });
     let end = how_it_ended(encoder.close(alone(alloc, seat)));
-    stage(alloc, number(&written), number(&read), end)
+    stage(rt, alloc, number(&written), number(&read), end)
 }
 
-fn run<I: ArrayToBytesCodecTraits, X: ArrayToBytesCodecTraits, J: Naming<I, X>, R: Wait>(
+fn run<I: ArrayToBytesCodecTraits, X: ArrayToBytesCodecTraits, J: Naming<I, X>, R: Wait + Abort>(
     rt: &R,
     alloc: Global,
     shards: &Shards<I, X>,
@@ -68,11 +74,11 @@ fn run<I: ArrayToBytesCodecTraits, X: ArrayToBytesCodecTraits, J: Naming<I, X>, 
     requires codec_named { Some shards.now.codec ≡ J.codec }
     requires spec_named { array_spec shards.now.shape UInt8 shards.now.fill ≡ J.array_spec }
 {
-    let object = object_of(alloc, &[0, 7], &INDEX)?;
+    let object = object_of(rt, alloc, &[0, 7], &INDEX);
     let handle = FaultingHandle::new(Some(object), fails_at);
     match shards.recorded::<J>(alloc, handle) {
         Ok((encoder, seat)) => run_opened(rt, alloc, encoder, seat),
-        Err((handle, error)) => stage(alloc, 0, 0, Ended::refused(handle, error)),
+        Err((handle, error)) => stage(rt, alloc, 0, 0, Ended::refused(handle, error)),
     }
 }
 
@@ -91,19 +97,18 @@ fn stages() -> [Stage; 5] {
 }
 
 #[test]
-fn a_fault_is_no_event(rt: HostRuntime) -> Result<(), Fail> {
-    let shards = shards_of(rt.alloc(), 4)?;
+fn a_fault_is_no_event(rt: HostRuntime) {
+    let shards = shards_of(&rt, rt.alloc(), 4);
     let stages = stages();
     let mut stage = 0;
     for fails_at in 0..100 {
-        let ran = run::<_, _, Brand, _>(&rt, rt.alloc(), &shards, fails_at)?;
+        let ran = run::<_, _, Brand, _>(&rt, rt.alloc(), &shards, fails_at).expect(&rt, "memory");
         if stage < 4 && ran == stages[stage + 1] {
             stage += 1;
         }
         same_at(&rt, fails_at, ran, stages[stage]);
     }
     same(&rt, stage, 4);
-    Ok(())
 }
 
 // The cells of an object that is opened anew.
@@ -128,27 +133,28 @@ fn cells_anew<I: ArrayToBytesCodecTraits, X: ArrayToBytesCodecTraits>(
 }
 
 // Whether an object is opened anew, with the cells that it had.
-fn has_cells<I: ArrayToBytesCodecTraits, X: ArrayToBytesCodecTraits>(
-    alloc: Global,
-    shards: &Shards<I, X>,
-    handle: FaultingHandle,
-) -> Result<bool, CodecError> {
-    let all = ArraySubset::from_ranges(alloc, &[0..4])?;
-    let array = cells_anew(alloc, shards, handle, &all)?;
-    Ok(array.fixed_bytes() == Some(&[0, 7, 0, 0]))
-}
-
-// The same of the handle of a session that failed at a write; none where it did not fail.
-fn has_cells_then<I: ArrayToBytesCodecTraits, X: ArrayToBytesCodecTraits, J: Naming<I, X>, R: Wait>(
+fn has_cells<I: ArrayToBytesCodecTraits, X: ArrayToBytesCodecTraits, R: Abort>(
     rt: &R,
     alloc: Global,
     shards: &Shards<I, X>,
-    fails_at: u64,
-) -> Result<Option<bool>, CodecError>
+    handle: FaultingHandle,
+) -> bool {
+    let all = ArraySubset::from_ranges(alloc, &[0..4]).expect(rt, "memory");
+    let array = cells_anew(alloc, shards, handle, &all).expect(rt, "memory");
+    array.fixed_bytes() == Some(&[0, 7, 0, 0])
+}
+
+// The same of the handle of a session that failed at a write; none where it did not fail.
+fn has_cells_then<
+    I: ArrayToBytesCodecTraits,
+    X: ArrayToBytesCodecTraits,
+    J: Naming<I, X>,
+    R: Wait + Abort,
+>(rt: &R, alloc: Global, shards: &Shards<I, X>, fails_at: u64) -> Result<Option<bool>, CodecError>
     requires codec_named { Some shards.now.codec ≡ J.codec }
     requires spec_named { array_spec shards.now.shape UInt8 shards.now.fill ≡ J.array_spec }
 {
-    let object = object_of(alloc, &[0, 7], &INDEX)?;
+    let object = object_of(rt, alloc, &[0, 7], &INDEX);
     let handle = FaultingHandle::new(Some(object), fails_at);
     let Ok((encoder, seat)) = shards.recorded::<J>(alloc, handle) else {
         return Ok(None);
@@ -156,23 +162,24 @@ fn has_cells_then<I: ArrayToBytesCodecTraits, X: ArrayToBytesCodecTraits, J: Nam
     let write = Call::Write { cell: 0, value: 1 };
     let (seat, _) = called(rt, alloc, &encoder, seat, write);
     match encoder.close(alone(alloc, seat)) {
-        Err(CloseError::Session(handle, _)) => Ok(Some(has_cells(alloc, shards, handle)?)),
+        Err(CloseError::Session(handle, _)) => Ok(Some(has_cells(rt, alloc, shards, handle))),
         _ => Ok(None),
     }
 }
 
 // A write makes one call that writes, by which the session may fail.
 #[test]
-fn the_handle_of_a_failed_session_is_opened_anew(rt: HostRuntime) -> Result<(), Fail> {
-    let shards = shards_of(rt.alloc(), 4)?;
+fn the_handle_of_a_failed_session_is_opened_anew(rt: HostRuntime) {
+    let shards = shards_of(&rt, rt.alloc(), 4);
     let mut failed: u64 = 0;
     for fails_at in 0..100 {
-        let found = has_cells_then::<_, _, Brand, _>(&rt, rt.alloc(), &shards, fails_at)?;
+        let found = has_cells_then::<_, _, Brand, _>(&rt, rt.alloc(), &shards, fails_at).expect(
+            &rt, "memory",
+        );
         if found.is_some() {
             failed = failed.saturating_add(1);
             same_at(&rt, fails_at, found, Some(true));
         }
     }
     same(&rt, failed, 1);
-    Ok(())
 }

@@ -13,24 +13,25 @@ use crate::shards::{
 use shard_sessions::{CommandRun, Naming, Reply};
 use std::alloc::Global;
 use std::marker::Brand;
+use std::process::Abort;
 use std::sync::Wait;
-use std::test::Fail;
 use test_helpers::{HostileObject, Wanted, hostile_table};
 use zarr_codecs::{ArrayToBytesCodecTraits, BytesCodec, FaultingHandle, MemoryHandle};
 use zarr_parts::CodecError;
 use zarrs_sharding::{ShardingCodec, ShardingIndexLocation};
 
 // Four elements with the index where that of the object is to be.
-fn shards_for(
+fn shards_for<R: Abort>(
+    rt: &R,
     alloc: Global,
     hostile: &HostileObject,
-) -> Result<Shards<BytesCodec, BytesCodec>, CodecError> {
+) -> Shards<BytesCodec, BytesCodec> {
     let location = if hostile.at_start {
         ShardingIndexLocation::Start
     } else {
         ShardingIndexLocation::End
     };
-    shards_at(alloc, 4, location)
+    shards_at(rt, alloc, 4, location)
 }
 
 // How a recorded session of an object ends, in which 9 is written over the third element and the last two are read.
@@ -55,18 +56,18 @@ fn recorded_over<I: ArrayToBytesCodecTraits, X: ArrayToBytesCodecTraits, J: Nami
 }
 
 // The object then: one that is not opened stays, and by a write to one of two subchunks with one slice the other stays.
-fn left(alloc: Global, hostile: &HostileObject) -> Result<Vec<u8>, CodecError> {
+fn left<R: Abort>(rt: &R, alloc: Global, hostile: &HostileObject) -> Vec<u8> {
     match hostile.unopened {
-        Some(_) => Ok(hostile.object(alloc)?),
-        None => object_of(alloc, &[5, 6, 9, 6], &[0, 2, 2, 2]),
+        Some(_) => hostile.object(alloc).expect(rt, "memory"),
+        None => object_of(rt, alloc, &[5, 6, 9, 6], &[0, 2, 2, 2]),
     }
 }
 
 #[test]
-fn they_are_recorded_or_given_back(rt: HostRuntime) -> Result<(), Fail> {
+fn they_are_recorded_or_given_back(rt: HostRuntime) {
     for hostile in hostile_table().iter() {
-        let shards = shards_for(rt.alloc(), hostile)?;
-        let object = hostile.object(rt.alloc())?;
+        let shards = shards_for(&rt, rt.alloc(), hostile);
+        let object = hostile.object(rt.alloc()).expect(&rt, "memory");
         let end = recorded_over::<_, _, Brand, _>(&rt, rt.alloc(), &shards, object);
         same_at(&rt, hostile.name, end.error, hostile.unopened);
         let (events, opening) = match (hostile.unopened, hostile.elements) {
@@ -75,19 +76,18 @@ fn they_are_recorded_or_given_back(rt: HostRuntime) -> Result<(), Fail> {
         };
         same_at(&rt, hostile.name, end.events, events);
         same_at(&rt, hostile.name, end.opening_cells(), opening);
-        let left = left(rt.alloc(), hostile)?;
+        let left = left(&rt, rt.alloc(), hostile);
         same_at(&rt, hostile.name, end.object, Some(left));
     }
-    Ok(())
 }
 
 const ORDERS: [Order; 4] = [Read(0, 2), Read(2, 4), ReadCells(&[3, 0, 3]), Compact];
 
-fn ran(alloc: Global, hostile: &HostileObject) -> Result<CommandRun<MemoryHandle>, CodecError> {
-    let shards = shards_for(alloc, hostile)?;
-    let object = hostile.object(alloc)?;
-    let commands = commands_of(alloc, &ORDERS)?;
-    run(alloc, &shards.codec, 4, Some(object), &commands)
+fn ran<R: Abort>(rt: &R, alloc: Global, hostile: &HostileObject) -> CommandRun<MemoryHandle> {
+    let shards = shards_for(rt, alloc, hostile);
+    let object = hostile.object(alloc).expect(rt, "memory");
+    let commands = commands_of(rt, alloc, &ORDERS);
+    run(rt, alloc, &shards.codec, 4, Some(object), &commands)
 }
 
 fn reply_of(wanted: Wanted) -> Answer {
@@ -116,43 +116,42 @@ fn are_wanted(replies: &[Reply], hostile: &HostileObject) -> bool {
 }
 
 // The object then: one that is not opened stays.
-fn left_compact(alloc: Global, hostile: &HostileObject) -> Result<Vec<u8>, CodecError> {
+fn left_compact<R: Abort>(rt: &R, alloc: Global, hostile: &HostileObject) -> Vec<u8> {
     match (hostile.unopened, &hostile.compacted) {
-        (None, Ok(Some(stored))) => Ok(stored.object(alloc, hostile.at_start)?),
-        _ => Ok(hostile.object(alloc)?),
+        (None, Ok(Some(stored))) => stored.object(alloc, hostile.at_start).expect(rt, "memory"),
+        _ => hostile.object(alloc).expect(rt, "memory"),
     }
 }
 
 #[test]
-fn they_are_run_over_or_given_back(rt: HostRuntime) -> Result<(), Fail> {
+fn they_are_run_over_or_given_back(rt: HostRuntime) {
     for hostile in hostile_table().iter() {
-        let end = ran(rt.alloc(), hostile)?;
+        let end = ran(&rt, rt.alloc(), hostile);
         same_at(&rt, hostile.name, end.stop, hostile.unopened);
         same_at(&rt, hostile.name, are_wanted(&end.replies, hostile), true);
-        let left = left_compact(rt.alloc(), hostile)?;
+        let left = left_compact(&rt, rt.alloc(), hostile);
         same_at(&rt, hostile.name, end.handle.into_inner(), Some(left));
     }
-    Ok(())
 }
 
 // Eight elements in two shards of four.
 type Nested = Shards<ShardingCodec<BytesCodec, BytesCodec>, BytesCodec>;
 
-fn nested_for(alloc: Global, hostile: &HostileObject) -> Result<Nested, CodecError> {
-    let Shards { codec, fill, .. } = shards_for(alloc, hostile)?;
-    let (sub, end) = (shape_of(alloc, &[4])?, ShardingIndexLocation::End);
-    Ok(Shards {
+fn nested_for<R: Abort>(rt: &R, alloc: Global, hostile: &HostileObject) -> Nested {
+    let Shards { codec, fill, .. } = shards_for(rt, alloc, hostile);
+    let (sub, end) = (shape_of(rt, alloc, &[4]), ShardingIndexLocation::End);
+    Shards {
         codec: ShardingCodec::new(sub, codec, BytesCodec::little(), end),
-        shape: shape_of(alloc, &[8])?,
+        shape: shape_of(rt, alloc, &[8]),
         fill,
-    })
+    }
 }
 
 // An object as the first subchunk of a shard, whose second is absent.
-fn put_into(alloc: Global, hostile: &HostileObject) -> Result<Vec<u8>, CodecError> {
-    let object = hostile.object(alloc)?;
+fn put_into<R: Abort>(rt: &R, alloc: Global, hostile: &HostileObject) -> Vec<u8> {
+    let object = hostile.object(alloc).expect(rt, "memory");
     let size = object.len() as u64;
-    object_of(alloc, &object, &[0, size, ABSENT, ABSENT])
+    object_of(rt, alloc, &object, &[0, size, ABSENT, ABSENT])
 }
 
 // An inner shard that is refused is damaged.
@@ -164,26 +163,26 @@ fn damaged(wanted: Wanted) -> Option<CodecError> {
 }
 
 #[test]
-fn shards_that_have_them_are_recorded_or_given_back(rt: HostRuntime) -> Result<(), Fail> {
+fn shards_that_have_them_are_recorded_or_given_back(rt: HostRuntime) {
     for hostile in hostile_table().iter() {
-        let shards = nested_for(rt.alloc(), hostile)?;
-        let object = put_into(rt.alloc(), hostile)?;
+        let shards = nested_for(&rt, rt.alloc(), hostile);
+        let object = put_into(&rt, rt.alloc(), hostile);
         let end = recorded_over::<_, _, Brand, _>(&rt, rt.alloc(), &shards, object);
         let error = damaged(hostile.elements);
         let events = if error.is_some() { 0 } else { 2 };
         same_at(&rt, hostile.name, (end.error, end.events), (error, events));
     }
-    Ok(())
 }
 
-fn ran_nested(
+fn ran_nested<R: Abort>(
+    rt: &R,
     alloc: Global,
     hostile: &HostileObject,
-) -> Result<CommandRun<MemoryHandle>, CodecError> {
-    let shards = nested_for(alloc, hostile)?;
-    let object = put_into(alloc, hostile)?;
-    let commands = commands_of(alloc, &[Read(0, 2), Read(2, 4), Reopen])?;
-    run(alloc, &shards.codec, 8, Some(object), &commands)
+) -> CommandRun<MemoryHandle> {
+    let shards = nested_for(rt, alloc, hostile);
+    let object = put_into(rt, alloc, hostile);
+    let commands = commands_of(rt, alloc, &[Read(0, 2), Read(2, 4), Reopen]);
+    run(rt, alloc, &shards.codec, 8, Some(object), &commands)
 }
 
 // What a read of a subchunk of an inner shard is to reply.
@@ -195,14 +194,13 @@ fn inner_reply_of(wanted: Wanted) -> Answer {
 }
 
 #[test]
-fn shards_that_have_them_are_run_over(rt: HostRuntime) -> Result<(), Fail> {
+fn shards_that_have_them_are_run_over(rt: HostRuntime) {
     for hostile in hostile_table().iter() {
-        let end = ran_nested(rt.alloc(), hostile)?;
+        let end = ran_nested(&rt, rt.alloc(), hostile);
         let [first, second] = hostile.halves;
         let answers = [inner_reply_of(first), inner_reply_of(second), Done];
         same_at(&rt, hostile.name, say(&end.replies, &answers), true);
-        let object = put_into(rt.alloc(), hostile)?;
+        let object = put_into(&rt, rt.alloc(), hostile);
         same_at(&rt, hostile.name, end.handle.into_inner(), Some(object));
     }
-    Ok(())
 }

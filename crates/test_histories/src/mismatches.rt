@@ -8,8 +8,8 @@ use crate::shards::{Call, Encoder, Ended, Shards, alone, called, how_it_ended, s
 use shard_sessions::{Naming, Seat};
 use std::alloc::Global;
 use std::marker::Brand;
+use std::process::Abort;
 use std::sync::Wait;
-use std::test::Fail;
 use zarr_codecs::{ArrayToBytesCodecTraits, FaultingHandle};
 use zarr_parts::CodecError;
 
@@ -65,27 +65,26 @@ fn closed_with<I: ArrayToBytesCodecTraits, X: ArrayToBytesCodecTraits, J: Naming
 }
 
 // How it ends with the seat of one in which this value was written.
-fn crossed<I: ArrayToBytesCodecTraits, X: ArrayToBytesCodecTraits, J: Naming<I, X>, R: Wait>(
-    rt: &R,
-    alloc: Global,
-    shards: &Shards<I, X>,
-    value: u8,
-) -> Result<Ended, CodecError>
+fn crossed<
+    I: ArrayToBytesCodecTraits,
+    X: ArrayToBytesCodecTraits,
+    J: Naming<I, X>,
+    R: Wait + Abort,
+>(rt: &R, alloc: Global, shards: &Shards<I, X>, value: u8) -> Ended
     requires codec_named { Some shards.now.codec ≡ J.codec }
     requires spec_named { array_spec shards.now.shape UInt8 shards.now.fill ≡ J.array_spec }
 {
-    let seats = seats_of::<_, _, J, _>(rt, alloc, shards, value)?;
-    closed_with::<_, _, J, _>(rt, alloc, shards, seats)
+    let seats = seats_of::<_, _, J, _>(rt, alloc, shards, value).expect(rt, "memory");
+    closed_with::<_, _, J, _>(rt, alloc, shards, seats).expect(rt, "memory")
 }
 
 #[test]
-fn a_receipt_of_another_write_is_told(rt: HostRuntime) -> Result<(), Fail> {
-    let shards = shards_of(rt.alloc(), 4)?;
+fn a_receipt_of_another_write_is_told(rt: HostRuntime) {
+    let shards = shards_of(&rt, rt.alloc(), 4);
     for (value, how, receipt) in [(3, "closed", None), (4, "mismatch", Some((0, 0)))] {
-        let end = crossed::<_, _, Brand, _>(&rt, rt.alloc(), &shards, value)?;
+        let end = crossed::<_, _, Brand, _>(&rt, rt.alloc(), &shards, value);
         same(&rt, end.how, how);
         same(&rt, end.receipt, receipt);
         same(&rt, end.events, 1);
     }
-    Ok(())
 }

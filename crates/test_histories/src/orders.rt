@@ -1,6 +1,7 @@
 // Commands and replies as plain data, and runs of them.
 use shard_sessions::{Command, CommandRun, Reply, run_commands};
 use std::alloc::Global;
+use std::process::Abort;
 use zarr_codecs::{ArrayToBytesCodecTraits, MemoryHandle};
 use zarr_parts::{
     ArrayBytes, ArraySubset, ChunkShape, CodecError, Coordinates, DataType, FillValue,
@@ -26,53 +27,60 @@ pub(crate) enum Answer {
     Refused(CodecError),
 }
 
-pub(crate) fn shape_of(alloc: Global, axes: &[u64]) -> Result<ChunkShape, CodecError> {
-    ChunkShape::new(alloc, axes)?.ok_or(CodecError::OutOfBounds)
+pub(crate) fn shape_of<R: Abort>(rt: &R, alloc: Global, axes: &[u64]) -> ChunkShape {
+    ChunkShape::new(alloc, axes)
+        .expect(rt, "memory")
+        .expect(rt, "it fits")
 }
 
-pub(crate) fn subset_of(alloc: Global, start: u64, end: u64) -> Result<ArraySubset, CodecError> {
-    ArraySubset::new_with_ranges(alloc, &[start..end])?.ok_or(CodecError::OutOfBounds)
+pub(crate) fn subset_of<R: Abort>(rt: &R, alloc: Global, start: u64, end: u64) -> ArraySubset {
+    ArraySubset::new_with_ranges(alloc, &[start..end])
+        .expect(rt, "memory")
+        .expect(rt, "it fits")
 }
 
-fn coordinates_of(alloc: Global, numbers: &[u64]) -> Result<Coordinates, CodecError> {
-    let flat = numbers.to_vec(alloc)?;
-    Coordinates::new(1, numbers.len() as u64, flat).ok_or(CodecError::OutOfBounds)
+fn coordinates_of<R: Abort>(rt: &R, alloc: Global, numbers: &[u64]) -> Coordinates {
+    let flat = numbers.to_vec(alloc).expect(rt, "memory");
+    Coordinates::new(1, numbers.len() as u64, flat).expect(rt, "it fits")
 }
 
-pub(crate) fn write_of(
+pub(crate) fn write_of<R: Abort>(
+    rt: &R,
     alloc: Global,
     start: u64,
     end: u64,
     cells: &[u8],
-) -> Result<Command, CodecError> {
-    let subset = subset_of(alloc, start, end)?;
-    let bytes = ArrayBytes::from_numbers(alloc, cells)?;
-    Ok(Command::Write { subset, bytes })
+) -> Command {
+    let subset = subset_of(rt, alloc, start, end);
+    let bytes = ArrayBytes::from_numbers(alloc, cells).expect(rt, "memory");
+    Command::Write { subset, bytes }
 }
 
-fn command_of(alloc: Global, order: &Order) -> Result<Command, CodecError> {
+fn command_of<R: Abort>(rt: &R, alloc: Global, order: &Order) -> Command {
     match order {
-        Order::Write(start, end, cells) => write_of(alloc, *start, *end, cells),
+        Order::Write(start, end, cells) => write_of(rt, alloc, *start, *end, cells),
         Order::Read(start, end) => {
-            let subset = subset_of(alloc, *start, *end)?;
-            Ok(Command::Read { subset })
+            let subset = subset_of(rt, alloc, *start, *end);
+            Command::Read { subset }
         }
         Order::ReadCells(numbers) => {
-            let coordinates = coordinates_of(alloc, numbers)?;
-            Ok(Command::ReadCells { coordinates })
+            let coordinates = coordinates_of(rt, alloc, numbers);
+            Command::ReadCells { coordinates }
         }
-        Order::Erase => Ok(Command::Erase),
-        Order::Compact => Ok(Command::Compact),
-        Order::Reopen => Ok(Command::Reopen),
+        Order::Erase => Command::Erase,
+        Order::Compact => Command::Compact,
+        Order::Reopen => Command::Reopen,
     }
 }
 
-pub(crate) fn commands_of(alloc: Global, orders: &[Order]) -> Result<Vec<Command>, CodecError> {
+pub(crate) fn commands_of<R: Abort>(rt: &R, alloc: Global, orders: &[Order]) -> Vec<Command> {
     let mut commands = Vec::new(alloc);
     for order in orders {
-        commands.push(command_of(alloc, order)?)?;
+        commands
+            .push(command_of(rt, alloc, order))
+            .expect(rt, "memory");
     }
-    Ok(commands)
+    commands
 }
 
 fn says(reply: &Reply, answer: &Answer) -> bool {
@@ -98,17 +106,18 @@ pub(crate) fn say(replies: &[Reply], answers: &[Answer]) -> bool {
 }
 
 // A run on a shard of so many bytes, with the fill value 0.
-pub(crate) fn run<I: ArrayToBytesCodecTraits, X: ArrayToBytesCodecTraits>(
+pub(crate) fn run<I: ArrayToBytesCodecTraits, X: ArrayToBytesCodecTraits, R: Abort>(
+    rt: &R,
     alloc: Global,
     codec: &ShardingCodec<I, X>,
     cells: u64,
     object: Option<Vec<u8>>,
     commands: &[Command],
-) -> Result<CommandRun<MemoryHandle>, CodecError> {
-    let shape = shape_of(alloc, &[cells])?;
-    let fill = FillValue::from_number(alloc, 0u8)?;
+) -> CommandRun<MemoryHandle> {
+    let shape = shape_of(rt, alloc, &[cells]);
+    let fill = FillValue::from_number(alloc, 0u8).expect(rt, "memory");
     let handle = MemoryHandle::new(object);
-    Ok(run_commands(
+    run_commands(
         alloc,
         codec,
         handle,
@@ -116,5 +125,5 @@ pub(crate) fn run<I: ArrayToBytesCodecTraits, X: ArrayToBytesCodecTraits>(
         &DataType::UInt8,
         &fill,
         commands,
-    ))
+    )
 }

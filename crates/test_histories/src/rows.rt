@@ -11,8 +11,8 @@ use crate::shards::{
 use shard_sessions::{Naming, Seat};
 use std::alloc::Global;
 use std::marker::Brand;
+use std::process::Abort;
 use std::sync::Wait;
-use std::test::Fail;
 use zarr_codecs::{ArrayToBytesCodecTraits, FaultingHandle};
 use zarr_parts::CodecError;
 
@@ -74,7 +74,7 @@ struct Play<'a> {
 }
 
 // How it ends. What its calls answer is put after these answers.
-fn played<I: ArrayToBytesCodecTraits, X: ArrayToBytesCodecTraits, J: Naming<I, X>, R: Wait>(
+fn played<I: ArrayToBytesCodecTraits, X: ArrayToBytesCodecTraits, J: Naming<I, X>, R: Wait + Abort>(
     rt: &R,
     alloc: Global,
     shards: &Shards<I, X>,
@@ -84,7 +84,7 @@ fn played<I: ArrayToBytesCodecTraits, X: ArrayToBytesCodecTraits, J: Naming<I, X
     requires codec_named { Some shards.now.codec ≡ J.codec }
     requires spec_named { array_spec shards.now.shape UInt8 shards.now.fill ≡ J.array_spec }
 {
-    let object = object_of(alloc, play.slices, play.index)?;
+    let object = object_of(rt, alloc, play.slices, play.index);
     let handle = FaultingHandle::new(Some(object), u64::MAX);
     match shards.recorded::<J>(alloc, handle) {
         Ok((encoder, seat)) => Ok(played_to_the_end(
@@ -104,8 +104,8 @@ fn played<I: ArrayToBytesCodecTraits, X: ArrayToBytesCodecTraits, J: Naming<I, X
 const FIRST: [u64; 4] = [0, 2, ABSENT, ABSENT];
 
 #[test]
-fn a_seat_that_is_missing_is_told_and_the_handle_comes_back(rt: HostRuntime) -> Result<(), Fail> {
-    let shards = shards_of(rt.alloc(), 4)?;
+fn a_seat_that_is_missing_is_told_and_the_handle_comes_back(rt: HostRuntime) {
+    let shards = shards_of(&rt, rt.alloc(), 4);
     let play = Play {
         slices: &[0, 7],
         index: &FIRST,
@@ -113,17 +113,18 @@ fn a_seat_that_is_missing_is_told_and_the_handle_comes_back(rt: HostRuntime) -> 
         with_both: false,
     };
     let mut answers = Vec::new(rt.alloc());
-    let end = played::<_, _, Brand, _>(&rt, rt.alloc(), &shards, &play, &mut answers)?;
+    let end = played::<_, _, Brand, _>(&rt, rt.alloc(), &shards, &play, &mut answers).expect(
+        &rt, "memory",
+    );
     same(&rt, answers.as_slice(), [Ok((0, 0))].as_slice());
     same(&rt, end.how, "seats missing");
-    let left = is_object(rt.alloc(), &end.object, &[3, 7], &FIRST);
-    same(&rt, left, Ok(true));
-    Ok(())
+    let left = is_object(&rt, rt.alloc(), &end.object, &[3, 7], &FIRST);
+    same(&rt, left, true);
 }
 
 #[test]
-fn a_refused_call_is_no_event(rt: HostRuntime) -> Result<(), Fail> {
-    let shards = shards_of(rt.alloc(), 4)?;
+fn a_refused_call_is_no_event(rt: HostRuntime) {
+    let shards = shards_of(&rt, rt.alloc(), 4);
     let play = Play {
         slices: &[0, 7],
         index: &FIRST,
@@ -134,7 +135,9 @@ fn a_refused_call_is_no_event(rt: HostRuntime) -> Result<(), Fail> {
         with_both: true,
     };
     let mut answers = Vec::new(rt.alloc());
-    let end = played::<_, _, Brand, _>(&rt, rt.alloc(), &shards, &play, &mut answers)?;
+    let end = played::<_, _, Brand, _>(&rt, rt.alloc(), &shards, &play, &mut answers).expect(
+        &rt, "memory",
+    );
     same(
         &rt,
         answers.as_slice(),
@@ -143,12 +146,11 @@ fn a_refused_call_is_no_event(rt: HostRuntime) -> Result<(), Fail> {
     same(&rt, end.how, "closed");
     same(&rt, end.events, 1);
     same(&rt, end.opening_cells(), [0, 7, 0, 0].as_slice());
-    Ok(())
 }
 
 #[test]
-fn an_erased_shard_is_read_and_written_anew(rt: HostRuntime) -> Result<(), Fail> {
-    let shards = shards_of(rt.alloc(), 4)?;
+fn an_erased_shard_is_read_and_written_anew(rt: HostRuntime) {
+    let shards = shards_of(&rt, rt.alloc(), 4);
     let play = Play {
         slices: &[0, 7],
         index: &FIRST,
@@ -161,7 +163,9 @@ fn an_erased_shard_is_read_and_written_anew(rt: HostRuntime) -> Result<(), Fail>
         with_both: true,
     };
     let mut answers = Vec::new(rt.alloc());
-    let end = played::<_, _, Brand, _>(&rt, rt.alloc(), &shards, &play, &mut answers)?;
+    let end = played::<_, _, Brand, _>(&rt, rt.alloc(), &shards, &play, &mut answers).expect(
+        &rt, "memory",
+    );
     same(
         &rt,
         answers.as_slice(),
@@ -169,14 +173,13 @@ fn an_erased_shard_is_read_and_written_anew(rt: HostRuntime) -> Result<(), Fail>
     );
     same(&rt, end.how, "closed");
     same(&rt, end.events, 4);
-    let left = is_object(rt.alloc(), &end.object, &[0, 7], &FIRST);
-    same(&rt, left, Ok(true));
-    Ok(())
+    let left = is_object(&rt, rt.alloc(), &end.object, &[0, 7], &FIRST);
+    same(&rt, left, true);
 }
 
 #[test]
-fn a_damaged_object_is_refused_and_comes_back(rt: HostRuntime) -> Result<(), Fail> {
-    let shards = shards_of(rt.alloc(), 4)?;
+fn a_damaged_object_is_refused_and_comes_back(rt: HostRuntime) {
+    let shards = shards_of(&rt, rt.alloc(), 4);
     let index = [0, 1, ABSENT, ABSENT];
     let play = Play {
         slices: &[5],
@@ -185,11 +188,12 @@ fn a_damaged_object_is_refused_and_comes_back(rt: HostRuntime) -> Result<(), Fai
         with_both: true,
     };
     let mut answers = Vec::new(rt.alloc());
-    let end = played::<_, _, Brand, _>(&rt, rt.alloc(), &shards, &play, &mut answers)?;
+    let end = played::<_, _, Brand, _>(&rt, rt.alloc(), &shards, &play, &mut answers).expect(
+        &rt, "memory",
+    );
     same(&rt, answers.len(), 0);
     same(&rt, end.how, "refused");
     same(&rt, end.error, Some(CodecError::Damaged));
-    let left = is_object(rt.alloc(), &end.object, &[5], &index);
-    same(&rt, left, Ok(true));
-    Ok(())
+    let left = is_object(&rt, rt.alloc(), &end.object, &[5], &index);
+    same(&rt, left, true);
 }

@@ -6,7 +6,7 @@ use crate::orders::{Answer, Order, commands_of, say};
 use crate::shards::{Shards, object_of, shards_of};
 use shard_sessions::{CommandRun, run_commands};
 use std::alloc::Global;
-use std::test::Fail;
+use std::process::Abort;
 use zarr_codecs::{BytesCodec, FaultingHandle, MemoryHandle};
 use zarr_parts::{ArraySubset, CodecError, CodecOptions, DataType};
 use zarrs_sharding::ShardState;
@@ -61,16 +61,17 @@ fn wanted() -> ([Answer; 6], [Object; 7]) {
 type Plain = Shards<BytesCodec, BytesCodec>;
 
 // A run of the first orders over the object, of whose handle the call with this number fails.
-fn ran(
+fn ran<R: Abort>(
+    rt: &R,
     alloc: Global,
     shards: &Plain,
     orders: &[Order],
     fails_at: u64,
-) -> Result<CommandRun<FaultingHandle>, CodecError> {
-    let commands = commands_of(alloc, orders)?;
-    let before = bytes_of(alloc, &BEFORE)?;
+) -> CommandRun<FaultingHandle> {
+    let commands = commands_of(rt, alloc, orders);
+    let before = bytes_of(rt, alloc, &BEFORE);
     let handle = FaultingHandle::new(before, fails_at);
-    Ok(run_commands(
+    run_commands(
         alloc,
         &shards.codec,
         handle,
@@ -78,13 +79,13 @@ fn ran(
         &DataType::UInt8,
         &shards.fill,
         &commands,
-    ))
+    )
 }
 
-fn bytes_of(alloc: Global, object: &Object) -> Result<Option<Vec<u8>>, CodecError> {
+fn bytes_of<R: Abort>(rt: &R, alloc: Global, object: &Object) -> Option<Vec<u8>> {
     match object {
-        Some((slices, index, _)) => Ok(Some(object_of(alloc, slices, index)?)),
-        None => Ok(None),
+        Some((slices, index, _)) => Some(object_of(rt, alloc, slices, index)),
+        None => None,
     }
 }
 
@@ -105,32 +106,36 @@ fn open(alloc: Global, shards: &Plain, object: Option<Vec<u8>>) -> Result<Sessio
     }
 }
 
-fn are_cells(alloc: Global, session: &mut Session<'_>, cells: &[u8]) -> Result<bool, CodecError> {
-    let all = ArraySubset::from_ranges(alloc, &[0..8])?;
-    let array = session.partial_decode(alloc, &all, &CodecOptions::default())?;
-    Ok(array.fixed_bytes() == Some(cells))
+fn are_cells<R: Abort>(rt: &R, alloc: Global, session: &mut Session<'_>, cells: &[u8]) -> bool {
+    let all = ArraySubset::from_ranges(alloc, &[0..8]).expect(rt, "memory");
+    let array = session
+        .partial_decode(alloc, &all, &CodecOptions::default())
+        .expect(rt, "memory");
+    array.fixed_bytes() == Some(cells)
 }
 
 // Whether a run left this object, which is opened anew and read.
-fn is_left(
+fn is_left<R: Abort>(
+    rt: &R,
     alloc: Global,
     shards: &Plain,
     left: Option<Vec<u8>>,
     object: &Object,
-) -> Result<bool, CodecError> {
+) -> bool {
     let cells = match object {
         Some((_, _, cells)) => *cells,
         None => &[0; 8],
     };
-    let mut session = open(alloc, shards, left)?;
-    let are_cells = are_cells(alloc, &mut session, cells)?;
+    let mut session = open(alloc, shards, left).expect(rt, "memory");
+    let are_cells = are_cells(rt, alloc, &mut session, cells);
     let left = session.close().into_inner();
-    Ok(are_cells && left == bytes_of(alloc, object)?)
+    are_cells && left == bytes_of(rt, alloc, object)
 }
 
 // How many replies a run gives, and whether a fault stops it. Damage where these are not the first answers, or the object is not
 // the one after as many.
-fn stage(
+fn stage<R: Abort>(
+    rt: &R,
     alloc: Global,
     shards: &Plain,
     orders: &[Order],
@@ -140,13 +145,13 @@ fn stage(
         handle,
         replies,
         stop,
-    } = ran(alloc, shards, orders, fails_at)?;
+    } = ran(rt, alloc, shards, orders, fails_at);
     let count = replies.len();
     let (answers, objects) = wanted();
     let (Some(answers), Some(object)) = (answers.get(..count), objects.get(count)) else {
         return Err(CodecError::InvalidNumberOfElements);
     };
-    if !say(&replies, answers) || !is_left(alloc, shards, handle.into_inner(), object)? {
+    if !say(&replies, answers) || !is_left(rt, alloc, shards, handle.into_inner(), object) {
         return Err(CodecError::Damaged);
     }
     match stop {
@@ -167,12 +172,12 @@ fn stage_of(number: usize, most: usize, orders: usize) -> (usize, bool) {
 
 // A command that meets a fault has no reply, save a compaction that was done, whose object is not opened again.
 #[test]
-fn a_fault_stops_a_run(rt: HostRuntime) -> Result<(), Fail> {
-    let shards = shards_of(rt.alloc(), 8)?;
+fn a_fault_stops_a_run(rt: HostRuntime) {
+    let shards = shards_of(&rt, rt.alloc(), 8);
     for (orders, most) in [(3, 3), (6, 5)] {
         let mut number: usize = 0;
         for fails_at in 0..100 {
-            let found = stage(rt.alloc(), &shards, &ORDERS[..orders], fails_at);
+            let found = stage(&rt, rt.alloc(), &shards, &ORDERS[..orders], fails_at);
             if found == Ok(stage_of(number.saturating_add(1), most, orders)) {
                 number = number.saturating_add(1);
             }
@@ -185,5 +190,4 @@ fn a_fault_stops_a_run(rt: HostRuntime) -> Result<(), Fail> {
         }
         same(&rt, number > most, true);
     }
-    Ok(())
 }

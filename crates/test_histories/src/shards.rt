@@ -5,6 +5,7 @@ ghost use Rattle.parts_arrays.specs.declared.data_type.DataType.TheVariants.{UIn
 
 use shard_sessions::{CloseError, Closed, Naming, RecordedPartialEncoder, Seat, recorded};
 use std::alloc::Global;
+use std::process::Abort;
 use std::sync::Wait;
 use zarr_codecs::{ArrayToBytesCodecTraits, BytesCodec, FaultingHandle};
 use zarr_parts::{
@@ -24,32 +25,36 @@ pub(crate) struct Shards<I: ArrayToBytesCodecTraits, X: ArrayToBytesCodecTraits>
     pub fill: FillValue,
 }
 
-fn shape_of(alloc: Global, axis: u64) -> Result<ChunkShape, CodecError> {
-    ChunkShape::new(alloc, &[axis])?.ok_or(CodecError::OutOfBounds)
+fn shape_of<R: Abort>(rt: &R, alloc: Global, axis: u64) -> ChunkShape {
+    ChunkShape::new(alloc, &[axis])
+        .expect(rt, "memory")
+        .expect(rt, "it fits")
 }
 
 // Shards of this number of cells, with their index at this place.
-pub(crate) fn shards_at(
+pub(crate) fn shards_at<R: Abort>(
+    rt: &R,
     alloc: Global,
     cells: u64,
     location: ShardingIndexLocation,
-) -> Result<Shards<BytesCodec, BytesCodec>, CodecError> {
+) -> Shards<BytesCodec, BytesCodec> {
     let little = BytesCodec::little();
-    let sub = shape_of(alloc, 2)?;
-    let zero = vec![in alloc; 0u8; 1]?;
-    Ok(Shards {
+    let sub = shape_of(rt, alloc, 2);
+    let zero = vec![in alloc; 0u8; 1].expect(rt, "memory");
+    Shards {
         codec: ShardingCodec::new(sub, little, little, location),
-        shape: shape_of(alloc, cells)?,
+        shape: shape_of(rt, alloc, cells),
         fill: FillValue::new(zero),
-    })
+    }
 }
 
 // Shards of this number of cells.
-pub(crate) fn shards_of(
+pub(crate) fn shards_of<R: Abort>(
+    rt: &R,
     alloc: Global,
     cells: u64,
-) -> Result<Shards<BytesCodec, BytesCodec>, CodecError> {
-    shards_at(alloc, cells, ShardingIndexLocation::End)
+) -> Shards<BytesCodec, BytesCodec> {
+    shards_at(rt, alloc, cells, ShardingIndexLocation::End)
 }
 
 impl<I: ArrayToBytesCodecTraits, X: ArrayToBytesCodecTraits> Shards<I, X> {
@@ -114,30 +119,29 @@ impl<I: ArrayToBytesCodecTraits, X: ArrayToBytesCodecTraits> Shards<I, X> {
 }
 
 // An object of these slices and this index.
-pub(crate) fn object_of(
-    alloc: Global,
-    slices: &[u8],
-    index: &[u64],
-) -> Result<Vec<u8>, CodecError> {
-    let mut object: Vec<u8> = slices.to_vec(alloc)?;
+pub(crate) fn object_of<R: Abort>(rt: &R, alloc: Global, slices: &[u8], index: &[u64]) -> Vec<u8> {
+    let mut object: Vec<u8> = slices.to_vec(alloc).expect(rt, "memory");
     for number in index.iter() {
-        object.extend_from_slice(&number.to_le_bytes())?;
+        object
+            .extend_from_slice(&number.to_le_bytes())
+            .expect(rt, "memory");
     }
-    Ok(object)
+    object
 }
 
 // Whether an object is that of these slices and this index.
-pub(crate) fn is_object(
+pub(crate) fn is_object<R: Abort>(
+    rt: &R,
     alloc: Global,
     object: &Option<Vec<u8>>,
     slices: &[u8],
     index: &[u64],
-) -> Result<bool, CodecError> {
+) -> bool {
     let Some(found) = object else {
-        return Ok(false);
+        return false;
     };
-    let wanted = object_of(alloc, slices, index)?;
-    Ok(found.as_slice() == wanted.as_slice())
+    let wanted = object_of(rt, alloc, slices, index);
+    found.as_slice() == wanted.as_slice()
 }
 
 // What a test does in a session: it writes a value into a cell, reads the cells of a range, or erases.

@@ -10,12 +10,11 @@ use crate::shards::{
 use shard_sessions::{Naming, Seat};
 use std::alloc::Global;
 use std::marker::Brand;
+use std::process::Abort;
 use std::sync::Wait;
-use std::test::Fail;
 use std::thread;
 use std::thread::Threads;
 use zarr_codecs::{ArrayToBytesCodecTraits, FaultingHandle};
-use zarr_parts::CodecError;
 
 // What the threads of a test do: so many of them, each in a cell of its own, write values from the first on, so many times, and
 // read the cell after each. The first value of each thread is so far from that of the thread before it.
@@ -147,14 +146,19 @@ fn shared<
 }
 
 // The object of the cells 1 to 8.
-fn eight(alloc: Global) -> Result<Vec<u8>, CodecError> {
-    object_of(alloc, &[1, 2, 3, 4, 5, 6, 7, 8], &[0, 2, 2, 2, 4, 2, 6, 2])
+fn eight<R: Abort>(rt: &R, alloc: Global) -> Vec<u8> {
+    object_of(
+        rt,
+        alloc,
+        &[1, 2, 3, 4, 5, 6, 7, 8],
+        &[0, 2, 2, 2, 4, 2, 6, 2],
+    )
 }
 
 #[test]
-fn two_threads_read_what_they_wrote(rt: HostRuntime) -> Result<(), Fail> {
-    let object = eight(rt.alloc())?;
-    let shards = shards_of(rt.alloc(), 8)?;
+fn two_threads_read_what_they_wrote(rt: HostRuntime) {
+    let object = eight(&rt, rt.alloc());
+    let shards = shards_of(&rt, rt.alloc(), 8);
     let plan = Plan {
         threads: 2,
         times: 1,
@@ -172,25 +176,25 @@ fn two_threads_read_what_they_wrote(rt: HostRuntime) -> Result<(), Fail> {
     );
     let left = shards.are_cells(rt.alloc(), &end.object, &[50, 60, 3, 4, 5, 6, 7, 8]);
     same(&rt, left, Ok(true));
-    Ok(())
 }
 
 // Whether a compaction leaves this object.
-fn compacts_to<I: ArrayToBytesCodecTraits, X: ArrayToBytesCodecTraits>(
+fn compacts_to<I: ArrayToBytesCodecTraits, X: ArrayToBytesCodecTraits, R: Abort>(
+    rt: &R,
     alloc: Global,
     shards: &Shards<I, X>,
     object: &Option<Vec<u8>>,
     slices: &[u8],
     index: &[u64],
-) -> Result<bool, CodecError> {
-    let compacted = shards.compacted(alloc, object)?;
-    is_object(alloc, &compacted, slices, index)
+) -> bool {
+    let compacted = shards.compacted(alloc, object).expect(rt, "memory");
+    is_object(rt, alloc, &compacted, slices, index)
 }
 
 // From no object each of four threads writes 1 to 50 into its cell: fifty slices of each subchunk, of which a compaction leaves one.
 #[test]
-fn four_threads_leave_one_history(rt: HostRuntime) -> Result<(), Fail> {
-    let shards = shards_of(rt.alloc(), 4)?;
+fn four_threads_leave_one_history(rt: HostRuntime) {
+    let shards = shards_of(&rt, rt.alloc(), 4);
     let plan = Plan {
         threads: 4,
         times: 50,
@@ -203,12 +207,12 @@ fn four_threads_leave_one_history(rt: HostRuntime) -> Result<(), Fail> {
     same(&rt, end.events, 400);
     same(&rt, end.opening_cells(), [0, 0, 0, 0].as_slice());
     let left = compacts_to(
+        &rt,
         rt.alloc(),
         &shards,
         &end.object,
         &[50, 50, 50, 50],
         &[0, 2, 2, 2],
     );
-    same(&rt, left, Ok(true));
-    Ok(())
+    same(&rt, left, true);
 }

@@ -3,18 +3,19 @@ use crate::compared::same;
 use crate::shards::{Shards, shards_of};
 use shard_sessions::read_back;
 use std::alloc::Global;
-use std::test::Fail;
+use std::process::Abort;
 use zarr_codecs::ArrayToBytesCodecTraits;
-use zarr_parts::{ArrayBytes, ArraySubset, CodecError, DataType};
+use zarr_parts::{ArrayBytes, ArraySubset, DataType};
 
 // The cells from the second to the third of four, once 7 and 9 were written over them.
-fn second_and_third<I: ArrayToBytesCodecTraits, X: ArrayToBytesCodecTraits>(
+fn second_and_third<I: ArrayToBytesCodecTraits, X: ArrayToBytesCodecTraits, R: Abort>(
+    rt: &R,
     alloc: Global,
     shards: &Shards<I, X>,
-) -> Result<Option<ArrayBytes<'static>>, CodecError> {
-    let subset = ArraySubset::from_ranges(alloc, &[1..3])?;
-    let bytes = ArrayBytes::from_numbers(alloc, &[7u8, 9])?;
-    Ok(read_back(
+) -> Option<ArrayBytes<'static>> {
+    let subset = ArraySubset::from_ranges(alloc, &[1..3]).expect(rt, "memory");
+    let bytes = ArrayBytes::from_numbers(alloc, &[7u8, 9]).expect(rt, "memory");
+    read_back(
         alloc,
         &shards.codec,
         &shards.shape,
@@ -22,22 +23,23 @@ fn second_and_third<I: ArrayToBytesCodecTraits, X: ArrayToBytesCodecTraits>(
         &shards.fill,
         subset,
         bytes,
-    )?)
+    )
+    .expect(rt, "memory")
 }
 
 // Whether these are 7 and 9.
-fn are_read_back<I: ArrayToBytesCodecTraits, X: ArrayToBytesCodecTraits>(
+fn are_read_back<I: ArrayToBytesCodecTraits, X: ArrayToBytesCodecTraits, R: Abort>(
+    rt: &R,
     alloc: Global,
     shards: &Shards<I, X>,
-) -> Result<bool, CodecError> {
-    let found = second_and_third(alloc, shards)?;
-    let wanted = ArrayBytes::from_numbers(alloc, &[7u8, 9])?;
-    Ok(found == Some(wanted))
+) -> bool {
+    let found = second_and_third(rt, alloc, shards);
+    let wanted = ArrayBytes::from_numbers(alloc, &[7u8, 9]).expect(rt, "memory");
+    found == Some(wanted)
 }
 
 #[test]
-fn what_is_written_is_read_back(rt: HostRuntime) -> Result<(), Fail> {
-    let shards = shards_of(rt.alloc(), 4)?;
-    same(&rt, are_read_back(rt.alloc(), &shards), Ok(true));
-    Ok(())
+fn what_is_written_is_read_back(rt: HostRuntime) {
+    let shards = shards_of(&rt, rt.alloc(), 4);
+    same(&rt, are_read_back(&rt, rt.alloc(), &shards), true);
 }

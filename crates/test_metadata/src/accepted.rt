@@ -3,6 +3,7 @@ use crate::compared::{same, same_at};
 use crate::examples::{Shards, ShardsOfShards, codec_of, configured, created, shape_of};
 use serde_json::Value;
 use std::alloc::Global;
+use std::process::Abort;
 use std::test::Fail;
 use zarr_codecs::{
     ArrayToBytesCodecTraits, BytesCodec, CodecTraitsV3, DefaultArrayToBytesCodec, VlenCodec,
@@ -106,7 +107,7 @@ fn the_default_codec_has_the_names_of_both(rt: HostRuntime) -> Result<(), Fail> 
 
 // The byte order is told apart.
 #[test]
-fn a_byte_order_is_read(rt: HostRuntime) -> Result<(), Fail> {
+fn a_byte_order_is_read(rt: HostRuntime) {
     for (text, want) in [
         (r#""bytes""#, BytesCodec::new(None)),
         (
@@ -118,10 +119,13 @@ fn a_byte_order_is_read(rt: HostRuntime) -> Result<(), Fail> {
             BytesCodec::little(),
         ),
     ] {
-        let value = Value::from_str(rt.alloc(), text)?;
-        same(&rt, BytesCodec::create(rt.alloc(), &value)?, want);
+        let value = Value::from_str(rt.alloc(), text).expect(&rt, "memory");
+        same(
+            &rt,
+            BytesCodec::create(rt.alloc(), &value).expect(&rt, "memory"),
+            want,
+        );
     }
-    Ok(())
 }
 
 const SHARDS: &str =
@@ -146,23 +150,22 @@ fn the_metadata_of_shards_of_shards_is_read_and_written(rt: HostRuntime) -> Resu
     Ok(())
 }
 
-fn configured_codec(alloc: Global, text: &str) -> Result<Shards, Fail> {
-    let value = Value::from_str(alloc, text)?;
-    Ok(codec_of(alloc, &value)?)
+fn configured_codec<R: Abort>(rt: &R, alloc: Global, text: &str) -> Shards {
+    let value = Value::from_str(alloc, text).expect(rt, "memory");
+    codec_of(alloc, &value).expect(rt, "memory")
 }
 
 // How a codec serves arrays of four bytes.
-fn checked(alloc: Global, codec: &Shards) -> Result<(), CodecError> {
-    let four = shape_of(alloc, &[4])?;
+fn checked<R: Abort>(rt: &R, alloc: Global, codec: &Shards) -> Result<(), CodecError> {
+    let four = shape_of(rt, alloc, &[4]);
     let fill = FillValue::from_number(alloc, 0u8)?;
     codec.check(alloc, &four, &DataType::UInt8, &fill)
 }
 
 // An index codec without a byte order makes a codec that serves no shape.
 #[test]
-fn an_index_needs_a_byte_order(rt: HostRuntime) -> Result<(), Fail> {
-    let codec = configured_codec(rt.alloc(), BIG)?;
-    let answer = checked(rt.alloc(), &codec);
+fn an_index_needs_a_byte_order(rt: HostRuntime) {
+    let codec = configured_codec(&rt, rt.alloc(), BIG);
+    let answer = checked(&rt, rt.alloc(), &codec);
     same(&rt, answer, Err(CodecError::UnsupportedDataType));
-    Ok(())
 }

@@ -3,7 +3,7 @@ use crate::compared::{same, same_at};
 use crate::examples::codec_of;
 use serde_json::Value;
 use std::alloc::Global;
-use std::test::Fail;
+use std::process::Abort;
 use zarr_codecs::PluginCreateError;
 
 fn told(error: &PluginCreateError) -> (u8, &'static str) {
@@ -18,14 +18,14 @@ fn refusal_of(alloc: Global, value: &Value) -> (u8, &'static str) {
     }
 }
 
-fn refusal(alloc: Global, text: &str) -> Result<(u8, &'static str), Fail> {
-    let value = Value::from_str(alloc, text)?;
-    Ok(refusal_of(alloc, &value))
+fn refusal<R: Abort>(rt: &R, alloc: Global, text: &str) -> (u8, &'static str) {
+    let value = Value::from_str(alloc, text).expect(rt, "memory");
+    refusal_of(alloc, &value)
 }
 
 // A refusal has a number, and a name without the text that it carries.
 #[test]
-fn a_refusal_tells_its_number_and_name(rt: HostRuntime) -> Result<(), Fail> {
+fn a_refusal_tells_its_number_and_name(rt: HostRuntime) {
     for (text, want) in [
         (
             r#"{"chunk_shape":[],"codecs":["gzip"],"index_codecs":[]}"#,
@@ -38,12 +38,11 @@ fn a_refusal_tells_its_number_and_name(rt: HostRuntime) -> Result<(), Fail> {
             (5, "UnsupportedChain"),
         ),
     ] {
-        same_at(&rt, text, refusal(rt.alloc(), text)?, want);
+        same_at(&rt, text, refusal(&rt, rt.alloc(), text), want);
     }
     same(
         &rt,
         told(&PluginCreateError::OutOfMemory),
         (1, "OutOfMemory"),
     );
-    Ok(())
 }

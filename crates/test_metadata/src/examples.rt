@@ -1,17 +1,20 @@
 // What codecs answer to a JSON text.
 use serde_json::Value;
 use std::alloc::Global;
+use std::process::Abort;
 use std::test::Fail;
 use zarr_codecs::{BytesCodec, CodecTraitsV3, PluginCreateError};
-use zarr_parts::{ChunkShape, CodecError};
+use zarr_parts::ChunkShape;
 use zarrs_sharding::{ShardingCodec, ShardingCodecConfiguration};
 
 pub type Shards = ShardingCodec<BytesCodec, BytesCodec>;
 
 pub type ShardsOfShards = ShardingCodec<Shards, BytesCodec>;
 
-pub fn shape_of(alloc: Global, axes: &[u64]) -> Result<ChunkShape, CodecError> {
-    ChunkShape::new(alloc, axes)?.ok_or(CodecError::OutOfBounds)
+pub fn shape_of<R: Abort>(rt: &R, alloc: Global, axes: &[u64]) -> ChunkShape {
+    ChunkShape::new(alloc, axes)
+        .expect(rt, "memory")
+        .expect(rt, "it fits")
 }
 
 pub fn codec_of(alloc: Global, value: &Value) -> Result<Shards, PluginCreateError> {

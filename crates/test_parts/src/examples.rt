@@ -2,6 +2,7 @@
 use std::alloc::Global;
 use std::borrow::CowSlice;
 use std::ops::Range;
+use std::process::Abort;
 use zarr_parts::{ArrayBytes, ArraySubset, ChunkShape, CodecError, Coordinates, FillValue};
 
 pub fn shape(alloc: Global, axes: &[u64]) -> Result<ChunkShape, CodecError> {
@@ -12,17 +13,23 @@ pub fn subset(alloc: Global, ranges: &[Range<u64>]) -> Result<ArraySubset, Codec
     ArraySubset::new_with_ranges(alloc, ranges)?.ok_or(CodecError::Fault)
 }
 
-pub fn listed(
+pub fn listed<R: Abort>(
+    rt: &R,
     alloc: Global,
     dimensionality: usize,
     count: u64,
     flat: &[u64],
 ) -> Result<Coordinates, CodecError> {
-    Coordinates::new(dimensionality, count, flat.to_vec(alloc)?).ok_or(CodecError::Fault)
+    Coordinates::new(
+        dimensionality,
+        count,
+        flat.to_vec(alloc).expect(rt, "memory"),
+    )
+    .ok_or(CodecError::Fault)
 }
 
-pub fn fill(alloc: Global, bytes: &[u8]) -> Result<FillValue, CodecError> {
-    Ok(FillValue::new(bytes.to_vec(alloc)?))
+pub fn fill<R: Abort>(rt: &R, alloc: Global, bytes: &[u8]) -> FillValue {
+    FillValue::new(bytes.to_vec(alloc).expect(rt, "memory"))
 }
 
 // The bytes of an array, with the size of each element or with the offsets of elements of any length.
@@ -32,29 +39,30 @@ pub enum Elements<'a> {
     Variable(&'a [usize], &'a [u8]),
 }
 
-pub fn fixed(size: usize, bytes: &[u8]) -> Result<ArrayBytes<'_>, CodecError> {
-    ArrayBytes::new_flen(CowSlice::Borrowed(bytes), size).ok_or(CodecError::Fault)
+pub fn fixed<'a, R: Abort>(rt: &R, size: usize, bytes: &'a [u8]) -> ArrayBytes<'a> {
+    ArrayBytes::new_flen(CowSlice::Borrowed(bytes), size).expect(rt, "it fits")
 }
 
-fn variable<'a>(
+fn variable<'a, R: Abort>(
+    rt: &R,
     alloc: Global,
     offsets: &[usize],
     bytes: &'a [u8],
-) -> Result<ArrayBytes<'a>, CodecError> {
-    let offsets = offsets.to_vec(alloc)?;
-    ArrayBytes::new_vlen(CowSlice::Borrowed(bytes), offsets).ok_or(CodecError::Fault)
+) -> ArrayBytes<'a> {
+    let offsets = offsets.to_vec(alloc).expect(rt, "memory");
+    ArrayBytes::new_vlen(CowSlice::Borrowed(bytes), offsets).expect(rt, "it fits")
 }
 
-pub fn array_of<'a>(alloc: Global, elements: Elements<'a>) -> Result<ArrayBytes<'a>, CodecError> {
+pub fn array_of<'a, R: Abort>(rt: &R, alloc: Global, elements: Elements<'a>) -> ArrayBytes<'a> {
     match elements {
-        Elements::Fixed(size, bytes) => fixed(size, bytes),
-        Elements::Variable(offsets, bytes) => variable(alloc, offsets, bytes),
+        Elements::Fixed(size, bytes) => fixed(rt, size, bytes),
+        Elements::Variable(offsets, bytes) => variable(rt, alloc, offsets, bytes),
     }
 }
 
 // Whether an array has these elements.
-pub fn has(alloc: Global, array: &ArrayBytes, elements: Elements) -> Result<bool, CodecError> {
-    Ok(*array == array_of(alloc, elements)?)
+pub fn has<R: Abort>(rt: &R, alloc: Global, array: &ArrayBytes, elements: Elements) -> bool {
+    *array == array_of(rt, alloc, elements)
 }
 
 // Whether a subset has these ranges.

@@ -3,7 +3,6 @@ use crate::compared::same;
 use crate::examples::{listed, subset};
 use std::alloc::Global;
 use std::process::Abort;
-use std::test::Fail;
 use zarr_parts::{CodecError, Indexer};
 
 // What is told of coordinates: how many numbers each has, how many they are, and whether they are given as a subset.
@@ -36,29 +35,28 @@ fn check<N: Indexer>(rt: &impl Abort, indexer: &N, want: Told, numbers: &[(u64, 
 
 // A subset gives its points in row-major order.
 #[test]
-fn a_subset_gives_its_points(rt: HostRuntime) -> Result<(), Fail> {
-    let column = subset(rt.alloc(), &[1..3, 0..1])?;
+fn a_subset_gives_its_points(rt: HostRuntime) {
+    let column = subset(rt.alloc(), &[1..3, 0..1]).expect(&rt, "memory");
     check(&rt, &column, (2, Some(2), true), &[(1, 0, 2), (1, 1, 0)]);
-    Ok(())
 }
 
 // A list gives its coordinates in its own order, one of them twice.
 #[test]
-fn coordinates_are_given_in_their_order(rt: HostRuntime) -> Result<(), Fail> {
-    let list = listed(rt.alloc(), 2, 3, &[3, 4, 0, 1, 3, 4])?;
+fn coordinates_are_given_in_their_order(rt: HostRuntime) {
+    let list = listed(&rt, rt.alloc(), 2, 3, &[3, 4, 0, 1, 3, 4]).expect(&rt, "memory");
     let numbers = [(0, 1, 4), (1, 0, 0), (2, 0, 3)];
     check(&rt, &list, (2, Some(3), false), &numbers);
-    Ok(())
 }
 
 // How many coordinates a list of so many numbers each has; a fault where it is none.
-fn count(
+fn count<R: Abort>(
+    rt: &R,
     alloc: Global,
     dimensionality: usize,
     many: u64,
     flat: &[u64],
 ) -> Result<Option<u64>, CodecError> {
-    Ok(listed(alloc, dimensionality, many, flat)?.len())
+    Ok(listed(rt, alloc, dimensionality, many, flat)?.len())
 }
 
 // A list has as many numbers as its coordinates have together.
@@ -70,31 +68,36 @@ fn each_coordinate_has_as_many_numbers(rt: HostRuntime) {
         (0, u64::MAX, &[], Ok(Some(u64::MAX))),
     ];
     for (dimensionality, many, flat, want) in rows {
-        same(&rt, count(rt.alloc(), dimensionality, many, flat), want);
+        same(
+            &rt,
+            count(&rt, rt.alloc(), dimensionality, many, flat),
+            want,
+        );
     }
 }
 
 // Whether a copy of a list of so many coordinates is equal to it.
-fn is_copied(alloc: Global) -> Result<bool, CodecError> {
-    let pair = listed(alloc, 1, 2, &[1, 2])?;
-    Ok(pair.try_clone(alloc)? == pair)
+fn is_copied<R: Abort>(rt: &R, alloc: Global) -> bool {
+    let pair = listed(rt, alloc, 1, 2, &[1, 2]).expect(rt, "memory");
+    pair.try_clone(alloc).expect(rt, "memory") == pair
 }
 
 // A copy is equal.
 #[test]
 fn a_copy_is_equal(rt: HostRuntime) {
-    assert!(rt; is_copied(rt.alloc()) == Ok(true));
+    assert!(rt; is_copied(&rt, rt.alloc()));
 }
 
 // Whether the same numbers are equal as so many coordinates of so many numbers each and as others.
-fn are_equal(
+fn are_equal<R: Abort>(
+    rt: &R,
     alloc: Global,
     one: (usize, u64),
     other: (usize, u64),
     flat: &[u64],
-) -> Result<bool, CodecError> {
-    let list = listed(alloc, one.0, one.1, flat)?;
-    Ok(list == listed(alloc, other.0, other.1, flat)?)
+) -> bool {
+    let list = listed(rt, alloc, one.0, one.1, flat).expect(rt, "memory");
+    list == listed(rt, alloc, other.0, other.1, flat).expect(rt, "memory")
 }
 
 // Lists of the same numbers differ by how many coordinates these are, also where there are none.
@@ -105,6 +108,6 @@ fn lists_differ_by_their_count(rt: HostRuntime) {
         ((0, 1), (0, 2), &[]),
     ];
     for (one, other, flat) in rows {
-        same(&rt, are_equal(rt.alloc(), one, other, flat), Ok(false));
+        same(&rt, are_equal(&rt, rt.alloc(), one, other, flat), false);
     }
 }

@@ -2,7 +2,7 @@
 use crate::compared::same;
 use std::alloc::Global;
 use std::borrow::CowSlice;
-use std::test::Fail;
+use std::process::Abort;
 use zarr_parts::{ArrayBytes, ArraySubset, CodecError, DataType, DataTypeSize, FillValue, Number};
 
 // The bytes and the size of the elements that these numbers are.
@@ -17,7 +17,7 @@ fn elements<T: Number>(
 
 // Numbers become elements, least significant byte first.
 #[test]
-fn numbers_become_elements(rt: HostRuntime) -> Result<(), Fail> {
+fn numbers_become_elements(rt: HostRuntime) {
     let alloc = rt.alloc();
     let table: [(Result<(Vec<u8>, DataTypeSize), CodecError>, &[u8], usize); 5] = [
         (elements(alloc, &[1u8, 255]), &[1, 255], 1),
@@ -27,30 +27,31 @@ fn numbers_become_elements(rt: HostRuntime) -> Result<(), Fail> {
         (elements::<u16>(alloc, &[]), &[], 2),
     ];
     for (made, bytes, size) in table {
-        let (made, kind) = made?;
+        let (made, kind) = made.expect(&rt, "memory");
         same(
             &rt,
             (made.as_slice(), kind),
             (bytes, DataTypeSize::Fixed(size)),
         );
     }
-    Ok(())
 }
 
-fn there_and_back(alloc: Global, numbers: &[u32]) -> Result<Vec<u32>, CodecError> {
-    ArrayBytes::from_numbers(alloc, numbers)?.to_numbers(alloc)
+fn there_and_back<R: Abort>(rt: &R, alloc: Global, numbers: &[u32]) -> Vec<u32> {
+    ArrayBytes::from_numbers(alloc, numbers)
+        .expect(rt, "memory")
+        .to_numbers(alloc)
+        .expect(rt, "memory")
 }
 
 // Elements give the numbers back.
 #[test]
-fn elements_become_numbers(rt: HostRuntime) -> Result<(), Fail> {
+fn elements_become_numbers(rt: HostRuntime) {
     let numbers = [0, 7, 258, 0x0102_0304, u32::MAX];
     same(
         &rt,
-        there_and_back(rt.alloc(), &numbers)?.as_slice(),
+        there_and_back(&rt, rt.alloc(), &numbers).as_slice(),
         numbers.as_slice(),
     );
-    Ok(())
 }
 
 // Elements of one size as numbers of another.
@@ -65,10 +66,9 @@ fn numbers_of_another_size_are_refused(rt: HostRuntime) {
 
 // A fill value of a number has the bytes of an element.
 #[test]
-fn fill_values_of_numbers(rt: HostRuntime) -> Result<(), Fail> {
-    let fill = FillValue::from_number(rt.alloc(), 0xff00u16)?;
+fn fill_values_of_numbers(rt: HostRuntime) {
+    let fill = FillValue::from_number(rt.alloc(), 0xff00u16).expect(&rt, "memory");
     same(&rt, fill.as_ne_bytes(), [0, 255].as_slice());
-    Ok(())
 }
 
 // Names of types, there and back.
@@ -103,45 +103,46 @@ fn other_names_are_no_types(rt: HostRuntime) {
 }
 
 // Whether a subset of these ranges is the subset at (1, 0) of 2 by 1.
-fn is_subset(alloc: Global) -> Result<bool, CodecError> {
-    let subset = ArraySubset::from_ranges(alloc, &[1..3, 0..1])?;
-    Ok(subset.start() == [1, 0].as_slice() && subset.shape() == [2, 1].as_slice())
+fn is_subset<R: Abort>(rt: &R, alloc: Global) -> bool {
+    let subset = ArraySubset::from_ranges(alloc, &[1..3, 0..1]).expect(rt, "memory");
+    subset.start() == [1, 0].as_slice() && subset.shape() == [2, 1].as_slice()
 }
 
 #[test]
 fn subsets_from_ranges(rt: HostRuntime) {
-    assert!(rt; is_subset(rt.alloc()) == Ok(true));
+    assert!(rt; is_subset(&rt, rt.alloc()));
     let backwards = ArraySubset::from_ranges(rt.alloc(), &[0..1, 3..1]);
     assert!(rt; matches!(backwards, Err(CodecError::OutOfBounds)));
 }
 
 // An array of elements between offsets, the bytes after them lent.
-fn between<'a>(
+fn between<'a, R: Abort>(
+    rt: &R,
     alloc: Global,
     offsets: &[usize],
     bytes: &'a [u8],
-) -> Result<ArrayBytes<'a>, CodecError> {
-    let offsets = offsets.to_vec(alloc)?;
-    ArrayBytes::new_vlen(CowSlice::Borrowed(bytes), offsets).ok_or(CodecError::Damaged)
+) -> ArrayBytes<'a> {
+    let offsets = offsets.to_vec(alloc).expect(rt, "memory");
+    ArrayBytes::new_vlen(CowSlice::Borrowed(bytes), offsets).expect(rt, "it fits")
 }
 
 // Whether an array of elements between offsets gives the offsets back, and says rightly whether it is empty.
-fn comes_apart(alloc: Global, offsets: &[usize], bytes: &[u8]) -> Result<bool, CodecError> {
-    let array = between(alloc, offsets, bytes)?;
+fn comes_apart<R: Abort>(rt: &R, alloc: Global, offsets: &[usize], bytes: &[u8]) -> bool {
+    let array = between(rt, alloc, offsets, bytes);
     let empty = array.is_empty();
-    let parts = array.into_variable()?;
-    Ok(parts.offsets.as_slice() == offsets && empty == (offsets.len() == 1))
+    let parts = array.into_variable().expect(rt, "memory");
+    parts.offsets.as_slice() == offsets && empty == (offsets.len() == 1)
 }
 
 #[test]
 fn elements_of_any_length_come_apart(rt: HostRuntime) {
-    assert!(rt; comes_apart(rt.alloc(), &[0, 2, 2, 3], b"abc") == Ok(true));
-    assert!(rt; comes_apart(rt.alloc(), &[0], b"") == Ok(true));
+    assert!(rt; comes_apart(&rt, rt.alloc(), &[0, 2, 2, 3], b"abc"));
+    assert!(rt; comes_apart(&rt, rt.alloc(), &[0], b""));
 }
 
 // Neither kind comes apart as the other.
-fn as_the_other(alloc: Global) -> Result<[bool; 2], CodecError> {
-    let variable = between(alloc, &[0, 1], b"a")?.into_fixed();
+fn as_the_other<R: Abort>(rt: &R, alloc: Global) -> Result<[bool; 2], CodecError> {
+    let variable = between(rt, alloc, &[0, 1], b"a").into_fixed();
     let fixed = ArrayBytes::from_numbers(alloc, &[1u8])?.into_variable();
     Ok([
         matches!(variable, Err(CodecError::WrongElementKind)),
@@ -151,5 +152,5 @@ fn as_the_other(alloc: Global) -> Result<[bool; 2], CodecError> {
 
 #[test]
 fn the_other_kind_is_refused(rt: HostRuntime) {
-    assert!(rt; as_the_other(rt.alloc()) == Ok([true, true]));
+    assert!(rt; as_the_other(&rt, rt.alloc()) == Ok([true, true]));
 }

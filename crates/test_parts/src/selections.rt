@@ -3,49 +3,62 @@ use crate::compared::same;
 use crate::examples::{listed, shape, subset};
 use std::alloc::Global;
 use std::ops::Range;
+use std::process::Abort;
 use zarr_parts::{ChunkShape, CodecError, Indexer, check_selection, point_numbers};
 
 // Whether the coordinates that are asked of a shape have these numbers in it.
-fn are_numbers_in<N: Indexer>(
+fn are_numbers_in<N: Indexer, R: Abort>(
+    rt: &R,
     alloc: Global,
     indexer: &N,
     shape: &ChunkShape,
     want: &[u64],
-) -> Result<bool, CodecError> {
-    let _cells = shape.num_elements().ok_or(CodecError::TooLarge)?;
-    let count = check_selection(indexer, shape)?;
-    Ok(point_numbers(alloc, indexer, count, shape)?.as_slice() == want)
+) -> bool {
+    let _cells = shape.num_elements().expect(rt, "it fits");
+    let count = check_selection(indexer, shape).expect(rt, "memory");
+    point_numbers(alloc, indexer, count, shape)
+        .expect(rt, "memory")
+        .as_slice()
+        == want
 }
 
-fn are_numbers<N: Indexer>(
+fn are_numbers<N: Indexer, R: Abort>(
+    rt: &R,
     alloc: Global,
     indexer: &N,
     axes: &[u64],
     want: &[u64],
-) -> Result<bool, CodecError> {
-    are_numbers_in(alloc, indexer, &shape(alloc, axes)?, want)
+) -> bool {
+    are_numbers_in(
+        rt,
+        alloc,
+        indexer,
+        &shape(alloc, axes).expect(rt, "memory"),
+        want,
+    )
 }
 
-fn is_numbered(alloc: Global) -> Result<bool, CodecError> {
-    let column = subset(alloc, &[1..3, 0..1])?;
-    are_numbers(alloc, &column, &[4, 4], &[4, 8])
+fn is_numbered<R: Abort>(rt: &R, alloc: Global) -> bool {
+    let column = subset(alloc, &[1..3, 0..1]).expect(rt, "memory");
+    are_numbers(rt, alloc, &column, &[4, 4], &[4, 8])
 }
 
 // The points of a subset are numbered in row-major order.
 #[test]
 fn a_subset_is_numbered(rt: HostRuntime) {
-    assert!(rt; is_numbered(rt.alloc()) == Ok(true));
+    assert!(rt; is_numbered(&rt, rt.alloc()));
 }
 
-fn are_listed(
+fn are_listed<R: Abort>(
+    rt: &R,
     alloc: Global,
     axes: &[u64],
     count: u64,
     flat: &[u64],
     want: &[u64],
-) -> Result<bool, CodecError> {
-    let list = listed(alloc, axes.len(), count, flat)?;
-    are_numbers(alloc, &list, axes, want)
+) -> bool {
+    let list = listed(rt, alloc, axes.len(), count, flat).expect(rt, "memory");
+    are_numbers(rt, alloc, &list, axes, want)
 }
 
 // Listed coordinates are numbered in their own order, one of them twice.
@@ -58,20 +71,21 @@ fn coordinates_are_numbered(rt: HostRuntime) {
     for (axes, count, flat, want) in rows {
         same(
             &rt,
-            are_listed(rt.alloc(), axes, count, flat, want),
-            Ok(true),
+            are_listed(&rt, rt.alloc(), axes, count, flat, want),
+            true,
         );
     }
 }
 
-fn list_count(
+fn list_count<R: Abort>(
+    rt: &R,
     alloc: Global,
     axes: &[u64],
     dimensionality: usize,
     count: u64,
     flat: &[u64],
 ) -> Result<u64, CodecError> {
-    let list = listed(alloc, dimensionality, count, flat)?;
+    let list = listed(rt, alloc, dimensionality, count, flat)?;
     check_selection(&list, &shape(alloc, axes)?)
 }
 
@@ -86,7 +100,7 @@ fn coordinates_are_counted_where_they_are_inside(rt: HostRuntime) {
         (&[], 0, u64::MAX, &[], Ok(u64::MAX)),
     ];
     for (axes, dimensionality, count, flat, want) in rows {
-        let found = list_count(rt.alloc(), axes, dimensionality, count, flat);
+        let found = list_count(&rt, rt.alloc(), axes, dimensionality, count, flat);
         same(&rt, found, want);
     }
 }

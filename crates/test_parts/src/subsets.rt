@@ -3,7 +3,7 @@ use crate::compared::same;
 use crate::examples::{is_subset, subset};
 use std::alloc::{AllocError, Global};
 use std::ops::Range;
-use std::test::Fail;
+use std::process::Abort;
 use zarr_parts::{ArraySubset, CodecError, subset_law};
 
 // Whether a subset has this start, this shape and this end.
@@ -19,30 +19,35 @@ fn lies_at(
 }
 
 // Whether the column of the first axis lies where it should.
-fn is_column(alloc: Global) -> Result<bool, CodecError> {
-    let column = subset(alloc, &[1..3, 0..1])?;
-    Ok(lies_at(alloc, &column, &[1, 0], &[2, 1], &[3, 1])?)
+fn is_column<R: Abort>(rt: &R, alloc: Global) -> bool {
+    let column = subset(alloc, &[1..3, 0..1]).expect(rt, "memory");
+    lies_at(alloc, &column, &[1, 0], &[2, 1], &[3, 1]).expect(rt, "memory")
 }
 
 // A range starts at its first number and ends before its last.
 #[test]
 fn a_subset_is_made_of_ranges(rt: HostRuntime) {
-    assert!(rt; is_column(rt.alloc()) == Ok(true));
+    assert!(rt; is_column(&rt, rt.alloc()));
 }
 
-fn of_ranges(alloc: Global, ranges: &[Range<u64>]) -> Result<bool, CodecError> {
-    Ok(ArraySubset::new_with_ranges(alloc, ranges)?.is_some())
+fn of_ranges<R: Abort>(rt: &R, alloc: Global, ranges: &[Range<u64>]) -> bool {
+    ArraySubset::new_with_ranges(alloc, ranges)
+        .expect(rt, "memory")
+        .is_some()
 }
 
 // No range ends before its start.
 #[test]
 fn no_range_falls(rt: HostRuntime) {
-    assert!(rt; of_ranges(rt.alloc(), &[1..3, 1..0]) == Ok(false));
+    assert!(rt; of_ranges(&rt, rt.alloc(), &[1..3, 1..0]) == false);
 }
 
-fn of(alloc: Global, start: &[u64], shape: &[u64]) -> Result<bool, CodecError> {
-    let made = ArraySubset::new_with_start_shape(start.to_vec(alloc)?, shape.to_vec(alloc)?);
-    Ok(made.is_some())
+fn of<R: Abort>(rt: &R, alloc: Global, start: &[u64], shape: &[u64]) -> bool {
+    let made = ArraySubset::new_with_start_shape(
+        start.to_vec(alloc).expect(rt, "memory"),
+        shape.to_vec(alloc).expect(rt, "memory"),
+    );
+    made.is_some()
 }
 
 // A start and a shape are as long, and no end passes 64 bits.
@@ -54,13 +59,18 @@ fn an_end_fits_64_bits(rt: HostRuntime) {
         (&[0], &[4, 4], false),
     ];
     for (start, shape, made) in rows {
-        same(&rt, of(rt.alloc(), start, shape), Ok(made));
+        same(&rt, of(&rt, rt.alloc(), start, shape), made);
     }
 }
 
 // How many points a subset of this shape has, which must start at the origin.
-fn points(alloc: Global, shape: &[u64], origin: &[u64]) -> Result<Option<u64>, CodecError> {
-    let whole = ArraySubset::new_with_shape(alloc, shape.to_vec(alloc)?)?;
+fn points<R: Abort>(
+    rt: &R,
+    alloc: Global,
+    shape: &[u64],
+    origin: &[u64],
+) -> Result<Option<u64>, CodecError> {
+    let whole = ArraySubset::new_with_shape(alloc, shape.to_vec(alloc).expect(rt, "memory"))?;
     if whole.start() != origin {
         return Err(CodecError::Fault);
     }
@@ -75,32 +85,42 @@ fn an_empty_axis_leaves_no_point(rt: HostRuntime) {
         (&[1 << 32, 1 << 32], &[0, 0], None),
     ];
     for (shape, origin, count) in rows {
-        same(&rt, points(rt.alloc(), shape, origin), Ok(count));
+        same(&rt, points(&rt, rt.alloc(), shape, origin), Ok(count));
     }
 }
 
 // Whether a copy of the column is equal to it.
-fn is_copied(alloc: Global) -> Result<bool, CodecError> {
-    let copy = subset(alloc, &[1..3, 0..1])?.try_clone(alloc)?;
-    is_subset(alloc, &copy, &[1..3, 0..1])
+fn is_copied<R: Abort>(rt: &R, alloc: Global) -> bool {
+    let copy = subset(alloc, &[1..3, 0..1])
+        .expect(rt, "memory")
+        .try_clone(alloc)
+        .expect(rt, "memory");
+    is_subset(alloc, &copy, &[1..3, 0..1]).expect(rt, "memory")
 }
 
 // Whether the column is the subset of these ranges.
-fn column_is(alloc: Global, ranges: &[Range<u64>]) -> Result<bool, CodecError> {
-    is_subset(alloc, &subset(alloc, &[1..3, 0..1])?, ranges)
+fn column_is<R: Abort>(rt: &R, alloc: Global, ranges: &[Range<u64>]) -> bool {
+    is_subset(
+        alloc,
+        &subset(alloc, &[1..3, 0..1]).expect(rt, "memory"),
+        ranges,
+    )
+    .expect(rt, "memory")
 }
 
 // A copy is equal, and a subset with another start is not.
 #[test]
 fn a_copy_is_equal(rt: HostRuntime) {
-    same(&rt, is_copied(rt.alloc()), Ok(true));
-    same(&rt, column_is(rt.alloc(), &[0..2, 0..1]), Ok(false));
+    same(&rt, is_copied(&rt, rt.alloc()), true);
+    same(&rt, column_is(&rt, rt.alloc(), &[0..2, 0..1]), false);
 }
 
 // The law of subsets can be called.
 #[test]
-fn the_law_of_subsets_can_be_called(rt: HostRuntime) -> Result<(), Fail> {
-    let whole = ArraySubset::new_with_shape(rt.alloc(), [4, 4].to_vec(rt.alloc())?)?;
+fn the_law_of_subsets_can_be_called(rt: HostRuntime) {
+    let whole = ArraySubset::new_with_shape(
+        rt.alloc(),
+        [4, 4].to_vec(rt.alloc()).expect(&rt, "memory"),
+    ).expect(&rt, "memory");
     subset_law(&whole, &[4, 4]);
-    Ok(())
 }

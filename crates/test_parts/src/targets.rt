@@ -3,6 +3,7 @@ use crate::compared::{same, same_at};
 use crate::examples::{fill, fixed, subset};
 use std::alloc::Global;
 use std::ops::Range;
+use std::process::Abort;
 use zarr_parts::{ArraySubset, CodecError, FixedTarget};
 
 // A target over a subset of 3 rows of 3 elements.
@@ -15,20 +16,26 @@ fn target_of<'a>(
 }
 
 // What a copy of two single bytes into a subset answers.
-fn copy_into(bytes: &mut [u8], element_size: usize, cells: &ArraySubset) -> Result<(), CodecError> {
-    let update = fixed(1, &[4, 8])?;
+fn copy_into<R: Abort>(
+    rt: &R,
+    bytes: &mut [u8],
+    element_size: usize,
+    cells: &ArraySubset,
+) -> Result<(), CodecError> {
+    let update = fixed(rt, 1, &[4, 8]);
     target_of(bytes, element_size, cells)?.copy_from(&update)
 }
 
 // What such a copy answers; damage where the bytes, which were 77, are not these then.
-fn copied_over(
+fn copied_over<R: Abort>(
+    rt: &R,
     alloc: Global,
     element_size: usize,
     cells: &ArraySubset,
     want: &[u8],
 ) -> Result<(), CodecError> {
     let mut bytes = Vec::from_elem(alloc, 77, want.len())?;
-    let answer = copy_into(&mut bytes, element_size, cells);
+    let answer = copy_into(rt, &mut bytes, element_size, cells);
     if bytes.as_slice() == want {
         answer
     } else {
@@ -36,13 +43,14 @@ fn copied_over(
     }
 }
 
-fn copied(
+fn copied<R: Abort>(
+    rt: &R,
     alloc: Global,
     element_size: usize,
     ranges: &[Range<u64>],
     want: &[u8],
 ) -> Result<(), CodecError> {
-    copied_over(alloc, element_size, &subset(alloc, ranges)?, want)
+    copied_over(rt, alloc, element_size, &subset(alloc, ranges)?, want)
 }
 
 // As many elements of the target's size are copied into the subset; others are refused and change nothing.
@@ -61,26 +69,31 @@ fn elements_are_copied_into_a_subset(rt: HostRuntime) {
         (2, &[1..3, 1..2], wrong, &[77; 18]),
     ];
     for (element_size, ranges, answer, want) in rows {
-        same(&rt, copied(rt.alloc(), element_size, ranges, want), answer);
+        same(
+            &rt,
+            copied(&rt, rt.alloc(), element_size, ranges, want),
+            answer,
+        );
     }
 }
 
 // What filling a subset of single bytes answers.
-fn fill_into(
+fn fill_into<R: Abort>(
+    rt: &R,
     alloc: Global,
     bytes: &mut [u8],
     cells: &ArraySubset,
     value: &[u8],
 ) -> Result<(), CodecError> {
-    let value = fill(alloc, value)?;
+    let value = fill(rt, alloc, value);
     target_of(bytes, 1, cells)?.fill(&value)
 }
 
 // What filling a column answers; damage where the bytes, which were 77, are not these then.
-fn filled(alloc: Global, value: &[u8], want: &[u8; 9]) -> Result<(), CodecError> {
+fn filled<R: Abort>(rt: &R, alloc: Global, value: &[u8], want: &[u8; 9]) -> Result<(), CodecError> {
     let column = subset(alloc, &[1..3, 1..2])?;
     let mut bytes = [77; 9];
-    let answer = fill_into(alloc, &mut bytes, &column, value);
+    let answer = fill_into(rt, alloc, &mut bytes, &column, value);
     if bytes == *want {
         answer
     } else {
@@ -96,25 +109,30 @@ fn a_subset_is_filled(rt: HostRuntime) {
         (&[5], Ok(()), &[77, 77, 77, 77, 5, 77, 77, 5, 77]),
     ];
     for (value, answer, want) in rows {
-        same(&rt, filled(rt.alloc(), value, want), answer);
+        same(&rt, filled(&rt, rt.alloc(), value, want), answer);
     }
 }
 
 // Whether a target over a subset of single bytes has so many elements, each of one byte, and tells the subset.
-fn tells(bytes: &mut [u8], cells: &ArraySubset, count: u64) -> Result<bool, CodecError> {
-    let target = target_of(bytes, 1, cells)?;
+fn tells<R: Abort>(rt: &R, bytes: &mut [u8], cells: &ArraySubset, count: u64) -> bool {
+    let target = target_of(bytes, 1, cells).expect(rt, "memory");
     let counted = target.num_elements() == count && target.element_size() == 1;
-    Ok(counted && target.subset() == cells)
+    counted && target.subset() == cells
 }
 
-fn tells_its_column(alloc: Global) -> Result<bool, CodecError> {
-    tells(&mut [77; 9], &subset(alloc, &[1..3, 1..2])?, 2)
+fn tells_its_column<R: Abort>(rt: &R, alloc: Global) -> bool {
+    tells(
+        rt,
+        &mut [77; 9],
+        &subset(alloc, &[1..3, 1..2]).expect(rt, "memory"),
+        2,
+    )
 }
 
 // A target tells its elements and its subset.
 #[test]
 fn a_target_tells_its_subset(rt: HostRuntime) {
-    same(&rt, tells_its_column(rt.alloc()), Ok(true));
+    same(&rt, tells_its_column(&rt, rt.alloc()), true);
 }
 
 // Whether nine bytes fit a subset; a fault unless they are a target over it just then.
@@ -128,8 +146,8 @@ fn nine_fit(element_size: usize, cells: &ArraySubset) -> Result<bool, CodecError
     }
 }
 
-fn fits(alloc: Global, element_size: usize, ranges: &[Range<u64>]) -> Result<bool, CodecError> {
-    nine_fit(element_size, &subset(alloc, ranges)?)
+fn fits<R: Abort>(rt: &R, alloc: Global, element_size: usize, ranges: &[Range<u64>]) -> bool {
+    nine_fit(element_size, &subset(alloc, ranges).expect(rt, "memory")).expect(rt, "memory")
 }
 
 // Bytes are a target over a subset where they fit it.
@@ -142,6 +160,6 @@ fn bytes_that_do_not_fit_are_no_target(rt: HostRuntime) {
         (1, &[1..4, 1..2], false, "a box outside"),
     ];
     for (element_size, ranges, want, what) in rows {
-        same_at(&rt, what, fits(rt.alloc(), element_size, ranges), Ok(want));
+        same_at(&rt, what, fits(&rt, rt.alloc(), element_size, ranges), want);
     }
 }

@@ -2,7 +2,8 @@
 use crate::compared::same_at;
 use crate::examples::fill;
 use std::alloc::Global;
-use zarr_parts::{CodecError, DataType, DataTypeSize};
+use std::process::Abort;
+use zarr_parts::{DataType, DataTypeSize};
 
 // Each type has the size of its elements, or none.
 #[test]
@@ -28,13 +29,13 @@ fn only_the_mark_is_optional(rt: HostRuntime) {
     assert!(rt; !DataType::Raw(0).is_optional());
 }
 
-fn is_copied(alloc: Global) -> Result<bool, CodecError> {
-    let pair = fill(alloc, &[1, 2])?;
-    Ok(pair.try_clone(alloc)? == pair)
+fn is_copied<R: Abort>(rt: &R, alloc: Global) -> bool {
+    let pair = fill(rt, alloc, &[1, 2]);
+    pair.try_clone(alloc).expect(rt, "memory") == pair
 }
 
 // A copy of a fill value is equal.
 #[test]
 fn a_copy_of_a_fill_value_is_equal(rt: HostRuntime) {
-    assert!(rt; is_copied(rt.alloc()) == Ok(true));
+    assert!(rt; is_copied(&rt, rt.alloc()));
 }

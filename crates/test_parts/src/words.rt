@@ -1,7 +1,7 @@
 // What errors print, their numbers and names, and the options of a call.
 use crate::compared::same;
 use std::alloc::Global;
-use std::test::Fail;
+use std::process::Abort;
 use zarr_parts::{CodecError, CodecOptions, CodecSpecificOptions};
 
 const TEXTS: &[(CodecError, &str)] = &[
@@ -30,18 +30,17 @@ const TEXTS: &[(CodecError, &str)] = &[
     (CodecError::SessionFailed, "SessionFailed"),
 ];
 
-fn printed(alloc: Global, error: CodecError) -> Result<String, Fail> {
-    Ok(format!(in alloc; "{error}")?)
+fn printed<R: Abort>(rt: &R, alloc: Global, error: CodecError) -> String {
+    format!(in alloc; "{error}").expect(rt, "memory")
 }
 
 // An error prints its name, and the number of the pair that it names.
 #[test]
-fn an_error_prints_its_name(rt: HostRuntime) -> Result<(), Fail> {
+fn an_error_prints_its_name(rt: HostRuntime) {
     for (error, text) in TEXTS {
-        let found = printed(rt.alloc(), *error)?;
+        let found = printed(&rt, rt.alloc(), *error);
         same(&rt, found.as_str(), *text);
     }
-    Ok(())
 }
 
 // An error has a number, and a name without the number of a pair.

@@ -3,6 +3,7 @@ use crate::compared::{same, same_at};
 use crate::shards::{Cells, Plain, around, cells_of, encoded, plain, read_back, said, subset_of};
 use std::alloc::Global;
 use std::ops::Range;
+use std::process::Abort;
 use zarr_codecs::{
     ArrayToBytesCodecTraits, BytesCodec, BytesPartialDecoderTraits, FaultingHandle, Interval,
     SliceHandle, StoredArray,
@@ -13,23 +14,24 @@ use zarrs_sharding::{ShardingCodec, ShardingIndexLocation};
 // Four by four cells in two shards of two subchunks each. The last of these four is all fill.
 const CELLS: [u8; 16] = [1, 2, 3, 4, 5, 6, 7, 8, 9, 10, 0, 0, 13, 14, 0, 0];
 
-fn rows_of_shards(alloc: Global) -> Result<ShardingCodec<Plain, BytesCodec>, CodecError> {
-    let inner = plain(alloc, &[2, 2], ShardingIndexLocation::End)?;
-    around(alloc, &[2, 4], inner, ShardingIndexLocation::End)
+fn rows_of_shards<R: Abort>(rt: &R, alloc: Global) -> ShardingCodec<Plain, BytesCodec> {
+    let inner = plain(rt, alloc, &[2, 2], ShardingIndexLocation::End);
+    around(rt, alloc, &[2, 4], inner, ShardingIndexLocation::End)
 }
 
-fn object_of(alloc: Global) -> Result<Vec<u8>, CodecError> {
-    encoded(alloc, &rows_of_shards(alloc)?, &[4, 4], &CELLS)
+fn object_of<R: Abort>(rt: &R, alloc: Global) -> Vec<u8> {
+    encoded(rt, alloc, &rows_of_shards(rt, alloc), &[4, 4], &CELLS)
 }
 
 // The cells of a subset.
-fn subset_read_back(
+fn subset_read_back<R: Abort>(
+    rt: &R,
     alloc: Global,
     rows: Range<u64>,
     columns: Range<u64>,
 ) -> Result<Vec<u8>, CodecError> {
-    let codec = rows_of_shards(alloc)?;
-    read_back(alloc, &codec, &[4, 4], &CELLS, &[rows, columns])
+    let codec = rows_of_shards(rt, alloc);
+    read_back(rt, alloc, &codec, &[4, 4], &CELLS, &[rows, columns])
 }
 
 #[test]
@@ -42,7 +44,7 @@ fn subsets_of_nested_shards_are_read(rt: HostRuntime) {
         (0..2, 3..4, &[4, 8]),
         (2..2, 0..4, &[]),
     ] {
-        let cells = subset_read_back(rt.alloc(), rows, columns);
+        let cells = subset_read_back(&rt, rt.alloc(), rows, columns);
         same_at(&rt, want, said(&cells), Ok(want));
     }
 }
@@ -55,12 +57,12 @@ struct Middle {
     requested: ArraySubset,
 }
 
-fn requested_middle(alloc: Global) -> Result<Middle, CodecError> {
-    Ok(Middle {
-        codec: rows_of_shards(alloc)?,
-        cells: cells_of(alloc, &[4, 4])?,
-        requested: subset_of(alloc, &[1..3, 1..3])?,
-    })
+fn requested_middle<R: Abort>(rt: &R, alloc: Global) -> Middle {
+    Middle {
+        codec: rows_of_shards(rt, alloc),
+        cells: cells_of(rt, alloc, &[4, 4]),
+        requested: subset_of(rt, alloc, &[1..3, 1..3]),
+    }
 }
 
 // Reads them from a handle's object, which has so many bytes.
@@ -91,7 +93,8 @@ fn read_middle<H: BytesPartialDecoderTraits>(
 }
 
 // Reads them into a subset of other bytes.
-fn read_into<H: BytesPartialDecoderTraits>(
+fn read_into<H: BytesPartialDecoderTraits, R: Abort>(
+    rt: &R,
     alloc: Global,
     handle: &mut H,
     size: usize,
@@ -100,22 +103,31 @@ fn read_into<H: BytesPartialDecoderTraits>(
     bytes: &mut [u8],
 ) -> Result<(), CodecError> {
     let mut target = FixedTarget::new(bytes, 1, axes, place).ok_or(CodecError::OutOfBounds)?;
-    let middle = requested_middle(alloc)?;
+    let middle = requested_middle(rt, alloc);
     read_middle(alloc, handle, size, &middle, &mut target)
 }
 
 // So many nines, into a subset of which they were read.
-fn middle_in(
+fn middle_in<R: Abort>(
+    rt: &R,
     alloc: Global,
     count: usize,
     axes: &[u64],
     place: &[Range<u64>],
 ) -> Result<Vec<u8>, CodecError> {
-    let object = object_of(alloc)?;
-    let place = subset_of(alloc, place)?;
-    let mut bytes = vec![in alloc; 9u8; count]?;
+    let object = object_of(rt, alloc);
+    let place = subset_of(rt, alloc, place);
+    let mut bytes = vec![in alloc; 9u8; count].expect(rt, "memory");
     let mut handle = SliceHandle::new(&object);
-    read_into(alloc, &mut handle, object.len(), axes, &place, &mut bytes)?;
+    read_into(
+        rt,
+        alloc,
+        &mut handle,
+        object.len(),
+        axes,
+        &place,
+        &mut bytes,
+    )?;
     Ok(bytes)
 }
 
@@ -138,29 +150,30 @@ fn a_subset_is_read_into_a_fresh_target(rt: HostRuntime) {
             Err(CodecError::InvalidNumberOfElements),
         ),
     ] {
-        let bytes = middle_in(rt.alloc(), count, axes, place);
+        let bytes = middle_in(&rt, rt.alloc(), count, axes, place);
         same_at(&rt, axes, said(&bytes), want);
     }
 }
 
 // The same by a handle of which a call fails: how often one did, and what was read.
-fn middle_by(
+fn middle_by<R: Abort>(
+    rt: &R,
     alloc: Global,
     fails_at: u64,
     bytes: &mut [u8],
-) -> Result<(u64, Result<(), CodecError>), CodecError> {
-    let object = object_of(alloc)?;
+) -> (u64, Result<(), CodecError>) {
+    let object = object_of(rt, alloc);
     let size = object.len();
-    let place = subset_of(alloc, &[0..2, 0..2])?;
+    let place = subset_of(rt, alloc, &[0..2, 0..2]);
     let mut handle = FaultingHandle::new(Some(object), fails_at);
-    let read = read_into(alloc, &mut handle, size, &[2, 2], &place, bytes);
-    Ok((handle.faults(), read))
+    let read = read_into(rt, alloc, &mut handle, size, &[2, 2], &place, bytes);
+    (handle.faults(), read)
 }
 
 // How often a call of such a handle fails. Damaged where a read is accepted beside a fault or with other cells, or refused in another way.
-fn faults_of(alloc: Global, fails_at: u64) -> Result<u64, CodecError> {
+fn faults_of<R: Abort>(rt: &R, alloc: Global, fails_at: u64) -> Result<u64, CodecError> {
     let mut bytes = [9u8; 4];
-    let (faults, read) = middle_by(alloc, fails_at, &mut bytes)?;
+    let (faults, read) = middle_by(rt, alloc, fails_at, &mut bytes);
     let is_right = match read {
         Ok(()) => faults == 0 && bytes == [6, 7, 10, 0],
         Err(error) => faults == 1 && error == CodecError::Fault,
@@ -175,11 +188,11 @@ fn faults_of(alloc: Global, fails_at: u64) -> Result<u64, CodecError> {
 #[test]
 fn each_fault_refuses_a_read(rt: HostRuntime) {
     for fails_at in 0..5u64 {
-        same_at(&rt, fails_at, faults_of(rt.alloc(), fails_at), Ok(1));
+        same_at(&rt, fails_at, faults_of(&rt, rt.alloc(), fails_at), Ok(1));
     }
     for fails_at in 5..20u64 {
-        let answer = faults_of(rt.alloc(), fails_at);
+        let answer = faults_of(&rt, rt.alloc(), fails_at);
         same_at(&rt, fails_at, answer.is_ok(), true);
     }
-    same(&rt, faults_of(rt.alloc(), 20), Ok(0));
+    same(&rt, faults_of(&rt, rt.alloc(), 20), Ok(0));
 }

@@ -2,56 +2,63 @@
 use crate::compared::{same, same_at};
 use crate::shards::{done, fill_of, plain, shape_of};
 use std::alloc::Global;
+use std::process::Abort;
 use zarr_codecs::{ArrayToBytesCodecTraits, BytesRepresentation};
 use zarr_parts::{ArraySubset, ChunkShape, CodecError, DataType};
 use zarrs_sharding::{ShardingIndexLocation, calculate_chunks_per_shard, sharding_index_shape};
 
 // The grid of the subchunks of a shard.
-fn grid_of(alloc: Global, shape: &[u64], sub: &[u64]) -> Result<ChunkShape, CodecError> {
-    let shape = shape_of(alloc, shape)?;
-    calculate_chunks_per_shard(alloc, &shape, &shape_of(alloc, sub)?)
+fn grid_of<R: Abort>(rt: &R, alloc: Global, shape: &[u64], sub: &[u64]) -> ChunkShape {
+    let shape = shape_of(rt, alloc, shape);
+    calculate_chunks_per_shard(alloc, &shape, &shape_of(rt, alloc, sub)).expect(rt, "memory")
 }
 
 // Whether the index of a shard has this shape.
-fn is_index_shape(
+fn is_index_shape<R: Abort>(
+    rt: &R,
     alloc: Global,
     shape: &[u64],
     sub: &[u64],
     want: &[u64],
-) -> Result<bool, CodecError> {
-    let grid = grid_of(alloc, shape, sub)?;
-    Ok(sharding_index_shape(alloc, &grid)?.as_slice() == want)
+) -> bool {
+    let grid = grid_of(rt, alloc, shape, sub);
+    sharding_index_shape(alloc, &grid)
+        .expect(rt, "memory")
+        .as_slice()
+        == want
 }
 
 // An index has two numbers for each subchunk of the grid.
 #[test]
 fn a_shard_has_a_grid_and_an_index(rt: HostRuntime) {
-    let found = is_index_shape(rt.alloc(), &[4, 4], &[2, 2], &[2, 2, 2]);
-    same(&rt, found, Ok(true));
+    let found = is_index_shape(&rt, rt.alloc(), &[4, 4], &[2, 2], &[2, 2, 2]);
+    same(&rt, found, true);
 }
 
 // The subset of a subchunk of a grid.
-fn chunk_subset(
+fn chunk_subset<R: Abort>(
+    rt: &R,
     alloc: Global,
     number: u64,
     grid: &[u64],
     sub: &[u64],
 ) -> Result<Option<ArraySubset>, CodecError> {
-    let codec = plain(alloc, sub, ShardingIndexLocation::End)?;
-    codec.chunk_index_to_subset(alloc, number, &shape_of(alloc, grid)?)
+    let codec = plain(rt, alloc, sub, ShardingIndexLocation::End);
+    codec.chunk_index_to_subset(alloc, number, &shape_of(rt, alloc, grid))
 }
 
 // Whether a subchunk starts at this cell and has the subchunks' shape, or there is none of the number.
-fn is_subset(
+fn is_subset<R: Abort>(
+    rt: &R,
     alloc: Global,
     number: u64,
     grid: &[u64],
     sub: &[u64],
     start: Option<&[u64]>,
-) -> Result<bool, CodecError> {
-    match chunk_subset(alloc, number, grid, sub)? {
-        Some(found) => Ok(start == Some(found.start()) && found.shape() == sub),
-        None => Ok(start.is_none()),
+) -> bool {
+    match chunk_subset(rt, alloc, number, grid, sub).expect(rt, "memory") {
+        Some(found) => start == Some(found.start()) && found.shape() == sub,
+        None => start.is_none(),
     }
 }
 
@@ -69,8 +76,8 @@ fn a_subchunk_has_a_subset(rt: HostRuntime) {
         (4, &[2, 2], &[2, 2], None),
     ];
     for (number, grid, sub, start) in rows {
-        let found = is_subset(rt.alloc(), number, grid, sub, start);
-        same_at(&rt, number, found, Ok(true));
+        let found = is_subset(&rt, rt.alloc(), number, grid, sub, start);
+        same_at(&rt, number, found, true);
     }
 }
 
@@ -89,15 +96,20 @@ fn a_subset_is_refused_in_order(rt: HostRuntime) {
         (2, &[2], &[1 << 63], Ok(())),
     ];
     for (number, grid, sub, want) in rows {
-        let answer = done(chunk_subset(rt.alloc(), number, grid, sub));
+        let answer = done(chunk_subset(&rt, rt.alloc(), number, grid, sub));
         same_at(&rt, (number, grid, sub), answer, want);
     }
 }
 
 // The least and the most workers that can share the work on a shard.
-fn workers_of(alloc: Global, shape: &[u64], sub: &[u64]) -> Result<(usize, usize), CodecError> {
-    let codec = plain(alloc, sub, ShardingIndexLocation::End)?;
-    let told = codec.recommended_concurrency(&shape_of(alloc, shape)?, &DataType::UInt16)?;
+fn workers_of<R: Abort>(
+    rt: &R,
+    alloc: Global,
+    shape: &[u64],
+    sub: &[u64],
+) -> Result<(usize, usize), CodecError> {
+    let codec = plain(rt, alloc, sub, ShardingIndexLocation::End);
+    let told = codec.recommended_concurrency(&shape_of(rt, alloc, shape), &DataType::UInt16)?;
     Ok((told.min(), told.max()))
 }
 
@@ -113,16 +125,23 @@ fn workers_can_share_as_many_subchunks(rt: HostRuntime) {
         (many, &[3, 1], Err(CodecError::InvalidSubchunkShape)),
         (many, &[3], Err(CodecError::IncompatibleDimensionality)),
     ] {
-        let workers = workers_of(rt.alloc(), shape, sub);
+        let workers = workers_of(&rt, rt.alloc(), shape, sub);
         same_at(&rt, (shape, sub), workers, want);
     }
 }
 
 // What is told of the encodings of cells of two bytes.
-fn told(alloc: Global) -> Result<BytesRepresentation, CodecError> {
-    let codec = plain(alloc, &[2, 2], ShardingIndexLocation::End)?;
-    let shape = shape_of(alloc, &[4, 4])?;
-    codec.encoded_representation(alloc, &shape, &DataType::UInt16, &fill_of(alloc, &[0, 0])?)
+fn told<R: Abort>(rt: &R, alloc: Global) -> BytesRepresentation {
+    let codec = plain(rt, alloc, &[2, 2], ShardingIndexLocation::End);
+    let shape = shape_of(rt, alloc, &[4, 4]);
+    codec
+        .encoded_representation(
+            alloc,
+            &shape,
+            &DataType::UInt16,
+            &fill_of(rt, alloc, &[0, 0]),
+        )
+        .expect(rt, "memory")
 }
 
 // An encoding is no longer than all subchunks and the index.
@@ -130,7 +149,7 @@ fn told(alloc: Global) -> Result<BytesRepresentation, CodecError> {
 fn an_encoding_has_a_greatest_length(rt: HostRuntime) {
     same(
         &rt,
-        told(rt.alloc()),
-        Ok(BytesRepresentation::BoundedSize(96)),
+        told(&rt, rt.alloc()),
+        BytesRepresentation::BoundedSize(96),
     );
 }

@@ -5,9 +5,9 @@ use crate::shards::{
 };
 use std::alloc::Global;
 use std::borrow::CowSlice;
-use std::test::Fail;
+use std::process::Abort;
 use zarr_codecs::{ArrayToBytesCodecTraits, BytesCodec};
-use zarr_parts::{ArrayBytes, CodecError, CodecOptions, DataType};
+use zarr_parts::{ArrayBytes, CodecOptions, DataType};
 use zarrs_sharding::{
     ShardingCodec, ShardingIndexLocation, SubchunkWriteOrder, compact_again, compact_encoded,
     decode_served, decode_sound, encode_functional,
@@ -16,15 +16,15 @@ use zarrs_sharding::{
 // Two subchunks of two cells, of which the first is all fill.
 const CELLS: [u8; 4] = [0, 0, 7, 9];
 
-fn array(alloc: Global) -> Result<ArrayBytes<'static>, CodecError> {
-    let cells = CELLS.as_slice().to_vec(alloc)?;
-    ArrayBytes::new_flen(CowSlice::Owned(cells), 1).ok_or(CodecError::WrongElementKind)
+fn array<R: Abort>(rt: &R, alloc: Global) -> ArrayBytes<'static> {
+    let cells = CELLS.as_slice().to_vec(alloc).expect(rt, "memory");
+    ArrayBytes::new_flen(CowSlice::Owned(cells), 1).expect(rt, "it fits")
 }
 
 // The encoding of the cells behind their index, which is big endian.
-fn one_encoding(alloc: Global, array: &ArrayBytes, cells: &Cells) -> Result<Vec<u8>, CodecError> {
+fn one_encoding<R: Abort>(rt: &R, alloc: Global, array: &ArrayBytes, cells: &Cells) -> Vec<u8> {
     let codec = ShardingCodec::new(
-        shape_of(alloc, &[2])?,
+        shape_of(rt, alloc, &[2]),
         BytesCodec::big(),
         BytesCodec::big(),
         ShardingIndexLocation::Start,
@@ -40,56 +40,61 @@ fn one_encoding(alloc: Global, array: &ArrayBytes, cells: &Cells) -> Result<Vec<
         &cells.fill,
         &options,
     )
+    .expect(rt, "memory")
 }
 
 #[test]
-fn a_shard_has_one_encoding(rt: HostRuntime) -> Result<(), Fail> {
-    let array = array(rt.alloc())?;
-    let cells = cells_of(rt.alloc(), &[4])?;
-    let shard = one_encoding(rt.alloc(), &array, &cells)?;
+fn a_shard_has_one_encoding(rt: HostRuntime) {
+    let array = array(&rt, rt.alloc());
+    let cells = cells_of(&rt, rt.alloc(), &[4]);
+    let shard = one_encoding(&rt, rt.alloc(), &array, &cells);
     let want = [
         255, 255, 255, 255, 255, 255, 255, 255, 255, 255, 255, 255, 255, 255, 255, 255, 0, 0, 0, 0,
         0, 0, 0, 32, 0, 0, 0, 0, 0, 0, 0, 2, 7, 9,
     ];
     same(&rt, shard.as_slice(), want.as_slice());
-    Ok(())
 }
 
 // What the encoding of the cells before their index, in any order, is compacted to.
-fn compacted_encoding(
+fn compacted_encoding<R: Abort>(
+    rt: &R,
     alloc: Global,
     array: &ArrayBytes,
     cells: &Cells,
-) -> Result<Option<Vec<u8>>, CodecError> {
+) -> Option<Vec<u8>> {
     let codec = ShardingCodec::new(
-        shape_of(alloc, &[2])?,
+        shape_of(rt, alloc, &[2]),
         BytesCodec::big(),
         BytesCodec::big(),
         ShardingIndexLocation::End,
     );
     let (shape, bytes, fill) = (&cells.shape, &DataType::UInt8, &cells.fill);
     let options = CodecOptions::default();
-    let shard = codec.encode(alloc, array, shape, bytes, fill, &options)?;
-    compact_encoded(&codec, alloc, &shard, array, shape, bytes, fill, &options)
+    let shard = codec
+        .encode(alloc, array, shape, bytes, fill, &options)
+        .expect(rt, "memory");
+    compact_encoded(&codec, alloc, &shard, array, shape, bytes, fill, &options).expect(rt, "memory")
 }
 
 // Nothing stands in an encoding that a compaction leaves out.
 #[test]
-fn an_encoding_is_compact(rt: HostRuntime) -> Result<(), Fail> {
-    let array = array(rt.alloc())?;
-    let cells = cells_of(rt.alloc(), &[4])?;
-    let compacted = compacted_encoding(rt.alloc(), &array, &cells);
-    same(&rt, compacted, Ok(None));
-    Ok(())
+fn an_encoding_is_compact(rt: HostRuntime) {
+    let array = array(&rt, rt.alloc());
+    let cells = cells_of(&rt, rt.alloc(), &[4]);
+    let compacted = compacted_encoding(&rt, rt.alloc(), &array, &cells);
+    same(&rt, compacted, None);
 }
 
 // The cells of a shard that the codec serves.
-fn served_cells(alloc: Global, codec: &Plain, shard: &[u8]) -> Result<Vec<u8>, CodecError> {
-    let shape = shape_of(alloc, &[4])?;
-    let zero = fill_of(alloc, &[0])?;
-    codec.check(alloc, &shape, &DataType::UInt8, &zero)?;
+fn served_cells<R: Abort>(rt: &R, alloc: Global, codec: &Plain, shard: &[u8]) -> Vec<u8> {
+    let shape = shape_of(rt, alloc, &[4]);
+    let zero = fill_of(rt, alloc, &[0]);
+    codec
+        .check(alloc, &shape, &DataType::UInt8, &zero)
+        .expect(rt, "memory");
     let options = CodecOptions::default();
     elements_of(
+        rt,
         alloc,
         decode_served(
             codec,
@@ -101,15 +106,19 @@ fn served_cells(alloc: Global, codec: &Plain, shard: &[u8]) -> Result<Vec<u8>, C
             &options,
         ),
     )
+    .expect(rt, "memory")
 }
 
 // The cells of a shard, decoded a second time.
-fn sound_cells(alloc: Global, codec: &Plain, shard: &[u8]) -> Result<Vec<u8>, CodecError> {
-    let shape = shape_of(alloc, &[4])?;
-    let zero = fill_of(alloc, &[0])?;
+fn sound_cells<R: Abort>(rt: &R, alloc: Global, codec: &Plain, shard: &[u8]) -> Vec<u8> {
+    let shape = shape_of(rt, alloc, &[4]);
+    let zero = fill_of(rt, alloc, &[0]);
     let options = CodecOptions::default();
-    let first = codec.decode(alloc, shard, &shape, &DataType::UInt8, &zero, &options)?;
+    let first = codec
+        .decode(alloc, shard, &shape, &DataType::UInt8, &zero, &options)
+        .expect(rt, "memory");
     elements_of(
+        rt,
         alloc,
         decode_sound(
             codec,
@@ -121,47 +130,50 @@ fn sound_cells(alloc: Global, codec: &Plain, shard: &[u8]) -> Result<Vec<u8>, Co
             &options,
         ),
     )
+    .expect(rt, "memory")
 }
 
 #[test]
-fn an_encoding_is_decoded(rt: HostRuntime) -> Result<(), Fail> {
-    let codec = plain(rt.alloc(), &[2], ShardingIndexLocation::Start)?;
-    let shard = encoded(rt.alloc(), &codec, &[4], &CELLS)?;
-    let served = served_cells(rt.alloc(), &codec, &shard)?;
+fn an_encoding_is_decoded(rt: HostRuntime) {
+    let codec = plain(&rt, rt.alloc(), &[2], ShardingIndexLocation::Start);
+    let shard = encoded(&rt, rt.alloc(), &codec, &[4], &CELLS);
+    let served = served_cells(&rt, rt.alloc(), &codec, &shard);
     same(&rt, served.as_slice(), CELLS.as_slice());
-    let sound = sound_cells(rt.alloc(), &codec, &shard)?;
+    let sound = sound_cells(&rt, rt.alloc(), &codec, &shard);
     same(&rt, sound.as_slice(), CELLS.as_slice());
-    Ok(())
 }
 
 // Whether a shard is compacted to one of so many bytes, which is compact.
-fn is_compacted_to(
+fn is_compacted_to<R: Abort>(
+    rt: &R,
     alloc: Global,
     codec: &Plain,
     cells: &Cells,
     shard: &[u8],
     len: usize,
-) -> Result<bool, CodecError> {
+) -> bool {
     let (shape, bytes, fill) = (&cells.shape, &DataType::UInt8, &cells.fill);
-    codec.check(alloc, shape, bytes, fill)?;
+    codec.check(alloc, shape, bytes, fill).expect(rt, "memory");
     let options = CodecOptions::default();
-    let compacted = codec.compact(alloc, shard, shape, bytes, fill, &options)?;
+    let compacted = codec
+        .compact(alloc, shard, shape, bytes, fill, &options)
+        .expect(rt, "memory");
     let Some(compacted) = compacted else {
-        return Ok(false);
+        return false;
     };
     let again = compact_again(
         codec, alloc, shard, &compacted, shape, bytes, fill, &options,
-    )?;
-    Ok(again.is_none() && compacted.len() == len)
+    )
+    .expect(rt, "memory");
+    again.is_none() && compacted.len() == len
 }
 
 // Two dead bytes of six go, beside an index of 32 bytes, and then nothing.
 #[test]
-fn a_compacted_shard_is_compact(rt: HostRuntime) -> Result<(), Fail> {
-    let codec = plain(rt.alloc(), &[2], ShardingIndexLocation::End)?;
-    let cells = cells_of(rt.alloc(), &[4])?;
-    let shard = shard_of(rt.alloc(), &[9, 9, 1, 2, 3, 4], &[2, 2, 4, 2])?;
-    let found = is_compacted_to(rt.alloc(), &codec, &cells, &shard, 36);
-    same(&rt, found, Ok(true));
-    Ok(())
+fn a_compacted_shard_is_compact(rt: HostRuntime) {
+    let codec = plain(&rt, rt.alloc(), &[2], ShardingIndexLocation::End);
+    let cells = cells_of(&rt, rt.alloc(), &[4]);
+    let shard = shard_of(&rt, rt.alloc(), &[9, 9, 1, 2, 3, 4], &[2, 2, 4, 2]);
+    let found = is_compacted_to(&rt, rt.alloc(), &codec, &cells, &shard, 36);
+    same(&rt, found, true);
 }

@@ -2,6 +2,7 @@
 use crate::compared::{same, same_at};
 use sharding_gather::check_lengths;
 use std::alloc::{AllocError, Global};
+use std::process::Abort;
 use zarr_parts::{ArrayBuilder, ArrayBytes, CodecError, DataTypeSize};
 
 // So many subchunks that are absent.
@@ -36,17 +37,17 @@ fn lengths_past_64_bits_are_refused(rt: HostRuntime) {
 }
 
 // The lengths of three elements and of an absent subchunk together.
-fn checked_elements(alloc: Global) -> Result<u64, CodecError> {
-    let mut cells = ArrayBuilder::new(alloc, DataTypeSize::Variable)?;
-    cells.push(b"ab")?;
-    cells.push(b"")?;
-    cells.push(b"c")?;
-    let mut subchunks = absent(alloc, 1)?;
-    subchunks.push(Some(cells.finish()))?;
-    check_lengths(&subchunks, 3, DataTypeSize::Variable, b"ab")
+fn checked_elements<R: Abort>(rt: &R, alloc: Global) -> u64 {
+    let mut cells = ArrayBuilder::new(alloc, DataTypeSize::Variable).expect(rt, "memory");
+    cells.push(b"ab").expect(rt, "memory");
+    cells.push(b"").expect(rt, "memory");
+    cells.push(b"c").expect(rt, "memory");
+    let mut subchunks = absent(alloc, 1).expect(rt, "memory");
+    subchunks.push(Some(cells.finish())).expect(rt, "memory");
+    check_lengths(&subchunks, 3, DataTypeSize::Variable, b"ab").expect(rt, "memory")
 }
 
 #[test]
 fn lengths_of_64_bits_are_served(rt: HostRuntime) {
-    same(&rt, checked_elements(rt.alloc()), Ok(9));
+    same(&rt, checked_elements(&rt, rt.alloc()), 9);
 }

@@ -2,9 +2,9 @@
 use crate::compared::same;
 use crate::shards::{Plain, plain, shape_of};
 use std::alloc::Global;
-use std::test::Fail;
+use std::process::Abort;
 use zarr_codecs::{BytesCodec, FunctionalCodec};
-use zarr_parts::{CodecError, CodecSpecificOptions};
+use zarr_parts::CodecSpecificOptions;
 use zarrs_sharding::{
     ShardingCodec, ShardingCodecOptions, ShardingIndexLocation, SubchunkWriteOrder,
 };
@@ -30,33 +30,34 @@ fn the_order_that_was_set_is_answered(rt: HostRuntime) {
 }
 
 // A codec of one write order, or of the order that `new` gives.
-fn big(alloc: Global, order: Option<SubchunkWriteOrder>) -> Result<Plain, CodecError> {
+fn big<R: Abort>(rt: &R, alloc: Global, order: Option<SubchunkWriteOrder>) -> Plain {
     let codec = ShardingCodec::new(
-        shape_of(alloc, &[2])?,
+        shape_of(rt, alloc, &[2]),
         BytesCodec::big(),
         BytesCodec::big(),
         ShardingIndexLocation::End,
     );
     match order {
-        Some(order) => Ok(codec.with_subchunk_write_order(order)),
-        None => Ok(codec),
+        Some(order) => codec.with_subchunk_write_order(order),
+        None => codec,
     }
 }
 
 // Whether a codec has one encoding of each array once options are set, or none are.
-fn functional_with(
+fn functional_with<R: Abort>(
+    rt: &R,
     alloc: Global,
     order: Option<SubchunkWriteOrder>,
     set: Option<SubchunkWriteOrder>,
-) -> Result<bool, CodecError> {
-    let codec = big(alloc, order)?;
+) -> bool {
+    let codec = big(rt, alloc, order);
     let codec = match set {
         Some(set) => codec.with_codec_specific_options(&CodecSpecificOptions::default().with_option(
             ShardingCodecOptions::default().with_subchunk_write_order(set),
         )),
         None => codec.with_codec_specific_options(&CodecSpecificOptions::default()),
     };
-    Ok(codec.is_functional())
+    codec.is_functional()
 }
 
 #[test]
@@ -69,35 +70,33 @@ fn options_that_are_set_replace_the_codecs(rt: HostRuntime) {
         (ordered, None, true),
         (ordered, unordered, false),
     ] {
-        same(&rt, functional_with(rt.alloc(), order, set), Ok(want));
+        same(&rt, functional_with(&rt, rt.alloc(), order, set), want);
     }
 }
 
 // Whether a codec in order has one encoding of each array once it has the default options.
-fn functional_by_default(alloc: Global) -> Result<bool, CodecError> {
-    let codec = big(alloc, Some(SubchunkWriteOrder::C))?;
-    Ok(
-        codec
-            .with_options(ShardingCodecOptions::default())
-            .is_functional(),
-    )
+fn functional_by_default<R: Abort>(rt: &R, alloc: Global) -> bool {
+    let codec = big(rt, alloc, Some(SubchunkWriteOrder::C));
+
+    codec
+        .with_options(ShardingCodecOptions::default())
+        .is_functional()
 }
 
 #[test]
 fn default_options_leave_the_order_open(rt: HostRuntime) {
-    same(&rt, functional_by_default(rt.alloc()), Ok(false));
+    same(&rt, functional_by_default(&rt, rt.alloc()), false);
 }
 
 #[test]
-fn parts_are_spared(rt: HostRuntime) -> Result<(), Fail> {
+fn parts_are_spared(rt: HostRuntime) {
     let decoder = Plain::partial_decoder_capability();
     assert!(rt; decoder.partial_read && decoder.partial_decode);
     assert!(rt; Plain::partial_encoder_capability().partial_encode);
-    let codec = plain(rt.alloc(), &[2, 3], ShardingIndexLocation::End)?;
+    let codec = plain(&rt, rt.alloc(), &[2, 3], ShardingIndexLocation::End);
     same(
         &rt,
         codec.partial_decode_granularity().as_slice(),
         [2, 3].as_slice(),
     );
-    Ok(())
 }

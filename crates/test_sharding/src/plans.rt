@@ -2,6 +2,7 @@
 use crate::compared::same_at;
 use crate::shards::{ABSENT, plain, shape_of};
 use std::alloc::Global;
+use std::process::Abort;
 use zarr_codecs::{Interval, MemoryHandle};
 use zarr_parts::{CodecError, CodecOptions};
 use zarrs_sharding::{CompactionPlan, ShardingIndexLocation};
@@ -23,43 +24,47 @@ struct Shard {
 }
 
 // The bytes of an index.
-fn index_of(alloc: Global, numbers: &[u64; 4]) -> Result<Vec<u8>, CodecError> {
+fn index_of<R: Abort>(rt: &R, alloc: Global, numbers: &[u64; 4]) -> Vec<u8> {
     let mut bytes = Vec::new(alloc);
     for number in numbers {
-        bytes.extend_from_slice(&number.to_le_bytes())?;
+        bytes
+            .extend_from_slice(&number.to_le_bytes())
+            .expect(rt, "memory");
     }
-    Ok(bytes)
+    bytes
 }
 
 // The plan of the compaction of a shard.
-fn plan_of(alloc: Global, shard: &Shard) -> Result<Option<CompactionPlan>, CodecError> {
-    let codec = plain(alloc, &[2], shard.location)?;
-    let index = index_of(alloc, &shard.numbers)?;
+fn plan_of<R: Abort>(rt: &R, alloc: Global, shard: &Shard) -> Option<CompactionPlan> {
+    let codec = plain(rt, alloc, &[2], shard.location);
+    let index = index_of(rt, alloc, &shard.numbers);
     let options = CodecOptions::default();
-    codec.plan_compaction(
-        alloc,
-        &index,
-        shard.length,
-        &shape_of(alloc, &[4])?,
-        &options,
-    )
+    codec
+        .plan_compaction(
+            alloc,
+            &index,
+            shard.length,
+            &shape_of(rt, alloc, &[4]),
+            &options,
+        )
+        .expect(rt, "memory")
 }
 
 // Whether a plan is this.
-fn says(alloc: Global, plan: &CompactionPlan, want: &Planned) -> Result<bool, CodecError> {
-    let index = index_of(alloc, &want.numbers)?;
+fn says<R: Abort>(rt: &R, alloc: Global, plan: &CompactionPlan, want: &Planned) -> bool {
+    let index = index_of(rt, alloc, &want.numbers);
     for k in 0..plan.subchunks() {
         if want.slices.get(k) != Some(&plan.slice(k)) {
-            return Ok(false);
+            return false;
         }
     }
-    Ok(plan.subchunks() == 2 && plan.len() == want.len && plan.index() == index.as_slice())
+    plan.subchunks() == 2 && plan.len() == want.len && plan.index() == index.as_slice()
 }
 
 // The shard, whose bytes are 0 but for the index.
-fn object_of(alloc: Global, shard: &Shard) -> Result<Vec<u8>, CodecError> {
-    let index = index_of(alloc, &shard.numbers)?;
-    let mut object = vec![in alloc; 0u8; shard.length as usize]?;
+fn object_of<R: Abort>(rt: &R, alloc: Global, shard: &Shard) -> Vec<u8> {
+    let index = index_of(rt, alloc, &shard.numbers);
+    let mut object = vec![in alloc; 0u8; shard.length as usize].expect(rt, "memory");
     let start = match shard.location {
         ShardingIndexLocation::Start => 0,
         ShardingIndexLocation::End => object.len().saturating_sub(index.len()),
@@ -67,44 +72,49 @@ fn object_of(alloc: Global, shard: &Shard) -> Result<Vec<u8>, CodecError> {
     for (byte, place) in index.iter().zip(object.iter_mut().skip(start)) {
         *place = *byte;
     }
-    Ok(object)
+    object
 }
 
 // The plan of the compaction of a shard whose index is read through a handle.
-fn plan_of_index(alloc: Global, shard: &Shard) -> Result<Option<CompactionPlan>, CodecError> {
-    let codec = plain(alloc, &[2], shard.location)?;
-    let mut handle = MemoryHandle::new(Some(object_of(alloc, shard)?));
+fn plan_of_index<R: Abort>(rt: &R, alloc: Global, shard: &Shard) -> Option<CompactionPlan> {
+    let codec = plain(rt, alloc, &[2], shard.location);
+    let mut handle = MemoryHandle::new(Some(object_of(rt, alloc, shard)));
     let interval = Interval {
         offset: 0,
         size: shard.length,
     };
-    let shape = shape_of(alloc, &[4])?;
+    let shape = shape_of(rt, alloc, &[4]);
     let options = CodecOptions::default();
-    let index = codec.read_index(alloc, &mut handle, interval, &shape, &options)?;
-    codec.plan_compaction_of_index(alloc, index, &shape, &options)
+    let index = codec
+        .read_index(alloc, &mut handle, interval, &shape, &options)
+        .expect(rt, "memory");
+    codec
+        .plan_compaction_of_index(alloc, index, &shape, &options)
+        .expect(rt, "memory")
 }
 
 // Whether this is planned of a shard, or nothing is.
-fn is_planned(
+fn is_planned<R: Abort>(
+    rt: &R,
     alloc: Global,
     shard: &Shard,
     plan: Option<CompactionPlan>,
     want: Option<Planned>,
-) -> Result<bool, CodecError> {
+) -> bool {
     match (plan, want) {
         (Some(plan), Some(want)) => {
-            Ok(plan.index_location() == shard.location && says(alloc, &plan, &want)?)
+            plan.index_location() == shard.location && says(rt, alloc, &plan, &want)
         }
-        (None, None) => Ok(true),
-        (Some(_), None) | (None, Some(_)) => Ok(false),
+        (None, None) => true,
+        (Some(_), None) | (None, Some(_)) => false,
     }
 }
 
 // Whether this is planned of a shard by the bytes of its index, and by the index that a handle reads.
-fn are_planned(alloc: Global, shard: &Shard, want: Option<Planned>) -> Result<bool, CodecError> {
-    let plan = plan_of(alloc, shard)?;
-    let plan_of_index = plan_of_index(alloc, shard)?;
-    Ok(is_planned(alloc, shard, plan, want)? && is_planned(alloc, shard, plan_of_index, want)?)
+fn are_planned<R: Abort>(rt: &R, alloc: Global, shard: &Shard, want: Option<Planned>) -> bool {
+    let plan = plan_of(rt, alloc, shard);
+    let plan_of_index = plan_of_index(rt, alloc, shard);
+    is_planned(rt, alloc, shard, plan, want) && is_planned(rt, alloc, shard, plan_of_index, want)
 }
 
 const fn slice(offset: u64) -> Option<Interval> {
@@ -147,17 +157,18 @@ fn a_compaction_is_planned(rt: HostRuntime) {
             numbers,
             length,
         };
-        same_at(&rt, shard, are_planned(rt.alloc(), &shard, want), Ok(true));
+        same_at(&rt, shard, are_planned(&rt, rt.alloc(), &shard, want), true);
     }
 }
 
 // Which bytes of a shard of this length are its index.
-fn index_interval(
+fn index_interval<R: Abort>(
+    rt: &R,
     alloc: Global,
     location: ShardingIndexLocation,
     length: u64,
 ) -> Result<Interval, CodecError> {
-    plain(alloc, &[2], location)?.index_interval(alloc, length, &shape_of(alloc, &[4])?)
+    plain(rt, alloc, &[2], location).index_interval(alloc, length, &shape_of(rt, alloc, &[4]))
 }
 
 // The index of two subchunks has 32 bytes.
@@ -175,7 +186,7 @@ fn an_index_has_a_position(rt: HostRuntime) {
         same_at(
             &rt,
             (location, length),
-            index_interval(rt.alloc(), location, length),
+            index_interval(&rt, rt.alloc(), location, length),
             want,
         );
     }

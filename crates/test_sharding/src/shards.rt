@@ -2,6 +2,7 @@
 use std::alloc::Global;
 use std::borrow::CowSlice;
 use std::ops::Range;
+use std::process::Abort;
 use zarr_codecs::{ArrayToBytesCodecTraits, BytesCodec, BytesPartialDecoderTraits, MemoryHandle};
 use zarr_parts::{
     ArrayBytes, ArraySubset, ChunkShape, CodecError, CodecOptions, Coordinates, DataType,
@@ -15,12 +16,14 @@ pub(crate) type Plain = ShardingCodec<BytesCodec, BytesCodec>;
 
 pub(crate) const ABSENT: u64 = u64::MAX;
 
-pub(crate) fn shape_of(alloc: Global, axes: &[u64]) -> Result<ChunkShape, CodecError> {
-    ChunkShape::new(alloc, axes)?.ok_or(CodecError::OutOfBounds)
+pub(crate) fn shape_of<R: Abort>(rt: &R, alloc: Global, axes: &[u64]) -> ChunkShape {
+    ChunkShape::new(alloc, axes)
+        .expect(rt, "memory")
+        .expect(rt, "it fits")
 }
 
-pub(crate) fn fill_of(alloc: Global, bytes: &[u8]) -> Result<FillValue, CodecError> {
-    Ok(FillValue::new(bytes.to_vec(alloc)?))
+pub(crate) fn fill_of<R: Abort>(rt: &R, alloc: Global, bytes: &[u8]) -> FillValue {
+    FillValue::new(bytes.to_vec(alloc).expect(rt, "memory"))
 }
 
 // The shape of an array of cells, and their fill value.
@@ -31,10 +34,10 @@ pub(crate) struct Cells {
 }
 
 // Cells of one byte with the fill value 0.
-pub(crate) fn cells_of(alloc: Global, axes: &[u64]) -> Result<Cells, CodecError> {
-    let shape = shape_of(alloc, axes)?;
-    let fill = fill_of(alloc, &[0])?;
-    Ok(Cells { shape, fill })
+pub(crate) fn cells_of<R: Abort>(rt: &R, alloc: Global, axes: &[u64]) -> Cells {
+    let shape = shape_of(rt, alloc, axes);
+    let fill = fill_of(rt, alloc, &[0]);
+    Cells { shape, fill }
 }
 
 // What a call answers, without its value.
@@ -46,37 +49,45 @@ pub(crate) fn done<T: Drop>(answer: Result<T, CodecError>) -> Result<(), CodecEr
 }
 
 // A sharding codec around another codec, which writes subchunks in ascending number.
-pub(crate) fn around<I: Drop>(
+pub(crate) fn around<I: Drop, R: Abort>(
+    rt: &R,
     alloc: Global,
     sub: &[u64],
     inner: I,
     location: ShardingIndexLocation,
-) -> Result<ShardingCodec<I, BytesCodec>, CodecError> {
-    let codec = ShardingCodec::new(shape_of(alloc, sub)?, inner, BytesCodec::little(), location);
-    Ok(codec.with_subchunk_write_order(SubchunkWriteOrder::C))
+) -> ShardingCodec<I, BytesCodec> {
+    let codec = ShardingCodec::new(
+        shape_of(rt, alloc, sub),
+        inner,
+        BytesCodec::little(),
+        location,
+    );
+    codec.with_subchunk_write_order(SubchunkWriteOrder::C)
 }
 
-pub(crate) fn plain(
+pub(crate) fn plain<R: Abort>(
+    rt: &R,
     alloc: Global,
     sub: &[u64],
     location: ShardingIndexLocation,
-) -> Result<Plain, CodecError> {
-    around(alloc, sub, BytesCodec::little(), location)
+) -> Plain {
+    around(rt, alloc, sub, BytesCodec::little(), location)
 }
 
-pub(crate) fn array_of(alloc: Global, bytes: &[u8]) -> Result<ArrayBytes<'static>, CodecError> {
-    let copy = bytes.to_vec(alloc)?;
-    ArrayBytes::new_flen(CowSlice::Owned(copy), 1).ok_or(CodecError::WrongElementKind)
+pub(crate) fn array_of<R: Abort>(rt: &R, alloc: Global, bytes: &[u8]) -> ArrayBytes<'static> {
+    let copy = bytes.to_vec(alloc).expect(rt, "memory");
+    ArrayBytes::new_flen(CowSlice::Owned(copy), 1).expect(rt, "it fits")
 }
 
 // The elements of an array, each of which has one size, or the refusal.
-pub(crate) fn elements_of(
+pub(crate) fn elements_of<R: Abort>(
+    rt: &R,
     alloc: Global,
     answer: Result<ArrayBytes, CodecError>,
 ) -> Result<Vec<u8>, CodecError> {
     let array = answer?;
     let elements = array.fixed_bytes().ok_or(CodecError::WrongElementKind)?;
-    Ok(elements.to_vec(alloc)?)
+    Ok(elements.to_vec(alloc).expect(rt, "memory"))
 }
 
 // What an answer says, for a comparison.
@@ -87,43 +98,48 @@ pub(crate) fn said(answer: &Result<Vec<u8>, CodecError>) -> Result<&[u8], CodecE
     }
 }
 
-pub(crate) fn encoded<C: ArrayToBytesCodecTraits>(
+pub(crate) fn encoded<C: ArrayToBytesCodecTraits, R: Abort>(
+    rt: &R,
     alloc: Global,
     codec: &C,
     shape: &[u64],
     elements: &[u8],
-) -> Result<Vec<u8>, CodecError> {
-    let array = array_of(alloc, elements)?;
-    let cells = cells_of(alloc, shape)?;
+) -> Vec<u8> {
+    let array = array_of(rt, alloc, elements);
+    let cells = cells_of(rt, alloc, shape);
     let options = CodecOptions::default();
-    codec.encode(
-        alloc,
-        &array,
-        &cells.shape,
-        &DataType::UInt8,
-        &cells.fill,
-        &options,
-    )
+    codec
+        .encode(
+            alloc,
+            &array,
+            &cells.shape,
+            &DataType::UInt8,
+            &cells.fill,
+            &options,
+        )
+        .expect(rt, "memory")
 }
 
 // Whether a codec encodes cells as these bytes.
-pub(crate) fn is_encoded_as<C: ArrayToBytesCodecTraits>(
+pub(crate) fn is_encoded_as<C: ArrayToBytesCodecTraits, R: Abort>(
+    rt: &R,
     alloc: Global,
     codec: &C,
     shape: &[u64],
     cells: &[u8],
     want: &[u8],
-) -> Result<bool, CodecError> {
-    Ok(encoded(alloc, codec, shape, cells)?.as_slice() == want)
+) -> bool {
+    encoded(rt, alloc, codec, shape, cells).as_slice() == want
 }
 
-pub(crate) fn decoded<C: ArrayToBytesCodecTraits>(
+pub(crate) fn decoded<C: ArrayToBytesCodecTraits, R: Abort>(
+    rt: &R,
     alloc: Global,
     codec: &C,
     shape: &[u64],
     bytes: &[u8],
 ) -> Result<Vec<u8>, CodecError> {
-    let cells = cells_of(alloc, shape)?;
+    let cells = cells_of(rt, alloc, shape);
     let options = CodecOptions::default();
     let array = codec.decode(
         alloc,
@@ -133,27 +149,33 @@ pub(crate) fn decoded<C: ArrayToBytesCodecTraits>(
         &cells.fill,
         &options,
     );
-    elements_of(alloc, array)
+    elements_of(rt, alloc, array)
 }
 
 // Whether a codec decodes bytes to these cells.
-pub(crate) fn is_decoded_to<C: ArrayToBytesCodecTraits>(
+pub(crate) fn is_decoded_to<C: ArrayToBytesCodecTraits, R: Abort>(
+    rt: &R,
     alloc: Global,
     codec: &C,
     shape: &[u64],
     bytes: &[u8],
     want: &[u8],
-) -> Result<bool, CodecError> {
-    Ok(decoded(alloc, codec, shape, bytes)?.as_slice() == want)
+) -> bool {
+    decoded(rt, alloc, codec, shape, bytes)
+        .expect(rt, "memory")
+        .as_slice()
+        == want
 }
 
 // A shard of these slices before their index.
-pub(crate) fn shard_of(alloc: Global, slices: &[u8], index: &[u64]) -> Result<Vec<u8>, CodecError> {
-    let mut bytes = slices.to_vec(alloc)?;
+pub(crate) fn shard_of<R: Abort>(rt: &R, alloc: Global, slices: &[u8], index: &[u64]) -> Vec<u8> {
+    let mut bytes = slices.to_vec(alloc).expect(rt, "memory");
     for number in index {
-        bytes.extend_from_slice(&number.to_le_bytes())?;
+        bytes
+            .extend_from_slice(&number.to_le_bytes())
+            .expect(rt, "memory");
     }
-    Ok(bytes)
+    bytes
 }
 
 // A codec of four subchunks of 2 by 2, and its shard of the cells 0 to 15.
@@ -163,21 +185,23 @@ pub(crate) struct Sixteen {
     pub(crate) shard: Vec<u8>,
 }
 
-pub(crate) fn sixteen_cells(alloc: Global) -> Result<Sixteen, CodecError> {
+pub(crate) fn sixteen_cells<R: Abort>(rt: &R, alloc: Global) -> Sixteen {
     let cells = [0, 1, 2, 3, 4, 5, 6, 7, 8, 9, 10, 11, 12, 13, 14, 15];
-    let codec = plain(alloc, &[2, 2], ShardingIndexLocation::Start)?;
-    let shard = encoded(alloc, &codec, &[4, 4], &cells)?;
-    Ok(Sixteen { codec, shard })
+    let codec = plain(rt, alloc, &[2, 2], ShardingIndexLocation::Start);
+    let shard = encoded(rt, alloc, &codec, &[4, 4], &cells);
+    Sixteen { codec, shard }
 }
 
-pub(crate) fn subset_of(alloc: Global, ranges: &[Range<u64>]) -> Result<ArraySubset, CodecError> {
-    ArraySubset::new_with_ranges(alloc, ranges)?.ok_or(CodecError::OutOfBounds)
+pub(crate) fn subset_of<R: Abort>(rt: &R, alloc: Global, ranges: &[Range<u64>]) -> ArraySubset {
+    ArraySubset::new_with_ranges(alloc, ranges)
+        .expect(rt, "memory")
+        .expect(rt, "it fits")
 }
 
 // Coordinates of so many numbers each.
-pub(crate) fn listed(alloc: Global, axes: usize, flat: &[u64]) -> Result<Coordinates, CodecError> {
+pub(crate) fn listed<R: Abort>(rt: &R, alloc: Global, axes: usize, flat: &[u64]) -> Coordinates {
     let count = flat.len() as u64 / axes.max(1) as u64;
-    Coordinates::new(axes, count, flat.to_vec(alloc)?).ok_or(CodecError::OutOfBounds)
+    Coordinates::new(axes, count, flat.to_vec(alloc).expect(rt, "memory")).expect(rt, "it fits")
 }
 
 // A decoder of a handle's object.
@@ -186,13 +210,15 @@ pub(crate) fn decoder_of<
     I: ArrayToBytesCodecTraits,
     X: ArrayToBytesCodecTraits,
     H: BytesPartialDecoderTraits + Drop,
+    R: Abort,
 >(
+    rt: &R,
     alloc: Global,
     codec: &'a ShardingCodec<I, X>,
     handle: H,
     shape: &[u64],
 ) -> Result<ShardingPartialDecoder<'a, I, X, H>, CodecError> {
-    let cells = cells_of(alloc, shape)?;
+    let cells = cells_of(rt, alloc, shape);
     let options = CodecOptions::default();
     match codec.partial_decoder(
         alloc,
@@ -213,28 +239,32 @@ pub(crate) fn read<
     X: ArrayToBytesCodecTraits,
     H: BytesPartialDecoderTraits + Drop,
     N: Indexer,
+    R: Abort,
 >(
+    rt: &R,
     alloc: Global,
     codec: &ShardingCodec<I, X>,
     handle: H,
     shape: &[u64],
     indexer: &N,
 ) -> Result<Vec<u8>, CodecError> {
-    let mut decoder = decoder_of(alloc, codec, handle, shape)?;
+    let mut decoder = decoder_of(rt, alloc, codec, handle, shape)?;
     let cells = decoder.partial_decode(alloc, indexer, &CodecOptions::default());
-    elements_of(alloc, cells)
+    elements_of(rt, alloc, cells)
 }
 
 // The cells of a subset that a decoder of an object reads.
-pub(crate) fn read_subset<I: ArrayToBytesCodecTraits, X: ArrayToBytesCodecTraits>(
+pub(crate) fn read_subset<I: ArrayToBytesCodecTraits, X: ArrayToBytesCodecTraits, R: Abort>(
+    rt: &R,
     alloc: Global,
     codec: &ShardingCodec<I, X>,
     object: Vec<u8>,
     shape: &[u64],
     ranges: &[Range<u64>],
 ) -> Result<Vec<u8>, CodecError> {
-    let requested = subset_of(alloc, ranges)?;
+    let requested = subset_of(rt, alloc, ranges);
     read(
+        rt,
         alloc,
         codec,
         MemoryHandle::new(Some(object)),
@@ -244,13 +274,14 @@ pub(crate) fn read_subset<I: ArrayToBytesCodecTraits, X: ArrayToBytesCodecTraits
 }
 
 // The cells of a subset, of those that a codec encoded before.
-pub(crate) fn read_back<I: ArrayToBytesCodecTraits, X: ArrayToBytesCodecTraits>(
+pub(crate) fn read_back<I: ArrayToBytesCodecTraits, X: ArrayToBytesCodecTraits, R: Abort>(
+    rt: &R,
     alloc: Global,
     codec: &ShardingCodec<I, X>,
     shape: &[u64],
     cells: &[u8],
     ranges: &[Range<u64>],
 ) -> Result<Vec<u8>, CodecError> {
-    let object = encoded(alloc, codec, shape, cells)?;
-    read_subset(alloc, codec, object, shape, ranges)
+    let object = encoded(rt, alloc, codec, shape, cells);
+    read_subset(rt, alloc, codec, object, shape, ranges)
 }

@@ -2,7 +2,6 @@
 use crate::compared::same;
 use parts_escaped_text::escaped;
 use std::alloc::{AllocError, Global};
-use std::test::Fail;
 
 // Texts, and how they are shown.
 const TEXTS: &[(&str, &str)] = &[
@@ -22,12 +21,11 @@ const TEXTS: &[(&str, &str)] = &[
 ];
 
 #[test]
-fn what_acts_is_escaped(rt: HostRuntime) -> Result<(), Fail> {
+fn what_acts_is_escaped(rt: HostRuntime) {
     for (text, want) in TEXTS {
-        let shown = escaped(rt.alloc(), text)?;
+        let shown = escaped(rt.alloc(), text).expect(&rt, "memory");
         same(&rt, shown.as_str(), *want);
     }
-    Ok(())
 }
 
 // A text of this length, as it is shown.
@@ -41,10 +39,13 @@ fn shown_of(alloc: Global, characters: usize) -> Result<String, AllocError> {
 
 // The first 200 characters, and behind them how many there are.
 #[test]
-fn a_long_text_is_cut(rt: HostRuntime) -> Result<(), Fail> {
-    let whole = shown_of(rt.alloc(), 200)?;
+fn a_long_text_is_cut(rt: HostRuntime) {
+    let whole = shown_of(rt.alloc(), 200).expect(&rt, "memory");
     same(&rt, whole.chars().count(), 200);
-    let want = format!(in rt.alloc(); "{whole}... (5000 characters)")?;
-    same(&rt, shown_of(rt.alloc(), 5000)?.as_str(), want.as_str());
-    Ok(())
+    let want = format!(in rt.alloc(); "{whole}... (5000 characters)").expect(&rt, "memory");
+    same(
+        &rt,
+        shown_of(rt.alloc(), 5000).expect(&rt, "memory").as_str(),
+        want.as_str(),
+    );
 }

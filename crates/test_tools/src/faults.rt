@@ -3,7 +3,6 @@ use crate::compared::{same, same_at};
 use std::alloc::{AllocError, Global};
 use std::io;
 use std::io::{ErrorKind, Read, Write};
-use std::test::Fail;
 use tool_script::{MAX_INPUT, MAX_READS, read_input, run_script};
 
 // Gives a number of whole buffers of a line that is no command's, and then ends or fails.
@@ -79,7 +78,7 @@ fn answers<R: Read + Drop>(alloc: Global, reader: R) -> Result<String, AllocErro
 }
 
 #[test]
-fn interrupted_reads_are_made_again(rt: HostRuntime) -> Result<(), Fail> {
+fn interrupted_reads_are_made_again(rt: HostRuntime) {
     for (text, fails, expected) in [
         (
             b"shard 4 2 uint8 0 end\nindex".as_slice(),
@@ -94,23 +93,25 @@ fn interrupted_reads_are_made_again(rt: HostRuntime) -> Result<(), Fail> {
             rests: false,
             fails,
         };
-        same(&rt, answers(rt.alloc(), reader)?.as_str(), expected);
+        same(
+            &rt,
+            answers(rt.alloc(), reader).expect(&rt, "memory").as_str(),
+            expected,
+        );
     }
-    Ok(())
 }
 
 // A buffer has 4,096 bytes, and a script has at most 16,777,216.
 #[test]
-fn a_script_has_a_greatest_length(rt: HostRuntime) -> Result<(), Fail> {
+fn a_script_has_a_greatest_length(rt: HostRuntime) {
     for (left, fails, expected) in [
         (4096, false, "malformed 1\n2"),
         (4097, false, "1"),
         (1, true, "1"),
     ] {
-        let answered = answers(rt.alloc(), Buffers { left, fails })?;
+        let answered = answers(rt.alloc(), Buffers { left, fails }).expect(&rt, "memory");
         same_at(&rt, left, answered.as_str(), expected);
     }
-    Ok(())
 }
 
 // How many bytes are read of a reader that has three, one a call, in at most `most_reads` calls; none, where it stops before their end.

@@ -3,7 +3,6 @@ use crate::compared::{same, same_at};
 use crate::examples::{told, told_with};
 use array_metadata::MetadataError;
 use std::alloc::{AllocError, Global};
-use std::test::Fail;
 
 // A text, repeated.
 fn repeated(alloc: Global, text: &str, times: usize) -> Result<String, AllocError> {
@@ -23,7 +22,7 @@ fn told_nested(alloc: Global, text: &str, brackets: usize) -> Result<String, All
 
 // 127 open brackets are read, in a string any number.
 #[test]
-fn brackets_nest_so_deep(rt: HostRuntime) -> Result<(), Fail> {
+fn brackets_nest_so_deep(rt: HostRuntime) {
     let rows = [
         ("", 127, "the text is no JSON"),
         (
@@ -51,11 +50,12 @@ fn brackets_nest_so_deep(rt: HostRuntime) -> Result<(), Fail> {
         ),
     ];
     for (text, brackets, sentence) in rows {
-        let told = told_nested(rt.alloc(), text, brackets)?;
-        let want = format!(in rt.alloc(); "4 BadField zarr.json: in zarr.json: {sentence}")?;
+        let told = told_nested(rt.alloc(), text, brackets).expect(&rt, "memory");
+        let want = format!(in rt.alloc(); "4 BadField zarr.json: in zarr.json: {sentence}").expect(
+            &rt, "memory",
+        );
         same_at(&rt, (text, brackets), told.as_str(), want.as_str());
     }
-    Ok(())
 }
 
 // How an array is read that has one axis more than this, whose chunks have two.
@@ -67,7 +67,7 @@ fn told_of_axes(alloc: Global, axes: usize) -> Result<String, AllocError> {
 
 // The axes are counted before the chunks are looked at.
 #[test]
-fn axes_are_counted(rt: HostRuntime) -> Result<(), Fail> {
+fn axes_are_counted(rt: HostRuntime) {
     let rows = [
         (
             63,
@@ -83,10 +83,9 @@ fn axes_are_counted(rt: HostRuntime) -> Result<(), Fail> {
         ),
     ];
     for (more, want) in rows {
-        let told = told_of_axes(rt.alloc(), more)?;
+        let told = told_of_axes(rt.alloc(), more).expect(&rt, "memory");
         same_at(&rt, more, told.as_str(), want);
     }
-    Ok(())
 }
 
 // Why a text of this length is refused.
@@ -98,11 +97,16 @@ fn refusal_of_length(alloc: Global, length: u64) -> Result<String, AllocError> {
 }
 
 #[test]
-fn texts_have_a_bound(rt: HostRuntime) -> Result<(), Fail> {
-    let refused = refusal_of_length(rt.alloc(), 16_777_217)?;
+fn texts_have_a_bound(rt: HostRuntime) {
+    let refused = refusal_of_length(rt.alloc(), 16_777_217).expect(&rt, "memory");
     let want =
         "4 BadField zarr.json: in zarr.json: the text has 16777217 bytes, and at most 16777216 are read";
     same(&rt, refused.as_str(), want);
-    same(&rt, refusal_of_length(rt.alloc(), 16_777_216)?.as_str(), "");
-    Ok(())
+    same(
+        &rt,
+        refusal_of_length(rt.alloc(), 16_777_216)
+            .expect(&rt, "memory")
+            .as_str(),
+        "",
+    );
 }

@@ -1,7 +1,6 @@
 // What is said of a line that is no command's.
 use crate::compared::same;
 use std::alloc::{AllocError, Global};
-use std::test::Fail;
 use tool_script::run_script_explained;
 
 // What a script answers, the messages on it, and its status behind them.
@@ -15,7 +14,7 @@ fn explained(alloc: Global, script: &str) -> Result<String, AllocError> {
 }
 
 #[test]
-fn messages_name_the_fault(rt: HostRuntime) -> Result<(), Fail> {
+fn messages_name_the_fault(rt: HostRuntime) {
     for (line, message) in [
         ("encode 1,2,3,256", "256 is past uint8"),
         ("encode 1,,3,4", "a number is missing"),
@@ -48,19 +47,27 @@ fn messages_name_the_fault(rt: HostRuntime) -> Result<(), Fail> {
             "middle is neither start nor end",
         ),
     ] {
-        let script = format!(in rt.alloc(); "shard 4 2 uint8 0 end\n\n{line}\nindex\n")?;
-        let wanted = format!(in rt.alloc(); "ok\nmalformed 3\nline 3: {message}\n2")?;
-        same(&rt, explained(rt.alloc(), &script)?, wanted);
+        let script = format!(in rt.alloc(); "shard 4 2 uint8 0 end\n\n{line}\nindex\n").expect(
+            &rt, "memory",
+        );
+        let wanted = format!(in rt.alloc(); "ok\nmalformed 3\nline 3: {message}\n2").expect(
+            &rt, "memory",
+        );
+        same(
+            &rt,
+            explained(rt.alloc(), &script).expect(&rt, "memory"),
+            wanted,
+        );
     }
-    Ok(())
 }
 
 #[test]
-fn a_script_begins_with_a_shard(rt: HostRuntime) -> Result<(), Fail> {
+fn a_script_begins_with_a_shard(rt: HostRuntime) {
     same(
         &rt,
-        explained(rt.alloc(), "read 0..4\n")?.as_str(),
+        explained(rt.alloc(), "read 0..4\n")
+            .expect(&rt, "memory")
+            .as_str(),
         "malformed 1\nline 1: read comes before any shard\n2",
     );
-    Ok(())
 }

@@ -1,7 +1,6 @@
 // Metadata of arrays that is read.
 use crate::compared::same;
 use crate::examples::{told_inside, told_with};
-use std::test::Fail;
 
 // The arrays: start of the index and big endian elements, an axis of no cells, no axes, and one byte for each element.
 const ARRAYS: &[(&str, &str)] = &[
@@ -94,43 +93,45 @@ const INNER_CODECS: &[&str] = &[
 ];
 
 #[test]
-fn arrays_are_read(rt: HostRuntime) -> Result<(), Fail> {
+fn arrays_are_read(rt: HostRuntime) {
     for (members, want) in ARRAYS {
-        let told = told_with(rt.alloc(), members)?;
+        let told = told_with(rt.alloc(), members).expect(&rt, "memory");
         same(&rt, told.as_str(), *want);
     }
-    Ok(())
 }
 
 #[test]
-fn keys_are_read(rt: HostRuntime) -> Result<(), Fail> {
+fn keys_are_read(rt: HostRuntime) {
     for (encoding, key) in KEYS {
-        let members = format!(in rt.alloc(); r#""chunk_key_encoding": {encoding}"#)?;
-        let told = told_with(rt.alloc(), members.as_str())?;
-        let want = format!(in rt.alloc(); "[8, 8] [4, 4] [2, 2] [7, 0] {key}")?;
+        let members = format!(in rt.alloc(); r#""chunk_key_encoding": {encoding}"#).expect(
+            &rt, "memory",
+        );
+        let told = told_with(rt.alloc(), members.as_str()).expect(&rt, "memory");
+        let want = format!(in rt.alloc(); "[8, 8] [4, 4] [2, 2] [7, 0] {key}").expect(
+            &rt, "memory",
+        );
         same(&rt, told, want);
     }
-    Ok(())
 }
 
 #[test]
-fn fill_values_are_read(rt: HostRuntime) -> Result<(), Fail> {
+fn fill_values_are_read(rt: HostRuntime) {
     for (data_type, fill_value, bytes) in FILL_VALUES {
         let members = format!(in rt.alloc();
             r#""data_type": "{data_type}", "fill_value": {fill_value}"#
-        )?;
-        let told = told_with(rt.alloc(), members.as_str())?;
-        let want = format!(in rt.alloc(); "[8, 8] [4, 4] [2, 2] {bytes} c/8/8")?;
+        ).expect(&rt, "memory");
+        let told = told_with(rt.alloc(), members.as_str()).expect(&rt, "memory");
+        let want = format!(in rt.alloc(); "[8, 8] [4, 4] [2, 2] {bytes} c/8/8").expect(
+            &rt, "memory",
+        );
         same(&rt, told, want);
     }
-    Ok(())
 }
 
 #[test]
-fn inner_codecs_are_read(rt: HostRuntime) -> Result<(), Fail> {
+fn inner_codecs_are_read(rt: HostRuntime) {
     for codecs in INNER_CODECS {
-        let told = told_inside(rt.alloc(), codecs)?;
+        let told = told_inside(rt.alloc(), codecs).expect(&rt, "memory");
         same(&rt, told.as_str(), "[8, 8] [4, 4] [2, 2] [7, 0] c/8/8");
     }
-    Ok(())
 }

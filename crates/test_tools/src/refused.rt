@@ -1,7 +1,6 @@
 // Metadata of arrays that is refused.
 use crate::compared::same;
 use crate::examples::{told, told_inside, told_with};
-use std::test::Fail;
 
 // Whole texts.
 const TEXTS: &[(&str, &str)] = &[
@@ -225,28 +224,25 @@ const INNER_CODECS: &[(&str, &str)] = &[
 ];
 
 #[test]
-fn texts_are_refused(rt: HostRuntime) -> Result<(), Fail> {
+fn texts_are_refused(rt: HostRuntime) {
     for (text, want) in TEXTS {
-        let told = told(rt.alloc(), text)?;
+        let told = told(rt.alloc(), text).expect(&rt, "memory");
         same(&rt, told.as_str(), *want);
     }
-    Ok(())
 }
 
 #[test]
-fn members_are_refused(rt: HostRuntime) -> Result<(), Fail> {
+fn members_are_refused(rt: HostRuntime) {
     for (members, want) in MEMBERS {
-        let told = told_with(rt.alloc(), members)?;
+        let told = told_with(rt.alloc(), members).expect(&rt, "memory");
         same(&rt, told.as_str(), *want);
     }
-    Ok(())
 }
 
 #[test]
-fn inner_codecs_are_refused(rt: HostRuntime) -> Result<(), Fail> {
+fn inner_codecs_are_refused(rt: HostRuntime) {
     for (codecs, want) in INNER_CODECS {
-        let told = told_inside(rt.alloc(), codecs)?;
+        let told = told_inside(rt.alloc(), codecs).expect(&rt, "memory");
         same(&rt, told.as_str(), *want);
     }
-    Ok(())
 }

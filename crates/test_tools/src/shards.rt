@@ -59,7 +59,7 @@ fn as_many_shards_as_hold_all_cells(rt: HostRuntime) -> Result<(), Fail> {
     compare_grid(&rt, &[0, 7], &[4, 4], 0, &[0, 1])
 }
 
-fn told(alloc: Global, part: &ShardPart) -> Result<String, Fail> {
+fn told<R: Abort>(rt: &R, alloc: Global, part: &ShardPart) -> String {
     let (inside, within) = (&part.in_shard, &part.in_subset);
     let told = format!(in alloc;
         "{} {:?} {:?} {:?} {:?}",
@@ -68,44 +68,44 @@ fn told(alloc: Global, part: &ShardPart) -> Result<String, Fail> {
         inside.shape(),
         within.start(),
         within.shape()
-    )?;
-    Ok(told)
+    )
+    .expect(rt, "memory");
+    told
 }
 
-fn wanted(alloc: Global, number: usize) -> Result<String, Fail> {
+fn wanted<R: Abort>(rt: &R, alloc: Global, number: usize) -> String {
     let (inside, within, shape) = &PARTS[number % 4];
-    let wanted = format!(in alloc; "{number} {inside:?} {shape:?} {within:?} {shape:?}")?;
-    Ok(wanted)
+    let wanted = format!(in alloc; "{number} {inside:?} {shape:?} {within:?} {shape:?}").expect(
+        rt, "memory",
+    );
+    wanted
 }
 
-fn compare_part<R: Abort + AllocGlobal>(
-    rt: &R,
-    number: usize,
-    part: &ShardPart,
-) -> Result<(), Fail> {
-    let wanted = wanted(rt.alloc(), number)?;
-    let told = told(rt.alloc(), part)?;
+fn compare_part<R: Abort + AllocGlobal>(rt: &R, number: usize, part: &ShardPart) {
+    let wanted = wanted(rt, rt.alloc(), number);
+    let told = told(rt, rt.alloc(), part);
     same(rt, told, wanted);
-    Ok(())
 }
 
 // The part at a place of the subset 1..5, 3..7 of an array of 5 by 7 in shards of 4 by 4.
-fn part_of_subset(alloc: Global, position: u64) -> Result<Option<ShardPart>, CodecError> {
-    let grid = grid_of(alloc, &[5, 7], &[4, 4])?;
-    let requested = ArraySubset::from_ranges(alloc, &[1..5, 3..7])?;
-    grid.parts(alloc, &requested)?.part(alloc, position)
+fn part_of_subset<R: Abort>(rt: &R, alloc: Global, position: u64) -> Option<ShardPart> {
+    let grid = grid_of(alloc, &[5, 7], &[4, 4]).expect(rt, "memory");
+    let requested = ArraySubset::from_ranges(alloc, &[1..5, 3..7]).expect(rt, "memory");
+    grid.parts(alloc, &requested)
+        .expect(rt, "memory")
+        .part(alloc, position)
+        .expect(rt, "memory")
 }
 
 #[test]
-fn a_subset_is_made_of_a_part_of_each_shard(rt: HostRuntime) -> Result<(), Fail> {
+fn a_subset_is_made_of_a_part_of_each_shard(rt: HostRuntime) {
     for number in 0..4 {
-        if let Some(part) = part_of_subset(rt.alloc(), number as u64)? {
-            compare_part(&rt, number, &part)?;
+        if let Some(part) = part_of_subset(&rt, rt.alloc(), number as u64) {
+            compare_part(&rt, number, &part);
         }
     }
-    same(&rt, part_of_subset(rt.alloc(), 3)?.is_some(), true);
-    same(&rt, part_of_subset(rt.alloc(), 4)?.is_none(), true);
-    Ok(())
+    same(&rt, part_of_subset(&rt, rt.alloc(), 3).is_some(), true);
+    same(&rt, part_of_subset(&rt, rt.alloc(), 4).is_none(), true);
 }
 
 // How many parts a subset has, or why it is refused.
@@ -115,9 +115,9 @@ fn count_parts(alloc: Global, grid: &ShardGrid, ranges: &[Range<u64>]) -> Result
 }
 
 #[test]
-fn subsets_and_shapes_are_refused_in_order(rt: HostRuntime) -> Result<(), Fail> {
+fn subsets_and_shapes_are_refused_in_order(rt: HostRuntime) {
     let alloc = rt.alloc();
-    let grid = grid_of(alloc, &[5, 7], &[4, 4])?;
+    let grid = grid_of(alloc, &[5, 7], &[4, 4]).expect(&rt, "memory");
     let of_one = Some(CodecError::IncompatibleDimensionality);
     let out = Some(CodecError::OutOfBounds);
     for (ranges, want) in [
@@ -141,7 +141,6 @@ fn subsets_and_shapes_are_refused_in_order(rt: HostRuntime) -> Result<(), Fail> 
         grid_of(alloc, &large, &[4, 4]).err(),
         Some(CodecError::TooLarge),
     );
-    Ok(())
 }
 
 fn put(
@@ -155,10 +154,10 @@ fn put(
 }
 
 // A subset of two by three cells, which are all 258.
-fn subset_of_cells(alloc: Global) -> Result<SubsetCells, CodecError> {
-    let requested = ArraySubset::from_ranges(alloc, &[4..6, 1..4])?;
-    let fill = FillValue::from_number(alloc, 258u16)?;
-    SubsetCells::new(alloc, &requested, &fill)
+fn subset_of_cells<R: Abort>(rt: &R, alloc: Global) -> SubsetCells {
+    let requested = ArraySubset::from_ranges(alloc, &[4..6, 1..4]).expect(rt, "memory");
+    let fill = FillValue::from_number(alloc, 258u16).expect(rt, "memory");
+    SubsetCells::new(alloc, &requested, &fill).expect(rt, "memory")
 }
 
 fn put_a_byte(alloc: Global, cells: &mut SubsetCells) -> Result<(), CodecError> {
@@ -167,9 +166,9 @@ fn put_a_byte(alloc: Global, cells: &mut SubsetCells) -> Result<(), CodecError> 
 }
 
 #[test]
-fn parts_are_put_into_a_subset(rt: HostRuntime) -> Result<(), Fail> {
+fn parts_are_put_into_a_subset(rt: HostRuntime) {
     let alloc = rt.alloc();
-    let mut cells = subset_of_cells(alloc)?;
+    let mut cells = subset_of_cells(&rt, alloc);
     for (ranges, numbers, put_there) in [
         ([0..2, 1..2], &[1, 2][..], Ok(())),
         ([1..2, 2..3], &[3], Ok(())),
@@ -189,5 +188,4 @@ fn parts_are_put_into_a_subset(rt: HostRuntime) -> Result<(), Fail> {
         cells.bytes(),
         [2, 1, 1, 0, 2, 1, 2, 1, 2, 0, 3, 0].as_slice(),
     );
-    Ok(())
 }

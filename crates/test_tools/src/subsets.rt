@@ -2,7 +2,6 @@
 use crate::compared::same_at;
 use array_grid::{SubsetError, subset_of};
 use std::alloc::{AllocError, Global};
-use std::test::Fail;
 
 // The start and the shape of what a text picks of an array, and which of its axes are dropped; or why it is refused.
 fn picked(alloc: Global, text: &str, shape: &[u64]) -> Result<String, AllocError> {
@@ -124,12 +123,11 @@ const TEXTS: &[(&str, &str)] = &[
 ];
 
 #[test]
-fn words_pick_of_axes(rt: HostRuntime) -> Result<(), Fail> {
+fn words_pick_of_axes(rt: HostRuntime) {
     for (text, want) in TEXTS {
-        let found = picked(rt.alloc(), text, &[8, 12, 5])?;
+        let found = picked(rt.alloc(), text, &[8, 12, 5]).expect(&rt, "memory");
         same_at(&rt, *text, found.as_str(), *want);
     }
-    Ok(())
 }
 
 // Texts for an array of the longest axis.
@@ -145,10 +143,9 @@ const LONG_TEXTS: &[(&str, &str)] = &[
 ];
 
 #[test]
-fn words_pick_of_a_long_axis(rt: HostRuntime) -> Result<(), Fail> {
+fn words_pick_of_a_long_axis(rt: HostRuntime) {
     for (text, want) in LONG_TEXTS {
-        let found = picked(rt.alloc(), text, &[u64::MAX])?;
+        let found = picked(rt.alloc(), text, &[u64::MAX]).expect(&rt, "memory");
         same_at(&rt, *text, found.as_str(), *want);
     }
-    Ok(())
 }
