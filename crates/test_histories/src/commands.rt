@@ -116,11 +116,11 @@ fn object_of<R: Abort>(rt: &R, alloc: Global, object: &Object) -> Option<Vec<u8>
     let Some((data, numbers)) = object else {
         return None;
     };
-    let mut bytes = data.to_vec(alloc).expect(rt, "memory");
+    let mut bytes = data.to_vec(alloc).expect(rt, "refused");
     for number in numbers.iter() {
         bytes
             .extend_from_slice(&number.to_le_bytes())
-            .expect(rt, "memory");
+            .expect(rt, "refused");
     }
     Some(bytes)
 }

@@ -50,7 +50,7 @@ fn part_of<R: Abort>(rt: &R, alloc: Global, cells: &[u8], start: u64, end: u64) 
     let mut part = Vec::new(alloc);
     for at in start..end {
         if let Some(cell) = cells.get(at as usize) {
-            part.push(*cell).expect(rt, "memory");
+            part.push(*cell).expect(rt, "refused");
         }
     }
     part
@@ -63,7 +63,7 @@ fn write_from<R: Abort>(rt: &R, alloc: Global, number: u64, cells: &mut [u8]) ->
     let (start, end) = range_of(number);
     let value = value_of(number);
     overwrite(cells, start, end, value);
-    let update = vec![in alloc; value; (end - start) as usize].expect(rt, "memory");
+    let update = vec![in alloc; value; (end - start) as usize].expect(rt, "refused");
     let command = write_of(rt, alloc, start, end, &update);
     (command, None)
 }
@@ -107,8 +107,8 @@ fn requested<R: Abort>(rt: &R, alloc: Global) -> (Vec<Command>, Vec<Option<Vec<u
     for _ in 0..500 {
         number = next(number);
         let (command, read) = command_of(rt, alloc, number, &mut cells);
-        commands.push(command).expect(rt, "memory");
-        wanted.push(read).expect(rt, "memory");
+        commands.push(command).expect(rt, "refused");
+        wanted.push(read).expect(rt, "refused");
     }
     (commands, wanted)
 }

@@ -102,7 +102,7 @@ fn a_fault_is_no_event(rt: HostRuntime) {
     let stages = stages();
     let mut stage = 0;
     for fails_at in 0..100 {
-        let ran = run::<_, _, Brand, _>(&rt, rt.alloc(), &shards, fails_at).expect(&rt, "memory");
+        let ran = run::<_, _, Brand, _>(&rt, rt.alloc(), &shards, fails_at).expect(&rt, "refused");
         if stage < 4 && ran == stages[stage + 1] {
             stage += 1;
         }
@@ -139,8 +139,8 @@ fn has_cells<I: ArrayToBytesCodecTraits, X: ArrayToBytesCodecTraits, R: Abort>(
     shards: &Shards<I, X>,
     handle: FaultingHandle,
 ) -> bool {
-    let all = ArraySubset::from_ranges(alloc, &[0..4]).expect(rt, "memory");
-    let array = cells_anew(alloc, shards, handle, &all).expect(rt, "memory");
+    let all = ArraySubset::from_ranges(alloc, &[0..4]).expect(rt, "refused");
+    let array = cells_anew(alloc, shards, handle, &all).expect(rt, "refused");
     array.fixed_bytes() == Some(&[0, 7, 0, 0])
 }
 

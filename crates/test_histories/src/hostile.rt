@@ -58,7 +58,7 @@ fn recorded_over<I: ArrayToBytesCodecTraits, X: ArrayToBytesCodecTraits, J: Nami
 // The object then: one that is not opened stays, and by a write to one of two subchunks with one slice the other stays.
 fn left<R: Abort>(rt: &R, alloc: Global, hostile: &HostileObject) -> Vec<u8> {
     match hostile.unopened {
-        Some(_) => hostile.object(alloc).expect(rt, "memory"),
+        Some(_) => hostile.object(alloc).expect(rt, "refused"),
         None => object_of(rt, alloc, &[5, 6, 9, 6], &[0, 2, 2, 2]),
     }
 }
@@ -67,7 +67,7 @@ fn left<R: Abort>(rt: &R, alloc: Global, hostile: &HostileObject) -> Vec<u8> {
 fn they_are_recorded_or_given_back(rt: HostRuntime) {
     for hostile in hostile_table().iter() {
         let shards = shards_for(&rt, rt.alloc(), hostile);
-        let object = hostile.object(rt.alloc()).expect(&rt, "memory");
+        let object = hostile.object(rt.alloc()).expect(&rt, "refused");
         let end = recorded_over::<_, _, Brand, _>(&rt, rt.alloc(), &shards, object);
         same_at(&rt, hostile.name, end.error, hostile.unopened);
         let (events, opening) = match (hostile.unopened, hostile.elements) {
@@ -85,7 +85,7 @@ const ORDERS: [Order; 4] = [Read(0, 2), Read(2, 4), ReadCells(&[3, 0, 3]), Compa
 
 fn ran<R: Abort>(rt: &R, alloc: Global, hostile: &HostileObject) -> CommandRun<MemoryHandle> {
     let shards = shards_for(rt, alloc, hostile);
-    let object = hostile.object(alloc).expect(rt, "memory");
+    let object = hostile.object(alloc).expect(rt, "refused");
     let commands = commands_of(rt, alloc, &ORDERS);
     run(rt, alloc, &shards.codec, 4, Some(object), &commands)
 }
@@ -118,8 +118,8 @@ fn are_wanted(replies: &[Reply], hostile: &HostileObject) -> bool {
 // The object then: one that is not opened stays.
 fn left_compact<R: Abort>(rt: &R, alloc: Global, hostile: &HostileObject) -> Vec<u8> {
     match (hostile.unopened, &hostile.compacted) {
-        (None, Ok(Some(stored))) => stored.object(alloc, hostile.at_start).expect(rt, "memory"),
-        _ => hostile.object(alloc).expect(rt, "memory"),
+        (None, Ok(Some(stored))) => stored.object(alloc, hostile.at_start).expect(rt, "refused"),
+        _ => hostile.object(alloc).expect(rt, "refused"),
     }
 }
 
@@ -149,7 +149,7 @@ fn nested_for<R: Abort>(rt: &R, alloc: Global, hostile: &HostileObject) -> Neste
 
 // An object as the first subchunk of a shard, whose second is absent.
 fn put_into<R: Abort>(rt: &R, alloc: Global, hostile: &HostileObject) -> Vec<u8> {
-    let object = hostile.object(alloc).expect(rt, "memory");
+    let object = hostile.object(alloc).expect(rt, "refused");
     let size = object.len() as u64;
     object_of(rt, alloc, &object, &[0, size, ABSENT, ABSENT])
 }

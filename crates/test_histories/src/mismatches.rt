@@ -74,8 +74,8 @@ fn crossed<
     requires codec_named { Some shards.now.codec ≡ J.codec }
     requires spec_named { array_spec shards.now.shape UInt8 shards.now.fill ≡ J.array_spec }
 {
-    let seats = seats_of::<_, _, J, _>(rt, alloc, shards, value).expect(rt, "memory");
-    closed_with::<_, _, J, _>(rt, alloc, shards, seats).expect(rt, "memory")
+    let seats = seats_of::<_, _, J, _>(rt, alloc, shards, value).expect(rt, "refused");
+    closed_with::<_, _, J, _>(rt, alloc, shards, seats).expect(rt, "refused")
 }
 
 #[test]

@@ -29,19 +29,19 @@ pub(crate) enum Answer {
 
 pub(crate) fn shape_of<R: Abort>(rt: &R, alloc: Global, axes: &[u64]) -> ChunkShape {
     ChunkShape::new(alloc, axes)
-        .expect(rt, "memory")
-        .expect(rt, "it fits")
+        .expect(rt, "refused")
+        .expect(rt, "does not fit")
 }
 
 pub(crate) fn subset_of<R: Abort>(rt: &R, alloc: Global, start: u64, end: u64) -> ArraySubset {
     ArraySubset::new_with_ranges(alloc, &[start..end])
-        .expect(rt, "memory")
-        .expect(rt, "it fits")
+        .expect(rt, "refused")
+        .expect(rt, "does not fit")
 }
 
 fn coordinates_of<R: Abort>(rt: &R, alloc: Global, numbers: &[u64]) -> Coordinates {
-    let flat = numbers.to_vec(alloc).expect(rt, "memory");
-    Coordinates::new(1, numbers.len() as u64, flat).expect(rt, "it fits")
+    let flat = numbers.to_vec(alloc).expect(rt, "refused");
+    Coordinates::new(1, numbers.len() as u64, flat).expect(rt, "does not fit")
 }
 
 pub(crate) fn write_of<R: Abort>(
@@ -52,7 +52,7 @@ pub(crate) fn write_of<R: Abort>(
     cells: &[u8],
 ) -> Command {
     let subset = subset_of(rt, alloc, start, end);
-    let bytes = ArrayBytes::from_numbers(alloc, cells).expect(rt, "memory");
+    let bytes = ArrayBytes::from_numbers(alloc, cells).expect(rt, "refused");
     Command::Write { subset, bytes }
 }
 
@@ -78,7 +78,7 @@ pub(crate) fn commands_of<R: Abort>(rt: &R, alloc: Global, orders: &[Order]) -> 
     for order in orders {
         commands
             .push(command_of(rt, alloc, order))
-            .expect(rt, "memory");
+            .expect(rt, "refused");
     }
     commands
 }
@@ -115,7 +115,7 @@ pub(crate) fn run<I: ArrayToBytesCodecTraits, X: ArrayToBytesCodecTraits, R: Abo
     commands: &[Command],
 ) -> CommandRun<MemoryHandle> {
     let shape = shape_of(rt, alloc, &[cells]);
-    let fill = FillValue::from_number(alloc, 0u8).expect(rt, "memory");
+    let fill = FillValue::from_number(alloc, 0u8).expect(rt, "refused");
     let handle = MemoryHandle::new(object);
     run_commands(
         alloc,

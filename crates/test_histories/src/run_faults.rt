@@ -107,10 +107,10 @@ fn open(alloc: Global, shards: &Plain, object: Option<Vec<u8>>) -> Result<Sessio
 }
 
 fn are_cells<R: Abort>(rt: &R, alloc: Global, session: &mut Session<'_>, cells: &[u8]) -> bool {
-    let all = ArraySubset::from_ranges(alloc, &[0..8]).expect(rt, "memory");
+    let all = ArraySubset::from_ranges(alloc, &[0..8]).expect(rt, "refused");
     let array = session
         .partial_decode(alloc, &all, &CodecOptions::default())
-        .expect(rt, "memory");
+        .expect(rt, "refused");
     array.fixed_bytes() == Some(cells)
 }
 
@@ -126,7 +126,7 @@ fn is_left<R: Abort>(
         Some((_, _, cells)) => *cells,
         None => &[0; 8],
     };
-    let mut session = open(alloc, shards, left).expect(rt, "memory");
+    let mut session = open(alloc, shards, left).expect(rt, "refused");
     let are_cells = are_cells(rt, alloc, &mut session, cells);
     let left = session.close().into_inner();
     are_cells && left == bytes_of(rt, alloc, object)

@@ -27,8 +27,8 @@ pub(crate) struct Shards<I: ArrayToBytesCodecTraits, X: ArrayToBytesCodecTraits>
 
 fn shape_of<R: Abort>(rt: &R, alloc: Global, axis: u64) -> ChunkShape {
     ChunkShape::new(alloc, &[axis])
-        .expect(rt, "memory")
-        .expect(rt, "it fits")
+        .expect(rt, "refused")
+        .expect(rt, "does not fit")
 }
 
 // Shards of this number of cells, with their index at this place.
@@ -40,7 +40,7 @@ pub(crate) fn shards_at<R: Abort>(
 ) -> Shards<BytesCodec, BytesCodec> {
     let little = BytesCodec::little();
     let sub = shape_of(rt, alloc, 2);
-    let zero = vec![in alloc; 0u8; 1].expect(rt, "memory");
+    let zero = vec![in alloc; 0u8; 1].expect(rt, "refused");
     Shards {
         codec: ShardingCodec::new(sub, little, little, location),
         shape: shape_of(rt, alloc, cells),
@@ -120,11 +120,11 @@ impl<I: ArrayToBytesCodecTraits, X: ArrayToBytesCodecTraits> Shards<I, X> {
 
 // An object of these slices and this index.
 pub(crate) fn object_of<R: Abort>(rt: &R, alloc: Global, slices: &[u8], index: &[u64]) -> Vec<u8> {
-    let mut object: Vec<u8> = slices.to_vec(alloc).expect(rt, "memory");
+    let mut object: Vec<u8> = slices.to_vec(alloc).expect(rt, "refused");
     for number in index.iter() {
         object
             .extend_from_slice(&number.to_le_bytes())
-            .expect(rt, "memory");
+            .expect(rt, "refused");
     }
     object
 }

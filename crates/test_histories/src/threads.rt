@@ -187,7 +187,7 @@ fn compacts_to<I: ArrayToBytesCodecTraits, X: ArrayToBytesCodecTraits, R: Abort>
     slices: &[u8],
     index: &[u64],
 ) -> bool {
-    let compacted = shards.compacted(alloc, object).expect(rt, "memory");
+    let compacted = shards.compacted(alloc, object).expect(rt, "refused");
     is_object(rt, alloc, &compacted, slices, index)
 }
 

@@ -13,8 +13,8 @@ fn second_and_third<I: ArrayToBytesCodecTraits, X: ArrayToBytesCodecTraits, R: A
     alloc: Global,
     shards: &Shards<I, X>,
 ) -> Option<ArrayBytes<'static>> {
-    let subset = ArraySubset::from_ranges(alloc, &[1..3]).expect(rt, "memory");
-    let bytes = ArrayBytes::from_numbers(alloc, &[7u8, 9]).expect(rt, "memory");
+    let subset = ArraySubset::from_ranges(alloc, &[1..3]).expect(rt, "refused");
+    let bytes = ArrayBytes::from_numbers(alloc, &[7u8, 9]).expect(rt, "refused");
     read_back(
         alloc,
         &shards.codec,
@@ -24,7 +24,7 @@ fn second_and_third<I: ArrayToBytesCodecTraits, X: ArrayToBytesCodecTraits, R: A
         subset,
         bytes,
     )
-    .expect(rt, "memory")
+    .expect(rt, "refused")
 }
 
 // Whether these are 7 and 9.
@@ -34,7 +34,7 @@ fn are_read_back<I: ArrayToBytesCodecTraits, X: ArrayToBytesCodecTraits, R: Abor
     shards: &Shards<I, X>,
 ) -> bool {
     let found = second_and_third(rt, alloc, shards);
-    let wanted = ArrayBytes::from_numbers(alloc, &[7u8, 9]).expect(rt, "memory");
+    let wanted = ArrayBytes::from_numbers(alloc, &[7u8, 9]).expect(rt, "refused");
     found == Some(wanted)
 }
 

@@ -119,10 +119,10 @@ fn a_byte_order_is_read(rt: HostRuntime) {
             BytesCodec::little(),
         ),
     ] {
-        let value = Value::from_str(rt.alloc(), text).expect(&rt, "memory");
+        let value = Value::from_str(rt.alloc(), text).expect(&rt, "refused");
         same(
             &rt,
-            BytesCodec::create(rt.alloc(), &value).expect(&rt, "memory"),
+            BytesCodec::create(rt.alloc(), &value).expect(&rt, "refused"),
             want,
         );
     }
@@ -151,8 +151,8 @@ fn the_metadata_of_shards_of_shards_is_read_and_written(rt: HostRuntime) -> Resu
 }
 
 fn configured_codec<R: Abort>(rt: &R, alloc: Global, text: &str) -> Shards {
-    let value = Value::from_str(alloc, text).expect(rt, "memory");
-    codec_of(alloc, &value).expect(rt, "memory")
+    let value = Value::from_str(alloc, text).expect(rt, "refused");
+    codec_of(alloc, &value).expect(rt, "refused")
 }
 
 // How a codec serves arrays of four bytes.

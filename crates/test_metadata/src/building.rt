@@ -72,8 +72,8 @@ fn with_checksums<R: Abort>(rt: &R, alloc: Global) -> Result<Vec<u8>, CodecError
 
 // Four elements that have lengths of their own, of which the last two are the fill value.
 fn words<R: Abort>(rt: &R, alloc: Global) -> ArrayBytes<'static> {
-    let offsets = [0, 1, 1, 1, 1].to_vec(alloc).expect(rt, "memory");
-    ArrayBytes::new_vlen(CowSlice::Borrowed(b"a"), offsets).expect(rt, "it fits")
+    let offsets = [0, 1, 1, 1, 1].to_vec(alloc).expect(rt, "refused");
+    ArrayBytes::new_vlen(CowSlice::Borrowed(b"a"), offsets).expect(rt, "does not fit")
 }
 
 fn encoded_words<C: ArrayToBytesCodecTraits, R: Abort>(
@@ -152,25 +152,25 @@ fn built<R: Abort>(rt: &R, alloc: Global, data_type: &DataType) -> Shared {
     let builder = ShardingCodecBuilder::new(shape_of(rt, alloc, &[2, 2]), data_type).index_location(
         ShardingIndexLocation::Start,
     );
-    builder.build_arc(alloc).expect(rt, "memory")
+    builder.build_arc(alloc).expect(rt, "refused")
 }
 
 fn configuration_of<R: Abort>(rt: &R, alloc: Global, data_type: &DataType) -> String {
     let codec = built(rt, alloc, data_type);
     codec
         .configuration(alloc)
-        .expect(rt, "memory")
+        .expect(rt, "refused")
         .to_string(alloc)
-        .expect(rt, "memory")
+        .expect(rt, "refused")
 }
 
 fn metadata_of<R: Abort>(rt: &R, alloc: Global, data_type: &DataType) -> String {
     let codec = built(rt, alloc, data_type);
     codec
         .metadata(alloc)
-        .expect(rt, "memory")
+        .expect(rt, "refused")
         .to_string(alloc)
-        .expect(rt, "memory")
+        .expect(rt, "refused")
 }
 
 #[test]
@@ -183,11 +183,11 @@ fn a_built_codec_has_metadata(rt: HostRuntime) {
         let configuration = configuration_of(&rt, rt.alloc(), &data_type);
         let wanted = format!(in rt.alloc();
             "{{\"chunk_shape\":[2,2],\"codecs\":[{inner}],\"index_codecs\":[{little}],\"index_location\":\"start\"}}"
-        ).expect(&rt, "memory");
+        ).expect(&rt, "refused");
         same(&rt, configuration.as_str(), wanted.as_str());
         let whole = format!(in rt.alloc();
             "{{\"configuration\":{wanted},\"name\":\"sharding_indexed\"}}"
-        ).expect(&rt, "memory");
+        ).expect(&rt, "refused");
         let metadata = metadata_of(&rt, rt.alloc(), &data_type);
         same(&rt, metadata.as_str(), whole.as_str());
     }
@@ -202,10 +202,10 @@ fn represented_by<C: ArrayToBytesCodecTraits, R: Abort>(
     fill: &[u8],
 ) -> BytesRepresentation {
     let shape = shape_of(rt, alloc, &[4, 4]);
-    let fill = FillValue::new(fill.to_vec(alloc).expect(rt, "memory"));
+    let fill = FillValue::new(fill.to_vec(alloc).expect(rt, "refused"));
     codec
         .encoded_representation(alloc, &shape, data_type, &fill)
-        .expect(rt, "memory")
+        .expect(rt, "refused")
 }
 
 // What shards of 4 by 4 in subchunks of 2 by 2 are encoded to.

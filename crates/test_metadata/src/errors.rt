@@ -19,7 +19,7 @@ fn refusal_of(alloc: Global, value: &Value) -> (u8, &'static str) {
 }
 
 fn refusal<R: Abort>(rt: &R, alloc: Global, text: &str) -> (u8, &'static str) {
-    let value = Value::from_str(alloc, text).expect(rt, "memory");
+    let value = Value::from_str(alloc, text).expect(rt, "refused");
     refusal_of(alloc, &value)
 }
 

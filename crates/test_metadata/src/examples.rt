@@ -13,8 +13,8 @@ pub type ShardsOfShards = ShardingCodec<Shards, BytesCodec>;
 
 pub fn shape_of<R: Abort>(rt: &R, alloc: Global, axes: &[u64]) -> ChunkShape {
     ChunkShape::new(alloc, axes)
-        .expect(rt, "memory")
-        .expect(rt, "it fits")
+        .expect(rt, "refused")
+        .expect(rt, "does not fit")
 }
 
 pub fn codec_of(alloc: Global, value: &Value) -> Result<Shards, PluginCreateError> {

@@ -14,8 +14,8 @@ fn is_given_back<C: CodecTraitsV3 + PartialEq + Drop, R: Abort>(
     alloc: Global,
     codec: &C,
 ) -> bool {
-    let metadata = codec.metadata(alloc).expect(rt, "memory");
-    create_after_metadata(alloc, codec, &metadata).expect(rt, "memory") == *codec
+    let metadata = codec.metadata(alloc).expect(rt, "refused");
+    create_after_metadata(alloc, codec, &metadata).expect(rt, "refused") == *codec
 }
 
 // The metadata of a codec names the codec.
@@ -59,12 +59,12 @@ fn written_again<R: Abort>(
     location: ShardingIndexLocation,
 ) -> (String, String) {
     let codec = shards(rt, alloc, location);
-    let value = codec.configuration(alloc).expect(rt, "memory");
-    let made = new_after_configuration(alloc, &codec, &value).expect(rt, "memory");
-    let again = made.configuration(alloc).expect(rt, "memory");
+    let value = codec.configuration(alloc).expect(rt, "refused");
+    let made = new_after_configuration(alloc, &codec, &value).expect(rt, "refused");
+    let again = made.configuration(alloc).expect(rt, "refused");
     (
-        value.to_string(alloc).expect(rt, "memory"),
-        again.to_string(alloc).expect(rt, "memory"),
+        value.to_string(alloc).expect(rt, "refused"),
+        again.to_string(alloc).expect(rt, "refused"),
     )
 }
 

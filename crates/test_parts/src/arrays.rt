@@ -15,10 +15,10 @@ const SQUARE: [u8; 16] = [0, 1, 2, 3, 4, 5, 6, 7, 8, 9, 10, 11, 12, 13, 14, 15];
 
 // Elements of any length, added one after the other.
 fn built<R: Abort>(rt: &R, alloc: Global) -> ArrayBytes<'static> {
-    let mut builder = ArrayBuilder::new(alloc, DataTypeSize::Variable).expect(rt, "memory");
-    builder.push(b"ab").expect(rt, "memory");
-    builder.push(b"").expect(rt, "memory");
-    builder.push(b"c").expect(rt, "memory");
+    let mut builder = ArrayBuilder::new(alloc, DataTypeSize::Variable).expect(rt, "refused");
+    builder.push(b"ab").expect(rt, "refused");
+    builder.push(b"").expect(rt, "refused");
+    builder.push(b"c").expect(rt, "refused");
     builder.finish()
 }
 
@@ -45,10 +45,10 @@ fn is_first_pushed<R: Abort>(rt: &R, alloc: Global, len: usize, room: usize) -> 
     let Some(first) = TEXT.get(..len) else {
         return false;
     };
-    let mut builder = ArrayBuilder::new(alloc, DataTypeSize::Variable).expect(rt, "memory");
-    builder.reserve(2, room).expect(rt, "memory");
-    builder.push(b"ab").expect(rt, "memory");
-    builder.push_first(TEXT, len).expect(rt, "memory");
+    let mut builder = ArrayBuilder::new(alloc, DataTypeSize::Variable).expect(rt, "refused");
+    builder.reserve(2, room).expect(rt, "refused");
+    builder.push(b"ab").expect(rt, "refused");
+    builder.push_first(TEXT, len).expect(rt, "refused");
     let array = builder.finish();
     array.len() == 2 && array.element(0) == b"ab".as_slice() && array.element(1) == first
 }
@@ -71,10 +71,10 @@ fn first_bytes_are_pushed(rt: HostRuntime) {
 // Parts that are put one after another, with the offsets between them, become an array's elements.
 fn is_put_together<R: Abort>(rt: &R, alloc: Global) -> bool {
     let mut bytes = Vec::new(alloc);
-    let mut offsets = Vec::with_capacity(alloc, 3).expect(rt, "memory");
+    let mut offsets = Vec::with_capacity(alloc, 3).expect(rt, "refused");
     offsets.push_reserved(0);
-    push_part(&mut bytes, &mut offsets, b"abx", 2).expect(rt, "memory");
-    push_part(&mut bytes, &mut offsets, b"c", 1).expect(rt, "memory");
+    push_part(&mut bytes, &mut offsets, b"abx", 2).expect(rt, "refused");
+    push_part(&mut bytes, &mut offsets, b"c", 1).expect(rt, "refused");
     let bytes = CowSlice::Owned(bytes);
     let array = ArrayBytes::from_variable(VariableParts { bytes, offsets });
     has(rt, alloc, &array, Variable(&[0, 2, 3], b"abc"))
@@ -131,7 +131,7 @@ fn is_repeated<R: Abort>(
     want: Elements,
 ) -> bool {
     let value = fill(rt, alloc, value);
-    let array = ArrayBytes::new_fill_value(alloc, data_type, count, &value).expect(rt, "memory");
+    let array = ArrayBytes::new_fill_value(alloc, data_type, count, &value).expect(rt, "refused");
     has(rt, alloc, &array, want)
 }
 
@@ -180,10 +180,10 @@ type Place<'a> = (Elements<'a>, &'a [u64], DataType, &'a [Range<u64>]);
 
 fn extracted<R: Abort>(rt: &R, alloc: Global, place: Place) -> ArrayBytes<'static> {
     let (elements, shape, data_type, ranges) = place;
-    let cells = subset(alloc, ranges).expect(rt, "memory");
+    let cells = subset(alloc, ranges).expect(rt, "refused");
     array_of(rt, alloc, elements)
         .extract_array_subset(alloc, &cells, shape, &data_type)
-        .expect(rt, "memory")
+        .expect(rt, "refused")
 }
 
 // Whether a subset of an array has these elements.
@@ -208,9 +208,9 @@ fn updated<R: Abort>(
     update: &ArrayBytes,
 ) -> ArrayBytes<'static> {
     let (elements, shape, data_type, ranges) = place;
-    let cells = subset(alloc, ranges).expect(rt, "memory");
+    let cells = subset(alloc, ranges).expect(rt, "refused");
     let array = array_of(rt, alloc, elements);
-    update_array_bytes(alloc, &array, shape, &cells, update, &data_type).expect(rt, "memory")
+    update_array_bytes(alloc, &array, shape, &cells, update, &data_type).expect(rt, "refused")
 }
 
 // Whether an array has these elements once those of a subset are replaced.
@@ -258,7 +258,7 @@ fn is_numbered<R: Abort>(rt: &R, alloc: Global) -> bool {
     }
     let part = array
         .extract_numbers(alloc, &[2, 0, 2])
-        .expect(rt, "memory");
+        .expect(rt, "refused");
     has(rt, alloc, &part, Fixed(1, &[12, 10, 12]))
 }
 
@@ -271,14 +271,14 @@ fn elements_with_given_numbers_are_extracted(rt: HostRuntime) {
 // Whether a copy of an array is equal to it.
 fn is_copied<R: Abort>(rt: &R, alloc: Global, elements: Elements) -> bool {
     let array = array_of(rt, alloc, elements);
-    array.try_clone(alloc).expect(rt, "memory") == array
+    array.try_clone(alloc).expect(rt, "refused") == array
 }
 
 // Whether an array is the same once it owns its bytes.
 fn is_owned<R: Abort>(rt: &R, alloc: Global, elements: Elements) -> bool {
     let owned = array_of(rt, alloc, elements)
         .into_owned(alloc)
-        .expect(rt, "memory");
+        .expect(rt, "refused");
     has(rt, alloc, &owned, elements)
 }
 

@@ -23,13 +23,13 @@ pub fn listed<R: Abort>(
     Coordinates::new(
         dimensionality,
         count,
-        flat.to_vec(alloc).expect(rt, "memory"),
+        flat.to_vec(alloc).expect(rt, "refused"),
     )
     .ok_or(CodecError::Fault)
 }
 
 pub fn fill<R: Abort>(rt: &R, alloc: Global, bytes: &[u8]) -> FillValue {
-    FillValue::new(bytes.to_vec(alloc).expect(rt, "memory"))
+    FillValue::new(bytes.to_vec(alloc).expect(rt, "refused"))
 }
 
 // The bytes of an array, with the size of each element or with the offsets of elements of any length.
@@ -40,7 +40,7 @@ pub enum Elements<'a> {
 }
 
 pub fn fixed<'a, R: Abort>(rt: &R, size: usize, bytes: &'a [u8]) -> ArrayBytes<'a> {
-    ArrayBytes::new_flen(CowSlice::Borrowed(bytes), size).expect(rt, "it fits")
+    ArrayBytes::new_flen(CowSlice::Borrowed(bytes), size).expect(rt, "does not fit")
 }
 
 fn variable<'a, R: Abort>(
@@ -49,8 +49,8 @@ fn variable<'a, R: Abort>(
     offsets: &[usize],
     bytes: &'a [u8],
 ) -> ArrayBytes<'a> {
-    let offsets = offsets.to_vec(alloc).expect(rt, "memory");
-    ArrayBytes::new_vlen(CowSlice::Borrowed(bytes), offsets).expect(rt, "it fits")
+    let offsets = offsets.to_vec(alloc).expect(rt, "refused");
+    ArrayBytes::new_vlen(CowSlice::Borrowed(bytes), offsets).expect(rt, "does not fit")
 }
 
 pub fn array_of<'a, R: Abort>(rt: &R, alloc: Global, elements: Elements<'a>) -> ArrayBytes<'a> {

@@ -36,14 +36,14 @@ fn check<N: Indexer>(rt: &impl Abort, indexer: &N, want: Told, numbers: &[(u64, 
 // A subset gives its points in row-major order.
 #[test]
 fn a_subset_gives_its_points(rt: HostRuntime) {
-    let column = subset(rt.alloc(), &[1..3, 0..1]).expect(&rt, "memory");
+    let column = subset(rt.alloc(), &[1..3, 0..1]).expect(&rt, "refused");
     check(&rt, &column, (2, Some(2), true), &[(1, 0, 2), (1, 1, 0)]);
 }
 
 // A list gives its coordinates in its own order, one of them twice.
 #[test]
 fn coordinates_are_given_in_their_order(rt: HostRuntime) {
-    let list = listed(&rt, rt.alloc(), 2, 3, &[3, 4, 0, 1, 3, 4]).expect(&rt, "memory");
+    let list = listed(&rt, rt.alloc(), 2, 3, &[3, 4, 0, 1, 3, 4]).expect(&rt, "refused");
     let numbers = [(0, 1, 4), (1, 0, 0), (2, 0, 3)];
     check(&rt, &list, (2, Some(3), false), &numbers);
 }
@@ -78,8 +78,8 @@ fn each_coordinate_has_as_many_numbers(rt: HostRuntime) {
 
 // Whether a copy of a list of so many coordinates is equal to it.
 fn is_copied<R: Abort>(rt: &R, alloc: Global) -> bool {
-    let pair = listed(rt, alloc, 1, 2, &[1, 2]).expect(rt, "memory");
-    pair.try_clone(alloc).expect(rt, "memory") == pair
+    let pair = listed(rt, alloc, 1, 2, &[1, 2]).expect(rt, "refused");
+    pair.try_clone(alloc).expect(rt, "refused") == pair
 }
 
 // A copy is equal.
@@ -96,8 +96,8 @@ fn are_equal<R: Abort>(
     other: (usize, u64),
     flat: &[u64],
 ) -> bool {
-    let list = listed(rt, alloc, one.0, one.1, flat).expect(rt, "memory");
-    list == listed(rt, alloc, other.0, other.1, flat).expect(rt, "memory")
+    let list = listed(rt, alloc, one.0, one.1, flat).expect(rt, "refused");
+    list == listed(rt, alloc, other.0, other.1, flat).expect(rt, "refused")
 }
 
 // Lists of the same numbers differ by how many coordinates these are, also where there are none.

@@ -12,7 +12,7 @@ fn is_at<R: Abort>(
     shape: &[u64],
     want: Option<&[u64]>,
 ) -> bool {
-    match unravel_index(alloc, number, shape).expect(rt, "memory") {
+    match unravel_index(alloc, number, shape).expect(rt, "refused") {
         Some(point) => want == Some(point.as_slice()),
         None => want.is_none(),
     }

@@ -27,7 +27,7 @@ fn numbers_become_elements(rt: HostRuntime) {
         (elements::<u16>(alloc, &[]), &[], 2),
     ];
     for (made, bytes, size) in table {
-        let (made, kind) = made.expect(&rt, "memory");
+        let (made, kind) = made.expect(&rt, "refused");
         same(
             &rt,
             (made.as_slice(), kind),
@@ -38,9 +38,9 @@ fn numbers_become_elements(rt: HostRuntime) {
 
 fn there_and_back<R: Abort>(rt: &R, alloc: Global, numbers: &[u32]) -> Vec<u32> {
     ArrayBytes::from_numbers(alloc, numbers)
-        .expect(rt, "memory")
+        .expect(rt, "refused")
         .to_numbers(alloc)
-        .expect(rt, "memory")
+        .expect(rt, "refused")
 }
 
 // Elements give the numbers back.
@@ -67,7 +67,7 @@ fn numbers_of_another_size_are_refused(rt: HostRuntime) {
 // A fill value of a number has the bytes of an element.
 #[test]
 fn fill_values_of_numbers(rt: HostRuntime) {
-    let fill = FillValue::from_number(rt.alloc(), 0xff00u16).expect(&rt, "memory");
+    let fill = FillValue::from_number(rt.alloc(), 0xff00u16).expect(&rt, "refused");
     same(&rt, fill.as_ne_bytes(), [0, 255].as_slice());
 }
 
@@ -104,7 +104,7 @@ fn other_names_are_no_types(rt: HostRuntime) {
 
 // Whether a subset of these ranges is the subset at (1, 0) of 2 by 1.
 fn is_subset<R: Abort>(rt: &R, alloc: Global) -> bool {
-    let subset = ArraySubset::from_ranges(alloc, &[1..3, 0..1]).expect(rt, "memory");
+    let subset = ArraySubset::from_ranges(alloc, &[1..3, 0..1]).expect(rt, "refused");
     subset.start() == [1, 0].as_slice() && subset.shape() == [2, 1].as_slice()
 }
 
@@ -122,15 +122,15 @@ fn between<'a, R: Abort>(
     offsets: &[usize],
     bytes: &'a [u8],
 ) -> ArrayBytes<'a> {
-    let offsets = offsets.to_vec(alloc).expect(rt, "memory");
-    ArrayBytes::new_vlen(CowSlice::Borrowed(bytes), offsets).expect(rt, "it fits")
+    let offsets = offsets.to_vec(alloc).expect(rt, "refused");
+    ArrayBytes::new_vlen(CowSlice::Borrowed(bytes), offsets).expect(rt, "does not fit")
 }
 
 // Whether an array of elements between offsets gives the offsets back, and says rightly whether it is empty.
 fn comes_apart<R: Abort>(rt: &R, alloc: Global, offsets: &[usize], bytes: &[u8]) -> bool {
     let array = between(rt, alloc, offsets, bytes);
     let empty = array.is_empty();
-    let parts = array.into_variable().expect(rt, "memory");
+    let parts = array.into_variable().expect(rt, "refused");
     parts.offsets.as_slice() == offsets && empty == (offsets.len() == 1)
 }
 

@@ -68,6 +68,6 @@ fn a_subset_is_counted_from_an_origin(rt: HostRuntime) {
 // The law of overlaps can be called.
 #[test]
 fn the_law_of_overlaps_can_be_called(rt: HostRuntime) {
-    let whole = subset(rt.alloc(), &[0..4, 0..4]).expect(&rt, "memory");
+    let whole = subset(rt.alloc(), &[0..4, 0..4]).expect(&rt, "refused");
     overlap_law(&whole, &whole);
 }

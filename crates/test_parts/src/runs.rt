@@ -37,7 +37,7 @@ fn runs_are_as_long_as_they_can_be(rt: HostRuntime) {
         (&[2..2, 0..4], &[4, 4], &[]),
     ];
     for (ranges, shape, wanted) in rows {
-        let found = runs_of(rt.alloc(), ranges, shape).expect(&rt, "memory");
+        let found = runs_of(rt.alloc(), ranges, shape).expect(&rt, "refused");
         same(&rt, found.as_slice(), wanted);
     }
 }

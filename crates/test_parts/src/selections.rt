@@ -14,10 +14,10 @@ fn are_numbers_in<N: Indexer, R: Abort>(
     shape: &ChunkShape,
     want: &[u64],
 ) -> bool {
-    let _cells = shape.num_elements().expect(rt, "it fits");
-    let count = check_selection(indexer, shape).expect(rt, "memory");
+    let _cells = shape.num_elements().expect(rt, "does not fit");
+    let count = check_selection(indexer, shape).expect(rt, "refused");
     point_numbers(alloc, indexer, count, shape)
-        .expect(rt, "memory")
+        .expect(rt, "refused")
         .as_slice()
         == want
 }
@@ -33,13 +33,13 @@ fn are_numbers<N: Indexer, R: Abort>(
         rt,
         alloc,
         indexer,
-        &shape(alloc, axes).expect(rt, "memory"),
+        &shape(alloc, axes).expect(rt, "refused"),
         want,
     )
 }
 
 fn is_numbered<R: Abort>(rt: &R, alloc: Global) -> bool {
-    let column = subset(alloc, &[1..3, 0..1]).expect(rt, "memory");
+    let column = subset(alloc, &[1..3, 0..1]).expect(rt, "refused");
     are_numbers(rt, alloc, &column, &[4, 4], &[4, 8])
 }
 
@@ -57,7 +57,7 @@ fn are_listed<R: Abort>(
     flat: &[u64],
     want: &[u64],
 ) -> bool {
-    let list = listed(rt, alloc, axes.len(), count, flat).expect(rt, "memory");
+    let list = listed(rt, alloc, axes.len(), count, flat).expect(rt, "refused");
     are_numbers(rt, alloc, &list, axes, want)
 }
 

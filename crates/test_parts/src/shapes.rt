@@ -28,7 +28,7 @@ fn the_axes_are_multiplied(rt: HostRuntime) {
 
 // Whether a shape is equal to the one of these axes.
 fn is_shape<R: Abort>(rt: &R, alloc: Global, found: &ChunkShape, axes: &[u64]) -> bool {
-    let made = shape(alloc, axes).expect(rt, "memory");
+    let made = shape(alloc, axes).expect(rt, "refused");
     *found == made && made.as_slice() == axes
 }
 
@@ -49,9 +49,9 @@ fn a_shape_has_its_axes(rt: HostRuntime) {
 // Whether a copy of the shape of the axes 2 and 3 is equal to the shape of these axes.
 fn is_copied<R: Abort>(rt: &R, alloc: Global, axes: &[u64]) -> bool {
     let copy = shape(alloc, &[2, 3])
-        .expect(rt, "memory")
+        .expect(rt, "refused")
         .try_clone(alloc)
-        .expect(rt, "memory");
+        .expect(rt, "refused");
     is_shape(rt, alloc, &copy, axes)
 }
 
@@ -66,7 +66,7 @@ fn a_copy_is_equal(rt: HostRuntime) {
 fn are_added<R: Abort>(rt: &R, alloc: Global, axes: &[u64]) -> bool {
     let mut added = Axes::new(alloc);
     for axis in axes {
-        added.push(*axis).expect(rt, "memory");
+        added.push(*axis).expect(rt, "refused");
     }
     added.len() == axes.len() && added.as_slice() == axes
 }
@@ -82,7 +82,7 @@ fn axes_are_added(rt: HostRuntime) {
 
 // Whether a subset has this shape and begins at zero on each axis.
 fn is_whole<R: Abort>(rt: &R, alloc: Global, found: &ArraySubset, axes: &[u64]) -> bool {
-    let zeros = Axes::from_elem(alloc, 0, axes.len()).expect(rt, "memory");
+    let zeros = Axes::from_elem(alloc, 0, axes.len()).expect(rt, "refused");
     found.start() == zeros.as_slice() && found.shape() == axes
 }
 
@@ -90,8 +90,8 @@ fn is_whole<R: Abort>(rt: &R, alloc: Global, found: &ArraySubset, axes: &[u64]) 
 fn begins_at_zero<R: Abort>(rt: &R, alloc: Global, axes: &[u64]) -> bool {
     let all = ArraySubset::new_with_shape(
         alloc,
-        Vec::from_slice(alloc, axes).expect(rt, "memory"),
-    ).expect(rt, "memory");
+        Vec::from_slice(alloc, axes).expect(rt, "refused"),
+    ).expect(rt, "refused");
     is_whole(rt, alloc, &all, axes)
 }
 

@@ -20,8 +20,8 @@ fn lies_at(
 
 // Whether the column of the first axis lies where it should.
 fn is_column<R: Abort>(rt: &R, alloc: Global) -> bool {
-    let column = subset(alloc, &[1..3, 0..1]).expect(rt, "memory");
-    lies_at(alloc, &column, &[1, 0], &[2, 1], &[3, 1]).expect(rt, "memory")
+    let column = subset(alloc, &[1..3, 0..1]).expect(rt, "refused");
+    lies_at(alloc, &column, &[1, 0], &[2, 1], &[3, 1]).expect(rt, "refused")
 }
 
 // A range starts at its first number and ends before its last.
@@ -32,7 +32,7 @@ fn a_subset_is_made_of_ranges(rt: HostRuntime) {
 
 fn of_ranges<R: Abort>(rt: &R, alloc: Global, ranges: &[Range<u64>]) -> bool {
     ArraySubset::new_with_ranges(alloc, ranges)
-        .expect(rt, "memory")
+        .expect(rt, "refused")
         .is_some()
 }
 
@@ -44,8 +44,8 @@ fn no_range_falls(rt: HostRuntime) {
 
 fn of<R: Abort>(rt: &R, alloc: Global, start: &[u64], shape: &[u64]) -> bool {
     let made = ArraySubset::new_with_start_shape(
-        start.to_vec(alloc).expect(rt, "memory"),
-        shape.to_vec(alloc).expect(rt, "memory"),
+        start.to_vec(alloc).expect(rt, "refused"),
+        shape.to_vec(alloc).expect(rt, "refused"),
     );
     made.is_some()
 }
@@ -70,7 +70,7 @@ fn points<R: Abort>(
     shape: &[u64],
     origin: &[u64],
 ) -> Result<Option<u64>, CodecError> {
-    let whole = ArraySubset::new_with_shape(alloc, shape.to_vec(alloc).expect(rt, "memory"))?;
+    let whole = ArraySubset::new_with_shape(alloc, shape.to_vec(alloc).expect(rt, "refused"))?;
     if whole.start() != origin {
         return Err(CodecError::Fault);
     }
@@ -92,20 +92,20 @@ fn an_empty_axis_leaves_no_point(rt: HostRuntime) {
 // Whether a copy of the column is equal to it.
 fn is_copied<R: Abort>(rt: &R, alloc: Global) -> bool {
     let copy = subset(alloc, &[1..3, 0..1])
-        .expect(rt, "memory")
+        .expect(rt, "refused")
         .try_clone(alloc)
-        .expect(rt, "memory");
-    is_subset(alloc, &copy, &[1..3, 0..1]).expect(rt, "memory")
+        .expect(rt, "refused");
+    is_subset(alloc, &copy, &[1..3, 0..1]).expect(rt, "refused")
 }
 
 // Whether the column is the subset of these ranges.
 fn column_is<R: Abort>(rt: &R, alloc: Global, ranges: &[Range<u64>]) -> bool {
     is_subset(
         alloc,
-        &subset(alloc, &[1..3, 0..1]).expect(rt, "memory"),
+        &subset(alloc, &[1..3, 0..1]).expect(rt, "refused"),
         ranges,
     )
-    .expect(rt, "memory")
+    .expect(rt, "refused")
 }
 
 // A copy is equal, and a subset with another start is not.
@@ -120,7 +120,7 @@ fn a_copy_is_equal(rt: HostRuntime) {
 fn the_law_of_subsets_can_be_called(rt: HostRuntime) {
     let whole = ArraySubset::new_with_shape(
         rt.alloc(),
-        [4, 4].to_vec(rt.alloc()).expect(&rt, "memory"),
-    ).expect(&rt, "memory");
+        [4, 4].to_vec(rt.alloc()).expect(&rt, "refused"),
+    ).expect(&rt, "refused");
     subset_law(&whole, &[4, 4]);
 }

@@ -115,7 +115,7 @@ fn a_subset_is_filled(rt: HostRuntime) {
 
 // Whether a target over a subset of single bytes has so many elements, each of one byte, and tells the subset.
 fn tells<R: Abort>(rt: &R, bytes: &mut [u8], cells: &ArraySubset, count: u64) -> bool {
-    let target = target_of(bytes, 1, cells).expect(rt, "memory");
+    let target = target_of(bytes, 1, cells).expect(rt, "refused");
     let counted = target.num_elements() == count && target.element_size() == 1;
     counted && target.subset() == cells
 }
@@ -124,7 +124,7 @@ fn tells_its_column<R: Abort>(rt: &R, alloc: Global) -> bool {
     tells(
         rt,
         &mut [77; 9],
-        &subset(alloc, &[1..3, 1..2]).expect(rt, "memory"),
+        &subset(alloc, &[1..3, 1..2]).expect(rt, "refused"),
         2,
     )
 }
@@ -147,7 +147,7 @@ fn nine_fit(element_size: usize, cells: &ArraySubset) -> Result<bool, CodecError
 }
 
 fn fits<R: Abort>(rt: &R, alloc: Global, element_size: usize, ranges: &[Range<u64>]) -> bool {
-    nine_fit(element_size, &subset(alloc, ranges).expect(rt, "memory")).expect(rt, "memory")
+    nine_fit(element_size, &subset(alloc, ranges).expect(rt, "refused")).expect(rt, "refused")
 }
 
 // Bytes are a target over a subset where they fit it.

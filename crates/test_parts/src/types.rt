@@ -31,7 +31,7 @@ fn only_the_mark_is_optional(rt: HostRuntime) {
 
 fn is_copied<R: Abort>(rt: &R, alloc: Global) -> bool {
     let pair = fill(rt, alloc, &[1, 2]);
-    pair.try_clone(alloc).expect(rt, "memory") == pair
+    pair.try_clone(alloc).expect(rt, "refused") == pair
 }
 
 // A copy of a fill value is equal.

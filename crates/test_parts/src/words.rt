@@ -31,7 +31,7 @@ const TEXTS: &[(CodecError, &str)] = &[
 ];
 
 fn printed<R: Abort>(rt: &R, alloc: Global, error: CodecError) -> String {
-    format!(in alloc; "{error}").expect(rt, "memory")
+    format!(in alloc; "{error}").expect(rt, "refused")
 }
 
 // An error prints its name, and the number of the pair that it names.

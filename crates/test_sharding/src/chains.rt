@@ -28,7 +28,7 @@ fn codec<X: Drop, R: Abort>(rt: &R, alloc: Global, index_codec: X) -> ShardingCo
 // The shard of 1, 2, 0, 0, of which the first subchunk alone is stored, with these bytes after its index.
 fn object_of<R: Abort>(rt: &R, alloc: Global, tail: &[u8]) -> Vec<u8> {
     let mut object = shard_of(rt, alloc, &[1, 2, 42], &[0, 3, ABSENT, ABSENT]);
-    object.extend_from_slice(tail).expect(rt, "memory");
+    object.extend_from_slice(tail).expect(rt, "refused");
     object
 }
 
@@ -50,7 +50,7 @@ fn is_shard<C: ArrayToBytesCodecTraits, R: Abort>(
 }
 
 fn is_marked<R: Abort>(rt: &R, alloc: Global, shard: &[u8], other: &[u8]) -> bool {
-    is_shard(rt, alloc, &codec(rt, alloc, marked()), shard, other).expect(rt, "memory")
+    is_shard(rt, alloc, &codec(rt, alloc, marked()), shard, other).expect(rt, "refused")
 }
 
 // An index with another mark behind it is damaged.
@@ -77,12 +77,12 @@ fn checked<R: Abort>(rt: &R, alloc: Global) -> ShardingCodec<BytesCodec, Checked
 // The same shard with no mark, with this checksum behind its index.
 fn checked_object<R: Abort>(rt: &R, alloc: Global, checksum: &[u8]) -> Vec<u8> {
     let mut object = shard_of(rt, alloc, &[1, 2], &[0, 2, ABSENT, ABSENT]);
-    object.extend_from_slice(checksum).expect(rt, "memory");
+    object.extend_from_slice(checksum).expect(rt, "refused");
     object
 }
 
 fn is_checked<R: Abort>(rt: &R, alloc: Global, shard: &[u8], other: &[u8]) -> bool {
-    is_shard(rt, alloc, &checked(rt, alloc), shard, other).expect(rt, "memory")
+    is_shard(rt, alloc, &checked(rt, alloc), shard, other).expect(rt, "refused")
 }
 
 // An index is written with its checksum behind it, and is damaged where that is another one.
@@ -102,7 +102,7 @@ fn are_read_by<I: ArrayToBytesCodecTraits + Drop, R: Abort>(
     want: &[u8],
 ) -> bool {
     let codec = around(rt, alloc, &[4, 4], inner, ShardingIndexLocation::End);
-    let found = read_back(rt, alloc, &codec, &[4, 4], cells, &[1..3, 0..1]).expect(rt, "memory");
+    let found = read_back(rt, alloc, &codec, &[4, 4], cells, &[1..3, 0..1]).expect(rt, "refused");
     found.as_slice() == want
 }
 

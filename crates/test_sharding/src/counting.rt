@@ -33,7 +33,7 @@ fn read_twice<I: ArrayToBytesCodecTraits, X: ArrayToBytesCodecTraits, R: Abort>(
     for _ in 0..2 {
         let _ = decoder
             .partial_decode(alloc, cells, &options)
-            .expect(rt, "memory");
+            .expect(rt, "refused");
     }
 }
 
@@ -66,7 +66,7 @@ fn counts<I: ArrayToBytesCodecTraits, X: ArrayToBytesCodecTraits, R: Abort>(
         rt,
         alloc,
         codec,
-        object.to_vec(alloc).expect(rt, "memory"),
+        object.to_vec(alloc).expect(rt, "refused"),
         shape,
     );
     let cells = subset_of(rt, alloc, ranges);
@@ -74,7 +74,7 @@ fn counts<I: ArrayToBytesCodecTraits, X: ArrayToBytesCodecTraits, R: Abort>(
         rt,
         alloc,
         codec,
-        object.to_vec(alloc).expect(rt, "memory"),
+        object.to_vec(alloc).expect(rt, "refused"),
         shape,
         &cells,
     );

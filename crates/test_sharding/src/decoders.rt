@@ -18,7 +18,7 @@ fn told<H: BytesPartialDecoderTraits + Drop, R: Abort>(
     rt: &R,
     decoder: &mut ShardingPartialDecoder<'_, BytesCodec, BytesCodec, H>,
 ) -> Told {
-    let exists = decoder.exists().expect(rt, "memory");
+    let exists = decoder.exists().expect(rt, "refused");
     let (cached, data_type) = (decoder.size_held(), *decoder.data_type());
     (exists, cached, data_type, decoder.supports_partial_decode())
 }
@@ -30,7 +30,7 @@ fn told_of<H: BytesPartialDecoderTraits + Drop, R: Abort>(
     codec: &Plain,
     handle: H,
 ) -> Told {
-    let mut decoder = decoder_of(rt, alloc, codec, handle, &[4, 4]).expect(rt, "memory");
+    let mut decoder = decoder_of(rt, alloc, codec, handle, &[4, 4]).expect(rt, "refused");
     told(rt, &mut decoder)
 }
 
@@ -67,7 +67,7 @@ fn coordinates_are_read(rt: HostRuntime) {
 
 // The index of 8193 subchunks, all of them absent but the first and the last, of two bytes each.
 fn long_index<R: Abort>(rt: &R, alloc: Global) -> Vec<u64> {
-    let mut index = vec![in alloc; ABSENT; 16386].expect(rt, "memory");
+    let mut index = vec![in alloc; ABSENT; 16386].expect(rt, "refused");
     index[0] = 0;
     index[1] = 2;
     index[16384] = 2;
@@ -129,7 +129,7 @@ fn is_target<R: Abort>(
     want: &[u8],
 ) -> Result<(), CodecError> {
     let stored = sixteen_cells(rt, alloc);
-    let mut bytes = vec![in alloc; 77u8; want.len()].expect(rt, "memory");
+    let mut bytes = vec![in alloc; 77u8; want.len()].expect(rt, "refused");
     let answer = read_into(rt, alloc, &stored, &mut bytes, element_size, rows);
     if bytes.as_slice() == want {
         answer
@@ -212,7 +212,7 @@ fn is_retrieved<H: BytesPartialDecoderTraits, R: Abort>(
 ) -> bool {
     match decoder
         .retrieve_subchunk_encoded(alloc, subchunk)
-        .expect(rt, "memory")
+        .expect(rt, "refused")
     {
         Some(bytes) => want == Some(bytes.as_slice()),
         None => want.is_none(),
@@ -222,7 +222,7 @@ fn is_retrieved<H: BytesPartialDecoderTraits, R: Abort>(
 fn is_stored<R: Abort>(rt: &R, alloc: Global, subchunk: &[u64], want: Option<&[u8]>) -> bool {
     let codec = plain(rt, alloc, &[2], ShardingIndexLocation::End);
     let handle = object_of(rt, alloc, Some([0, 2, ABSENT, ABSENT]));
-    let mut decoder = decoder_of(rt, alloc, &codec, handle, &[4]).expect(rt, "memory");
+    let mut decoder = decoder_of(rt, alloc, &codec, handle, &[4]).expect(rt, "refused");
     is_retrieved(rt, alloc, &mut decoder, subchunk, want)
 }
 
@@ -262,7 +262,7 @@ fn refused<R: Abort>(
     codec: &Plain,
     len: usize,
 ) -> Option<(usize, CodecError)> {
-    let object = vec![in alloc; 255u8; len].expect(rt, "memory");
+    let object = vec![in alloc; 255u8; len].expect(rt, "refused");
     let cells = cells_of(rt, alloc, &[4]);
     let handle = MemoryHandle::new(Some(object));
     refusal_of(alloc, codec, &cells, handle)

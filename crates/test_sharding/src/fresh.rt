@@ -117,7 +117,7 @@ fn middle_in<R: Abort>(
 ) -> Result<Vec<u8>, CodecError> {
     let object = object_of(rt, alloc);
     let place = subset_of(rt, alloc, place);
-    let mut bytes = vec![in alloc; 9u8; count].expect(rt, "memory");
+    let mut bytes = vec![in alloc; 9u8; count].expect(rt, "refused");
     let mut handle = SliceHandle::new(&object);
     read_into(
         rt,

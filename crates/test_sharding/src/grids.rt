@@ -10,7 +10,7 @@ use zarrs_sharding::{ShardingIndexLocation, calculate_chunks_per_shard, sharding
 // The grid of the subchunks of a shard.
 fn grid_of<R: Abort>(rt: &R, alloc: Global, shape: &[u64], sub: &[u64]) -> ChunkShape {
     let shape = shape_of(rt, alloc, shape);
-    calculate_chunks_per_shard(alloc, &shape, &shape_of(rt, alloc, sub)).expect(rt, "memory")
+    calculate_chunks_per_shard(alloc, &shape, &shape_of(rt, alloc, sub)).expect(rt, "refused")
 }
 
 // Whether the index of a shard has this shape.
@@ -23,7 +23,7 @@ fn is_index_shape<R: Abort>(
 ) -> bool {
     let grid = grid_of(rt, alloc, shape, sub);
     sharding_index_shape(alloc, &grid)
-        .expect(rt, "memory")
+        .expect(rt, "refused")
         .as_slice()
         == want
 }
@@ -56,7 +56,7 @@ fn is_subset<R: Abort>(
     sub: &[u64],
     start: Option<&[u64]>,
 ) -> bool {
-    match chunk_subset(rt, alloc, number, grid, sub).expect(rt, "memory") {
+    match chunk_subset(rt, alloc, number, grid, sub).expect(rt, "refused") {
         Some(found) => start == Some(found.start()) && found.shape() == sub,
         None => start.is_none(),
     }
@@ -141,7 +141,7 @@ fn told<R: Abort>(rt: &R, alloc: Global) -> BytesRepresentation {
             &DataType::UInt16,
             &fill_of(rt, alloc, &[0, 0]),
         )
-        .expect(rt, "memory")
+        .expect(rt, "refused")
 }
 
 // An encoding is no longer than all subchunks and the index.

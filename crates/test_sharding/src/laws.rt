@@ -17,8 +17,8 @@ use zarrs_sharding::{
 const CELLS: [u8; 4] = [0, 0, 7, 9];
 
 fn array<R: Abort>(rt: &R, alloc: Global) -> ArrayBytes<'static> {
-    let cells = CELLS.as_slice().to_vec(alloc).expect(rt, "memory");
-    ArrayBytes::new_flen(CowSlice::Owned(cells), 1).expect(rt, "it fits")
+    let cells = CELLS.as_slice().to_vec(alloc).expect(rt, "refused");
+    ArrayBytes::new_flen(CowSlice::Owned(cells), 1).expect(rt, "does not fit")
 }
 
 // The encoding of the cells behind their index, which is big endian.
@@ -40,7 +40,7 @@ fn one_encoding<R: Abort>(rt: &R, alloc: Global, array: &ArrayBytes, cells: &Cel
         &cells.fill,
         &options,
     )
-    .expect(rt, "memory")
+    .expect(rt, "refused")
 }
 
 #[test]
@@ -72,8 +72,10 @@ fn compacted_encoding<R: Abort>(
     let options = CodecOptions::default();
     let shard = codec
         .encode(alloc, array, shape, bytes, fill, &options)
-        .expect(rt, "memory");
-    compact_encoded(&codec, alloc, &shard, array, shape, bytes, fill, &options).expect(rt, "memory")
+        .expect(rt, "refused");
+    compact_encoded(&codec, alloc, &shard, array, shape, bytes, fill, &options).expect(
+        rt, "refused",
+    )
 }
 
 // Nothing stands in an encoding that a compaction leaves out.
@@ -91,7 +93,7 @@ fn served_cells<R: Abort>(rt: &R, alloc: Global, codec: &Plain, shard: &[u8]) ->
     let zero = fill_of(rt, alloc, &[0]);
     codec
         .check(alloc, &shape, &DataType::UInt8, &zero)
-        .expect(rt, "memory");
+        .expect(rt, "refused");
     let options = CodecOptions::default();
     elements_of(
         rt,
@@ -106,7 +108,7 @@ fn served_cells<R: Abort>(rt: &R, alloc: Global, codec: &Plain, shard: &[u8]) ->
             &options,
         ),
     )
-    .expect(rt, "memory")
+    .expect(rt, "refused")
 }
 
 // The cells of a shard, decoded a second time.
@@ -116,7 +118,7 @@ fn sound_cells<R: Abort>(rt: &R, alloc: Global, codec: &Plain, shard: &[u8]) -> 
     let options = CodecOptions::default();
     let first = codec
         .decode(alloc, shard, &shape, &DataType::UInt8, &zero, &options)
-        .expect(rt, "memory");
+        .expect(rt, "refused");
     elements_of(
         rt,
         alloc,
@@ -130,7 +132,7 @@ fn sound_cells<R: Abort>(rt: &R, alloc: Global, codec: &Plain, shard: &[u8]) -> 
             &options,
         ),
     )
-    .expect(rt, "memory")
+    .expect(rt, "refused")
 }
 
 #[test]
@@ -153,18 +155,18 @@ fn is_compacted_to<R: Abort>(
     len: usize,
 ) -> bool {
     let (shape, bytes, fill) = (&cells.shape, &DataType::UInt8, &cells.fill);
-    codec.check(alloc, shape, bytes, fill).expect(rt, "memory");
+    codec.check(alloc, shape, bytes, fill).expect(rt, "refused");
     let options = CodecOptions::default();
     let compacted = codec
         .compact(alloc, shard, shape, bytes, fill, &options)
-        .expect(rt, "memory");
+        .expect(rt, "refused");
     let Some(compacted) = compacted else {
         return false;
     };
     let again = compact_again(
         codec, alloc, shard, &compacted, shape, bytes, fill, &options,
     )
-    .expect(rt, "memory");
+    .expect(rt, "refused");
     again.is_none() && compacted.len() == len
 }
 

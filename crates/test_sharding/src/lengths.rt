@@ -38,13 +38,13 @@ fn lengths_past_64_bits_are_refused(rt: HostRuntime) {
 
 // The lengths of three elements and of an absent subchunk together.
 fn checked_elements<R: Abort>(rt: &R, alloc: Global) -> u64 {
-    let mut cells = ArrayBuilder::new(alloc, DataTypeSize::Variable).expect(rt, "memory");
-    cells.push(b"ab").expect(rt, "memory");
-    cells.push(b"").expect(rt, "memory");
-    cells.push(b"c").expect(rt, "memory");
-    let mut subchunks = absent(alloc, 1).expect(rt, "memory");
-    subchunks.push(Some(cells.finish())).expect(rt, "memory");
-    check_lengths(&subchunks, 3, DataTypeSize::Variable, b"ab").expect(rt, "memory")
+    let mut cells = ArrayBuilder::new(alloc, DataTypeSize::Variable).expect(rt, "refused");
+    cells.push(b"ab").expect(rt, "refused");
+    cells.push(b"").expect(rt, "refused");
+    cells.push(b"c").expect(rt, "refused");
+    let mut subchunks = absent(alloc, 1).expect(rt, "refused");
+    subchunks.push(Some(cells.finish())).expect(rt, "refused");
+    check_lengths(&subchunks, 3, DataTypeSize::Variable, b"ab").expect(rt, "refused")
 }
 
 #[test]

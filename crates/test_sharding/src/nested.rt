@@ -128,7 +128,7 @@ fn shard_at<R: Abort>(
         return shard_of(rt, alloc, slices, index);
     }
     let mut shard = shard_of(rt, alloc, &[], index);
-    shard.extend_from_slice(slices).expect(rt, "memory");
+    shard.extend_from_slice(slices).expect(rt, "refused");
     shard
 }
 
@@ -142,7 +142,7 @@ fn both_stored<R: Abort>(
 ) -> Vec<u8> {
     let mut inner = shard_at(rt, alloc, location, &[1], &[place, 1, ABSENT, ABSENT]);
     let second = shard_at(rt, alloc, location, &[2, 3], &[place, 1, after_one, 1]);
-    inner.extend_from_slice(&second).expect(rt, "memory");
+    inner.extend_from_slice(&second).expect(rt, "refused");
     shard_at(rt, alloc, location, &inner, &[place, 33, after_first, 34])
 }
 
@@ -188,8 +188,8 @@ fn is_put_after<R: Abort>(
     elements: &[u8],
     want: &[u8],
 ) -> bool {
-    let mut bytes = [5, 6].to_vec(alloc).expect(rt, "memory");
-    put_after(rt, alloc, location, elements, &mut bytes).expect(rt, "memory");
+    let mut bytes = [5, 6].to_vec(alloc).expect(rt, "refused");
+    put_after(rt, alloc, location, elements, &mut bytes).expect(rt, "refused");
     let (before, after) = (bytes.get(..2), bytes.get(2..));
     before == Some([5u8, 6].as_slice()) && after == Some(want)
 }
@@ -215,7 +215,7 @@ fn inner_shards_stand_after_one_another(rt: HostRuntime) {
 // Where an array is refused, the bytes stay.
 #[test]
 fn a_refused_shard_is_not_put_after_bytes(rt: HostRuntime) {
-    let mut bytes = [5, 6].to_vec(rt.alloc()).expect(&rt, "memory");
+    let mut bytes = [5, 6].to_vec(rt.alloc()).expect(&rt, "refused");
     let start = ShardingIndexLocation::Start;
     let answer = put_after(&rt, rt.alloc(), start, &[1, 0, 2], &mut bytes);
     same(&rt, answer, Err(CodecError::InvalidNumberOfElements));
@@ -249,7 +249,7 @@ fn is_read_as<I: ArrayToBytesCodecTraits, X: ArrayToBytesCodecTraits, R: Abort>(
     want: &[u8],
 ) -> bool {
     read_back(rt, alloc, codec, &[8], &EIGHT, &[cells])
-        .expect(rt, "memory")
+        .expect(rt, "refused")
         .as_slice()
         == want
 }

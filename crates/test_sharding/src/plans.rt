@@ -29,7 +29,7 @@ fn index_of<R: Abort>(rt: &R, alloc: Global, numbers: &[u64; 4]) -> Vec<u8> {
     for number in numbers {
         bytes
             .extend_from_slice(&number.to_le_bytes())
-            .expect(rt, "memory");
+            .expect(rt, "refused");
     }
     bytes
 }
@@ -47,7 +47,7 @@ fn plan_of<R: Abort>(rt: &R, alloc: Global, shard: &Shard) -> Option<CompactionP
             &shape_of(rt, alloc, &[4]),
             &options,
         )
-        .expect(rt, "memory")
+        .expect(rt, "refused")
 }
 
 // Whether a plan is this.
@@ -64,7 +64,7 @@ fn says<R: Abort>(rt: &R, alloc: Global, plan: &CompactionPlan, want: &Planned) 
 // The shard, whose bytes are 0 but for the index.
 fn object_of<R: Abort>(rt: &R, alloc: Global, shard: &Shard) -> Vec<u8> {
     let index = index_of(rt, alloc, &shard.numbers);
-    let mut object = vec![in alloc; 0u8; shard.length as usize].expect(rt, "memory");
+    let mut object = vec![in alloc; 0u8; shard.length as usize].expect(rt, "refused");
     let start = match shard.location {
         ShardingIndexLocation::Start => 0,
         ShardingIndexLocation::End => object.len().saturating_sub(index.len()),
@@ -87,10 +87,10 @@ fn plan_of_index<R: Abort>(rt: &R, alloc: Global, shard: &Shard) -> Option<Compa
     let options = CodecOptions::default();
     let index = codec
         .read_index(alloc, &mut handle, interval, &shape, &options)
-        .expect(rt, "memory");
+        .expect(rt, "refused");
     codec
         .plan_compaction_of_index(alloc, index, &shape, &options)
-        .expect(rt, "memory")
+        .expect(rt, "refused")
 }
 
 // Whether this is planned of a shard, or nothing is.

@@ -16,9 +16,9 @@ fn object_around_a_shard<R: Abort>(
     if !is_there {
         return None;
     }
-    let mut object = [9u8, 9, 9].to_vec(alloc).expect(rt, "memory");
-    object.extend_from_slice(shard).expect(rt, "memory");
-    object.push(9).expect(rt, "memory");
+    let mut object = [9u8, 9, 9].to_vec(alloc).expect(rt, "refused");
+    object.extend_from_slice(shard).expect(rt, "refused");
+    object.push(9).expect(rt, "refused");
     Some(object)
 }
 
@@ -118,7 +118,7 @@ fn sixteen_into<R: Abort>(
 fn is_decoded_into<R: Abort>(rt: &R, alloc: Global, want: &[u8]) -> bool {
     let stored = sixteen_cells(rt, alloc);
     let mut bytes = [77u8; 16];
-    sixteen_into(rt, alloc, &stored, &mut bytes).expect(rt, "memory");
+    sixteen_into(rt, alloc, &stored, &mut bytes).expect(rt, "refused");
     bytes.as_slice() == want
 }
 

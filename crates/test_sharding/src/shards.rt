@@ -18,12 +18,12 @@ pub(crate) const ABSENT: u64 = u64::MAX;
 
 pub(crate) fn shape_of<R: Abort>(rt: &R, alloc: Global, axes: &[u64]) -> ChunkShape {
     ChunkShape::new(alloc, axes)
-        .expect(rt, "memory")
-        .expect(rt, "it fits")
+        .expect(rt, "refused")
+        .expect(rt, "does not fit")
 }
 
 pub(crate) fn fill_of<R: Abort>(rt: &R, alloc: Global, bytes: &[u8]) -> FillValue {
-    FillValue::new(bytes.to_vec(alloc).expect(rt, "memory"))
+    FillValue::new(bytes.to_vec(alloc).expect(rt, "refused"))
 }
 
 // The shape of an array of cells, and their fill value.
@@ -75,8 +75,8 @@ pub(crate) fn plain<R: Abort>(
 }
 
 pub(crate) fn array_of<R: Abort>(rt: &R, alloc: Global, bytes: &[u8]) -> ArrayBytes<'static> {
-    let copy = bytes.to_vec(alloc).expect(rt, "memory");
-    ArrayBytes::new_flen(CowSlice::Owned(copy), 1).expect(rt, "it fits")
+    let copy = bytes.to_vec(alloc).expect(rt, "refused");
+    ArrayBytes::new_flen(CowSlice::Owned(copy), 1).expect(rt, "does not fit")
 }
 
 // The elements of an array, each of which has one size, or the refusal.
@@ -87,7 +87,7 @@ pub(crate) fn elements_of<R: Abort>(
 ) -> Result<Vec<u8>, CodecError> {
     let array = answer?;
     let elements = array.fixed_bytes().ok_or(CodecError::WrongElementKind)?;
-    Ok(elements.to_vec(alloc).expect(rt, "memory"))
+    Ok(elements.to_vec(alloc).expect(rt, "refused"))
 }
 
 // What an answer says, for a comparison.
@@ -117,7 +117,7 @@ pub(crate) fn encoded<C: ArrayToBytesCodecTraits, R: Abort>(
             &cells.fill,
             &options,
         )
-        .expect(rt, "memory")
+        .expect(rt, "refused")
 }
 
 // Whether a codec encodes cells as these bytes.
@@ -162,18 +162,18 @@ pub(crate) fn is_decoded_to<C: ArrayToBytesCodecTraits, R: Abort>(
     want: &[u8],
 ) -> bool {
     decoded(rt, alloc, codec, shape, bytes)
-        .expect(rt, "memory")
+        .expect(rt, "refused")
         .as_slice()
         == want
 }
 
 // A shard of these slices before their index.
 pub(crate) fn shard_of<R: Abort>(rt: &R, alloc: Global, slices: &[u8], index: &[u64]) -> Vec<u8> {
-    let mut bytes = slices.to_vec(alloc).expect(rt, "memory");
+    let mut bytes = slices.to_vec(alloc).expect(rt, "refused");
     for number in index {
         bytes
             .extend_from_slice(&number.to_le_bytes())
-            .expect(rt, "memory");
+            .expect(rt, "refused");
     }
     bytes
 }
@@ -194,14 +194,17 @@ pub(crate) fn sixteen_cells<R: Abort>(rt: &R, alloc: Global) -> Sixteen {
 
 pub(crate) fn subset_of<R: Abort>(rt: &R, alloc: Global, ranges: &[Range<u64>]) -> ArraySubset {
     ArraySubset::new_with_ranges(alloc, ranges)
-        .expect(rt, "memory")
-        .expect(rt, "it fits")
+        .expect(rt, "refused")
+        .expect(rt, "does not fit")
 }
 
 // Coordinates of so many numbers each.
 pub(crate) fn listed<R: Abort>(rt: &R, alloc: Global, axes: usize, flat: &[u64]) -> Coordinates {
     let count = flat.len() as u64 / axes.max(1) as u64;
-    Coordinates::new(axes, count, flat.to_vec(alloc).expect(rt, "memory")).expect(rt, "it fits")
+    Coordinates::new(axes, count, flat.to_vec(alloc).expect(rt, "refused")).expect(
+        rt,
+        "does not fit",
+    )
 }
 
 // A decoder of a handle's object.

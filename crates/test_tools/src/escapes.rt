@@ -23,7 +23,7 @@ const TEXTS: &[(&str, &str)] = &[
 #[test]
 fn what_acts_is_escaped(rt: HostRuntime) {
     for (text, want) in TEXTS {
-        let shown = escaped(rt.alloc(), text).expect(&rt, "memory");
+        let shown = escaped(rt.alloc(), text).expect(&rt, "refused");
         same(&rt, shown.as_str(), *want);
     }
 }
@@ -40,12 +40,12 @@ fn shown_of(alloc: Global, characters: usize) -> Result<String, AllocError> {
 // The first 200 characters, and behind them how many there are.
 #[test]
 fn a_long_text_is_cut(rt: HostRuntime) {
-    let whole = shown_of(rt.alloc(), 200).expect(&rt, "memory");
+    let whole = shown_of(rt.alloc(), 200).expect(&rt, "refused");
     same(&rt, whole.chars().count(), 200);
-    let want = format!(in rt.alloc(); "{whole}... (5000 characters)").expect(&rt, "memory");
+    let want = format!(in rt.alloc(); "{whole}... (5000 characters)").expect(&rt, "refused");
     same(
         &rt,
-        shown_of(rt.alloc(), 5000).expect(&rt, "memory").as_str(),
+        shown_of(rt.alloc(), 5000).expect(&rt, "refused").as_str(),
         want.as_str(),
     );
 }

@@ -95,7 +95,7 @@ fn interrupted_reads_are_made_again(rt: HostRuntime) {
         };
         same(
             &rt,
-            answers(rt.alloc(), reader).expect(&rt, "memory").as_str(),
+            answers(rt.alloc(), reader).expect(&rt, "refused").as_str(),
             expected,
         );
     }
@@ -109,7 +109,7 @@ fn a_script_has_a_greatest_length(rt: HostRuntime) {
         (4097, false, "1"),
         (1, true, "1"),
     ] {
-        let answered = answers(rt.alloc(), Buffers { left, fails }).expect(&rt, "memory");
+        let answered = answers(rt.alloc(), Buffers { left, fails }).expect(&rt, "refused");
         same_at(&rt, left, answered.as_str(), expected);
     }
 }

@@ -50,7 +50,7 @@ fn brackets_nest_so_deep(rt: HostRuntime) {
         ),
     ];
     for (text, brackets, sentence) in rows {
-        let told = told_nested(rt.alloc(), text, brackets).expect(&rt, "memory");
+        let told = told_nested(rt.alloc(), text, brackets).expect(&rt, "refused");
         let want = format!(in rt.alloc(); "4 BadField zarr.json: in zarr.json: {sentence}").expect(
             &rt, "memory",
         );
@@ -83,7 +83,7 @@ fn axes_are_counted(rt: HostRuntime) {
         ),
     ];
     for (more, want) in rows {
-        let told = told_of_axes(rt.alloc(), more).expect(&rt, "memory");
+        let told = told_of_axes(rt.alloc(), more).expect(&rt, "refused");
         same_at(&rt, more, told.as_str(), want);
     }
 }
@@ -98,14 +98,14 @@ fn refusal_of_length(alloc: Global, length: u64) -> Result<String, AllocError> {
 
 #[test]
 fn texts_have_a_bound(rt: HostRuntime) {
-    let refused = refusal_of_length(rt.alloc(), 16_777_217).expect(&rt, "memory");
+    let refused = refusal_of_length(rt.alloc(), 16_777_217).expect(&rt, "refused");
     let want =
         "4 BadField zarr.json: in zarr.json: the text has 16777217 bytes, and at most 16777216 are read";
     same(&rt, refused.as_str(), want);
     same(
         &rt,
         refusal_of_length(rt.alloc(), 16_777_216)
-            .expect(&rt, "memory")
+            .expect(&rt, "refused")
             .as_str(),
         "",
     );

@@ -55,7 +55,7 @@ fn messages_name_the_fault(rt: HostRuntime) {
         );
         same(
             &rt,
-            explained(rt.alloc(), &script).expect(&rt, "memory"),
+            explained(rt.alloc(), &script).expect(&rt, "refused"),
             wanted,
         );
     }
@@ -66,7 +66,7 @@ fn a_script_begins_with_a_shard(rt: HostRuntime) {
     same(
         &rt,
         explained(rt.alloc(), "read 0..4\n")
-            .expect(&rt, "memory")
+            .expect(&rt, "refused")
             .as_str(),
         "malformed 1\nline 1: read comes before any shard\n2",
     );

@@ -95,7 +95,7 @@ const INNER_CODECS: &[&str] = &[
 #[test]
 fn arrays_are_read(rt: HostRuntime) {
     for (members, want) in ARRAYS {
-        let told = told_with(rt.alloc(), members).expect(&rt, "memory");
+        let told = told_with(rt.alloc(), members).expect(&rt, "refused");
         same(&rt, told.as_str(), *want);
     }
 }
@@ -106,7 +106,7 @@ fn keys_are_read(rt: HostRuntime) {
         let members = format!(in rt.alloc(); r#""chunk_key_encoding": {encoding}"#).expect(
             &rt, "memory",
         );
-        let told = told_with(rt.alloc(), members.as_str()).expect(&rt, "memory");
+        let told = told_with(rt.alloc(), members.as_str()).expect(&rt, "refused");
         let want = format!(in rt.alloc(); "[8, 8] [4, 4] [2, 2] [7, 0] {key}").expect(
             &rt, "memory",
         );
@@ -119,8 +119,8 @@ fn fill_values_are_read(rt: HostRuntime) {
     for (data_type, fill_value, bytes) in FILL_VALUES {
         let members = format!(in rt.alloc();
             r#""data_type": "{data_type}", "fill_value": {fill_value}"#
-        ).expect(&rt, "memory");
-        let told = told_with(rt.alloc(), members.as_str()).expect(&rt, "memory");
+        ).expect(&rt, "refused");
+        let told = told_with(rt.alloc(), members.as_str()).expect(&rt, "refused");
         let want = format!(in rt.alloc(); "[8, 8] [4, 4] [2, 2] {bytes} c/8/8").expect(
             &rt, "memory",
         );
@@ -131,7 +131,7 @@ fn fill_values_are_read(rt: HostRuntime) {
 #[test]
 fn inner_codecs_are_read(rt: HostRuntime) {
     for codecs in INNER_CODECS {
-        let told = told_inside(rt.alloc(), codecs).expect(&rt, "memory");
+        let told = told_inside(rt.alloc(), codecs).expect(&rt, "refused");
         same(&rt, told.as_str(), "[8, 8] [4, 4] [2, 2] [7, 0] c/8/8");
     }
 }

@@ -226,7 +226,7 @@ const INNER_CODECS: &[(&str, &str)] = &[
 #[test]
 fn texts_are_refused(rt: HostRuntime) {
     for (text, want) in TEXTS {
-        let told = told(rt.alloc(), text).expect(&rt, "memory");
+        let told = told(rt.alloc(), text).expect(&rt, "refused");
         same(&rt, told.as_str(), *want);
     }
 }
@@ -234,7 +234,7 @@ fn texts_are_refused(rt: HostRuntime) {
 #[test]
 fn members_are_refused(rt: HostRuntime) {
     for (members, want) in MEMBERS {
-        let told = told_with(rt.alloc(), members).expect(&rt, "memory");
+        let told = told_with(rt.alloc(), members).expect(&rt, "refused");
         same(&rt, told.as_str(), *want);
     }
 }
@@ -242,7 +242,7 @@ fn members_are_refused(rt: HostRuntime) {
 #[test]
 fn inner_codecs_are_refused(rt: HostRuntime) {
     for (codecs, want) in INNER_CODECS {
-        let told = told_inside(rt.alloc(), codecs).expect(&rt, "memory");
+        let told = told_inside(rt.alloc(), codecs).expect(&rt, "refused");
         same(&rt, told.as_str(), *want);
     }
 }

@@ -69,7 +69,7 @@ fn told<R: Abort>(rt: &R, alloc: Global, part: &ShardPart) -> String {
         within.start(),
         within.shape()
     )
-    .expect(rt, "memory");
+    .expect(rt, "refused");
     told
 }
 
@@ -89,12 +89,12 @@ fn compare_part<R: Abort + AllocGlobal>(rt: &R, number: usize, part: &ShardPart)
 
 // The part at a place of the subset 1..5, 3..7 of an array of 5 by 7 in shards of 4 by 4.
 fn part_of_subset<R: Abort>(rt: &R, alloc: Global, position: u64) -> Option<ShardPart> {
-    let grid = grid_of(alloc, &[5, 7], &[4, 4]).expect(rt, "memory");
-    let requested = ArraySubset::from_ranges(alloc, &[1..5, 3..7]).expect(rt, "memory");
+    let grid = grid_of(alloc, &[5, 7], &[4, 4]).expect(rt, "refused");
+    let requested = ArraySubset::from_ranges(alloc, &[1..5, 3..7]).expect(rt, "refused");
     grid.parts(alloc, &requested)
-        .expect(rt, "memory")
+        .expect(rt, "refused")
         .part(alloc, position)
-        .expect(rt, "memory")
+        .expect(rt, "refused")
 }
 
 #[test]
@@ -117,7 +117,7 @@ fn count_parts(alloc: Global, grid: &ShardGrid, ranges: &[Range<u64>]) -> Result
 #[test]
 fn subsets_and_shapes_are_refused_in_order(rt: HostRuntime) {
     let alloc = rt.alloc();
-    let grid = grid_of(alloc, &[5, 7], &[4, 4]).expect(&rt, "memory");
+    let grid = grid_of(alloc, &[5, 7], &[4, 4]).expect(&rt, "refused");
     let of_one = Some(CodecError::IncompatibleDimensionality);
     let out = Some(CodecError::OutOfBounds);
     for (ranges, want) in [
@@ -155,9 +155,9 @@ fn put(
 
 // A subset of two by three cells, which are all 258.
 fn subset_of_cells<R: Abort>(rt: &R, alloc: Global) -> SubsetCells {
-    let requested = ArraySubset::from_ranges(alloc, &[4..6, 1..4]).expect(rt, "memory");
-    let fill = FillValue::from_number(alloc, 258u16).expect(rt, "memory");
-    SubsetCells::new(alloc, &requested, &fill).expect(rt, "memory")
+    let requested = ArraySubset::from_ranges(alloc, &[4..6, 1..4]).expect(rt, "refused");
+    let fill = FillValue::from_number(alloc, 258u16).expect(rt, "refused");
+    SubsetCells::new(alloc, &requested, &fill).expect(rt, "refused")
 }
 
 fn put_a_byte(alloc: Global, cells: &mut SubsetCells) -> Result<(), CodecError> {

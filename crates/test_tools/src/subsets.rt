@@ -125,7 +125,7 @@ const TEXTS: &[(&str, &str)] = &[
 #[test]
 fn words_pick_of_axes(rt: HostRuntime) {
     for (text, want) in TEXTS {
-        let found = picked(rt.alloc(), text, &[8, 12, 5]).expect(&rt, "memory");
+        let found = picked(rt.alloc(), text, &[8, 12, 5]).expect(&rt, "refused");
         same_at(&rt, *text, found.as_str(), *want);
     }
 }
@@ -145,7 +145,7 @@ const LONG_TEXTS: &[(&str, &str)] = &[
 #[test]
 fn words_pick_of_a_long_axis(rt: HostRuntime) {
     for (text, want) in LONG_TEXTS {
-        let found = picked(rt.alloc(), text, &[u64::MAX]).expect(&rt, "memory");
+        let found = picked(rt.alloc(), text, &[u64::MAX]).expect(&rt, "refused");
         same_at(&rt, *text, found.as_str(), *want);
     }
 }
