@@ -174,7 +174,7 @@ fn the_handle_of_a_failed_session_is_opened_anew(rt: HostRuntime) {
     let mut failed: u64 = 0;
     for fails_at in 0..100 {
         let found = has_cells_then::<_, _, Brand, _>(&rt, rt.alloc(), &shards, fails_at).expect(
-            &rt, "memory",
+            &rt, "refused",
         );
         if found.is_some() {
             failed = failed.saturating_add(1);

@@ -114,7 +114,7 @@ fn a_seat_that_is_missing_is_told_and_the_handle_comes_back(rt: HostRuntime) {
     };
     let mut answers = Vec::new(rt.alloc());
     let end = played::<_, _, Brand, _>(&rt, rt.alloc(), &shards, &play, &mut answers).expect(
-        &rt, "memory",
+        &rt, "refused",
     );
     same(&rt, answers.as_slice(), [Ok((0, 0))].as_slice());
     same(&rt, end.how, "seats missing");
@@ -136,7 +136,7 @@ fn a_refused_call_is_no_event(rt: HostRuntime) {
     };
     let mut answers = Vec::new(rt.alloc());
     let end = played::<_, _, Brand, _>(&rt, rt.alloc(), &shards, &play, &mut answers).expect(
-        &rt, "memory",
+        &rt, "refused",
     );
     same(
         &rt,
@@ -164,7 +164,7 @@ fn an_erased_shard_is_read_and_written_anew(rt: HostRuntime) {
     };
     let mut answers = Vec::new(rt.alloc());
     let end = played::<_, _, Brand, _>(&rt, rt.alloc(), &shards, &play, &mut answers).expect(
-        &rt, "memory",
+        &rt, "refused",
     );
     same(
         &rt,
@@ -189,7 +189,7 @@ fn a_damaged_object_is_refused_and_comes_back(rt: HostRuntime) {
     };
     let mut answers = Vec::new(rt.alloc());
     let end = played::<_, _, Brand, _>(&rt, rt.alloc(), &shards, &play, &mut answers).expect(
-        &rt, "memory",
+        &rt, "refused",
     );
     same(&rt, answers.len(), 0);
     same(&rt, end.how, "refused");

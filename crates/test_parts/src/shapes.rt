@@ -35,7 +35,7 @@ fn is_shape<R: Abort>(rt: &R, alloc: Global, found: &ChunkShape, axes: &[u64]) -
 // Whether the shape of the axes 2 and 3 has them, and is equal to the one that is made of them unchecked.
 fn is_made<R: Abort>(rt: &R, alloc: Global) -> bool {
     let unchecked = ChunkShape::from_positive(Axes::from_slice(alloc, &[2, 3]).expect(
-        rt, "memory",
+        rt, "refused",
     ));
     is_shape(rt, alloc, &unchecked, &[2, 3])
 }

@@ -17,7 +17,7 @@ fn read_to_open<I: ArrayToBytesCodecTraits, X: ArrayToBytesCodecTraits, R: Abort
     shape: &[u64],
 ) -> u64 {
     let decoder = decoder_of(rt, alloc, codec, CountingHandle::new(object), shape).expect(
-        rt, "memory",
+        rt, "refused",
     );
     decoder.close().bytes_read()
 }
@@ -47,7 +47,7 @@ fn read_in_all<I: ArrayToBytesCodecTraits, X: ArrayToBytesCodecTraits, R: Abort>
     cells: &ArraySubset,
 ) -> u64 {
     let mut decoder = decoder_of(rt, alloc, codec, CountingHandle::new(object), shape).expect(
-        rt, "memory",
+        rt, "refused",
     );
     read_twice(rt, alloc, &mut decoder, cells);
     decoder.close().bytes_read()

@@ -52,7 +52,7 @@ fn brackets_nest_so_deep(rt: HostRuntime) {
     for (text, brackets, sentence) in rows {
         let told = told_nested(rt.alloc(), text, brackets).expect(&rt, "refused");
         let want = format!(in rt.alloc(); "4 BadField zarr.json: in zarr.json: {sentence}").expect(
-            &rt, "memory",
+            &rt, "refused",
         );
         same_at(&rt, (text, brackets), told.as_str(), want.as_str());
     }

@@ -48,10 +48,10 @@ fn messages_name_the_fault(rt: HostRuntime) {
         ),
     ] {
         let script = format!(in rt.alloc(); "shard 4 2 uint8 0 end\n\n{line}\nindex\n").expect(
-            &rt, "memory",
+            &rt, "refused",
         );
         let wanted = format!(in rt.alloc(); "ok\nmalformed 3\nline 3: {message}\n2").expect(
-            &rt, "memory",
+            &rt, "refused",
         );
         same(
             &rt,

@@ -104,11 +104,11 @@ fn arrays_are_read(rt: HostRuntime) {
 fn keys_are_read(rt: HostRuntime) {
     for (encoding, key) in KEYS {
         let members = format!(in rt.alloc(); r#""chunk_key_encoding": {encoding}"#).expect(
-            &rt, "memory",
+            &rt, "refused",
         );
         let told = told_with(rt.alloc(), members.as_str()).expect(&rt, "refused");
         let want = format!(in rt.alloc(); "[8, 8] [4, 4] [2, 2] [7, 0] {key}").expect(
-            &rt, "memory",
+            &rt, "refused",
         );
         same(&rt, told, want);
     }
@@ -122,7 +122,7 @@ fn fill_values_are_read(rt: HostRuntime) {
         ).expect(&rt, "refused");
         let told = told_with(rt.alloc(), members.as_str()).expect(&rt, "refused");
         let want = format!(in rt.alloc(); "[8, 8] [4, 4] [2, 2] {bytes} c/8/8").expect(
-            &rt, "memory",
+            &rt, "refused",
         );
         same(&rt, told, want);
     }

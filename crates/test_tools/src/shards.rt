@@ -76,7 +76,7 @@ fn told<R: Abort>(rt: &R, alloc: Global, part: &ShardPart) -> String {
 fn wanted<R: Abort>(rt: &R, alloc: Global, number: usize) -> String {
     let (inside, within, shape) = &PARTS[number % 4];
     let wanted = format!(in alloc; "{number} {inside:?} {shape:?} {within:?} {shape:?}").expect(
-        rt, "memory",
+        rt, "refused",
     );
     wanted
 }
