@@ -13,10 +13,10 @@ use Rattle.sharding_subchunks.specs.declared.subchunks.Subchunks.{Subchunks}
 use Rattle.sharding_subchunks.specs.declared.encoded.Stored.{Stored}
 
 -- the inner codec serves the subchunks into which an array is cut, of which this is a number
-pub record CanStore {I : Type 0} (meaning : I → ArraySpec → Meaning) (s : Subchunks I) (cut : CutArray) (number : ℕ) : Type 0 where
+pub record CanStore {I : Type 0} (meaning : I → ArraySpec → Meaning) (s : Subchunks I) (array : CutArray) (number : ℕ) : Type 0 where
   pub serves : (inner_meaning meaning s).serves
-  pub cut : CanBeCut (spec_of_subchunks s) cut
-  pub below : number < count_of cut.grid.now
+  pub cut : CanBeCut (spec_of_subchunks s) array
+  pub below : number < count_of array.grid.now
 
 -- this is what is to be stored of the first subchunks of an array
 abbrev pub AreStored : Written → List ℕ → List ℕ → List ℕ → List (List ℕ) → List Stored → Type 0
