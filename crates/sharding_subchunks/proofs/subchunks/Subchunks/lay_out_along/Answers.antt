@@ -1,9 +1,7 @@
-use Rattle.std.proofs.Common.{◌≡◌, ◌<◌, ◌≤◌, ◌+◌, ◌-◌, ◌*◌, ℕ, length, get_or, set, sym, ap, arith, ltb}
+use Rattle.std.proofs.Common.{◌≡◌, ◌+◌, ◌-◌, ◌*◌, length, get_or, set, sym, ap, arith, ltb}
 use Rattle.std.proofs.lemmas.Bool.{lt-ltb, ltb-true}
-use Rattle.parts_row_major.specs.Pieces.{piece}
-use Rattle.sharding_format.specs.Laying.{IsStoredInOrder, placed_slot}
 use Rattle.sharding_subchunks.specs.steps.Inner.{inner_meaning}
-use Rattle.sharding_subchunks.proofs.AppendLemmas.{stay_before, old_within}
+use Rattle.sharding_subchunks.proofs.AppendLemmas.{stay_before}
 use Rattle.sharding_subchunks.proofs.PlainRowLemmas.{row_within, row_below, row_along}
 use Rattle.sharding_subchunks.proofs.subchunks.Subchunks.lay_out_along.Goals as goal
 

@@ -1,6 +1,4 @@
-use Rattle.std.proofs.Common.{◌≡◌, length, sym, ap, ◌∙◌, subst}
 use Rattle.parts_row_major.specs.Numbering.{count_of}
-use Rattle.parts_subsets.specs.Grid.{grid_of}
 use Rattle.parts_subsets.proofs.GridLaws.{count-positive}
 use Rattle.sharding_format.specs.WriteOrderLaws.{order_counted}
 use Rattle.sharding_subchunks.specs.steps.Inner.{inner_meaning}
