@@ -11,14 +11,14 @@ ghost use Rattle.sharding_index.specs.Indexes.{index_meaning};
 ghost use Rattle.sharding_engine.specs.Meanings.{meaning_of};
 ghost use Rattle.sharding_index.specs.steps.Plans.{spec_of, IsPlan};
 
+use crate::plan::{Planned, subchunks};
 use crate::sharding::Sharding;
 use codec_traits::ArrayToBytesCodecTraits;
 use parts_arrays::ArrayBytes;
-use parts_errors::{CodecError, CodecOptions};
-use sharding_format::{ArraySpecRef, ShardingIndexLocation};
-use sharding_index::Plan;
+use parts_errors::CodecError;
+use sharding_format::ShardingIndexLocation;
+use sharding_layout::{CutArray, elements_in_row};
 use sharding_order::SubchunkSequence;
-use sharding_subchunks::Subchunks;
 use std::alloc::{AllocError, Global};
 
 // Puts zeros after bytes that are there where the index of a shard, of this size, stands in front of the data part. A refusal
@@ -75,46 +75,38 @@ impl<I: ArrayToBytesCodecTraits, X: ArrayToBytesCodecTraits> Sharding<'_, I, X> 
         &self,
         alloc: Global,
         array: &ArrayBytes,
-        spec: &ArraySpecRef,
-        plan: &Plan,
-        options: &CodecOptions,
+        planned: &Planned,
         shard: &mut Vec<u8>,
     ) -> Result<(), CodecError>
-        requires serves { (meaning_of I.meaning X.meaning self.now (spec_of spec.now)).serves }
-        requires plan { IsPlan (index_meaning X.meaning self.now.index_codec.codec.now) spec.now.shape.now self.now.subchunk_shape.now plan.now }
-        ensures array { let g = spec_of spec.now in
-            OnOk result ((array.now.kind ≡ size_of spec.now.data_type.now) × IsArrayOf g array.now.elements) }
+        requires serves { (meaning_of I.meaning X.meaning self.now (spec_of planned.now.spec)).serves }
+        requires plan { IsPlan (index_meaning X.meaning self.now.index_codec.codec.now) planned.now.spec.shape.now self.now.subchunk_shape.now planned.now.plan.now }
+        ensures array { let g = spec_of planned.now.spec in
+            OnOk result ((array.now.kind ≡ size_of planned.now.spec.data_type.now) × IsArrayOf g array.now.elements) }
         ensures stay { take (length shard.old.items) shard.new.items ≡ shard.old.items }
-        ensures written { let g = spec_of spec.now in
+        ensures written { let g = spec_of planned.now.spec in
             OnOk result ((meaning_of I.meaning X.meaning self.now g).written array.now.elements (drop (length shard.old.items) shard.new.items)) }
-        ensures refused { let g = spec_of spec.now in
+        ensures refused { let g = spec_of planned.now.spec in
             IfErr result (RefusedBy ((meaning_of I.meaning X.meaning self.now g).encode_refusals array.now)) }
     {
+        let (spec, plan, options) = (&planned.spec, planned.plan, planned.options);
         if array.kind() != spec.data_type.size() {
             return Err(CodecError::WrongElementKind);
         }
         if array.len() as u64 != plan.cells {
             return Err(CodecError::InvalidNumberOfElements);
         }
-        let subchunks = Subchunks {
-            codec: self.inner,
-            shape: self.subchunk_shape,
-            data_type: spec.data_type,
-            fill_value: spec.fill_value,
-            options,
-        };
+        let subchunks = subchunks!(self, planned);
         let sequence = SubchunkSequence::new(alloc, self.order, &plan.index.grid, plan.subchunks)?;
         let start = shard.len();
         make_room(shard, self.index_codec.location, plan.index.size)?;
         let from = shard.len();
-        let slots = subchunks.store_all_after(
-            alloc,
+        let cut = CutArray {
             array,
-            spec.shape,
-            &plan.index.grid,
-            &sequence,
-            shard,
-        )?;
+            shape: spec.shape,
+            grid: &plan.index.grid,
+            in_row: elements_in_row(spec.shape, self.subchunk_shape),
+        };
+        let slots = subchunks.store_all_after(alloc, &cut, &sequence, shard)?;
         let len = (shard.len() - from) as u64;
         if plan.index.size >= u64::MAX - len {
             return Err(CodecError::TooLarge);
@@ -130,23 +122,21 @@ impl<I: ArrayToBytesCodecTraits, X: ArrayToBytesCodecTraits> Sharding<'_, I, X> 
         &self,
         alloc: Global,
         array: &ArrayBytes,
-        spec: &ArraySpecRef,
-        plan: &Plan,
-        options: &CodecOptions,
+        planned: &Planned,
         shard: &mut Vec<u8>,
     ) -> Result<(), CodecError>
-        requires serves { (meaning_of I.meaning X.meaning self.now (spec_of spec.now)).serves }
-        requires plan { IsPlan (index_meaning X.meaning self.now.index_codec.codec.now) spec.now.shape.now self.now.subchunk_shape.now plan.now }
-        ensures array { let g = spec_of spec.now in
-            OnOk result ((array.now.kind ≡ size_of spec.now.data_type.now) × IsArrayOf g array.now.elements) }
-        ensures written { let m = meaning_of I.meaning X.meaning self.now (spec_of spec.now) in
+        requires serves { (meaning_of I.meaning X.meaning self.now (spec_of planned.now.spec)).serves }
+        requires plan { IsPlan (index_meaning X.meaning self.now.index_codec.codec.now) planned.now.spec.shape.now self.now.subchunk_shape.now planned.now.plan.now }
+        ensures array { let g = spec_of planned.now.spec in
+            OnOk result ((array.now.kind ≡ size_of planned.now.spec.data_type.now) × IsArrayOf g array.now.elements) }
+        ensures written { let m = meaning_of I.meaning X.meaning self.now (spec_of planned.now.spec) in
             OnOk result (IsEncodedOnto m.written array.now.elements shard.old.items shard.new.items) }
         ensures kept { OnErr result (shard.new.items ≡ shard.old.items) }
-        ensures refused { let m = meaning_of I.meaning X.meaning self.now (spec_of spec.now) in
+        ensures refused { let m = meaning_of I.meaning X.meaning self.now (spec_of planned.now.spec) in
             IfErr result (RefusedBy (m.encode_refusals array.now)) }
     {
         let len = shard.len();
-        let answer = self.encode_planned(alloc, array, spec, plan, options, shard);
+        let answer = self.encode_planned(alloc, array, planned, shard);
         if answer.is_err() {
             shard.truncate(len);
         }

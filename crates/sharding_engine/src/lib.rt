@@ -10,5 +10,6 @@ mod read_into;
 mod sharding;
 mod whole;
 
+pub use plan::Planned;
 pub use sharding::Sharding;
 pub use whole::decode_shard;

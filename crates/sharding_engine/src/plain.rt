@@ -11,13 +11,12 @@ ghost use Rattle.sharding_index.specs.Indexes.{index_meaning};
 ghost use Rattle.sharding_engine.specs.Meanings.{meaning_of};
 ghost use Rattle.sharding_index.specs.steps.Plans.{spec_of, IsPlan};
 
+use crate::plan::{Planned, subchunks};
 use crate::sharding::Sharding;
 use codec_traits::ArrayToBytesCodecTraits;
 use parts_arrays::FixedTarget;
-use parts_errors::{CodecError, CodecOptions};
-use sharding_format::ArraySpecRef;
-use sharding_index::Plan;
-use sharding_subchunks::Subchunks;
+use parts_errors::CodecError;
+use sharding_subchunks::HeldShard;
 use std::alloc::Global;
 
 impl<I: ArrayToBytesCodecTraits, X: ArrayToBytesCodecTraits> Sharding<'_, I, X> {
@@ -28,20 +27,19 @@ impl<I: ArrayToBytesCodecTraits, X: ArrayToBytesCodecTraits> Sharding<'_, I, X> 
         &self,
         alloc: Global,
         bytes: &[u8],
-        spec: &ArraySpecRef,
-        plan: &Plan,
+        planned: &Planned,
         target: &mut FixedTarget,
-        options: &CodecOptions,
     ) -> Result<bool, CodecError>
-        requires serves { (meaning_of I.meaning X.meaning self.now (spec_of spec.now)).serves }
-        requires plan { IsPlan (index_meaning X.meaning self.now.index_codec.codec.now) spec.now.shape.now self.now.subchunk_shape.now plan.now }
-        requires kind { size_of spec.now.data_type.now ≡ Fixed (target_element_size target.old) }
-        ensures put { IfOk result (λ done. IsTrue done → IsDecodedInto target.old target.new ((meaning_of I.meaning X.meaning self.now (spec_of spec.now)).cells bytes.now)) }
+        requires serves { (meaning_of I.meaning X.meaning self.now (spec_of planned.now.spec)).serves }
+        requires plan { IsPlan (index_meaning X.meaning self.now.index_codec.codec.now) planned.now.spec.shape.now self.now.subchunk_shape.now planned.now.plan.now }
+        requires kind { size_of planned.now.spec.data_type.now ≡ Fixed (target_element_size target.old) }
+        ensures put { IfOk result (λ done. IsTrue done → IsDecodedInto target.old target.new ((meaning_of I.meaning X.meaning self.now (spec_of planned.now.spec)).cells bytes.now)) }
         ensures kept { IfOk result (λ done. (¬ (IsTrue done)) → target.new ≡ target.old) }
         ensures left { OnErr result (target.new ≡ target.old) }
-        ensures lawful { let m = meaning_of I.meaning X.meaning self.now (spec_of spec.now) in IfErr result (MayRefuseDecode (m.cells bytes.now)) }
-        ensures refused { let m = meaning_of I.meaning X.meaning self.now (spec_of spec.now) in IfErr result (RefusedBy (m.decode_refusals bytes.now)) }
+        ensures lawful { let m = meaning_of I.meaning X.meaning self.now (spec_of planned.now.spec) in IfErr result (MayRefuseDecode (m.cells bytes.now)) }
+        ensures refused { let m = meaning_of I.meaning X.meaning self.now (spec_of planned.now.spec) in IfErr result (RefusedBy (m.decode_refusals bytes.now)) }
     {
+        let (spec, plan, options) = (&planned.spec, planned.plan, planned.options);
         let shape = self.subchunk_shape;
         let Some(size) = self
             .inner
@@ -50,14 +48,15 @@ impl<I: ArrayToBytesCodecTraits, X: ArrayToBytesCodecTraits> Sharding<'_, I, X> 
             return Ok(false);
         };
         let index = self.index_codec.decode(alloc, bytes, &plan.index, options)?;
-        let inner = Subchunks {
-            codec: self.inner,
-            shape,
-            data_type: spec.data_type,
-            fill_value: spec.fill_value,
-            options,
+        let inner = subchunks!(self, planned);
+        let held = HeldShard {
+            subchunks: &inner,
+            bytes,
+            index: &index,
+            shape: spec.shape,
+            cells: plan.cells,
         };
-        let done = inner.put_plain(alloc, bytes, &index, size, spec.shape, target)?;
+        let done = held.put_plain(alloc, size, target)?;
         Ok(done)
     }
 
@@ -67,24 +66,22 @@ impl<I: ArrayToBytesCodecTraits, X: ArrayToBytesCodecTraits> Sharding<'_, I, X> 
         &self,
         alloc: Global,
         bytes: &[u8],
-        spec: &ArraySpecRef,
-        plan: &Plan,
+        planned: &Planned,
         target: &mut FixedTarget,
-        options: &CodecOptions,
     ) -> Result<(), CodecError>
-        requires serves { (meaning_of I.meaning X.meaning self.now (spec_of spec.now)).serves }
-        requires plan { IsPlan (index_meaning X.meaning self.now.index_codec.codec.now) spec.now.shape.now self.now.subchunk_shape.now plan.now }
-        requires kind { size_of spec.now.data_type.now ≡ Fixed (target_element_size target.old) }
-        requires counted { count_of (target_subset target.old).shape ≡ count_of spec.now.shape.now }
-        ensures cells { OnOk result (IsDecodedInto target.old target.new ((meaning_of I.meaning X.meaning self.now (spec_of spec.now)).cells bytes.now)) }
+        requires serves { (meaning_of I.meaning X.meaning self.now (spec_of planned.now.spec)).serves }
+        requires plan { IsPlan (index_meaning X.meaning self.now.index_codec.codec.now) planned.now.spec.shape.now self.now.subchunk_shape.now planned.now.plan.now }
+        requires kind { size_of planned.now.spec.data_type.now ≡ Fixed (target_element_size target.old) }
+        requires counted { count_of (target_subset target.old).shape ≡ count_of planned.now.spec.shape.now }
+        ensures cells { OnOk result (IsDecodedInto target.old target.new ((meaning_of I.meaning X.meaning self.now (spec_of planned.now.spec)).cells bytes.now)) }
         ensures kept { OnErr result (target.new ≡ target.old) }
-        ensures lawful { let m = meaning_of I.meaning X.meaning self.now (spec_of spec.now) in IfErr result (MayRefuseDecode (m.cells bytes.now)) }
-        ensures refused { let m = meaning_of I.meaning X.meaning self.now (spec_of spec.now) in IfErr result (RefusedBy (m.decode_refusals bytes.now)) }
+        ensures lawful { let m = meaning_of I.meaning X.meaning self.now (spec_of planned.now.spec) in IfErr result (MayRefuseDecode (m.cells bytes.now)) }
+        ensures refused { let m = meaning_of I.meaning X.meaning self.now (spec_of planned.now.spec) in IfErr result (RefusedBy (m.decode_refusals bytes.now)) }
     {
-        if self.copied_into(alloc, bytes, spec, plan, target, options)? {
+        if self.copied_into(alloc, bytes, planned, target)? {
             return Ok(());
         }
-        let array = self.decoded(alloc, bytes, spec, plan, options)?;
+        let array = self.decoded(alloc, bytes, planned)?;
         target.copy_from(&array)
     }
 }

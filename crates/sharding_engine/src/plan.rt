@@ -8,10 +8,33 @@ ghost use Rattle.sharding_engine.specs.Meanings.{meaning_of};
 
 use crate::sharding::Sharding;
 use codec_traits::ArrayToBytesCodecTraits;
-use parts_errors::CodecError;
+use parts_errors::{CodecError, CodecOptions};
 use sharding_format::{ArraySpecRef, element_size};
 use sharding_index::Plan;
 use std::alloc::Global;
+
+/// What a call is asked to serve, what is known of it before bytes are looked at, and how it is to be served.
+#[derive(Clone, Copy)]
+pub struct Planned<'a> {
+    pub spec: ArraySpecRef<'a>,
+    pub plan: &'a Plan,
+    pub options: &'a CodecOptions,
+}
+
+// The subchunks of a shard that is planned: written out where they are used, so that a proof sees what each field is.
+macro_rules! subchunks {
+    ($sharding:expr, $planned:expr) => {
+        sharding_subchunks::Subchunks {
+            codec: $sharding.inner,
+            shape: $sharding.subchunk_shape,
+            data_type: $planned.spec.data_type,
+            fill_value: $planned.spec.fill_value,
+            options: $planned.options,
+        }
+    };
+}
+
+pub(crate) use subchunks;
 
 impl<I: ArrayToBytesCodecTraits, X: ArrayToBytesCodecTraits> Sharding<'_, I, X> {
     /// Makes the tests of a sharding codec's `check`, in its order.

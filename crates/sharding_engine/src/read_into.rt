@@ -14,14 +14,13 @@ ghost use Rattle.sharding_index.specs.Indexes.{index_meaning};
 ghost use Rattle.sharding_engine.specs.Meanings.{meaning_of};
 ghost use Rattle.sharding_index.specs.steps.Plans.{spec_of, IsPlan};
 
-use crate::read::PlannedShard;
+use crate::read::{PlannedShard, stored};
 use crate::sharding::Sharding;
 use codec_traits::ArrayToBytesCodecTraits;
 use parts_arrays::FixedTarget;
 use parts_errors::CodecError;
 use parts_subsets::Indexer;
 use sharding_index::read_index;
-use sharding_subchunks::{StoredShard, Subchunks};
 use std::alloc::Global;
 use storage_handles::BytesPartialDecoderTraits;
 
@@ -37,20 +36,20 @@ impl<I: ArrayToBytesCodecTraits, X: ArrayToBytesCodecTraits> Sharding<'_, I, X> 
         indexer: &N,
         target: &mut FixedTarget,
     ) -> Result<(), CodecError>
-        requires serves { (meaning_of I.meaning X.meaning self.now (spec_of shard.now.spec)).serves }
-        requires plan { IsPlan (index_meaning X.meaning self.now.index_codec.codec.now) shard.now.spec.shape.now self.now.subchunk_shape.now shard.now.plan.now }
-        requires selection { IsSelectionOf shard.now.spec.shape.now (N.selection indexer.now) }
-        requires points { All (λ point. IsInside point shard.now.spec.shape.now) (N.selection indexer.now).points }
-        requires kind { size_of shard.now.spec.data_type.now ≡ Fixed (target_element_size target.old) }
+        requires serves { (meaning_of I.meaning X.meaning self.now (spec_of shard.now.planned.spec)).serves }
+        requires plan { IsPlan (index_meaning X.meaning self.now.index_codec.codec.now) shard.now.planned.spec.shape.now self.now.subchunk_shape.now shard.now.planned.plan.now }
+        requires selection { IsSelectionOf shard.now.planned.spec.shape.now (N.selection indexer.now) }
+        requires points { All (λ point. IsInside point shard.now.planned.spec.shape.now) (N.selection indexer.now).points }
+        requires kind { size_of shard.now.planned.spec.data_type.now ≡ Fixed (target_element_size target.old) }
         requires counted { count_of (target_subset target.old).shape ≡ length (N.selection indexer.now).points }
         ensures read { IsRead (H.state handle.old) (H.state handle.new) }
         ensures written { IsOverwritten target.old target.new }
-        ensures cells { let m = meaning_of I.meaning X.meaning self.now (spec_of shard.now.spec) in
+        ensures cells { let m = meaning_of I.meaning X.meaning self.now (spec_of shard.now.planned.spec) in
             OnOk result (IsTrue (H.state handle.old).transparent
             → HasInterval shard.now.interval (H.state handle.old).contents
-            × IsDecodedInto target.old target.new (cells_at (m.cells (interval_part shard.now.interval (H.state handle.old).contents)) shard.now.spec.shape.now (N.selection indexer.now).points)) }
+            × IsDecodedInto target.old target.new (cells_at (m.cells (interval_part shard.now.interval (H.state handle.old).contents)) shard.now.planned.spec.shape.now (N.selection indexer.now).points)) }
         ensures fault { IfErr result (IsCounted (H.state handle.old) (H.state handle.new)) }
-        ensures refused { let g = spec_of shard.now.spec in
+        ensures refused { let g = spec_of shard.now.planned.spec in
             IfErr result (RefusedBy (ObjectRefusals (H.state handle.old) (H.state handle.new) (
             IntervalRefusals shard.now.interval (H.state handle.old).contents (λ b. (meaning_of I.meaning X.meaning self.now g).read_refusals b (N.selection indexer.now).points)))) }
     {
@@ -59,24 +58,17 @@ impl<I: ArrayToBytesCodecTraits, X: ArrayToBytesCodecTraits> Sharding<'_, I, X> 
             &self.index_codec,
             handle,
             shard.interval,
-            &shard.plan.index,
-            shard.options,
+            &shard.planned.plan.index,
+            shard.planned.options,
         )?;
-        let subchunks = Subchunks {
-            codec: self.inner,
-            shape: self.subchunk_shape,
-            data_type: shard.spec.data_type,
-            fill_value: shard.spec.fill_value,
-            options: shard.options,
-        };
-        let stored = StoredShard {
-            subchunks,
-            interval: shard.interval,
-            index: &index,
-            shape: shard.spec.shape,
-            cells: shard.plan.cells,
-        };
-        if stored.put_plain_requested(alloc, handle, indexer, &shard.plan.index.grid, target)? {
+        let stored = stored!(self, shard, &index);
+        if stored.put_plain_requested(
+            alloc,
+            handle,
+            indexer,
+            &shard.planned.plan.index.grid,
+            target,
+        )? {
             return Ok(());
         }
         let count = target.num_elements();

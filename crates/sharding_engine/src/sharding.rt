@@ -11,6 +11,7 @@ ghost use Rattle.sharding_format.specs.Grids.{IsCut, ConcurrencyRefusals};
 ghost use Rattle.sharding_format.specs.Compacting.{IsCompact};
 ghost use Rattle.sharding_engine.specs.Meanings.{shard_layout, inner_of, index_of, meaning_of};
 
+use crate::plan::Planned;
 use crate::read::PlannedShard;
 use codec_traits::{
     ArrayToBytesCodecTraits, BytesRepresentation, RecommendedConcurrency, StoredArray, check_target,
@@ -107,7 +108,12 @@ impl<I: ArrayToBytesCodecTraits, X: ArrayToBytesCodecTraits> ArrayToBytesCodecTr
             fill_value,
         };
         let plan = self.prepared(alloc, &spec)?;
-        self.encode_or_cut(alloc, bytes, &spec, &plan, options, encoded)
+        let planned = Planned {
+            spec,
+            plan: &plan,
+            options,
+        };
+        self.encode_or_cut(alloc, bytes, &planned, encoded)
     }
 
     /// Decodes every subchunk: straight from the bytes where subchunks follow one another and their elements stand in these; where
@@ -127,7 +133,12 @@ impl<I: ArrayToBytesCodecTraits, X: ArrayToBytesCodecTraits> ArrayToBytesCodecTr
             fill_value,
         };
         let plan = self.prepared(alloc, &spec)?;
-        self.decoded(alloc, bytes, &spec, &plan, options)
+        let planned = Planned {
+            spec,
+            plan: &plan,
+            options,
+        };
+        self.decoded(alloc, bytes, &planned)
     }
 
     /// Where the inner codec stores elements as they are in memory, each slice is copied to where it lies in the target; else all is
@@ -149,7 +160,12 @@ impl<I: ArrayToBytesCodecTraits, X: ArrayToBytesCodecTraits> ArrayToBytesCodecTr
         };
         let plan = self.prepared(alloc, &spec)?;
         check_target(target, shape.num_elements(), data_type)?;
-        self.decoded_into(alloc, bytes, &spec, &plan, target, options)
+        let planned = Planned {
+            spec,
+            plan: &plan,
+            options,
+        };
+        self.decoded_into(alloc, bytes, &planned, target)
     }
 
     /// The index and the present slices, ascending and without gaps, or nothing where that has as many bytes.
@@ -207,9 +223,11 @@ impl<I: ArrayToBytesCodecTraits, X: ArrayToBytesCodecTraits> ArrayToBytesCodecTr
         let count = check_requested(indexer, shape, data_type)?;
         let shard = PlannedShard {
             interval,
-            spec,
-            plan: &plan,
-            options,
+            planned: Planned {
+                spec,
+                plan: &plan,
+                options,
+            },
         };
         let cells = self.read_planned(alloc, handle, &shard, indexer, count)?;
         Ok(cells)
@@ -236,9 +254,11 @@ impl<I: ArrayToBytesCodecTraits, X: ArrayToBytesCodecTraits> ArrayToBytesCodecTr
         let _count = check_requested(indexer, stored.shape, stored.data_type)?;
         let shard = PlannedShard {
             interval: stored.interval,
-            spec,
-            plan: &plan,
-            options,
+            planned: Planned {
+                spec,
+                plan: &plan,
+                options,
+            },
         };
         self.read_planned_into(alloc, handle, &shard, indexer, target)
     }

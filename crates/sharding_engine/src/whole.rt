@@ -19,7 +19,7 @@ use parts_subsets::ChunkShape;
 use sharding_gather::gathered;
 use sharding_index::{IndexCodec, Plan};
 use sharding_layout::elements_in_row;
-use sharding_subchunks::Subchunks;
+use sharding_subchunks::{HeldShard, Subchunks};
 use std::alloc::Global;
 
 /// The elements of a shard that is served: straight from the bytes where subchunks follow one another and their elements stand in
@@ -27,12 +27,12 @@ use std::alloc::Global;
 /// Refused, in this order, as `ShardTooShort`, as `Damaged` where the index does not decode, as the lowest refused subchunk is
 /// (`BadIndexEntry` with its number, `Damaged`, `TooLarge`), and as `TooLarge` where the elements' lengths pass `usize::MAX`; or as
 /// `OutOfMemory`.
-pub fn decode_shard<'a, I: ArrayToBytesCodecTraits, X: ArrayToBytesCodecTraits>(
+pub fn decode_shard<'a, 's, I: ArrayToBytesCodecTraits, X: ArrayToBytesCodecTraits>(
     alloc: Global,
-    subchunks: &Subchunks<'_, I>,
+    subchunks: &'s Subchunks<'s, I>,
     index_codec: &IndexCodec<'_, X>,
     bytes: &'a [u8],
-    shape: &ChunkShape,
+    shape: &'s ChunkShape,
     plan: &Plan,
 ) -> Result<ArrayBytes<'a>, CodecError>
     requires serves { let index = index_meaning X.meaning index_codec.now.codec.now (grid_of shape.now subchunks.now.shape.now) in
@@ -49,12 +49,19 @@ pub fn decode_shard<'a, I: ArrayToBytesCodecTraits, X: ArrayToBytesCodecTraits>(
         IfErr result (RefusedBy (DecodeRefusals inner index l bytes.now))) }
 {
     let index = index_codec.decode(alloc, bytes, &plan.index, subchunks.options)?;
-    let rows = subchunks.decode_rows(alloc, bytes, &index, shape, plan.cells)?;
+    let held = HeldShard {
+        subchunks: &*subchunks,
+        bytes,
+        index: &index,
+        shape: &*shape,
+        cells: plan.cells,
+    };
+    let rows = held.decode_rows(alloc)?;
     if let Some(straight) = rows {
         return Ok(straight);
     }
     if subchunks.has_room(plan.cells) && elements_in_row(shape, subchunks.shape).is_none() {
-        let whole = subchunks.decode_whole(alloc, bytes, &index, shape, plan.cells)?;
+        let whole = held.decode_whole(alloc)?;
         return Ok(whole);
     }
     let decoded = subchunks.decode(alloc, bytes, &index)?;

@@ -2,3 +2,4 @@ pub mod Repacking
 pub mod Rows
 pub mod Layouts
 pub mod CompactionPlans
+pub mod steps

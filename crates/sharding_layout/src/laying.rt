@@ -1,22 +1,24 @@
 // Subchunks laid end to end in the data part of a shard.
-ghost use Rattle.std.specs.Prelude.{◌≡◌, ◌<◌, ◌^◌, IfOk, IfErr, IfSome, length, replicate};
+ghost use Rattle.std.specs.Prelude.{◌≡◌, ◌<◌, IfOk, IfErr, IfSome, replicate};
 ghost use Rattle.parts_row_major.specs.Numbering.{count_of};
-ghost use Rattle.parts_subsets.specs.Grid.{Divides, grid_of, subchunk};
-ghost use Rattle.parts_arrays.specs.Types.{size_of, HasElements};
+ghost use Rattle.parts_subsets.specs.Grid.{subchunk};
+ghost use Rattle.parts_arrays.specs.Types.{size_of};
 ghost use Rattle.parts_errors.specs.declared.error.CodecError.TheVariants.{OutOfMemory};
 ghost use Rattle.sharding_format.specs.Laying.{placed_slot, whole_shard};
 ghost use Rattle.sharding_format.specs.declared.slot.Slot.TheVariants.{Absent};
+ghost use Rattle.sharding_index.specs.steps.Plans.{spec_of};
 ghost use Rattle.sharding_layout.specs.Rows.{FollowBy};
+ghost use Rattle.sharding_layout.specs.steps.Cutting.{CanBeCut};
 
-use parts_arrays::{ArrayBytes, DataType};
+use parts_arrays::ArrayBytes;
 use parts_errors::CodecError;
 use parts_subsets::{ChunkShape, subchunks_follow};
-use sharding_format::{ShardingIndexLocation, Slot, subchunk_subset};
+use sharding_format::{ArraySpecRef, ShardingIndexLocation, Slot, subchunk_subset};
 use std::alloc::{AllocError, Global};
 
 /// Reserves room for at least `more` bytes after the slices of a shard, which begin at `start`. Doubles the capacity, but reserves
-/// at most what the `left` subchunks will need if they are like the `stored_slices` ones that are written, plus 1/16. Refused only as out of
-/// memory, which leaves the capacity as it was.
+/// at most what the `left` subchunks will need if they are like the `stored_slices` ones that are written, plus 1/16. Refused only
+/// as out of memory, which leaves the capacity as it was.
 pub fn room_for_next(
     bytes: &mut Vec<u8>,
     start: usize,
@@ -45,62 +47,61 @@ pub fn elements_in_row(shape: &ChunkShape, sub: &ChunkShape) -> Option<u64>
     sub.num_elements()
 }
 
+/// An array that is cut into the subchunks of a shard: its elements, its shape, the grid of the subchunks, and how many elements each has
+/// where they follow one another in the array, as `elements_in_row` tells.
+#[derive(Clone, Copy)]
+pub struct CutArray<'a, 'b> {
+    pub array: &'a ArrayBytes<'b>,
+    pub shape: &'a ChunkShape,
+    pub grid: &'a ChunkShape,
+    pub in_row: Option<u64>,
+}
+
 // A subchunk of an array in which subchunks follow one another, lent where its elements have one size.
 fn borrowed_subchunk<'a>(
-    array: &'a ArrayBytes,
+    cut: &CutArray<'a, '_>,
     number: u64,
     positions: u64,
-    _shape: &ChunkShape,
-    _sub: &ChunkShape,
+    _spec: &ArraySpecRef,
 ) -> Option<ArrayBytes<'a>>
-    requires counted { length array.now.elements ≡ count_of _shape.now }
-    requires fits { count_of _shape.now < 2 ^ 64 }
-    requires some { 0 < count_of _shape.now }
-    requires divides { Divides _sub.now _shape.now }
-    requires follow { FollowBy _shape.now _sub.now positions }
-    requires below { number < count_of (grid_of _shape.now _sub.now) }
-    ensures kind { IfSome result (λ part. part.kind ≡ array.now.kind) }
-    ensures elements { IfSome result (λ part. part.elements ≡ subchunk _shape.now _sub.now array.now.elements number) }
+    requires cut { CanBeCut (spec_of _spec.now) cut.now }
+    requires some { 0 < count_of cut.now.shape.now }
+    requires follow { FollowBy cut.now.shape.now _spec.now.shape.now positions }
+    requires below { number < count_of cut.now.grid.now }
+    ensures kind { IfSome result (λ part. part.kind ≡ cut.now.array.now.kind) }
+    ensures elements { IfSome result (λ part. part.elements ≡ subchunk cut.now.shape.now _spec.now.shape.now cut.now.array.now.elements number) }
 {
-    let part = array.borrowed_range((number * positions) as usize, positions as usize)?;
+    let first = (number * positions) as usize;
+    let part = cut.array.borrowed_range(first, positions as usize)?;
     Some(part)
 }
 
-/// A subchunk of an array: lent where subchunks follow one another in it, as `elements_in_row` tells, and its elements have one
-/// size, and else copied. Refused only as out of memory.
+/// A subchunk of an array, of which the spec tells the shape and the type: lent where subchunks follow one another in the array and
+/// its elements have one size, and else copied. Refused only as out of memory.
 pub fn gather_subchunk<'a>(
     alloc: Global,
-    array: &'a ArrayBytes,
+    cut: &CutArray<'a, '_>,
     number: u64,
-    in_row: Option<u64>,
-    shape: &ChunkShape,
-    grid: &ChunkShape,
-    sub: &ChunkShape,
-    data_type: &DataType,
+    spec: &ArraySpecRef,
 ) -> Result<ArrayBytes<'a>, CodecError>
-    requires supported { HasElements data_type.now }
-    requires kind { array.now.kind ≡ size_of data_type.now }
-    requires counted { length array.now.elements ≡ count_of shape.now }
-    requires fits { count_of shape.now < 2 ^ 64 }
-    requires axes { length shape.now ≡ length sub.now }
-    requires divides { Divides sub.now shape.now }
-    requires grid { grid.now ≡ grid_of shape.now sub.now }
-    requires below { number < count_of grid.now }
-    requires in_row { IfSome in_row (FollowBy shape.now sub.now) }
+    requires cut { CanBeCut (spec_of spec.now) cut.now }
+    requires below { number < count_of cut.now.grid.now }
     ensures refused { IfErr result (λ e. e ≡ OutOfMemory) }
-    ensures kind { IfOk result (λ part. part.kind ≡ size_of data_type.now) }
-    ensures elements { IfOk result (λ part. part.elements ≡ subchunk shape.now sub.now array.now.elements number) }
+    ensures kind { IfOk result (λ part. part.kind ≡ size_of spec.now.data_type.now) }
+    ensures elements { IfOk result (λ part. part.elements ≡ subchunk cut.now.shape.now spec.now.shape.now cut.now.array.now.elements number) }
 {
-    let axes = shape.as_slice();
-    if let Some(positions) = in_row {
-        if let Some(part) = borrowed_subchunk(array, number, positions, shape, sub) {
+    let axes = cut.shape.as_slice();
+    if let Some(positions) = cut.in_row {
+        if let Some(part) = borrowed_subchunk(cut, number, positions, spec) {
             return Ok(part);
         }
     }
-    let Some(subset) = subchunk_subset(alloc, number, grid, sub)? else {
+    let Some(subset) = subchunk_subset(alloc, number, cut.grid, spec.shape)? else {
         unreachable!()
     };
-    let part = array.extract_array_subset(alloc, &subset, axes, data_type)?;
+    let part = cut
+        .array
+        .extract_array_subset(alloc, &subset, axes, spec.data_type)?;
     Ok(part)
 }
 

@@ -9,7 +9,7 @@ mod storing;
 
 pub use compact::compacted;
 pub use laying::{
-    StoredSlices, absent_slots, elements_in_row, gather_subchunk, joined_shard, placed,
+    CutArray, StoredSlices, absent_slots, elements_in_row, gather_subchunk, joined_shard, placed,
     room_for_next,
 };
 pub use packing::{compact_size, packed_numbers, push_slices};

@@ -1,5 +1,4 @@
 -- What the steps of this crate say of one another: no public clause reaches it.
-pub mod Cutting
 pub mod DecodedRows
 pub mod Inner
 pub mod Writes

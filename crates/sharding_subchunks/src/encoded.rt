@@ -1,26 +1,25 @@
 // Subchunks of an array, encoded and laid end to end in an order.
-ghost use Rattle.std.specs.Prelude.{◌≡◌, ◌<◌, ◌^◌, IfOk, IfErr, OnErr, IfSome, IsPermutation, length, take, drop};
+ghost use Rattle.std.specs.Prelude.{◌≡◌, ◌<◌, IfOk, IfErr, OnErr, IsPermutation, length, take, drop};
 ghost use Rattle.std.specs.List.{range_with_len};
 ghost use Rattle.parts_errors.specs.Order.{done, RefusedBy};
+ghost use Rattle.parts_errors.specs.declared.error.CodecError.TheVariants.{OutOfMemory};
 ghost use Rattle.parts_row_major.specs.Numbering.{count_of};
-ghost use Rattle.parts_subsets.specs.Grid.{Divides, grid_of, subchunk};
-ghost use Rattle.parts_arrays.specs.ArraySpec.{array_spec, IsArrayOf};
-ghost use Rattle.parts_arrays.specs.Types.{size_of, HasElements};
+ghost use Rattle.parts_subsets.specs.Grid.{subchunk};
+ghost use Rattle.parts_arrays.specs.ArraySpec.{IsArrayOf};
+ghost use Rattle.parts_arrays.specs.Types.{size_of};
 ghost use Rattle.sharding_format.specs.Encoding.{IsStored};
 ghost use Rattle.sharding_format.specs.Laying.{IsStoredAfter, IsStoredInOrder};
 ghost use Rattle.sharding_format.specs.EncodeRefusals.{RefusesToStore, StoreRefusals};
-ghost use Rattle.sharding_layout.specs.Rows.{FollowBy};
-ghost use Rattle.sharding_subchunks.specs.steps.Cutting.{CanBeCut};
+ghost use Rattle.sharding_layout.specs.steps.Cutting.{CanBeCut};
 ghost use Rattle.sharding_subchunks.specs.steps.Inner.{spec_of_subchunks, inner_meaning};
 
 use crate::subchunks::Subchunks;
 use codec_traits::ArrayToBytesCodecTraits;
 use parts_arrays::ArrayBytes;
 use parts_errors::CodecError;
-use parts_subsets::ChunkShape;
-use sharding_format::Slot;
+use sharding_format::{ArraySpecRef, Slot};
 use sharding_layout::{
-    absent_slots, elements_in_row, gather_subchunk, placed, room_for_next, store_after,
+    CutArray, absent_slots, gather_subchunk, placed, room_for_next, store_after,
 };
 use sharding_order::SubchunkSequence;
 use std::alloc::Global;
@@ -30,16 +29,6 @@ use std::alloc::Global;
 pub struct Stored {
     pub present: bool,
     pub bytes: Vec<u8>,
-}
-
-// An array that is cut into the subchunks of a shard: its elements, its shape, the grid of the subchunks, and how many elements each has
-// where they follow one another in the array.
-#[derive(Clone, Copy)]
-struct CutArray<'a, 'b> {
-    array: &'a ArrayBytes<'b>,
-    shape: &'a ChunkShape,
-    grid: &'a ChunkShape,
-    in_row: Option<u64>,
 }
 
 impl<I: ArrayToBytesCodecTraits> Subchunks<'_, I> {
@@ -78,55 +67,55 @@ impl<I: ArrayToBytesCodecTraits> Subchunks<'_, I> {
         ensures refused { let inner = inner_meaning I.meaning self.now in
             IfErr result (RefusedBy (RefusesToStore inner.encodable inner.fits self.now.fill_value.now part.now.elements)) }
     {
-        store_after(
-            self.codec,
-            alloc,
-            part,
-            self.shape,
-            self.data_type,
-            self.fill_value,
-            slices,
-            self.options,
-        )
+        let spec = ArraySpecRef {
+            shape: self.shape,
+            data_type: self.data_type,
+            fill_value: self.fill_value,
+        };
+        store_after(self.codec, alloc, part, &spec, slices, self.options)
+    }
+
+    // The subchunk of an array with a number, as `gather_subchunk` gives it. Refused only as out of memory.
+    fn cut_out<'a>(
+        &self,
+        alloc: Global,
+        cut: &CutArray<'a, '_>,
+        number: u64,
+    ) -> Result<ArrayBytes<'a>, CodecError>
+        requires cut { CanBeCut (spec_of_subchunks self.now) cut.now }
+        requires below { number < count_of cut.now.grid.now }
+        ensures refused { IfErr result (λ e. e ≡ OutOfMemory) }
+        ensures kind { IfOk result (λ part. part.kind ≡ size_of self.now.data_type.now) }
+        ensures array { IfOk result (λ part. IsArrayOf (spec_of_subchunks self.now) part.elements) }
+        ensures elements { IfOk result (λ part. part.elements ≡ subchunk cut.now.shape.now self.now.shape.now cut.now.array.now.elements number) }
+    {
+        let spec = ArraySpecRef {
+            shape: self.shape,
+            data_type: self.data_type,
+            fill_value: self.fill_value,
+        };
+        let part = gather_subchunk(alloc, cut, number, &spec)?;
+        Ok(part)
     }
 
     /// What is to be stored of the subchunk of an array with a number. Refused as `CannotEncode` or `TooLarge`; or as `OutOfMemory`.
     pub fn stored_at(
         &self,
         alloc: Global,
-        array: &ArrayBytes,
+        cut: &CutArray,
         number: u64,
-        in_row: Option<u64>,
-        shape: &ChunkShape,
-        grid: &ChunkShape,
     ) -> Result<Stored, CodecError>
         requires serves { (inner_meaning I.meaning self.now).serves }
-        requires supported { HasElements self.now.data_type.now }
-        requires kind { array.now.kind ≡ size_of self.now.data_type.now }
-        requires array { IsArrayOf (array_spec shape.now self.now.data_type.now self.now.fill_value.now) array.now.elements }
-        requires fits { count_of shape.now < 2 ^ 64 }
-        requires axes { length shape.now ≡ length self.now.shape.now }
-        requires divides { Divides self.now.shape.now shape.now }
-        requires grid { grid.now ≡ grid_of shape.now self.now.shape.now }
-        requires below { number < count_of grid.now }
-        requires in_row { IfSome in_row (FollowBy shape.now self.now.shape.now) }
+        requires cut { CanBeCut (spec_of_subchunks self.now) cut.now }
+        requires below { number < count_of cut.now.grid.now }
         ensures stored { let inner = inner_meaning I.meaning self.now in
             IfOk result (λ stored. IsStored inner.written self.now.fill_value.now
-            (subchunk shape.now self.now.shape.now array.now.elements number) stored.present stored.bytes.items) }
+            (subchunk cut.now.shape.now self.now.shape.now cut.now.array.now.elements number) stored.present stored.bytes.items) }
         ensures refused { let inner = inner_meaning I.meaning self.now in
             IfErr result (RefusedBy (RefusesToStore inner.encodable inner.fits self.now.fill_value.now
-            (subchunk shape.now self.now.shape.now array.now.elements number))) }
+            (subchunk cut.now.shape.now self.now.shape.now cut.now.array.now.elements number))) }
     {
-        let part = gather_subchunk(
-            alloc,
-            array,
-            number,
-            in_row,
-            shape,
-            grid,
-            self.shape,
-            self.data_type,
-        )?;
+        let part = self.cut_out(alloc, cut, number)?;
         let stored = self.stored_of(alloc, &part)?;
         Ok(stored)
     }
@@ -141,7 +130,7 @@ impl<I: ArrayToBytesCodecTraits> Subchunks<'_, I> {
         refusal: CodecError,
     ) -> CodecError
         requires serves { (inner_meaning I.meaning self.now).serves }
-        requires cut { CanBeCut self.now cut.now }
+        requires cut { CanBeCut (spec_of_subchunks self.now) cut.now }
         requires below { number < count_of cut.now.grid.now }
         requires refusal { let inner = inner_meaning I.meaning self.now in
             RefusedBy (RefusesToStore inner.encodable inner.fits self.now.fill_value.now
@@ -154,9 +143,7 @@ impl<I: ArrayToBytesCodecTraits> Subchunks<'_, I> {
             return refusal;
         }
         for lower in 0..number {
-            if let Err(error) = self.stored_at(
-                alloc, cut.array, lower, cut.in_row, cut.shape, cut.grid,
-            ) {
+            if let Err(error) = self.stored_at(alloc, cut, lower) {
                 return error;
             }
         }
@@ -173,7 +160,7 @@ impl<I: ArrayToBytesCodecTraits> Subchunks<'_, I> {
         bytes: &mut Vec<u8>,
     ) -> Result<Slot, CodecError>
         requires serves { (inner_meaning I.meaning self.now).serves }
-        requires cut { CanBeCut self.now cut.now }
+        requires cut { CanBeCut (spec_of_subchunks self.now) cut.now }
         requires below { number < count_of cut.now.grid.now }
         ensures stored { let inner = inner_meaning I.meaning self.now in
             IfOk result (IsStoredAfter inner.written self.now.fill_value.now
@@ -183,16 +170,7 @@ impl<I: ArrayToBytesCodecTraits> Subchunks<'_, I> {
             IfErr result (RefusedBy (StoreRefusals inner self.now.fill_value.now
             (subchunk cut.now.shape.now self.now.shape.now cut.now.array.now.elements) (count_of cut.now.grid.now) done)) }
     {
-        let part = gather_subchunk(
-            alloc,
-            cut.array,
-            number,
-            cut.in_row,
-            cut.shape,
-            cut.grid,
-            self.shape,
-            self.data_type,
-        )?;
+        let part = self.cut_out(alloc, cut, number)?;
         match self.store_after(alloc, &part, bytes) {
             Ok(slot) => Ok(slot),
             Err(refusal) => Err(self.lowest_refusal(alloc, cut, number, refusal)),
@@ -209,7 +187,7 @@ impl<I: ArrayToBytesCodecTraits> Subchunks<'_, I> {
         bytes: &mut Vec<u8>,
     ) -> Result<Vec<Slot>, CodecError>
         requires serves { (inner_meaning I.meaning self.now).serves }
-        requires cut { CanBeCut self.now cut.now }
+        requires cut { CanBeCut (spec_of_subchunks self.now) cut.now }
         requires order { IsPermutation (range_with_len 0 (count_of cut.now.grid.now)) sequence.now }
         ensures stay { take (length bytes.old.items) bytes.new.items ≡ bytes.old.items }
         ensures stored_slices { let inner = inner_meaning I.meaning self.now in
@@ -247,39 +225,24 @@ impl<I: ArrayToBytesCodecTraits> Subchunks<'_, I> {
     pub fn store_all_after(
         &self,
         alloc: Global,
-        array: &ArrayBytes,
-        shape: &ChunkShape,
-        grid: &ChunkShape,
+        cut: &CutArray,
         sequence: &SubchunkSequence,
         bytes: &mut Vec<u8>,
     ) -> Result<Vec<Slot>, CodecError>
         requires serves { (inner_meaning I.meaning self.now).serves }
-        requires supported { HasElements self.now.data_type.now }
-        requires kind { array.now.kind ≡ size_of self.now.data_type.now }
-        requires array { IsArrayOf (array_spec shape.now self.now.data_type.now self.now.fill_value.now) array.now.elements }
-        requires fits { count_of shape.now < 2 ^ 64 }
-        requires axes { length shape.now ≡ length self.now.shape.now }
-        requires divides { Divides self.now.shape.now shape.now }
-        requires grid { grid.now ≡ grid_of shape.now self.now.shape.now }
-        requires order { IsPermutation (range_with_len 0 (count_of grid.now)) sequence.now }
+        requires cut { CanBeCut (spec_of_subchunks self.now) cut.now }
+        requires order { IsPermutation (range_with_len 0 (count_of cut.now.grid.now)) sequence.now }
         ensures stay { take (length bytes.old.items) bytes.new.items ≡ bytes.old.items }
         ensures stored_slices { let inner = inner_meaning I.meaning self.now in
-            IfOk result (λ slots. IsStoredInOrder inner.written self.now.fill_value.now shape.now self.now.shape.now array.now.elements
-            (drop (length bytes.old.items) bytes.new.items) slots.items sequence.now (count_of grid.now)) }
+            IfOk result (λ slots. IsStoredInOrder inner.written self.now.fill_value.now cut.now.shape.now self.now.shape.now cut.now.array.now.elements
+            (drop (length bytes.old.items) bytes.new.items) slots.items sequence.now (count_of cut.now.grid.now)) }
         ensures refused { let inner = inner_meaning I.meaning self.now in
             IfErr result (RefusedBy (StoreRefusals inner self.now.fill_value.now
-            (subchunk shape.now self.now.shape.now array.now.elements) (count_of grid.now) done)) }
+            (subchunk cut.now.shape.now self.now.shape.now cut.now.array.now.elements) (count_of cut.now.grid.now) done)) }
     {
-        let in_row = elements_in_row(shape, self.shape);
-        if let Some(slots) = self.lay_out_rows(alloc, array, in_row, shape, sequence, bytes)? {
+        if let Some(slots) = self.lay_out_rows(alloc, cut, sequence, bytes)? {
             return Ok(slots);
         }
-        let cut = CutArray {
-            array,
-            shape,
-            grid,
-            in_row,
-        };
-        self.lay_out_each(alloc, &cut, sequence, bytes)
+        self.lay_out_each(alloc, cut, sequence, bytes)
     }
 }

@@ -4,6 +4,7 @@
 mod cells;
 mod decoded;
 mod encoded;
+mod held_shard;
 mod listed;
 mod plain;
 mod plain_decoded;
@@ -18,5 +19,6 @@ mod subsets;
 mod whole;
 
 pub use encoded::Stored;
+pub use held_shard::HeldShard;
 pub use stored_shard::StoredShard;
 pub use subchunks::Subchunks;

@@ -10,7 +10,7 @@ ghost use Rattle.sharding_format.specs.steps.Decoding.{FitsSlot};
 ghost use Rattle.sharding_subchunks.specs.steps.Inner.{inner_meaning};
 ghost use Rattle.sharding_subchunks.specs.steps.DecodedRows.{IsPlainSlot, plain_bytes, bytes_of_run, AreRowsOfShard, AreGathered};
 
-use crate::subchunks::Subchunks;
+use crate::held_shard::HeldShard;
 use codec_traits::ArrayToBytesCodecTraits;
 use parts_arrays::{ArrayBytes, repeated};
 use parts_errors::CodecError;
@@ -144,42 +144,33 @@ fn rows(
     Ok(Some(bytes))
 }
 
-impl<I: ArrayToBytesCodecTraits> Subchunks<'_, I> {
-    /// The elements of a shard, of which there are so many, straight from its bytes: where the inner codec stores elements as they
-    /// are in memory, subchunks follow one another in the shape, and each that is there has as many bytes as it must have.
-    /// Nothing where that isn't so. Refused only as out of memory.
-    pub fn decode_rows(
-        &self,
-        alloc: Global,
-        bytes: &[u8],
-        index: &ShardIndex,
-        shape: &ChunkShape,
-        cells: u64,
-    ) -> Result<Option<ArrayBytes<'static>>, CodecError>
-        requires len { index.now.len ≡ length bytes.now }
-        requires counted { length index.now.numbers.items ≡ 2 * count_of (grid_of shape.now self.now.shape.now) }
-        requires cells { cells ≡ count_of shape.now }
-        requires some { 0 < count_of (grid_of shape.now self.now.shape.now) }
-        requires positions { 0 < count_of self.now.shape.now }
-        requires divides { Divides self.now.shape.now shape.now }
-        ensures kind { IfOk result (λ answer. IfSome answer (λ array. array.kind ≡ size_of self.now.data_type.now)) }
-        ensures gathered { let inner = inner_meaning I.meaning self.now in
-            let g = array_spec shape.now self.now.data_type.now self.now.fill_value.now in
+impl<I: ArrayToBytesCodecTraits> HeldShard<'_, '_, I> {
+    /// The elements of a shard straight from its bytes: where the inner codec stores elements as they are in memory, subchunks follow
+    /// one another in the shape, and each that is there has as many bytes as it must have. Nothing where that isn't so. Refused only as
+    /// out of memory.
+    pub fn decode_rows(&self, alloc: Global) -> Result<Option<ArrayBytes<'static>>, CodecError>
+        requires some { 0 < count_of (grid_of self.now.shape.now self.now.subchunks.now.shape.now) }
+        requires positions { 0 < count_of self.now.subchunks.now.shape.now }
+        ensures kind { IfOk result (λ answer. IfSome answer (λ array. array.kind ≡ size_of self.now.subchunks.now.data_type.now)) }
+        ensures gathered { let s = self.now.subchunks.now in let inner = inner_meaning I.meaning s in
+            let g = array_spec self.now.shape.now s.data_type.now s.fill_value.now in
             IfOk result (λ answer. IfSome answer (λ array.
-            AreGathered inner.cells g self.now.shape.now bytes.now index.now.numbers.items array.elements)) }
+            AreGathered inner.cells g s.shape.now self.now.bytes.now self.now.index.now.numbers.items array.elements)) }
         ensures refused { IfErr result (λ e. e ≡ OutOfMemory) }
     {
-        let Some(positions) = elements_in_row(shape, self.shape) else {
+        let inner = self.subchunks;
+        let (shape, sub) = (self.shape, inner.shape);
+        let Some(positions) = elements_in_row(shape, sub) else {
             return Ok(None);
         };
-        let plain = self
+        let plain = inner
             .codec
-            .plain_size(self.shape, self.data_type, self.fill_value);
+            .plain_size(sub, inner.data_type, inner.fill_value);
         let Some(size) = plain else {
             return Ok(None);
         };
-        let fill = self.fill_value.as_ne_bytes();
-        if cells.checked_mul(fill.len() as u64).is_none() {
+        let fill = inner.fill_value.as_ne_bytes();
+        if self.cells.checked_mul(fill.len() as u64).is_none() {
             return Ok(None);
         }
         let subchunk = PlainSubchunk {
@@ -187,7 +178,7 @@ impl<I: ArrayToBytesCodecTraits> Subchunks<'_, I> {
             positions: positions as usize,
             size: size as usize,
         };
-        let Some(all) = rows(alloc, bytes, index, &subchunk, shape, self.shape)? else {
+        let Some(all) = rows(alloc, self.bytes, self.index, &subchunk, shape, sub)? else {
             return Ok(None);
         };
         match ArrayBytes::new_flen(CowSlice::Owned(all), fill.len()) {

@@ -2,21 +2,18 @@
 ghost use Rattle.std.specs.Prelude.{◌≡◌, ◌<◌, ◌++◌, ◌⊎◌, [], OnOk, OnErr, IfOk, IfSome, IfNone, IsTrue, IsPermutation, ◌↔◌, length, take, drop};
 ghost use Rattle.std.specs.List.{range_with_len};
 ghost use Rattle.parts_row_major.specs.Numbering.{count_of};
-ghost use Rattle.parts_subsets.specs.Grid.{Divides, grid_of};
-ghost use Rattle.parts_arrays.specs.ArraySpec.{array_spec, IsArrayOf};
 ghost use Rattle.parts_arrays.specs.Arrays.{IsWhole, fixed_array};
 ghost use Rattle.sharding_format.specs.Encoding.{IsAllFill};
 ghost use Rattle.sharding_format.specs.Laying.{IsStoredInOrder};
-ghost use Rattle.sharding_layout.specs.Rows.{FollowBy};
+ghost use Rattle.sharding_layout.specs.steps.Cutting.{CanBeCut};
 ghost use Rattle.sharding_subchunks.specs.steps.Inner.{spec_of_subchunks, inner_meaning};
 ghost use Rattle.sharding_subchunks.specs.PlainRows.{ArePlainRows};
 
 use crate::subchunks::Subchunks;
 use codec_traits::ArrayToBytesCodecTraits;
 use parts_arrays::{ArrayBytes, FillValue};
-use parts_subsets::ChunkShape;
 use sharding_format::Slot;
-use sharding_layout::{absent_slots, placed, room_for_next};
+use sharding_layout::{CutArray, absent_slots, placed, room_for_next};
 use sharding_order::SubchunkSequence;
 use std::alloc::{AllocError, Global};
 use std::borrow::CowSlice;
@@ -81,15 +78,14 @@ impl<I: ArrayToBytesCodecTraits> Subchunks<'_, I> {
         bytes: &[u8],
         size: usize,
         rows: usize,
-        _array: &ArrayBytes,
-        _shape: &ChunkShape,
+        _cut: &CutArray,
         slices: &mut Vec<u8>,
     ) -> Result<Vec<Slot>, AllocError>
         requires rows { let inner = inner_meaning I.meaning self.now in
-            ArePlainRows inner.written self.now.fill_value.now _shape.now self.now.shape.now _array.now.elements bytes.now size rows }
+            ArePlainRows inner.written self.now.fill_value.now _cut.now.shape.now self.now.shape.now _cut.now.array.now.elements bytes.now size rows }
         ensures stay { take (length slices.old.items) slices.new.items ≡ slices.old.items }
         ensures stored_slices { let inner = inner_meaning I.meaning self.now in
-            IfOk result (λ slots. IsStoredInOrder inner.written self.now.fill_value.now _shape.now self.now.shape.now _array.now.elements
+            IfOk result (λ slots. IsStoredInOrder inner.written self.now.fill_value.now _cut.now.shape.now self.now.shape.now _cut.now.array.now.elements
             (drop (length slices.old.items) slices.new.items) slots.items (range_with_len 0 rows) rows) }
     {
         let start = slices.len();
@@ -120,16 +116,15 @@ impl<I: ArrayToBytesCodecTraits> Subchunks<'_, I> {
         bytes: &[u8],
         size: usize,
         sequence: &SubchunkSequence,
-        _array: &ArrayBytes,
-        _shape: &ChunkShape,
+        _cut: &CutArray,
         slices: &mut Vec<u8>,
     ) -> Result<Vec<Slot>, AllocError>
         requires order { IsPermutation (range_with_len 0 (length sequence.now)) sequence.now }
         requires rows { let inner = inner_meaning I.meaning self.now in
-            ArePlainRows inner.written self.now.fill_value.now _shape.now self.now.shape.now _array.now.elements bytes.now size (length sequence.now) }
+            ArePlainRows inner.written self.now.fill_value.now _cut.now.shape.now self.now.shape.now _cut.now.array.now.elements bytes.now size (length sequence.now) }
         ensures stay { take (length slices.old.items) slices.new.items ≡ slices.old.items }
         ensures stored_slices { let inner = inner_meaning I.meaning self.now in
-            IfOk result (λ slots. IsStoredInOrder inner.written self.now.fill_value.now _shape.now self.now.shape.now _array.now.elements
+            IfOk result (λ slots. IsStoredInOrder inner.written self.now.fill_value.now _cut.now.shape.now self.now.shape.now _cut.now.array.now.elements
             (drop (length slices.old.items) slices.new.items) slots.items sequence.now (length sequence.now)) }
     {
         let start = slices.len();
@@ -152,24 +147,20 @@ impl<I: ArrayToBytesCodecTraits> Subchunks<'_, I> {
     pub(crate) fn lay_out_rows(
         &self,
         alloc: Global,
-        array: &ArrayBytes,
-        in_row: Option<u64>,
-        shape: &ChunkShape,
+        cut: &CutArray,
         sequence: &SubchunkSequence,
         slices: &mut Vec<u8>,
     ) -> Result<Option<Vec<Slot>>, AllocError>
-        requires array { IsArrayOf (array_spec shape.now self.now.data_type.now self.now.fill_value.now) array.now.elements }
-        requires divides { Divides self.now.shape.now shape.now }
-        requires order { IsPermutation (range_with_len 0 (count_of (grid_of shape.now self.now.shape.now))) sequence.now }
-        requires in_row { IfSome in_row (FollowBy shape.now self.now.shape.now) }
+        requires cut { CanBeCut (spec_of_subchunks self.now) cut.now }
+        requires order { IsPermutation (range_with_len 0 (count_of cut.now.grid.now)) sequence.now }
         ensures stay { take (length slices.old.items) slices.new.items ≡ slices.old.items }
         ensures none { IfOk result (λ rows. IfNone rows (slices.new.items ≡ slices.old.items)) }
         ensures stored_slices { let inner = inner_meaning I.meaning self.now in
-            IfOk result (λ rows. IfSome rows (λ slots. IsStoredInOrder inner.written self.now.fill_value.now shape.now self.now.shape.now
-            array.now.elements (drop (length slices.old.items) slices.new.items) slots.items sequence.now (count_of (grid_of shape.now self.now.shape.now)))) }
+            IfOk result (λ rows. IfSome rows (λ slots. IsStoredInOrder inner.written self.now.fill_value.now cut.now.shape.now self.now.shape.now
+            cut.now.array.now.elements (drop (length slices.old.items) slices.new.items) slots.items sequence.now (count_of cut.now.grid.now))) }
     {
-        let _axes = shape.as_slice();
-        let Some(_places) = in_row else {
+        let _axes = cut.shape.as_slice();
+        let Some(_places) = cut.in_row else {
             return Ok(None);
         };
         let Some(size) = self
@@ -178,31 +169,15 @@ impl<I: ArrayToBytesCodecTraits> Subchunks<'_, I> {
         else {
             return Ok(None);
         };
-        let Some(bytes) = array.fixed_bytes() else {
+        let Some(bytes) = cut.array.fixed_bytes() else {
             return Ok(None);
         };
         if sequence.is_ascending() {
             let rows = sequence.len() as usize;
-            let slots = self.lay_out_bytes(
-                alloc,
-                bytes,
-                size as usize,
-                rows,
-                array,
-                shape,
-                slices,
-            )?;
+            let slots = self.lay_out_bytes(alloc, bytes, size as usize, rows, cut, slices)?;
             return Ok(Some(slots));
         }
-        let slots = self.lay_out_along(
-            alloc,
-            bytes,
-            size as usize,
-            sequence,
-            array,
-            shape,
-            slices,
-        )?;
+        let slots = self.lay_out_along(alloc, bytes, size as usize, sequence, cut, slices)?;
         Ok(Some(slots))
     }
 }

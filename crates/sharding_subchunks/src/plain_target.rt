@@ -15,6 +15,7 @@ ghost use Rattle.sharding_gather.specs.steps.Placings.{shifted_subset, no_subset
 ghost use Rattle.sharding_subchunks.specs.steps.Inner.{spec_of_subchunks, inner_meaning};
 ghost use Rattle.sharding_subchunks.specs.steps.Writes.{IsOfSize, IsSlotPut};
 
+use crate::held_shard::HeldShard;
 use crate::subchunks::Subchunks;
 use codec_traits::ArrayToBytesCodecTraits;
 use parts_arrays::FixedTarget;
@@ -111,40 +112,38 @@ impl<I: ArrayToBytesCodecTraits> Subchunks<'_, I> {
             Slot::Bad => unreachable!(),
         }
     }
+}
 
+impl<I: ArrayToBytesCodecTraits> HeldShard<'_, '_, I> {
     /// Copies a whole shard into a target, where the inner codec stores each subchunk as so many bytes that are its elements, the
     /// target's subset has the shard's shape, and each subchunk is absent or has a slice of so many bytes. False where it is not
     /// so; the target is then as it was. Refused only as out of memory, which leaves the target.
     pub fn put_plain(
         &self,
         alloc: Global,
-        bytes: &[u8],
-        index: &ShardIndex,
         size: u64,
-        shape: &ChunkShape,
         target: &mut FixedTarget,
     ) -> Result<bool, CodecError>
-        requires plain { IsPlain (spec_of_subchunks self.now) (inner_meaning I.meaning self.now) size }
-        requires len { index.now.len ≡ length bytes.now }
-        requires index { length index.now.numbers.items ≡ 2 * count_of (grid_of shape.now self.now.shape.now) }
-        requires element { target_element_size target.old ≡ length self.now.fill_value.now }
-        requires fits { count_of shape.now < 2 ^ 64 }
-        requires divides { Divides self.now.shape.now shape.now }
-        ensures put { let inner = inner_meaning I.meaning self.now in
+        requires plain { IsPlain (spec_of_subchunks self.now.subchunks.now) (inner_meaning I.meaning self.now.subchunks.now) size }
+        requires element { target_element_size target.old ≡ length self.now.subchunks.now.fill_value.now }
+        ensures put { let s = self.now.subchunks.now in let inner = inner_meaning I.meaning s in
             IfOk result (λ done. IsTrue done → IsDecodedInto target.old target.new
-            (map (indexed_cell inner.cells shape.now self.now.shape.now self.now.fill_value.now bytes.now index.now.numbers.items) (range_with_len 0 (count_of shape.now)))) }
+            (map (indexed_cell inner.cells self.now.shape.now s.shape.now s.fill_value.now self.now.bytes.now self.now.index.now.numbers.items) (range_with_len 0 (count_of self.now.shape.now)))) }
         ensures kept { IfOk result (λ done. (¬ (IsTrue done)) → target.new ≡ target.old) }
         ensures left { OnErr result (target.new ≡ target.old) }
         ensures refused { IfErr result (λ e. e ≡ OutOfMemory) }
     {
+        let (index, shape, sub) = (self.index, self.shape, self.subchunks.shape);
         if !same_axes(target.subset().shape(), shape.as_slice()) || !are_plain(index, size) {
             return Ok(false);
         }
-        let grid = calculate_chunks_per_shard(alloc, shape, self.shape)?;
+        let grid = calculate_chunks_per_shard(alloc, shape, sub)?;
         let count = index.subchunks();
-        let subsets = placed_subsets(alloc, count, shape, &grid, self.shape, target.subset())?;
+        let subsets = placed_subsets(alloc, count, shape, &grid, sub, target.subset())?;
         for k in 0..count {
-            self.put_slot(bytes, index.slot(k), size, &subsets[k], target);
+            let slot = index.slot(k);
+            self.subchunks
+                .put_slot(self.bytes, slot, size, &subsets[k], target);
         }
         Ok(true)
     }

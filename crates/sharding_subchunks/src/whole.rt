@@ -4,7 +4,7 @@ ghost use Rattle.std.specs.List.{range_with_len};
 ghost use Rattle.parts_errors.specs.Order.{done, RefusedBy};
 ghost use Rattle.parts_row_major.specs.Numbering.{count_of};
 ghost use Rattle.parts_row_major.specs.Pieces.{piece, pieces};
-ghost use Rattle.parts_subsets.specs.Grid.{Divides, grid_of, cell_number};
+ghost use Rattle.parts_subsets.specs.Grid.{grid_of, cell_number};
 ghost use Rattle.parts_arrays.specs.Types.{size_of};
 ghost use Rattle.parts_arrays.specs.declared.data_type.DataTypeSize.TheVariants.{Fixed};
 ghost use Rattle.sharding_format.specs.Index.{slot_at};
@@ -16,7 +16,7 @@ ghost use Rattle.sharding_subchunks.specs.Reads.{HasElementsOf};
 ghost use Rattle.sharding_subchunks.specs.steps.Inner.{inner_meaning};
 ghost use Rattle.sharding_subchunks.specs.steps.Writes.{IsSlotWritten};
 
-use crate::subchunks::Subchunks;
+use crate::held_shard::HeldShard;
 use codec_traits::ArrayToBytesCodecTraits;
 use parts_arrays::{ArrayBytes, FixedTarget};
 use parts_errors::CodecError;
@@ -38,53 +38,50 @@ fn any_absent(index: &ShardIndex) -> bool
     false
 }
 
-impl<I: ArrayToBytesCodecTraits> Subchunks<'_, I> {
-    // Decodes the subchunk that a slot names to the cells of its subset in a shard whose elements have these bytes; nothing where it is
-    // absent.
+impl<I: ArrayToBytesCodecTraits> HeldShard<'_, '_, I> {
+    // Decodes the subchunk that a slot names to the cells of its subset, in the shard's elements, which have these bytes; nothing where
+    // it is absent.
     fn decode_to(
         &self,
         alloc: Global,
-        bytes: &[u8],
         number: u64,
         slot: Slot,
-        shape: &ChunkShape,
         grid: &ChunkShape,
         output: &mut [u8],
     ) -> Result<(), CodecError>
-        requires fits { FitsSlot (length bytes.now) slot }
-        requires serves { (inner_meaning I.meaning self.now).serves }
-        requires some { 0 < length self.now.fill_value.now }
-        requires fixed { size_of self.now.data_type.now ≡ Fixed (length self.now.fill_value.now) }
-        requires whole { length output.old ≡ count_of shape.now * length self.now.fill_value.now }
-        requires counted { count_of shape.now < 2 ^ 64 }
-        requires divides { Divides self.now.shape.now shape.now }
-        requires grid { grid.now ≡ grid_of shape.now self.now.shape.now }
+        requires slot { FitsSlot (length self.now.bytes.now) slot }
+        requires serves { (inner_meaning I.meaning self.now.subchunks.now).serves }
+        requires some { 0 < length self.now.subchunks.now.fill_value.now }
+        requires fixed { size_of self.now.subchunks.now.data_type.now ≡ Fixed (length self.now.subchunks.now.fill_value.now) }
+        requires whole { length output.old ≡ count_of self.now.shape.now * length self.now.subchunks.now.fill_value.now }
+        requires grid { grid.now ≡ grid_of self.now.shape.now self.now.subchunks.now.shape.now }
         requires below { number < count_of grid.now }
-        ensures written { let inner = inner_meaning I.meaning self.now in let size = length self.now.fill_value.now in
-            OnOk result (IsSlotWritten inner.cells self.now.fill_value.now bytes.now slot (count_of self.now.shape.now) (cell_number shape.now self.now.shape.now number)
+        ensures written { let s = self.now.subchunks.now in let inner = inner_meaning I.meaning s in let size = length s.fill_value.now in
+            OnOk result (IsSlotWritten inner.cells s.fill_value.now self.now.bytes.now slot (count_of s.shape.now) (cell_number self.now.shape.now s.shape.now number)
             (piece size output.old) (piece size output.new)) }
-        ensures refused { let inner = inner_meaning I.meaning self.now in
-            IfErr result (RefusedBy (RefusesSubchunk inner.decode_refusals inner.cells bytes.now slot number)) }
+        ensures refused { let inner = inner_meaning I.meaning self.now.subchunks.now in
+            IfErr result (RefusedBy (RefusesSubchunk inner.decode_refusals inner.cells self.now.bytes.now slot number)) }
     {
         match slot {
             Slot::Absent => Ok(()),
             Slot::InRange { offset, size } => {
-                let rest = &bytes[offset as usize..];
+                let rest = &self.bytes[offset as usize..];
                 let part = &rest[..size as usize];
-                let axes = shape.as_slice();
-                let Some(subset) = subchunk_subset(alloc, number, grid, self.shape)? else {
+                let axes = self.shape.as_slice();
+                let inner = self.subchunks;
+                let Some(subset) = subchunk_subset(alloc, number, grid, inner.shape)? else {
                     unreachable!()
                 };
-                let element = self.fill_value.as_ne_bytes();
+                let element = inner.fill_value.as_ne_bytes();
                 let mut target = FixedTarget::over(output, element.len(), axes, &subset);
-                match self.codec.decode_into(
+                match inner.codec.decode_into(
                     alloc,
                     part,
-                    self.shape,
-                    self.data_type,
-                    self.fill_value,
+                    inner.shape,
+                    inner.data_type,
+                    inner.fill_value,
                     &mut target,
-                    self.options,
+                    inner.options,
                 ) {
                     Ok(()) => Ok(()),
                     Err(error) => Err(of_stored(error)),
@@ -94,68 +91,47 @@ impl<I: ArrayToBytesCodecTraits> Subchunks<'_, I> {
         }
     }
 
-    // The bytes of a shard's elements, of which there are so many.
-    fn whole_bytes(
-        &self,
-        alloc: Global,
-        bytes: &[u8],
-        index: &ShardIndex,
-        shape: &ChunkShape,
-        cells: u64,
-    ) -> Result<Vec<u8>, CodecError>
-        requires serves { (inner_meaning I.meaning self.now).serves }
-        requires len { index.now.len ≡ length bytes.now }
-        requires index { length index.now.numbers.items ≡ 2 * count_of (grid_of shape.now self.now.shape.now) }
-        requires some { 0 < length self.now.fill_value.now }
-        requires fixed { size_of self.now.data_type.now ≡ Fixed (length self.now.fill_value.now) }
-        requires cells { cells ≡ count_of shape.now }
-        requires whole { cells * length self.now.fill_value.now < 2 ^ 64 }
-        requires divides { Divides self.now.shape.now shape.now }
-        ensures counted { IfOk result (λ whole. length whole.items ≡ cells * length self.now.fill_value.now) }
-        ensures cells { let inner = inner_meaning I.meaning self.now in
-            IfOk result (λ whole. map (indexed_cell inner.cells shape.now self.now.shape.now self.now.fill_value.now bytes.now index.now.numbers.items) (range_with_len 0 cells)
-            ≡ map Some (pieces (length self.now.fill_value.now) cells whole.items)) }
-        ensures refused { let inner = inner_meaning I.meaning self.now in
-            IfErr result (RefusedBy (SubchunkRefusals inner.decode_refusals inner.cells bytes.now (Some index.now.numbers.items) (length index.now.numbers.items / 2) done)) }
+    // The bytes of the shard's elements.
+    fn whole_bytes(&self, alloc: Global) -> Result<Vec<u8>, CodecError>
+        requires serves { (inner_meaning I.meaning self.now.subchunks.now).serves }
+        requires some { 0 < length self.now.subchunks.now.fill_value.now }
+        requires fixed { size_of self.now.subchunks.now.data_type.now ≡ Fixed (length self.now.subchunks.now.fill_value.now) }
+        requires whole { self.now.cells * length self.now.subchunks.now.fill_value.now < 2 ^ 64 }
+        ensures counted { IfOk result (λ whole. length whole.items ≡ self.now.cells * length self.now.subchunks.now.fill_value.now) }
+        ensures cells { let s = self.now.subchunks.now in let inner = inner_meaning I.meaning s in
+            IfOk result (λ whole. map (indexed_cell inner.cells self.now.shape.now s.shape.now s.fill_value.now self.now.bytes.now self.now.index.now.numbers.items) (range_with_len 0 self.now.cells)
+            ≡ map Some (pieces (length s.fill_value.now) self.now.cells whole.items)) }
+        ensures refused { let inner = inner_meaning I.meaning self.now.subchunks.now in let numbers = self.now.index.now.numbers.items in
+            IfErr result (RefusedBy (SubchunkRefusals inner.decode_refusals inner.cells self.now.bytes.now (Some numbers) (length numbers / 2) done)) }
     {
-        let fill = self.fill_value.as_ne_bytes();
-        let grid = calculate_chunks_per_shard(alloc, shape, self.shape)?;
-        let mut whole = room_for(alloc, any_absent(index), cells as usize, fill)?;
+        let (index, sub) = (self.index, self.subchunks.shape);
+        let fill = self.subchunks.fill_value.as_ne_bytes();
+        let grid = calculate_chunks_per_shard(alloc, self.shape, sub)?;
+        let mut whole = room_for(alloc, any_absent(index), self.cells as usize, fill)?;
         for k in 0..index.subchunks() {
             let slot = index.slot(k);
-            self.decode_to(alloc, bytes, k as u64, slot, shape, &grid, &mut whole)?;
+            self.decode_to(alloc, k as u64, slot, &grid, &mut whole)?;
         }
         Ok(whole)
     }
 
-    /// The cells of a whole shard, of which there are so many; their elements have one size, and a number can say their bytes.
-    /// The inner codec decodes each subchunk to where it lies among the others. The lowest that is refused gives the refusal:
-    /// `BadIndexEntry` with its number, `Damaged`, `TooLarge`; or `OutOfMemory`.
-    pub fn decode_whole(
-        &self,
-        alloc: Global,
-        bytes: &[u8],
-        index: &ShardIndex,
-        shape: &ChunkShape,
-        cells: u64,
-    ) -> Result<ArrayBytes<'static>, CodecError>
-        requires serves { (inner_meaning I.meaning self.now).serves }
-        requires len { index.now.len ≡ length bytes.now }
-        requires index { length index.now.numbers.items ≡ 2 * count_of (grid_of shape.now self.now.shape.now) }
-        requires some { 0 < length self.now.fill_value.now }
-        requires fixed { size_of self.now.data_type.now ≡ Fixed (length self.now.fill_value.now) }
-        requires cells { cells ≡ count_of shape.now }
-        requires whole { cells * length self.now.fill_value.now < 2 ^ 64 }
-        requires divides { Divides self.now.shape.now shape.now }
-        ensures elements { IfOk result (HasElementsOf (size_of self.now.data_type.now) cells) }
-        ensures cells { let inner = inner_meaning I.meaning self.now in
-            IfOk result (λ array. map (indexed_cell inner.cells shape.now self.now.shape.now self.now.fill_value.now bytes.now index.now.numbers.items) (range_with_len 0 cells)
+    /// The cells of a whole shard, whose elements have one size, and whose bytes a number can say. The inner codec decodes each
+    /// subchunk to where it lies among the others. The lowest that is refused gives the refusal: `BadIndexEntry` with its number,
+    /// `Damaged`, `TooLarge`; or `OutOfMemory`.
+    pub fn decode_whole(&self, alloc: Global) -> Result<ArrayBytes<'static>, CodecError>
+        requires serves { (inner_meaning I.meaning self.now.subchunks.now).serves }
+        requires some { 0 < length self.now.subchunks.now.fill_value.now }
+        requires fixed { size_of self.now.subchunks.now.data_type.now ≡ Fixed (length self.now.subchunks.now.fill_value.now) }
+        requires whole { self.now.cells * length self.now.subchunks.now.fill_value.now < 2 ^ 64 }
+        ensures elements { IfOk result (HasElementsOf (size_of self.now.subchunks.now.data_type.now) self.now.cells) }
+        ensures cells { let s = self.now.subchunks.now in let inner = inner_meaning I.meaning s in
+            IfOk result (λ array. map (indexed_cell inner.cells self.now.shape.now s.shape.now s.fill_value.now self.now.bytes.now self.now.index.now.numbers.items) (range_with_len 0 self.now.cells)
             ≡ map Some array.elements) }
-        ensures refused { let inner = inner_meaning I.meaning self.now in
-            IfErr result (RefusedBy (SubchunkRefusals inner.decode_refusals inner.cells bytes.now (Some index.now.numbers.items) (length index.now.numbers.items / 2) done)) }
+        ensures refused { let inner = inner_meaning I.meaning self.now.subchunks.now in let numbers = self.now.index.now.numbers.items in
+            IfErr result (RefusedBy (SubchunkRefusals inner.decode_refusals inner.cells self.now.bytes.now (Some numbers) (length numbers / 2) done)) }
     {
-        let fill = self.fill_value.as_ne_bytes();
-        let whole = self.whole_bytes(alloc, bytes, index, shape, cells)?;
+        let fill = self.subchunks.fill_value.as_ne_bytes();
+        let whole = self.whole_bytes(alloc)?;
         match ArrayBytes::new_flen(CowSlice::Owned(whole), fill.len()) {
             Some(array) => Ok(array),
             None => unreachable!(),

@@ -1,26 +1,22 @@
 // Subchunks of an array, encoded in parallel and laid end to end in an order.
-ghost use Rattle.std.specs.Prelude.{◌≡◌, ◌<◌, ◌^◌, IfOk, IfErr, IfSome, IsPermutation, length};
+ghost use Rattle.std.specs.Prelude.{◌≡◌, IfOk, IfErr, IsPermutation, length};
 ghost use Rattle.std.specs.List.{range_with_len};
 ghost use Rattle.parts_errors.specs.declared.error.CodecError.TheVariants.{OutOfMemory};
 ghost use Rattle.parts_errors.specs.Order.{done, RefusedBy};
 ghost use Rattle.parts_row_major.specs.Numbering.{count_of};
-ghost use Rattle.parts_subsets.specs.Grid.{Divides, grid_of, subchunk};
-ghost use Rattle.parts_arrays.specs.ArraySpec.{array_spec, IsArrayOf};
-ghost use Rattle.parts_arrays.specs.Types.{size_of, HasElements};
+ghost use Rattle.parts_subsets.specs.Grid.{subchunk};
 ghost use Rattle.sharding_format.specs.Encoding.{IsStored};
 ghost use Rattle.sharding_format.specs.Laying.{IsStoredInOrder};
 ghost use Rattle.sharding_format.specs.EncodeRefusals.{RefusesToStore, StoreRefusals};
-ghost use Rattle.sharding_subchunks.specs.steps.Inner.{inner_meaning};
-ghost use Rattle.sharding_layout.specs.Rows.{FollowBy};
+ghost use Rattle.sharding_layout.specs.steps.Cutting.{CanBeCut};
+ghost use Rattle.sharding_subchunks.specs.steps.Inner.{spec_of_subchunks, inner_meaning};
 ghost use Rattle.sharding_workers.specs.steps.Storing.{CanStore, AreStored};
 
 use crate::gate::Gate;
 use crate::numbered::in_order;
 use codec_traits::ArrayToBytesCodecTraits;
-use parts_arrays::ArrayBytes;
 use parts_errors::CodecError;
-use parts_subsets::ChunkShape;
-use sharding_layout::{StoredSlices, absent_slots, elements_in_row, placed};
+use sharding_layout::{CutArray, StoredSlices, absent_slots, placed};
 use sharding_lock::by_number;
 use sharding_order::SubchunkSequence;
 use sharding_subchunks::{Stored, Subchunks};
@@ -33,13 +29,12 @@ fn stored_in_sequence<I: ArrayToBytesCodecTraits>(
     stored: &[Stored],
     sequence: &SubchunkSequence,
     _subchunks: &Subchunks<I>,
-    _array: &ArrayBytes,
-    _shape: &ChunkShape,
+    _cut: &CutArray,
 ) -> Result<StoredSlices, CodecError>
     requires order { IsPermutation (range_with_len 0 (length stored.now)) sequence.now }
-    requires stored { AreStored (inner_meaning I.meaning _subchunks.now).written _subchunks.now.fill_value.now _shape.now _subchunks.now.shape.now _array.now.elements stored.now }
-    ensures stored_slices { IfOk result (λ stored_slices. IsStoredInOrder (inner_meaning I.meaning _subchunks.now).written _subchunks.now.fill_value.now _shape.now
-        _subchunks.now.shape.now _array.now.elements stored_slices.bytes.items stored_slices.slots.items sequence.now (length stored.now)) }
+    requires stored { AreStored (inner_meaning I.meaning _subchunks.now).written _subchunks.now.fill_value.now _cut.now.shape.now _subchunks.now.shape.now _cut.now.array.now.elements stored.now }
+    ensures stored_slices { IfOk result (λ stored_slices. IsStoredInOrder (inner_meaning I.meaning _subchunks.now).written _subchunks.now.fill_value.now _cut.now.shape.now
+        _subchunks.now.shape.now _cut.now.array.now.elements stored_slices.bytes.items stored_slices.slots.items sequence.now (length stored.now)) }
     ensures refused { IfErr result (λ e. e ≡ OutOfMemory) }
 {
     let mut bytes: Vec<u8> = Vec::new(alloc);
@@ -64,47 +59,38 @@ pub(crate) fn lay_out_subchunks<
     rt: &R,
     alloc: Global,
     subchunks: &Subchunks<I>,
-    array: &ArrayBytes,
-    shape: &ChunkShape,
-    grid: &ChunkShape,
+    cut: &CutArray,
     sequence: &SubchunkSequence,
     gate: &G,
 ) -> Result<StoredSlices, CodecError>
     requires serves { (inner_meaning I.meaning subchunks.now).serves }
-    requires supported { HasElements subchunks.now.data_type.now }
-    requires kind { array.now.kind ≡ size_of subchunks.now.data_type.now }
-    requires array { IsArrayOf (array_spec shape.now subchunks.now.data_type.now subchunks.now.fill_value.now) array.now.elements }
-    requires fits { count_of shape.now < 2 ^ 64 }
-    requires axes { length shape.now ≡ length subchunks.now.shape.now }
-    requires divides { Divides subchunks.now.shape.now shape.now }
-    requires grid { grid.now ≡ grid_of shape.now subchunks.now.shape.now }
-    requires order { IsPermutation (range_with_len 0 (count_of grid.now)) sequence.now }
+    requires cut { CanBeCut (spec_of_subchunks subchunks.now) cut.now }
+    requires order { IsPermutation (range_with_len 0 (count_of cut.now.grid.now)) sequence.now }
     ensures stored_slices { let inner = inner_meaning I.meaning subchunks.now in
-        IfOk result (λ stored_slices. IsStoredInOrder inner.written subchunks.now.fill_value.now shape.now subchunks.now.shape.now array.now.elements
-        stored_slices.bytes.items stored_slices.slots.items sequence.now (count_of grid.now)) }
+        IfOk result (λ stored_slices. IsStoredInOrder inner.written subchunks.now.fill_value.now cut.now.shape.now subchunks.now.shape.now cut.now.array.now.elements
+        stored_slices.bytes.items stored_slices.slots.items sequence.now (count_of cut.now.grid.now)) }
     ensures refused { let inner = inner_meaning I.meaning subchunks.now in
         IfErr result (RefusedBy (StoreRefusals inner subchunks.now.fill_value.now
-        (subchunk shape.now subchunks.now.shape.now array.now.elements) (count_of grid.now) done)) }
+        (subchunk cut.now.shape.now subchunks.now.shape.now cut.now.array.now.elements) (count_of cut.now.grid.now) done)) }
 {
-    let in_row = elements_in_row(shape, subchunks.shape);
     let results = by_number(
         rt,
         alloc,
         sequence.len(),
         |number: u64| -> Result<Stored, CodecError>
-            requires { CanStore I.meaning subchunks.now array.now shape.now grid.now number × IfSome in_row (FollowBy shape.now subchunks.now.shape.now) }
+            requires { CanStore I.meaning subchunks.now cut.now number }
             ensures stored { let inner = inner_meaning I.meaning subchunks.entry.now in
                 IfOk result (λ stored. IsStored inner.written subchunks.entry.now.fill_value.now
-                (subchunk shape.entry.now subchunks.entry.now.shape.now array.entry.now.elements number) stored.present stored.bytes.items) }
+                (subchunk cut.entry.now.shape.now subchunks.entry.now.shape.now cut.entry.now.array.now.elements number) stored.present stored.bytes.items) }
             ensures refused { let inner = inner_meaning I.meaning subchunks.entry.now in
                 IfErr result (RefusedBy (RefusesToStore inner.encodable inner.fits subchunks.entry.now.fill_value.now
-                (subchunk shape.entry.now subchunks.entry.now.shape.now array.entry.now.elements number))) }
+                (subchunk cut.entry.now.shape.now subchunks.entry.now.shape.now cut.entry.now.array.now.elements number))) }
         {
             gate.pass(number);
-            subchunks.stored_at(alloc, array, number, in_row, shape, grid)
+            subchunks.stored_at(alloc, cut, number)
         },
     )?;
     let stored = in_order(alloc, results)?;
-    let stored_slices = stored_in_sequence(alloc, &stored, sequence, subchunks, array, shape)?;
+    let stored_slices = stored_in_sequence(alloc, &stored, sequence, subchunks, cut)?;
     Ok(stored_slices)
 }

@@ -14,11 +14,10 @@ use crate::gate::Gate;
 use codec_traits::ArrayToBytesCodecTraits;
 use parts_arrays::ArrayBytes;
 use parts_errors::{CodecError, CodecOptions};
-use sharding_engine::Sharding;
+use sharding_engine::{Planned, Sharding};
 use sharding_format::ArraySpecRef;
 use sharding_gather::gathered;
-use sharding_index::Plan;
-use sharding_layout::joined_shard;
+use sharding_layout::{CutArray, elements_in_row, joined_shard};
 use sharding_order::SubchunkSequence;
 use sharding_subchunks::Subchunks;
 use std::alloc::Global;
@@ -35,20 +34,19 @@ fn encode_planned_by_workers<
     alloc: Global,
     sharding: &Sharding<I, X>,
     array: &ArrayBytes,
-    spec: &ArraySpecRef,
-    plan: &Plan,
+    planned: &Planned,
     gate: &G,
-    options: &CodecOptions,
 ) -> Result<Vec<u8>, CodecError>
-    requires serves { (meaning_of I.meaning X.meaning sharding.now (spec_of spec.now)).serves }
-    requires plan { IsPlan (index_meaning X.meaning sharding.now.index_codec.codec.now) spec.now.shape.now sharding.now.subchunk_shape.now plan.now }
-    ensures array { let g = spec_of spec.now in
-        OnOk result ((array.now.kind ≡ size_of spec.now.data_type.now) × IsArrayOf g array.now.elements) }
-    ensures written { let g = spec_of spec.now in
+    requires serves { (meaning_of I.meaning X.meaning sharding.now (spec_of planned.now.spec)).serves }
+    requires plan { IsPlan (index_meaning X.meaning sharding.now.index_codec.codec.now) planned.now.spec.shape.now sharding.now.subchunk_shape.now planned.now.plan.now }
+    ensures array { let g = spec_of planned.now.spec in
+        OnOk result ((array.now.kind ≡ size_of planned.now.spec.data_type.now) × IsArrayOf g array.now.elements) }
+    ensures written { let g = spec_of planned.now.spec in
         IfOk result (λ shard. (meaning_of I.meaning X.meaning sharding.now g).written array.now.elements shard.items) }
-    ensures refused { let g = spec_of spec.now in
+    ensures refused { let g = spec_of planned.now.spec in
         IfErr result (RefusedBy ((meaning_of I.meaning X.meaning sharding.now g).encode_refusals array.now)) }
 {
+    let (spec, plan, options) = (&planned.spec, planned.plan, planned.options);
     if array.kind() != spec.data_type.size() {
         return Err(CodecError::WrongElementKind);
     }
@@ -63,16 +61,13 @@ fn encode_planned_by_workers<
         options,
     };
     let sequence = SubchunkSequence::new(alloc, sharding.order, &plan.index.grid, plan.subchunks)?;
-    let stored_slices = lay_out_subchunks(
-        rt,
-        alloc,
-        &subchunks,
+    let cut = CutArray {
         array,
-        spec.shape,
-        &plan.index.grid,
-        &sequence,
-        gate,
-    )?;
+        shape: spec.shape,
+        grid: &plan.index.grid,
+        in_row: elements_in_row(spec.shape, sharding.subchunk_shape),
+    };
+    let stored_slices = lay_out_subchunks(rt, alloc, &subchunks, &cut, &sequence, gate)?;
     let len = stored_slices.bytes.len() as u64;
     if plan.index.size >= u64::MAX - len {
         return Err(CodecError::TooLarge);
@@ -128,7 +123,12 @@ pub fn encode_by_workers<
         );
     }
     let plan = sharding.prepared(alloc, spec)?;
-    encode_planned_by_workers(rt, alloc, sharding, bytes, spec, &plan, gate, options)
+    let planned = Planned {
+        spec: *spec,
+        plan: &plan,
+        options,
+    };
+    encode_planned_by_workers(rt, alloc, sharding, bytes, &planned, gate)
 }
 
 /// As `decode`, by workers where the options' concurrent target is above 1: each decodes subchunks of its own, after it

@@ -22,7 +22,8 @@ use std::alloc::Global;
 use storage_handles::BytesPartialDecoderTraits;
 
 impl<I: ArrayToBytesCodecTraits, X: ArrayToBytesCodecTraits> Writing<'_, I, X> {
-    /// All of a write of an update over the cells of a subset that stands before the one writing call, of a shard with this index: the old subchunks that straddle the subset's edge read, the new ones encoded, and the index.
+    /// All of a write of an update over the cells of a subset that stands before the one writing call, of a shard with this index: the
+    /// old subchunks that straddle the subset's edge read, the new ones encoded, and the index.
     pub fn prepare<H: BytesPartialDecoderTraits>(
         &self,
         alloc: Global,

@@ -4,7 +4,8 @@ ghost use Rattle.parts_row_major.specs.Numbering.{AllPositive, count_of};
 ghost use Rattle.parts_row_major.specs.Subsets.{IsSubset};
 ghost use Rattle.parts_subsets.specs.Grid.{Divides, grid_of};
 ghost use Rattle.parts_arrays.specs.Types.{size_of, HasElements, FitsKind};
-ghost use Rattle.sharding_write.specs.Invariants.{Divides-prop, FitsKind-prop, AllFitKind-prop, IsSubset-prop};
+ghost use Rattle.sharding_subchunks.specs.ShardLaws.{divides-prop, fits_kind-prop};
+ghost use Rattle.sharding_write.specs.Invariants.{all_fit_kind-prop, is_subset-prop};
 
 use parts_arrays::ArrayBytes;
 use parts_subsets::{ArraySubset, ChunkShape};
@@ -24,10 +25,10 @@ pub struct Writing<'a, I, X> {
     pub positions: u64,
     pub ghost positive: { AllPositive shape.now },
     pub ghost fits: { count_of shape.now < 2 ^ 64 },
-    pub ghost divides: { Divides subchunks.shape.now shape.now } by { Divides-prop subchunks.shape.now shape.now },
+    pub ghost divides: { Divides subchunks.shape.now shape.now } by { divides-prop subchunks.shape.now shape.now },
     pub ghost grid: { plan.now.grid ≡ grid_of shape.now subchunks.shape.now },
     pub ghost supported: { HasElements subchunks.data_type.now },
-    pub ghost fill: { FitsKind (size_of subchunks.data_type.now) subchunks.fill_value.now } by { FitsKind-prop (size_of subchunks.data_type.now) subchunks.fill_value.now },
+    pub ghost fill: { FitsKind (size_of subchunks.data_type.now) subchunks.fill_value.now } by { fits_kind-prop (size_of subchunks.data_type.now) subchunks.fill_value.now },
     pub ghost counted: { positions ≡ count_of subchunks.shape.now },
 }
 
@@ -36,8 +37,8 @@ pub struct Writing<'a, I, X> {
 pub struct Update<'a, 'b> {
     pub subset: &'a ArraySubset,
     pub elements: &'a ArrayBytes<'b>,
-    pub ghost well_formed: { IsSubset subset.now.start subset.now.shape } by { IsSubset-prop subset.now.start subset.now.shape },
-    pub ghost fitting: { All (FitsKind elements.now.kind) elements.now.elements } by { AllFitKind-prop elements.now.kind elements.now.elements },
+    pub ghost well_formed: { IsSubset subset.now.start subset.now.shape } by { is_subset-prop subset.now.start subset.now.shape },
+    pub ghost fitting: { All (FitsKind elements.now.kind) elements.now.elements } by { all_fit_kind-prop elements.now.kind elements.now.elements },
     pub ghost counted: { length elements.now.elements ≡ count_of subset.now.shape },
 }
 

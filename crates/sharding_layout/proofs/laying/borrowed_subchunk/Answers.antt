@@ -10,27 +10,27 @@ use Rattle.sharding_layout.proofs.laying.borrowed_subchunk.Goals as goal
 use Rattle.sharding_layout.proofs.laying.borrowed_subchunk.Goals.{Start}
 
 -- the subchunk ends within the array
-within : (c : Start) → c.args.number * c.args.positions + c.args.positions ≤ count_of c.args._shape.now
+within : (c : Start) → c.args.number * c.args.positions + c.args.positions ≤ count_of c.args.cut.now.shape.now
 within c =
-    let sub = c.args._sub.now in
-    let shape = c.args._shape.now in
-    let fits = row_fits c.args.number (count_of sub) (count_of (grid_of shape sub)) (count_of sub) c.requires.below (omega arith) in
-    rw c.requires.follow.positions_are (omega (arith, fits, count-grid shape sub c.requires.divides))
+    let sub = c.args._spec.now.shape.now in
+    let shape = c.args.cut.now.shape.now in
+    let fits = row_fits c.args.number (count_of sub) (count_of (grid_of shape sub)) (count_of sub) (rw c.requires.cut.grid at c.requires.below) (omega arith) in
+    rw c.requires.follow.positions_are (omega (arith, fits, count-grid shape sub c.requires.cut.divides))
 
-pub overflow_mul-number : goal.overflow_mul-number
-overflow_mul-number c = omega (arith, within (goal.at.overflow_mul-number c).Start, c.requires.fits)
+pub overflow_mul-first : goal.overflow_mul-first
+overflow_mul-first c = omega (arith, within (goal.at.overflow_mul-first c).Start, c.requires.cut.fits)
 
 pub borrowed_range-requires : goal.borrowed_range-requires
-borrowed_range-requires c = omega (arith, within (goal.at.borrowed_range-requires c).Start, c.requires.counted)
+borrowed_range-requires c = omega (arith, within (goal.at.borrowed_range-requires c).Start, c.requires.cut.array.counted)
 
 pub returns-clause-elements : goal.returns-clause-elements
 returns-clause-elements c =
-    let array = c.args.array.now in
-    let sub = c.args._sub.now in
-    let shape = c.args._shape.now in
+    let array = c.args.cut.now.array.now in
+    let sub = c.args._spec.now.shape.now in
+    let shape = c.args.cut.now.shape.now in
     let k = c.args.number in
     let taken : ℕ → ℕ → _ = λ (from many : ℕ). map (element_of array) (range_with_len from many) in
     let is = c.requires.follow.positions_are in
     ap (λ (a : Array). a.elements) c.in_ok-part.ensures.some
     ∙ (ap (λ (n : ℕ). taken (k * n) n) is
-    ∙ sym (subchunk_follows shape sub array.elements k c.requires.divides c.requires.follow.follow c.requires.follow.axes c.requires.some))
+    ∙ sym (subchunk_follows shape sub array.elements k c.requires.cut.divides c.requires.follow.follow c.requires.follow.axes c.requires.some))

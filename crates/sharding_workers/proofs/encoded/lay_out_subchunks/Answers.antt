@@ -1,8 +1,7 @@
-use Rattle.std.proofs.Common.{◌∙◌, ℕ, List, Bool, true, false, IfOk, IfErr, length, inl, inr, arith}
+use Rattle.std.proofs.Common.{◌∙◌, ℕ, IfOk, IfErr, length, inl, inr, arith}
 use Rattle.std.specs.declared.result.Result.{Result}
 use Rattle.std.specs.List.{AllZip, range_with_len}
 use Rattle.rayon.proofs.ListFacts.{AllZip-weaken}
-use Rattle.parts_errors.specs.Words.{Written}
 use Rattle.parts_errors.specs.declared.error.CodecError.{CodecError}
 use Rattle.parts_errors.specs.Order.{RefusedBy}
 use Rattle.parts_subsets.specs.Grid.{subchunk}
@@ -18,33 +17,24 @@ use Rattle.sharding_workers.proofs.OrderLemmas.{taken_counted, taken_at, each_be
 use Rattle.sharding_workers.proofs.encoded.lay_out_subchunks.Goals as goal
 
 pub by_number-requires-after_bounds : goal.by_number-requires-after_bounds
-by_number-requires-after_bounds g c = λ κs within k below. (
-  record {
-    serves = c.requires.serves;
-    supported = c.requires.supported;
-    kind = c.requires.kind;
-    array = c.requires.array;
-    fits = c.requires.fits;
-    axes = c.requires.axes;
-    divides = c.requires.divides;
-    cut = c.requires.grid;
-    below = omega (arith, below, c.len.ensures, order_counted (count_of c.args.grid.now) c.args.sequence.now c.requires.order);
-  },
-  c.elements_in_row-in_row.ensures,
-)
+by_number-requires-after_bounds g c = λ κs within k below. record {
+  serves = c.requires.serves;
+  cut = c.requires.cut;
+  below = omega (arith, below, c.len.ensures, order_counted (count_of c.args.cut.now.grid.now) c.args.sequence.now c.requires.order);
+}
 
 pub stored_in_sequence-requires-clause-order : goal.stored_in_sequence-requires-clause-order
 stored_in_sequence-requires-clause-order g c =
     let order = c.args.sequence.now in
     let counted = taken_counted _ c.len.result c.in_ok-results.results.items c.in_ok-stored.stored.items c.in_ok-results.ensures c.in_ok-stored.ensures.taken in
-    rw (c.deref.ensures.value, counted, c.len.ensures, order_counted (count_of c.args.grid.now) order c.requires.order) c.requires.order
+    rw (c.deref.ensures.value, counted, c.len.ensures, order_counted (count_of c.args.cut.now.grid.now) order c.requires.order) c.requires.order
 
 pub stored_in_sequence-requires-clause-stored : goal.stored_in_sequence-requires-clause-stored
 stored_in_sequence-requires-clause-stored g c =
     let s = c.args.subchunks.now in
     let inner = inner_meaning g.I.ArrayToBytesCodecTraits.meaning s in
     let fill = s.fill_value.now in
-    let part = subchunk c.args.shape.now s.shape.now c.args.array.now.elements in
+    let part = subchunk c.args.cut.now.shape.now s.shape.now c.args.cut.now.array.now.elements in
     let Gives : ℕ → Result Stored CodecError → Type 0 = λ k r. IfOk r (λ stored. IsStored inner.written fill (part k) stored.present stored.bytes.items)
     × IfErr r (RefusedBy (RefusesToStore inner.encodable inner.fits fill (part k))) in
     let results = c.in_ok-results.results.items in
@@ -55,14 +45,14 @@ stored_in_sequence-requires-clause-stored g c =
 pub returns-clause-stored_slices : goal.returns-clause-stored_slices
 returns-clause-stored_slices g c =
     let counted = taken_counted _ c.len.result c.in_ok-results.results.items c.in_ok-stored.stored.items c.in_ok-results.ensures c.in_ok-stored.ensures.taken in
-    rw (c.deref.ensures.value, counted ∙ c.len.ensures ∙ order_counted (count_of c.args.grid.now) c.args.sequence.now c.requires.order) at c.in_ok-stored_slices.ensures.stored_slices
+    rw (c.deref.ensures.value, counted ∙ c.len.ensures ∙ order_counted (count_of c.args.cut.now.grid.now) c.args.sequence.now c.requires.order) at c.in_ok-stored_slices.ensures.stored_slices
 
 pub returns-in_err-stored-clause-refused : goal.returns-in_err-stored-clause-refused
 returns-in_err-stored-clause-refused g c =
     let s = c.args.subchunks.now in
     let inner = inner_meaning g.I.ArrayToBytesCodecTraits.meaning s in
     let fill = s.fill_value.now in
-    let part = subchunk c.args.shape.now s.shape.now c.args.array.now.elements in
+    let part = subchunk c.args.cut.now.shape.now s.shape.now c.args.cut.now.array.now.elements in
     let Gives : ℕ → Result Stored CodecError → Type 0 = λ k r. IfOk r (λ stored. IsStored inner.written fill (part k) stored.present stored.bytes.items)
     × IfErr r (RefusedBy (RefusesToStore inner.encodable inner.fits fill (part k))) in
     let results = c.in_ok-results.results.items in
@@ -77,7 +67,7 @@ returns-in_err-stored-clause-refused g c =
         | inr refuses ↦ inr (inl (
           length first.before,
           (
-            omega (arith, refused_below Gives n results e all first, c.len.ensures, order_counted (count_of c.args.grid.now) c.args.sequence.now c.requires.order),
+            omega (arith, refused_below Gives n results e all first, c.len.ensures, order_counted (count_of c.args.cut.now.grid.now) c.args.sequence.now c.requires.order),
             (λ j before.
                 let earlier = each_before Gives n results e all first j before in
                 let stored : Stored = earlier.0 in

@@ -1,8 +1,7 @@
-use Rattle.std.proofs.Common.{◌≡◌, ◌<◌, ◌∙◌, length, get_or, set, replicate, sym, ap, subst, arith}
+use Rattle.std.proofs.Common.{◌≡◌, ◌∙◌, length, get_or, set, sym, ap, subst, arith}
 use Rattle.std.proofs.lemmas.List.{length-replicate}
 use Rattle.parts_subsets.specs.Grid.{subchunk}
 use Rattle.sharding_format.specs.Encoding.{IsStored}
-use Rattle.sharding_format.specs.Laying.{IsStoredInOrder}
 use Rattle.sharding_format.specs.WriteOrderLaws.{order_counted, order_below}
 use Rattle.sharding_format.specs.declared.slot.Slot.TheVariants.{Absent}
 use Rattle.sharding_format.proofs.LayingLemmas.{none_stored_yet, one_more_stored}
@@ -14,7 +13,7 @@ pub loop-position-init : goal.loop-position-init
 loop-position-init g c =
     let a = c.args in
     let s = a._subchunks.now in
-    none_stored_yet (inner_meaning g.I.ArrayToBytesCodecTraits.meaning s).written s.fill_value.now a._shape.now s.shape.now a._array.now.elements c.new-bytes.result.items c.in_ok-slots.slots.items a.sequence.now
+    none_stored_yet (inner_meaning g.I.ArrayToBytesCodecTraits.meaning s).written s.fill_value.now a._cut.now.shape.now s.shape.now a._cut.now.array.now.elements c.new-bytes.result.items c.in_ok-slots.slots.items a.sequence.now
     (ap length c.in_ok-slots.ensures ∙ length-replicate _ Absent ∙ sym (order_counted (length a.stored.now) a.sequence.now c.requires.order)) c.new-bytes.ensures.items
 
 pub offset_bounds-stored-number : goal.offset_bounds-stored-number
@@ -47,11 +46,11 @@ loop-position-preserved g c =
     let number : get_or a.sequence.now l.position 0 ≡ c.number_at-number.result = sym c.number_at-number.ensures in
     let k = c.number_at-number.result in
     let part = c.index-stored-number.result in
-    let e = subchunk a._shape.now s.shape.now a._array.now.elements k in
+    let e = subchunk a._cut.now.shape.now s.shape.now a._cut.now.array.now.elements k in
     let k_below = rw number at (order_below n a.sequence.now l.position c.requires.order c.loop-position-test.true) in
     let stored : IsStored written fill e part.present part.bytes.items =
     subst (λ (p : Stored). IsStored written fill e p.present p.bytes.items) (sym c.index-stored-number.is) (c.requires.stored k part k_below) in
-    one_more_stored written fill a._shape.now s.shape.now a._array.now.elements l.bytes.items part.bytes.items c.extend_from_slice.new.self.items l.slots.items
+    one_more_stored written fill a._cut.now.shape.now s.shape.now a._cut.now.array.now.elements l.bytes.items part.bytes.items c.extend_from_slice.new.self.items l.slots.items
     (set l.slots.items k c.placed-slot.result) a.sequence.now n l.position k part.present c.requires.order c.loop-position-test.true number l.invariant stored
     (rw c.deref.ensures.value at c.in_ok-extend_from_slice.ensures.items)
     (ap (λ x. set l.slots.items k x) (rw (c.len.ensures, c.len-in-loop-position.ensures, l.bytes.ok.0, part.bytes.ok.0) at c.placed-slot.ensures))

@@ -10,7 +10,7 @@ use Rattle.sharding_engine.proofs.sharding.Sharding.copied_into.Goals as goal
 pub returns-in_err-index-clause-lawful : goal.returns-in_err-index-clause-lawful
 returns-in_err-index-clause-lawful g c =
     let s = c.args.self.now in
-    let spec = spec_of c.args.spec.now in
+    let spec = spec_of c.args.planned.now.spec in
     let index_g = index_spec (grid_of spec.shape s.subchunk_shape.now) in
     let inner = g.I.ArrayToBytesCodecTraits.meaning s.inner.now (subchunk_spec s.subchunk_shape.now spec) in
     let index = g.X.ArrayToBytesCodecTraits.meaning s.index_codec.codec.now index_g in
@@ -25,7 +25,7 @@ returns-in_err-index-clause-lawful g c =
 pub returns-clause-put : goal.returns-clause-put
 returns-clause-put g c = λ t.
     let s = c.args.self.now in
-    let spec = spec_of c.args.spec.now in
+    let spec = spec_of c.args.planned.now.spec in
     let inner_cells = (g.I.ArrayToBytesCodecTraits.meaning s.inner.now (subchunk_spec s.subchunk_shape.now spec)).cells in
     let index = g.X.ArrayToBytesCodecTraits.meaning s.index_codec.codec.now (index_spec (grid_of spec.shape s.subchunk_shape.now)) in
     let plan = c.requires.plan in

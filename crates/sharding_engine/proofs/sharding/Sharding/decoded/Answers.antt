@@ -12,7 +12,7 @@ returns-clause-cells g c = c.decode_shard.ensures.cells c.args.self.now.order
 pub returns-clause-lawful : goal.returns-clause-lawful
 returns-clause-lawful g c =
     let s = c.args.self.now in
-    let spec = spec_of c.args.spec.now in
+    let spec = spec_of c.args.planned.now.spec in
     let inner = g.I.ArrayToBytesCodecTraits.meaning s.inner.now (subchunk_spec s.subchunk_shape.now spec) in
     let index = g.X.ArrayToBytesCodecTraits.meaning s.index_codec.codec.now (index_spec (grid_of spec.shape s.subchunk_shape.now)) in
     let plan = c.requires.plan in

@@ -56,10 +56,10 @@ pub returns-then-branch-clause-cells : goal.returns-then-branch-clause-cells
 returns-then-branch-clause-cells g c = λ t.
     let a = c.args in
     let s = a.self.now in
-    let spec = spec_of a.shard.now.spec in
+    let spec = spec_of a.shard.now.planned.spec in
     let h = g.H.BytesPartialDecoderTraits in
     let sub_g = subchunk_spec s.subchunk_shape.now spec in
-    let index_g = index_spec (grid_of a.shard.now.spec.shape.now s.subchunk_shape.now) in
+    let index_g = index_spec (grid_of a.shard.now.planned.spec.shape.now s.subchunk_shape.now) in
     let l = layout s.subchunk_shape.now s.index_codec.location s.order (g.X.ArrayToBytesCodecTraits.meaning s.index_codec.codec.now index_g).representation spec in
     let points = (g.N.Indexer.selection a.indexer.now).points in
     let bytes = interval_part a.shard.now.interval (h.state a.handle.now).contents in
@@ -81,12 +81,12 @@ pub returns-in_err-array-clause-refused : goal.returns-in_err-array-clause-refus
 returns-in_err-array-clause-refused g c =
     let a = c.args in
     let s = a.self.now in
-    let spec = spec_of a.shard.now.spec in
+    let spec = spec_of a.shard.now.planned.spec in
     let inner = g.I.ArrayToBytesCodecTraits in
     let outer = g.X.ArrayToBytesCodecTraits in
     let h = g.H.BytesPartialDecoderTraits in
     let sub_g = subchunk_spec s.subchunk_shape.now spec in
-    let index_g = index_spec (grid_of a.shard.now.spec.shape.now s.subchunk_shape.now) in
+    let index_g = index_spec (grid_of a.shard.now.planned.spec.shape.now s.subchunk_shape.now) in
     let l = layout s.subchunk_shape.now s.index_codec.location s.order (outer.meaning s.index_codec.codec.now index_g).representation spec in
     let points = (g.N.Indexer.selection a.indexer.now).points in
     let before = c.read_index.ensures.read in
@@ -96,7 +96,7 @@ returns-in_err-array-clause-refused g c =
     let refused = rw (tried.contents_same, before.contents_same) at c.in_err-array.ensures.refused in
     passed_on _ e _ c.from_residual-in_err-array.ensures.1
     (cells_refused (h.state a.handle.now) (h.state c.put_plain_requested.new.handle) (h.state c.read_requested.new.handle) a.shard.now.interval (inner.meaning s.inner.now sub_g) (outer.meaning s.index_codec.codec.now index_g) l
-    c.in_ok-index.index.numbers.items (numbers_of a.shard.now.spec.shape.now points) points e
+    c.in_ok-index.index.numbers.items (numbers_of a.shard.now.planned.spec.shape.now points) points e
     (read_then _ _ _ before tried) c.in_ok-index.ensures.inside
     (λ t. rw (plan.index.size, plan.grid) at (c.in_ok-index.ensures.numbers t)) c.requires.points refl refused)
 
@@ -104,10 +104,10 @@ pub returns-clause-cells : goal.returns-clause-cells
 returns-clause-cells g c =
     let a = c.args in
     let s = a.self.now in
-    let spec = spec_of a.shard.now.spec in
+    let spec = spec_of a.shard.now.planned.spec in
     let h = g.H.BytesPartialDecoderTraits in
     let sub_g = subchunk_spec s.subchunk_shape.now spec in
-    let index_g = index_spec (grid_of a.shard.now.spec.shape.now s.subchunk_shape.now) in
+    let index_g = index_spec (grid_of a.shard.now.planned.spec.shape.now s.subchunk_shape.now) in
     let l = layout s.subchunk_shape.now s.index_codec.location s.order (g.X.ArrayToBytesCodecTraits.meaning s.index_codec.codec.now index_g).representation spec in
     let points = (g.N.Indexer.selection a.indexer.now).points in
     let bytes = interval_part a.shard.now.interval (h.state a.handle.now).contents in

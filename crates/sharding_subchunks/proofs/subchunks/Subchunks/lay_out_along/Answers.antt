@@ -1,9 +1,7 @@
-use Rattle.std.proofs.Common.{◌≡◌, ◌<◌, ◌≤◌, ◌+◌, ◌-◌, ◌*◌, ℕ, length, get_or, set, sym, ap, arith, ltb}
+use Rattle.std.proofs.Common.{◌≡◌, ◌+◌, ◌-◌, ◌*◌, length, get_or, set, sym, ap, arith, ltb}
 use Rattle.std.proofs.lemmas.Bool.{lt-ltb, ltb-true}
-use Rattle.parts_row_major.specs.Pieces.{piece}
-use Rattle.sharding_format.specs.Laying.{IsStoredInOrder, placed_slot}
 use Rattle.sharding_subchunks.specs.steps.Inner.{inner_meaning}
-use Rattle.sharding_subchunks.proofs.AppendLemmas.{stay_before, old_within}
+use Rattle.sharding_subchunks.proofs.AppendLemmas.{stay_before}
 use Rattle.sharding_subchunks.proofs.PlainRowLemmas.{row_within, row_below, row_along}
 use Rattle.sharding_subchunks.proofs.subchunks.Subchunks.lay_out_along.Goals as goal
 
@@ -13,9 +11,9 @@ overflow_mul-first g c =
     let s = a.self.now in
     let written = (inner_meaning g.I.ArrayToBytesCodecTraits.meaning s).written in
     let n = length a.sequence.now in
-    let below = row_below written s.fill_value.now a._shape.now s.shape.now a._array.now.elements a.bytes.now a.size n c.requires.rows a.sequence.now c.requires.order c.loop-position.position
+    let below = row_below written s.fill_value.now a._cut.now.shape.now s.shape.now a._cut.now.array.now.elements a.bytes.now a.size n c.requires.rows a.sequence.now c.requires.order c.loop-position.position
     (omega (arith, c.loop-position-test.true, c.len-rows.ensures)) in
-    let within = row_within written s.fill_value.now a._shape.now s.shape.now a._array.now.elements a.bytes.now a.size n c.requires.rows c.number_at-number.result (omega (arith, c.number_at-number.ensures, below)) in
+    let within = row_within written s.fill_value.now a._cut.now.shape.now s.shape.now a._cut.now.array.now.elements a.bytes.now a.size n c.requires.rows c.number_at-number.result (omega (arith, c.number_at-number.ensures, below)) in
     omega (arith, within)
 
 pub overflow_add-first : goal.overflow_add-first
@@ -24,9 +22,9 @@ overflow_add-first g c =
     let s = a.self.now in
     let written = (inner_meaning g.I.ArrayToBytesCodecTraits.meaning s).written in
     let n = length a.sequence.now in
-    let below = row_below written s.fill_value.now a._shape.now s.shape.now a._array.now.elements a.bytes.now a.size n c.requires.rows a.sequence.now c.requires.order c.loop-position.position
+    let below = row_below written s.fill_value.now a._cut.now.shape.now s.shape.now a._cut.now.array.now.elements a.bytes.now a.size n c.requires.rows a.sequence.now c.requires.order c.loop-position.position
     (omega (arith, c.loop-position-test.true, c.len-rows.ensures)) in
-    let within = row_within written s.fill_value.now a._shape.now s.shape.now a._array.now.elements a.bytes.now a.size n c.requires.rows c.number_at-number.result (omega (arith, c.number_at-number.ensures, below)) in
+    let within = row_within written s.fill_value.now a._cut.now.shape.now s.shape.now a._cut.now.array.now.elements a.bytes.now a.size n c.requires.rows c.number_at-number.result (omega (arith, c.number_at-number.ensures, below)) in
     omega (arith, within)
 
 pub slice_bounds-stored_row-end : goal.slice_bounds-stored_row-end
@@ -35,9 +33,9 @@ slice_bounds-stored_row-end g c =
     let s = a.self.now in
     let written = (inner_meaning g.I.ArrayToBytesCodecTraits.meaning s).written in
     let n = length a.sequence.now in
-    let below = row_below written s.fill_value.now a._shape.now s.shape.now a._array.now.elements a.bytes.now a.size n c.requires.rows a.sequence.now c.requires.order c.loop-position.position
+    let below = row_below written s.fill_value.now a._cut.now.shape.now s.shape.now a._cut.now.array.now.elements a.bytes.now a.size n c.requires.rows a.sequence.now c.requires.order c.loop-position.position
     (omega (arith, c.loop-position-test.true, c.len-rows.ensures)) in
-    let within = row_within written s.fill_value.now a._shape.now s.shape.now a._array.now.elements a.bytes.now a.size n c.requires.rows c.number_at-number.result (omega (arith, c.number_at-number.ensures, below)) in
+    let within = row_within written s.fill_value.now a._cut.now.shape.now s.shape.now a._cut.now.array.now.elements a.bytes.now a.size n c.requires.rows c.number_at-number.result (omega (arith, c.number_at-number.ensures, below)) in
     omega (arith, within)
 
 pub stored_row-run-requires-clause-whole : goal.stored_row-run-requires-clause-whole
@@ -46,7 +44,7 @@ stored_row-run-requires-clause-whole g c =
     let s = a.self.now in
     let written = (inner_meaning g.I.ArrayToBytesCodecTraits.meaning s).written in
     let n = length a.sequence.now in
-    let below = row_below written s.fill_value.now a._shape.now s.shape.now a._array.now.elements a.bytes.now a.size n c.requires.rows a.sequence.now c.requires.order c.loop-position.position
+    let below = row_below written s.fill_value.now a._cut.now.shape.now s.shape.now a._cut.now.array.now.elements a.bytes.now a.size n c.requires.rows a.sequence.now c.requires.order c.loop-position.position
     (omega (arith, c.loop-position-test.true, c.len-rows.ensures)) in
     let cut : (c.number_at-number.result * a.size + a.size) - c.number_at-number.result * a.size ≡ a.size = omega arith in
     rw cut (c.requires.rows.whole c.number_at-number.result (omega (arith, c.number_at-number.ensures, below)))
@@ -67,7 +65,7 @@ loop-position-preserved g c =
     let offset : c.len.result - c.len-start.result ≡ length l.slices.items - length old =
     omega (arith, c.len.ensures, l.slices.ok.0, c.len-start.ensures, a.slices.now.ok.0) in (
       stay_before old l.slices.items c.stored_row-run.result.now newer l.invariant.0 appended,
-      row_along written s.fill_value.now a._shape.now s.shape.now a._array.now.elements a.bytes.now a.size n c.requires.rows a.sequence.now c.requires.order
+      row_along written s.fill_value.now a._cut.now.shape.now s.shape.now a._cut.now.array.now.elements a.bytes.now a.size n c.requires.rows a.sequence.now c.requires.order
           old l.slices.items newer c.stored_row-run.result.now l.slots.items (set l.slots.items c.number_at-number.result c.placed.result) l.position c.number_at-number.result (ltb 0 (length c.stored_row-run.result.now))
           (omega (arith, c.loop-position-test.true, c.len-rows.ensures)) number l.invariant.0 l.invariant.1 row appended
           (ltb-true 0 (length c.stored_row-run.result.now), lt-ltb 0 (length c.stored_row-run.result.now))

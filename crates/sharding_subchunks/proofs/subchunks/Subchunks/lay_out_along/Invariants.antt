@@ -8,5 +8,5 @@ abbrev pub invariant-loop-position : goal.invariant-loop-position
 invariant-loop-position g l =
     let old = l.fn.slices.items in
     (take (length old) l.slices.items ≡ old)
-    × IsStoredInOrder (inner_meaning g.I.ArrayToBytesCodecTraits.meaning l.self).written l.self.fill_value.now l._shape l.self.shape.now l._array.elements
+    × IsStoredInOrder (inner_meaning g.I.ArrayToBytesCodecTraits.meaning l.self).written l.self.fill_value.now l._cut.shape.now l.self.shape.now l._cut.array.now.elements
     (drop (length old) l.slices.items) l.slots.items l.sequence l.position

@@ -10,7 +10,7 @@ loop-k-init g c =
     let s = a.self.now in (
       stay_themselves a.slices.now.items,
       rw (nothing_after a.slices.now.items, c.in_ok-slots.ensures.items)
-          (no_rows (inner_meaning g.I.ArrayToBytesCodecTraits.meaning s).written s.fill_value.now a._shape.now s.shape.now a._array.now.elements a.bytes.now a.size a.rows c.requires.rows),
+          (no_rows (inner_meaning g.I.ArrayToBytesCodecTraits.meaning s).written s.fill_value.now a._cut.now.shape.now s.shape.now a._cut.now.array.now.elements a.bytes.now a.size a.rows c.requires.rows),
     )
 
 pub overflow_sub-len : goal.overflow_sub-len
@@ -29,7 +29,7 @@ loop-k-preserved-then-not-is_blank g c =
     let long : c.len.result - c.len-start.result ≡ length (drop (length old) l.slices.items) =
     omega (arith, c.len-start.ensures, a.slices.now.ok.0, c.len.ensures, l.slices.ok.0, length-drop (length old) l.slices.items) in (
       l.invariant.0,
-      row_stored (inner_meaning g.I.ArrayToBytesCodecTraits.meaning s).written s.fill_value.now a._shape.now s.shape.now a._array.now.elements a.bytes.now a.size a.rows c.requires.rows
+      row_stored (inner_meaning g.I.ArrayToBytesCodecTraits.meaning s).written s.fill_value.now a._cut.now.shape.now s.shape.now a._cut.now.array.now.elements a.bytes.now a.size a.rows c.requires.rows
           (drop (length old) l.slices.items) l.slots.items c.push.new.self.items l.copied l.k c.loop-k-test.true l.invariant.1
           (λ all. let told = (rw cut at c.if-not-is_blank.ensures).1 all in cc)
           (rw long at c.in_ok-push.ensures.items),
@@ -45,7 +45,7 @@ loop-k-preserved g c =
     let run = c.in_ok-push_rows.ensures.appended in
     let cut : (l.k * a.size + a.size) - l.k * a.size ≡ a.size = omega arith in (
       stay_before old l.slices.items _ newer l.invariant.0 run,
-      row_blank (inner_meaning g.I.ArrayToBytesCodecTraits.meaning s).written s.fill_value.now a._shape.now s.shape.now a._array.now.elements a.bytes.now a.size a.rows c.requires.rows
+      row_blank (inner_meaning g.I.ArrayToBytesCodecTraits.meaning s).written s.fill_value.now a._cut.now.shape.now s.shape.now a._cut.now.array.now.elements a.bytes.now a.size a.rows c.requires.rows
           (drop (length old) l.slices.items) (drop (length old) newer) l.slots.items c.push-in-loop-k.new.self.items l.copied l.k c.loop-k-test.true l.invariant.1
           ((rw cut at c.if-not-is_blank.ensures).0 refl)
           (more_after old l.slices.items _ newer l.invariant.0 run)
@@ -63,6 +63,6 @@ returns g c =
     let end : l.k ≡ a.rows = omega arith in
     record {
       stay = stay_before old l.slices.items _ all l.invariant.0 rest;
-      stored_slices = all_rows (inner_meaning g.I.ArrayToBytesCodecTraits.meaning s).written s.fill_value.now a._shape.now s.shape.now a._array.now.elements a.bytes.now a.size a.rows c.requires.rows
+      stored_slices = all_rows (inner_meaning g.I.ArrayToBytesCodecTraits.meaning s).written s.fill_value.now a._cut.now.shape.now s.shape.now a._cut.now.array.now.elements a.bytes.now a.size a.rows c.requires.rows
           (drop (length old) l.slices.items) (drop (length old) all) l.slots.items l.copied (rw end at l.invariant.1) (more_after old l.slices.items _ all l.invariant.0 rest);
     }

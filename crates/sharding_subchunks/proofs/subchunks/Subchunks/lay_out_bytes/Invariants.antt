@@ -8,5 +8,5 @@ abbrev pub invariant-loop-k : goal.invariant-loop-k
 invariant-loop-k g l =
     let old = l.fn.slices.items in
     (take (length old) l.slices.items ≡ old)
-    × AreRowsStored (inner_meaning g.I.ArrayToBytesCodecTraits.meaning l.self).written l.self.fill_value.now l._shape l.self.shape.now l._array.elements l.bytes l.size
+    × AreRowsStored (inner_meaning g.I.ArrayToBytesCodecTraits.meaning l.self).written l.self.fill_value.now l._cut.shape.now l.self.shape.now l._cut.array.now.elements l.bytes l.size
     (drop (length old) l.slices.items) l.slots.items l.copied l.k

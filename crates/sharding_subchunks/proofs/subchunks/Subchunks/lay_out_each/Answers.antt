@@ -1,8 +1,7 @@
-use Rattle.std.proofs.Common.{rules, ◌≡◌, ◌<◌, ◌-◌, ℕ, List, length, get_or, set, take, drop, length-append, sym, ap, ◌∙◌, subst, arith}
+use Rattle.std.proofs.Common.{rules, ◌≡◌, ◌<◌, ◌-◌, length, get_or, set, length-append, sym, ap, arith}
 use Rattle.parts_row_major.specs.Numbering.{count_of}
-use Rattle.sharding_format.specs.Laying.{IsStoredInOrder, placed_slot}
+use Rattle.sharding_format.specs.Laying.{placed_slot}
 use Rattle.sharding_format.specs.WriteOrderLaws.{order_counted, order_below}
-use Rattle.sharding_format.specs.declared.slot.Slot.{Slot}
 use Rattle.sharding_subchunks.specs.steps.Inner.{spec_of_subchunks}
 use Rattle.sharding_subchunks.proofs.AppendLemmas.{stay_themselves, none_after, stay_before, one_more_after}
 use Rattle.sharding_subchunks.proofs.subchunks.Subchunks.lay_out_each.Goals as goal

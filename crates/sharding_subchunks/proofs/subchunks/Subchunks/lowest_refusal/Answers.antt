@@ -1,4 +1,4 @@
-use Rattle.std.proofs.Common.{◌≡◌, ◌<◌, ◌+◌, ℕ, arith}
+use Rattle.std.proofs.Common.{arith}
 use borrow.Author.Count.{below_more}
 use Rattle.parts_row_major.specs.Numbering.{count_of}
 use Rattle.parts_subsets.specs.Grid.{subchunk}
