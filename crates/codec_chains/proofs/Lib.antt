@@ -1,3 +1,2 @@
 pub mod ChainSteps
 pub mod TrailerSteps
-pub mod ArrayChainSteps

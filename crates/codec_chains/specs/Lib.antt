@@ -3,7 +3,4 @@ pub mod Chains
 pub mod ChainLaws
 pub mod Trailers
 pub mod TrailerLaws
-pub mod ArrayCodings
-pub mod ArrayChains
-pub mod ArrayChainLaws
 pub mod EitherCodec

@@ -22,31 +22,12 @@ ghost use Rattle.codec_traits.specs.declared.representation.BytesRepresentation.
 use crate::concurrency::RecommendedConcurrency;
 use crate::representation::BytesRepresentation;
 use crate::stored::StoredArray;
-use parts_arrays::{ArrayBytes, DataType, DataTypeSize, FillValue, FixedTarget};
+use crate::target::{check_target, put_decoded};
+use parts_arrays::{ArrayBytes, DataType, FillValue, FixedTarget};
 use parts_errors::{CodecError, CodecOptions};
 use parts_subsets::{ChunkShape, Indexer};
 use std::alloc::Global;
 use storage_handles::{BytesPartialDecoderTraits, Interval};
-
-/// Tests that a target has room for as many elements of a type, which is `None` past `u64::MAX`. Refused, in this order, as
-/// `WrongElementKind` (a type of another element size or of none) and as `InvalidNumberOfElements`.
-pub fn check_target(
-    target: &FixedTarget,
-    count: Option<u64>,
-    data_type: &DataType,
-) -> Result<(), CodecError>
-    ensures kind { OnOk result (size_of data_type.now ≡ Fixed (target_element_size target.now)) }
-    ensures counted { (n : ℕ) → SomeIff count (n < 2 ^ 64) n → OnOk result (count_of (target_subset target.now).shape ≡ n) }
-    ensures refused { (n : ℕ) → SomeIff count (n < 2 ^ 64) n → IfErr result (TargetRefusals (size_of data_type.now) n target.now done) }
-{
-    if data_type.size() != DataTypeSize::Fixed(target.element_size()) {
-        return Err(CodecError::WrongElementKind);
-    }
-    if count != Some(target.num_elements()) {
-        return Err(CodecError::InvalidNumberOfElements);
-    }
-    Ok(())
-}
 
 /// A codec from arrays to bytes (Zarr V3 core, "Codecs"). Every call takes the shape, the data type and the fill value of the
 /// array that it is about, `recommended_concurrency` no fill value. Every call makes the tests of `check` first, but for
@@ -191,7 +172,8 @@ pub trait ArrayToBytesCodecTraits {
         self.check(alloc, shape, data_type, fill_value)?;
         check_target(target, shape.num_elements(), data_type)?;
         let array = self.decode(alloc, bytes, shape, data_type, fill_value, options)?;
-        target.copy_from(&array)
+        put_decoded(&array, target);
+        Ok(())
     }
 
     /// The bytes rewritten without what is not needed, or `None` where there is nothing to gain; they stand for the
@@ -336,7 +318,8 @@ pub trait ArrayToBytesCodecTraits {
             indexer,
             options,
         )?;
-        target.copy_from(&read)
+        put_decoded(&read, target);
+        Ok(())
     }
 
     /// Reads the requested elements into a target, as `partial_decode_into`, except that after a refusal the target's subset has

@@ -1,3 +1,4 @@
+pub mod Offsets
 pub mod Repacking
 pub mod Rows
 pub mod Layouts

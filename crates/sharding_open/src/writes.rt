@@ -24,8 +24,9 @@ use codec_traits::ArrayToBytesCodecTraits;
 use parts_errors::{CodecError, CodecOptions};
 use sharding_engine::Sharding;
 use sharding_index::IndexCodec;
+use sharding_layout::CachedIndex;
 use sharding_subchunks::Subchunks;
-use sharding_write::{CachedIndex, Prepared, Update, Writing};
+use sharding_write::{Prepared, Update, Writing};
 use std::alloc::Global;
 use storage_handles::{BytesPartialDecoderTraits, BytesPartialEncoderTraits};
 

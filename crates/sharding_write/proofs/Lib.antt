@@ -14,5 +14,4 @@ pub mod OverlayLemmas
 pub mod InPlaceLemmas
 pub mod AppendLemmas
 pub mod PlainLemmas
-pub mod EndLemmas
 pub mod OldLemmas

@@ -21,7 +21,7 @@ use Rattle.sharding_format.specs.declared.slot.Slot.TheVariants.{Absent, InRange
 use Rattle.sharding_index.specs.DataPart.{LiesBetween}
 use Rattle.sharding_write.specs.Writing.{AreAbsent, AreNewCells, cells_in, IsKept, IsWriteOf, AreStoredInRow, HasEntries, HasPut, IsErased, slot_end, last_end, offset_after, length_after, KeepsSlices, IsMade, layout_from}
 use Rattle.parts_subsets.proofs.GridLaws.{over_first}
-use Rattle.sharding_write.proofs.EndLemmas.{last_end_more}
+use Rattle.sharding_layout.proofs.EndLemmas.{last_end_more}
 use Rattle.sharding_write.proofs.AnewLemmas.{entry_absent, all_absent, in_list, absent_entry, cleared_absent, anew_of_absent, absent_of_anew}
 use Rattle.sharding_write.proofs.WrittenLemmas.{absent_slot, kept_absent, is_write}
 

@@ -2,8 +2,8 @@
 use Rattle.std.proofs.Common.{ℕ, ◌+◌, ◌^◌, ◌≤◌, ◌<◌, List, refl, arith}
 use Rattle.sharding_format.specs.declared.location.ShardingIndexLocation.{ShardingIndexLocation}
 use Rattle.sharding_format.specs.declared.location.ShardingIndexLocation.TheVariants.{Start, End}
-use Rattle.sharding_write.specs.Offsets.{offset_after, length_after}
-use Rattle.sharding_write.proofs.EndLemmas.{last_end_least, last_end_most}
+use Rattle.sharding_layout.specs.Offsets.{offset_after, length_after}
+use Rattle.sharding_layout.proofs.EndLemmas.{last_end_least, last_end_most}
 use Rattle.sharding_write.specs.Writing.{GoesTo}
 
 -- the place behind the old slices of an object that has an index

@@ -1,5 +1,4 @@
 pub mod Invariants
-pub mod Offsets
 pub mod Writing
 pub mod WriteRefusals
 pub mod Slices

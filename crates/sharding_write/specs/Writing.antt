@@ -21,7 +21,7 @@ use Rattle.sharding_format.specs.Laying.{IsStoredIn, taken, offset_number, size_
 use Rattle.sharding_format.specs.Serves.{layout_of}
 use Rattle.sharding_format.specs.Packing.{slice_of}
 use Rattle.sharding_index.specs.DataPart.{IsInDataPart}
-pub use Rattle.sharding_write.specs.Offsets.{slot_end, last_end, offset_after, length_after, index_after}
+pub use Rattle.sharding_layout.specs.Offsets.{slot_end, last_end, offset_after, length_after, index_after}
 pub use Rattle.sharding_write.specs.OldCells.{HasSlice, AreCellsOf}
 use Rattle.sharding_format.specs.declared.location.ShardingIndexLocation.{ShardingIndexLocation}
 use Rattle.sharding_format.specs.declared.location.ShardingIndexLocation.TheVariants.{Start, End}

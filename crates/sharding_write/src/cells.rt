@@ -14,7 +14,6 @@ ghost use Rattle.sharding_write.specs.Writing.{HasSlice};
 ghost use Rattle.sharding_write.specs.steps.NewCells.{IsNewArray};
 ghost use Rattle.sharding_write.specs.WriteRefusals.{Straddles, RefusesOld};
 
-use crate::covered::is_whole;
 use crate::old::old_cells;
 use crate::overlay::overlaid;
 use crate::writing::{OldEntry, Update, Writing};
@@ -22,6 +21,7 @@ use codec_traits::ArrayToBytesCodecTraits;
 use parts_arrays::ArrayBytes;
 use parts_errors::CodecError;
 use sharding_gather::subchunk_overlap;
+use sharding_layout::is_whole;
 use std::alloc::Global;
 use storage_handles::BytesPartialDecoderTraits;
 

@@ -12,11 +12,11 @@ ghost use Rattle.sharding_subchunks.specs.steps.Inner.{spec_of_subchunks, inner_
 ghost use Rattle.sharding_write.specs.steps.NewCells.{HoldsSlices, AreNewArrays};
 ghost use Rattle.sharding_write.specs.WriteRefusals.{HasOldCells, OldRefusals};
 
-use crate::offsets::slot_in;
-use crate::writing::{CachedIndex, OldEntry, Update, Writing};
+use crate::writing::{OldEntry, Update, Writing};
 use codec_traits::ArrayToBytesCodecTraits;
 use parts_arrays::ArrayBytes;
 use parts_errors::CodecError;
+use sharding_layout::{CachedIndex, slot_in};
 use std::alloc::Global;
 use storage_handles::BytesPartialDecoderTraits;
 

@@ -15,9 +15,10 @@ ghost use Rattle.sharding_write.specs.WriteRefusals.{WriteRefusals};
 ghost use Rattle.sharding_write.specs.steps.Changes.{object_after};
 
 use crate::change::Prepared;
-use crate::writing::{CachedIndex, Update, Writing};
+use crate::writing::{Update, Writing};
 use codec_traits::ArrayToBytesCodecTraits;
 use parts_errors::CodecError;
+use sharding_layout::CachedIndex;
 use std::alloc::Global;
 use storage_handles::BytesPartialDecoderTraits;
 

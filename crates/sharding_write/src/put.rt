@@ -15,11 +15,10 @@ ghost use Rattle.sharding_write.specs.steps.Changes.{object_after};
 
 use crate::change::{Change, Prepared};
 use crate::numbers::with_entries;
-use crate::offsets::{fresh_offset, index_offset};
 use crate::writing::Writing;
 use codec_traits::ArrayToBytesCodecTraits;
 use parts_errors::CodecError;
-use sharding_layout::{StoredSlices, joined_shard};
+use sharding_layout::{StoredSlices, fresh_offset, index_offset, joined_shard};
 use std::alloc::Global;
 
 impl<I, X: ArrayToBytesCodecTraits> Writing<'_, I, X> {

@@ -13,11 +13,10 @@ ghost use Rattle.sharding_write.specs.steps.Changes.{object_after};
 
 use crate::change::{Change, Prepared};
 use crate::numbers::{are_absent, cleared, none_stored};
-use crate::offsets::{length_after, offset_after};
-use crate::writing::{CachedIndex, Writing};
+use crate::writing::Writing;
 use codec_traits::ArrayToBytesCodecTraits;
 use parts_errors::CodecError;
-use sharding_layout::StoredSlices;
+use sharding_layout::{CachedIndex, StoredSlices, length_after, offset_after};
 use std::alloc::Global;
 
 impl<I, X: ArrayToBytesCodecTraits> Writing<'_, I, X> {

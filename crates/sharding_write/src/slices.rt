@@ -15,10 +15,10 @@ ghost use Rattle.sharding_write.specs.WriteRefusals.{HasOldCells, OldRefusals, N
 ghost use Rattle.sharding_write.specs.Slices.{AreNewSlices};
 
 use crate::encoded::stored_in_row;
-use crate::writing::{CachedIndex, Update, Writing};
+use crate::writing::{Update, Writing};
 use codec_traits::ArrayToBytesCodecTraits;
 use parts_errors::CodecError;
-use sharding_layout::StoredSlices;
+use sharding_layout::{CachedIndex, StoredSlices};
 use std::alloc::Global;
 use storage_handles::BytesPartialDecoderTraits;
 

@@ -1,4 +1,4 @@
-// What a write is about: a shard's codecs, what is known of its shape, the index that is held of it, and the update.
+// What a write is about: a shard's codecs, what is known of its shape, and the update.
 ghost use Rattle.std.specs.Prelude.{◌≡◌, ◌^◌, ◌<◌, All, length};
 ghost use Rattle.parts_row_major.specs.Numbering.{AllPositive, count_of};
 ghost use Rattle.parts_row_major.specs.Subsets.{IsSubset};
@@ -40,13 +40,6 @@ pub struct Update<'a, 'b> {
     pub ghost well_formed: { IsSubset subset.now.start subset.now.shape } by { is_subset-prop subset.now.start subset.now.shape },
     pub ghost fitting: { All (FitsKind elements.now.kind) elements.now.elements } by { all_fit_kind-prop elements.now.kind elements.now.elements },
     pub ghost counted: { length elements.now.elements ≡ count_of subset.now.shape },
-}
-
-/// The index that is held of a shard: how long the shard is, and the numbers of its index.
-#[derive(Clone, Copy)]
-pub struct CachedIndex<'a> {
-    pub len: u64,
-    pub numbers: &'a [u64],
 }
 
 /// A subchunk by its number, and what its entry in the old index says.

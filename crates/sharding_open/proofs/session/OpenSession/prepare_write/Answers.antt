@@ -28,6 +28,20 @@ invariant_of-writing-clause-counted g c =
     let some = count-positive (grid_of shard.shape sub) (grid_positive shard.shape sub c.requires.positive divides) in
     positions_of shard.cells shard.subchunks shard.shape sub divides known.cells known.subchunks (omega (arith, some, known.subchunks))
 
+-- the index that is handed over is the held one
+pub prepare-requires-clause-held : goal.prepare-requires-clause-held
+prepare-requires-clause-held g c =
+    let cached = c.requires.cached in
+    record {
+      cached = rw (c.cached_index-len.ensures.len, c.cached_index-len.ensures.numbers, cached.plan.size, cached.grid) cached.numbers;
+      told = λ t. rw (c.cached_index-len.ensures.len, c.cached_index-len.ensures.numbers, cached.plan.size, cached.grid) (cached.cached t);
+    }
+
+pub returns-clause-written : goal.returns-clause-written
+returns-clause-written g c = λ t.
+    let cached = c.requires.cached in
+    rw (cached.plan.size, cached.grid, c.cached_index-len.ensures.numbers) at (c.in_ok-prepared.ensures.written t)
+
 pub returns-clause-cells : goal.returns-clause-cells
 returns-clause-cells g c = λ t.
     let s = c.args.sharding.now in

@@ -2,10 +2,16 @@
 ghost use Rattle.std.specs.Prelude.{◌≡◌, ◌+◌, ◌*◌, ◌/◌, ◌^◌, ◌<◌, SomeIff, length};
 ghost use Rattle.sharding_format.specs.steps.Decoding.{FitsSlot};
 ghost use Rattle.sharding_format.specs.Index.{slot_at, data_start};
-ghost use Rattle.sharding_write.specs.Offsets.{slot_end, last_end, offset_after, length_after, index_after};
+ghost use Rattle.sharding_layout.specs.Offsets.{slot_end, last_end, offset_after, length_after, index_after};
 
-use crate::writing::CachedIndex;
 use sharding_format::{ShardingIndexLocation, Slot, slot_of};
+
+/// The index that is held of a shard: how long the shard is, and the numbers of its index.
+#[derive(Clone, Copy)]
+pub struct CachedIndex<'a> {
+    pub len: u64,
+    pub numbers: &'a [u64],
+}
 
 // What the entry of a subchunk says.
 #[tactic(auto, unfolding(sharding_format::specs::Index::slot_at))]

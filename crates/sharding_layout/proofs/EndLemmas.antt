@@ -7,7 +7,7 @@ use Rattle.std.proofs.lemmas.Bool.Decides.{leb_tells}
 use Rattle.std.proofs.lemmas.Grind.{fold-append}
 use Rattle.sharding_format.specs.Index.{absent_number, slot_at}
 use Rattle.sharding_format.specs.declared.slot.Slot.TheVariants.{Absent, InRange, Bad}
-use Rattle.sharding_write.specs.Offsets.{slot_end, last_end}
+use Rattle.sharding_layout.specs.Offsets.{slot_end, last_end}
 
 -- the greatest end with one slice more
 pub last_end_more : (least len : ℕ) (numbers : List ℕ) (k : ℕ) → last_end least len numbers (k + 1) ≡ max (last_end least len numbers k) (slot_end (slot_at len numbers k))

@@ -1,7 +1,7 @@
 use Rattle.std.proofs.Common.{◌∙◌, ap}
-use Rattle.sharding_write.specs.Offsets.{slot_end}
-use Rattle.sharding_write.proofs.EndLemmas.{last_more}
-use Rattle.sharding_write.proofs.offsets.last_end.Goals as goal
+use Rattle.sharding_layout.specs.Offsets.{slot_end}
+use Rattle.sharding_layout.proofs.EndLemmas.{last_more}
+use Rattle.sharding_layout.proofs.offsets.last_end.Goals as goal
 
 pub loop-k-preserved : goal.loop-k-preserved
 loop-k-preserved c =

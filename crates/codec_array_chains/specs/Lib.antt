@@ -1,0 +1,3 @@
+pub mod ArrayCodings
+pub mod ArrayChains
+pub mod ArrayChainLaws
