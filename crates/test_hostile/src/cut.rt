@@ -1,22 +1,16 @@
 // A shard that was cut after each of its bytes.
 use crate::compared::same_at;
-use crate::shards::{Case, plain};
+use crate::shards::{Case, plain, seven};
 use std::alloc::Global;
 use std::process::Abort;
 use std::thread::Threads;
-use test_helpers::{ABSENT, Stored};
+use test_helpers::ABSENT;
 use zarr_parts::CodecError;
 use zarrs_sharding::ShardingIndexLocation::End;
 
-// The shard of 0, 7, 0, 0.
-const SEVEN: Stored = Stored {
-    slices: &[0, 7],
-    index: [0, 2, ABSENT, ABSENT],
-};
-
-// Its first bytes, and the shards of which they are to be one.
+// The first bytes of the shard of 0, 7, 0, 0, and the shards of which they are to be one.
 fn cut_of<R: Abort>(rt: &R, alloc: Global, len: usize) -> Case {
-    let mut object = SEVEN.object(alloc, false).expect(rt, "memory");
+    let mut object = seven(rt, alloc);
     object.truncate(len);
     Case {
         object,

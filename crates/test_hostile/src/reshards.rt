@@ -1,12 +1,12 @@
 // Arrays that are encoded anew by another codec.
 use crate::compared::{same, same_at};
-use crate::shards::{Case, Plain, around, case_of, said, shape_of};
+use crate::shards::{Case, Plain, around, case_of, in_squares, said, shape_of, squares};
 use std::alloc::Global;
 use std::process::Abort;
 use test_helpers::{HostileObject, hostile_table, object_of};
 use zarr_codecs::BytesCodec;
 use zarr_parts::{ChunkShape, CodecError, DataType, FillValue};
-use zarrs_sharding::ShardingIndexLocation::{End, Start};
+use zarrs_sharding::ShardingIndexLocation::End;
 use zarrs_sharding::{
     ShardingCodec, SubchunkWriteOrder, decode_after_reshard, reshard, reshard_functional,
 };
@@ -50,7 +50,7 @@ fn they_are_resharded(rt: HostRuntime) {
     }
 }
 
-// Shards of 4 by 4 elements in four squares, and in two halves of two columns each.
+// The codecs of 4 by 4 elements in four squares, and in two halves of two columns each; and what they are asked to serve.
 #[derive(Drop)]
 struct Both {
     squares: Plain,
@@ -59,14 +59,7 @@ struct Both {
     fill: FillValue,
 }
 
-// The codec of squares, whose index is before them.
-fn squares<R: Abort>(rt: &R, alloc: Global) -> Plain {
-    let (little, sub) = (BytesCodec::little(), shape_of(rt, alloc, &[2, 2]));
-    let codec = ShardingCodec::new(sub, little, little, Start);
-    codec.with_subchunk_write_order(SubchunkWriteOrder::C)
-}
-
-// The codec of halves, whose index is after them.
+// The codec of 4 by 4 elements in halves, whose index is after them.
 fn halves<R: Abort>(rt: &R, alloc: Global) -> Plain {
     let (little, sub) = (BytesCodec::little(), shape_of(rt, alloc, &[4, 2]));
     ShardingCodec::new(sub, little, little, End)
@@ -79,13 +72,6 @@ fn codecs<R: Abort>(rt: &R, alloc: Global) -> Both {
         shape: shape_of(rt, alloc, &[4, 4]),
         fill: FillValue::from_number(alloc, 255u8).expect(rt, "memory"),
     }
-}
-
-// The shard of 0 to 15 in squares.
-fn in_squares<R: Abort>(rt: &R, alloc: Global) -> Vec<u8> {
-    let slices = [0, 1, 4, 5, 2, 3, 6, 7, 8, 9, 12, 13, 10, 11, 14, 15];
-    let index = [64, 4, 68, 4, 72, 4, 76, 4];
-    object_of(alloc, true, &slices, &index).expect(rt, "memory")
 }
 
 // The shard of 0 to 15 in halves.

@@ -1,11 +1,13 @@
 // Objects that are opened for writing, and those that are given back.
 use crate::compared::{same, same_at};
-use crate::shards::{Answer, Case, Session, Shards, case_of, listed, plain, said, subset_of};
+use crate::shards::{
+    Answer, Case, Session, Shards, case_of, listed, plain, said, seven, subset_of,
+};
 use std::alloc::Global;
 use std::ops::Range;
 use std::process::Abort;
 use std::sync::Wait;
-use test_helpers::{ABSENT, HostileObject, Stored, Wanted, hostile_table};
+use test_helpers::{HostileObject, Wanted, hostile_table};
 use zarr_codecs::{BytesCodec, MemoryHandle};
 use zarr_parts::{ArrayBytes, CodecError, CodecOptions, DataType, Indexer};
 use zarrs_sharding::{ShardingIndexLocation, ShardingPartialEncoder};
@@ -131,20 +133,16 @@ fn shared_sessions_read_them(rt: HostRuntime) {
     }
 }
 
-// The object of 0, 7, 0, 0.
-const SEVEN: Stored = Stored {
-    slices: &[0, 7],
-    index: [0, 2, ABSENT, ABSENT],
-};
-
-// A session of that object.
+// A session of the object of 0, 7, 0, 0.
 fn opened_seven<'a, R: Abort>(
     rt: &R,
     alloc: Global,
     shards: &'a Shards<BytesCodec>,
 ) -> Session<'a, BytesCodec> {
-    let object = SEVEN.object(alloc, false).expect(rt, "memory");
-    shards.open(alloc, object).ok().expect(rt, "a session")
+    shards
+        .open(alloc, seven(rt, alloc))
+        .ok()
+        .expect(rt, "a session")
 }
 
 // Writes 7 over the second element.
@@ -165,6 +163,6 @@ fn an_erased_shard_is_written_again(rt: HostRuntime) {
     let found = session.partial_decode(rt.alloc(), &all, &CodecOptions::default());
     same(&rt, said(&found), Ok([0u8, 0, 0, 0].as_slice()));
     write_seven(&rt, rt.alloc(), &mut session);
-    let want = SEVEN.object(rt.alloc(), false).expect(&rt, "memory");
-    same(&rt, session.close().into_inner(), Some(want));
+    let left = session.close().into_inner();
+    same(&rt, left, Some(seven(&rt, rt.alloc())));
 }

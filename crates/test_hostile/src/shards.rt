@@ -4,7 +4,7 @@ use std::alloc::Global;
 use std::ops::Range;
 use std::process::Abort;
 use std::thread::Threads;
-use test_helpers::{HostileObject, Wanted};
+use test_helpers::{ABSENT, HostileObject, Wanted, object_of};
 use zarr_codecs::{ArrayToBytesCodecTraits, BytesCodec, MemoryHandle, SliceHandle};
 use zarr_parts::{
     ArrayBytes, ArraySubset, ChunkShape, CodecError, CodecOptions, Coordinates, DataType,
@@ -80,6 +80,26 @@ pub(crate) fn plain<R: Abort>(
 ) -> Shards<BytesCodec> {
     let codec = around(rt, alloc, 2, BytesCodec::little(), location);
     shards_of(rt, alloc, 4, codec)
+}
+
+// The object of 0, 7, 0, 0.
+pub(crate) fn seven<R: Abort>(rt: &R, alloc: Global) -> Vec<u8> {
+    let object = object_of(alloc, false, &[0, 7], &[0, 2, ABSENT, ABSENT]);
+    object.expect(rt, "memory")
+}
+
+// The codec of 4 by 4 elements in squares, whose index is before them.
+pub(crate) fn squares<R: Abort>(rt: &R, alloc: Global) -> Plain {
+    let (little, sub) = (BytesCodec::little(), shape_of(rt, alloc, &[2, 2]));
+    let codec = ShardingCodec::new(sub, little, little, ShardingIndexLocation::Start);
+    codec.with_subchunk_write_order(SubchunkWriteOrder::C)
+}
+
+// The shard of 0 to 15 in squares.
+pub(crate) fn in_squares<R: Abort>(rt: &R, alloc: Global) -> Vec<u8> {
+    let slices = [0, 1, 4, 5, 2, 3, 6, 7, 8, 9, 12, 13, 10, 11, 14, 15];
+    let index = [64, 4, 68, 4, 72, 4, 76, 4];
+    object_of(alloc, true, &slices, &index).expect(rt, "memory")
 }
 
 // The bytes of an object, and the shards of which it is to be one.

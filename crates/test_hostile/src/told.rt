@@ -1,50 +1,30 @@
 // Sixteen elements read where they lie, and shards with a mark after a slice or after the index.
 use crate::compared::same;
-use crate::shards::{said, shape_of};
+use crate::shards::{Shards, in_squares, said, shape_of, squares};
 use std::alloc::Global;
 use std::process::Abort;
 use test_helpers::{ABSENT, MarkedCodec, object_of};
-use zarr_codecs::{ArrayToBytesCodecTraits, BytesChain, BytesCodec, SliceHandle};
+use zarr_codecs::{ArrayToBytesCodecTraits, BytesChain, BytesCodec};
 use zarr_parts::{ArrayBytes, ArraySubset, CodecError, CodecOptions, DataType, FillValue};
-use zarrs_sharding::ShardingIndexLocation::{End, Start};
-use zarrs_sharding::{ShardingCodec, ShardingPartialDecoder};
+use zarrs_sharding::ShardingCodec;
+use zarrs_sharding::ShardingIndexLocation::End;
 
-// The shard of 0 to 15 in four squares after their index.
-fn in_squares<R: Abort>(rt: &R, alloc: Global) -> Vec<u8> {
-    let slices = [0, 1, 4, 5, 2, 3, 6, 7, 8, 9, 12, 13, 10, 11, 14, 15];
-    let index = [64, 4, 68, 4, 72, 4, 76, 4];
-    object_of(alloc, true, &slices, &index).expect(rt, "memory")
-}
-
-type Squares = ShardingCodec<BytesCodec, BytesCodec>;
-
-fn squares<R: Abort>(rt: &R, alloc: Global) -> Squares {
-    let (little, sub) = (BytesCodec::little(), shape_of(rt, alloc, &[2, 2]));
-    ShardingCodec::new(sub, little, little, Start)
-}
-
-type Decoder<'a> = ShardingPartialDecoder<'a, BytesCodec, BytesCodec, SliceHandle<'a>>;
-
-// A decoder of such a shard.
-fn opened<'a, R: Abort>(
-    rt: &R,
-    alloc: Global,
-    codec: &'a Squares,
-    object: &'a [u8],
-) -> Decoder<'a> {
-    let shape = shape_of(rt, alloc, &[4, 4]);
-    let fill = FillValue::from_number(alloc, 0u8).expect(rt, "memory");
-    let (handle, options) = (SliceHandle::new(object), CodecOptions::default());
-    let decoder = codec.partial_decoder(alloc, handle, &shape, &DataType::UInt8, &fill, &options);
-    decoder.ok().expect(rt, "a decoder")
+// Shards of 4 by 4 elements in squares.
+fn sixteen_elements<R: Abort>(rt: &R, alloc: Global) -> Shards<BytesCodec> {
+    Shards {
+        codec: squares(rt, alloc),
+        shape: shape_of(rt, alloc, &[4, 4]),
+        fill: FillValue::from_number(alloc, 0u8).expect(rt, "memory"),
+    }
 }
 
 // A decoder holds eight bytes for each number of its index besides those that its handle holds.
 #[test]
 fn borrowed_bytes_are_cached_and_read(rt: HostRuntime) {
     let object = in_squares(&rt, rt.alloc());
-    let codec = squares(&rt, rt.alloc());
-    let mut decoder = opened(&rt, rt.alloc(), &codec, &object);
+    let shards = sixteen_elements(&rt, rt.alloc());
+    let decoder = shards.decoder(rt.alloc(), &object);
+    let mut decoder = decoder.expect(&rt, "a decoder");
     same(&rt, (object.len(), decoder.size_held()), (80, 80 + 64));
     let requested = ArraySubset::from_ranges(rt.alloc(), &[1..3, 0..1]).expect(&rt, "a subset");
     let found = decoder.partial_decode(rt.alloc(), &requested, &CodecOptions::default());
