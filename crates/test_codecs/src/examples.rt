@@ -1,7 +1,8 @@
-// Shapes, fill values, arrays and answers that the tests are worked on.
-use std::alloc::{AllocError, Global};
+// Shapes, fill values, arrays and answers that the tests are worked on. What sets the scene is made, or the test ends.
+use std::alloc::Global;
 use std::borrow::CowSlice;
 use std::ops::Range;
+use std::process::Abort;
 use zarr_codecs::{
     ArrayToBytesCodecTraits, ByteRange, BytesPartialDecoderTraits, BytesRepresentation, Interval,
     MemoryHandle, StoredArray, copy_range, read_range,
@@ -11,29 +12,40 @@ use zarr_parts::{
     FillValue, FixedTarget, Indexer,
 };
 
-pub fn shape(alloc: Global, axes: &[u64]) -> Result<ChunkShape, CodecError> {
-    ChunkShape::new(alloc, axes)?.ok_or(CodecError::Fault)
+pub fn shape<R: Abort>(rt: &R, alloc: Global, axes: &[u64]) -> ChunkShape {
+    ChunkShape::new(alloc, axes)
+        .expect(rt, "memory")
+        .expect(rt, "a shape")
 }
 
-pub fn fill(alloc: Global, bytes: &[u8]) -> Result<FillValue, CodecError> {
-    Ok(FillValue::new(bytes.to_vec(alloc)?))
+pub fn fixed<'a, R: Abort>(rt: &R, bytes: &'a [u8], size: usize) -> ArrayBytes<'a> {
+    ArrayBytes::new_flen(CowSlice::Borrowed(bytes), size).expect(rt, "whole elements")
 }
 
-pub fn fixed(bytes: &[u8], size: usize) -> Result<ArrayBytes<'_>, CodecError> {
-    ArrayBytes::new_flen(CowSlice::Borrowed(bytes), size).ok_or(CodecError::Fault)
+// The elements that lie between offsets.
+pub fn variable<'a, R: Abort>(
+    rt: &R,
+    alloc: Global,
+    bytes: &'a [u8],
+    offsets: &[usize],
+) -> ArrayBytes<'a> {
+    let offsets = offsets.to_vec(alloc).expect(rt, "memory");
+    ArrayBytes::new_vlen(CowSlice::Borrowed(bytes), offsets).expect(rt, "offsets in order")
 }
 
-pub fn subset(alloc: Global, ranges: &[Range<u64>]) -> Result<ArraySubset, CodecError> {
-    ArraySubset::new_with_ranges(alloc, ranges)?.ok_or(CodecError::Fault)
+pub fn subset<R: Abort>(rt: &R, alloc: Global, ranges: &[Range<u64>]) -> ArraySubset {
+    ArraySubset::from_ranges(alloc, ranges).expect(rt, "a subset")
 }
 
-pub fn coordinates(
+pub fn coordinates<R: Abort>(
+    rt: &R,
     alloc: Global,
     axes: usize,
     count: u64,
     flat: &[u64],
-) -> Result<Coordinates, CodecError> {
-    Coordinates::new(axes, count, flat.to_vec(alloc)?).ok_or(CodecError::Fault)
+) -> Coordinates {
+    let flat = flat.to_vec(alloc).expect(rt, "memory");
+    Coordinates::new(axes, count, flat).expect(rt, "coordinates")
 }
 
 // Arrays that a codec is asked to serve.
@@ -44,19 +56,18 @@ pub struct ArraySpec {
     pub none: FillValue,
 }
 
-pub fn spec_of(
+pub fn spec_of<R: Abort>(
+    rt: &R,
     alloc: Global,
     axes: &[u64],
     data_type: DataType,
     none: &[u8],
-) -> Result<ArraySpec, CodecError> {
-    let axes = shape(alloc, axes)?;
-    let none = fill(alloc, none)?;
-    Ok(ArraySpec {
-        axes,
+) -> ArraySpec {
+    ArraySpec {
+        axes: shape(rt, alloc, axes),
         data_type,
-        none,
-    })
+        none: FillValue::new(none.to_vec(alloc).expect(rt, "memory")),
+    }
 }
 
 // How a codec serves such arrays.
@@ -94,16 +105,9 @@ pub fn encoded<C: ArrayToBytesCodecTraits>(
     )
 }
 
-// The same of elements that have one size, of which these are the bytes.
-pub fn encoded_elements<C: ArrayToBytesCodecTraits>(
-    alloc: Global,
-    codec: &C,
-    spec: &ArraySpec,
-    bytes: &[u8],
-    size: usize,
-) -> Result<Vec<u8>, CodecError> {
-    let array = fixed(bytes, size)?;
-    encoded(alloc, codec, spec, &array)
+// The size of the encoding of such an array, where it is the elements as they are in memory.
+pub fn plain_size<C: ArrayToBytesCodecTraits>(codec: &C, spec: &ArraySpec) -> Option<u64> {
+    codec.plain_size(&spec.axes, &spec.data_type, &spec.none)
 }
 
 // The array that bytes are decoded to.
@@ -184,7 +188,8 @@ pub fn read_into<C: ArrayToBytesCodecTraits, N: Indexer>(
 }
 
 // The cells of a range of one axis, read of an interval of an object of these bytes.
-pub fn read_range_of<C: ArrayToBytesCodecTraits>(
+pub fn read_range_of<R: Abort, C: ArrayToBytesCodecTraits>(
+    rt: &R,
     alloc: Global,
     codec: &C,
     spec: &ArraySpec,
@@ -192,24 +197,24 @@ pub fn read_range_of<C: ArrayToBytesCodecTraits>(
     interval: Interval,
     range: Range<u64>,
 ) -> Result<ArrayBytes<'static>, CodecError> {
-    let cells = subset(alloc, &[range])?;
-    let mut handle = handle_over(alloc, Some(object))?;
+    let cells = subset(rt, alloc, &[range]);
+    let mut handle = handle_over(rt, alloc, Some(object));
     read(alloc, codec, spec, &mut handle, interval, &cells)
 }
 
 // A handle over an object of these bytes, or over none.
-pub fn handle_over(alloc: Global, object: Option<&[u8]>) -> Result<MemoryHandle, AllocError> {
+pub fn handle_over<R: Abort>(rt: &R, alloc: Global, object: Option<&[u8]>) -> MemoryHandle {
     match object {
-        Some(bytes) => Ok(MemoryHandle::new(Some(bytes.to_vec(alloc)?))),
-        None => Ok(MemoryHandle::new(None)),
+        Some(bytes) => MemoryHandle::new(Some(bytes.to_vec(alloc).expect(rt, "memory"))),
+        None => MemoryHandle::new(None),
     }
 }
 
-// What a call answers, without its value.
-pub fn done<T: Drop>(answer: Result<T, CodecError>) -> Result<(), CodecError> {
+// The bytes that a call answers, for a comparison, or the refusal.
+pub fn said(answer: &Result<Vec<u8>, CodecError>) -> Result<&[u8], CodecError> {
     match answer {
-        Ok(_) => Ok(()),
-        Err(error) => Err(error),
+        Ok(bytes) => Ok(bytes.as_slice()),
+        Err(error) => Err(*error),
     }
 }
 

@@ -1,8 +1,9 @@
 // A handle that fails at a call.
 use crate::compared::{same, same_at};
-use crate::examples::{done, is_borrowed};
+use crate::examples::is_borrowed;
 use std::alloc::Global;
 use std::ops::Range;
+use std::process::Abort;
 use zarr_codecs::{
     ByteRange, BytesPartialDecoderTraits, BytesPartialEncoderTraits, FaultingHandle, copy_range,
 };
@@ -18,9 +19,9 @@ fn ask<H: BytesPartialEncoderTraits>(
     number: u64,
 ) -> Result<(), CodecError> {
     match number {
-        0 => done(handle.exists()),
-        2 => done(handle.len()),
-        _ => done(copy_range(handle, alloc, ByteRange::Suffix(1))),
+        0 => handle.exists().map(|_| ()),
+        2 => handle.len().map(|_| ()),
+        _ => copy_range(handle, alloc, ByteRange::Suffix(1)).map(|_| ()),
     }
 }
 
@@ -50,44 +51,51 @@ fn call<H: BytesPartialEncoderTraits>(
     }
 }
 
-// Makes the calls of these numbers, up to one that is refused.
-fn calls<H: BytesPartialEncoderTraits>(
-    handle: &mut H,
+// Makes the calls of these numbers.
+fn make_calls<R: Abort, H: BytesPartialEncoderTraits>(
+    rt: &R,
     alloc: Global,
+    handle: &mut H,
     numbers: Range<u64>,
-) -> Result<(), CodecError> {
+) {
     for number in numbers {
-        call(handle, alloc, number)?;
+        call(handle, alloc, number).expect(rt, "a call that does not fail");
     }
-    Ok(())
 }
 
-// Whether a handle failed so often, and neither holds anything nor leaves an object.
-fn is_left(handle: FaultingHandle, faults: u64) -> bool {
-    let is_so = handle.faults() == faults && handle.size_held() == 0;
-    handle.into_inner().is_none() && is_so
+// A handle of which the call with a number fails.
+fn failing<R: Abort>(rt: &R, alloc: Global, number: u64) -> FaultingHandle {
+    let object = [1, 2, 3].to_vec(alloc).expect(rt, "memory");
+    FaultingHandle::new(Some(object), number)
 }
 
-// Whether the calls from a number on are all made, and how the handle is left then.
-fn is_ended(mut handle: FaultingHandle, alloc: Global, from: u64, faults: u64) -> bool {
-    let made = calls(&mut handle, alloc, from..CALLS);
-    made == Ok(()) && is_left(handle, faults)
+// Makes the calls from a number on to a handle, which failed so often then, and neither holds anything nor leaves an object.
+fn is_ended<R: Abort>(rt: &R, alloc: Global, mut handle: FaultingHandle, from: u64, faults: u64) {
+    make_calls(rt, alloc, &mut handle, from..CALLS);
+    same(rt, (handle.faults(), handle.size_held()), (faults, 0));
+    same(rt, handle.into_inner(), None);
 }
 
-// Whether a call is the first that fails, and the handle holds what is wanted then.
-fn is_refused(alloc: Global, handle: &mut FaultingHandle, number: u64, want: &[u8]) -> bool {
-    let before = handle.faults();
-    let answer = call(handle, alloc, number);
-    let is_first = before == 0 && answer == Err(CodecError::Fault);
-    is_first && is_borrowed(alloc, handle, ByteRange::FromStart(0, None), Ok(Some(want)))
-}
-
-// Whether the call of a number fails, changes nothing, and is made as the later ones where it is tried again.
-fn fails_once(alloc: Global, number: u64, want: &[u8]) -> Result<bool, CodecError> {
-    let mut handle = FaultingHandle::new(Some([1, 2, 3].to_vec(alloc)?), number);
-    calls(&mut handle, alloc, 0..number)?;
-    let refused = is_refused(alloc, &mut handle, number, want);
-    Ok(is_ended(handle, alloc, number, 1) && refused)
+// Makes a call that is the first that fails, after which the handle holds what is wanted.
+fn is_refused<R: Abort>(
+    rt: &R,
+    alloc: Global,
+    handle: &mut FaultingHandle,
+    number: u64,
+    want: &[u8],
+) {
+    same_at(rt, number, handle.faults(), 0);
+    same_at(
+        rt,
+        number,
+        call(handle, alloc, number),
+        Err(CodecError::Fault),
+    );
+    let whole = ByteRange::FromStart(0, None);
+    assert!(rt;
+        is_borrowed(alloc, handle, whole, Ok(Some(want))),
+        "{number}"
+    );
 }
 
 // What each call finds.
@@ -100,23 +108,20 @@ const FOUND: [&[u8]; 6] = [
     &[5],
 ];
 
-// The call of the number is refused once, and changes nothing.
+// The call of the number is refused once, and changes nothing; it is made as the later ones where it is tried again.
 #[test]
 fn the_call_of_the_number_fails_once(rt: HostRuntime) {
     for (number, want) in (0..CALLS).zip(FOUND) {
-        let found = fails_once(rt.alloc(), number, want);
-        same_at(&rt, number, found, Ok(true));
+        let mut handle = failing(&rt, rt.alloc(), number);
+        make_calls(&rt, rt.alloc(), &mut handle, 0..number);
+        is_refused(&rt, rt.alloc(), &mut handle, number, want);
+        is_ended(&rt, rt.alloc(), handle, number, 1);
     }
-}
-
-// Whether all calls are made to a handle that fails at none of them.
-fn fails_never(alloc: Global) -> Result<bool, CodecError> {
-    let handle = FaultingHandle::new(Some([1, 2, 3].to_vec(alloc)?), CALLS);
-    Ok(is_ended(handle, alloc, 0, 0))
 }
 
 // No call fails before the number.
 #[test]
 fn no_call_fails_before_its_number(rt: HostRuntime) {
-    same(&rt, fails_never(rt.alloc()), Ok(true));
+    let handle = failing(&rt, rt.alloc(), CALLS);
+    is_ended(&rt, rt.alloc(), handle, 0, 0);
 }

@@ -1,10 +1,9 @@
 // Handles over bytes in memory, read.
 use crate::compared::{same, same_at};
-use crate::examples::is_copied;
+use crate::examples::{handle_over, is_copied};
 use std::alloc::Global;
 use std::borrow::CowSlice;
 use std::process::Abort;
-use std::test::Fail;
 use zarr_codecs::{ByteRange, BytesPartialDecoderTraits, MemoryHandle, SliceHandle};
 use zarr_parts::CodecError;
 
@@ -54,14 +53,13 @@ fn ranges_of_borrowed_bytes_are_read(rt: HostRuntime) {
 
 // Ranges of bytes of its own are read so, too, and change nothing.
 #[test]
-fn ranges_of_bytes_are_read(rt: HostRuntime) -> Result<(), Fail> {
+fn ranges_of_bytes_are_read(rt: HostRuntime) {
     let bytes = [1, 2, 3, 4, 5].as_slice();
-    let mut handle = MemoryHandle::new(Some(bytes.to_vec(rt.alloc())?));
+    let mut handle = handle_over(&rt, rt.alloc(), Some(bytes));
     read_ranges(&rt, rt.alloc(), &mut handle);
     tells_of_five(&rt, &mut handle);
-    let object = handle.into_inner().ok_or("an object")?;
+    let object = handle.into_inner().expect(&rt, "an object");
     same(&rt, object.as_slice(), bytes);
-    Ok(())
 }
 
 // Reads ranges where there is no object.

@@ -1,18 +1,13 @@
 // The laws of codecs, called.
 use crate::compared::same;
-use crate::examples::{ArraySpec, checked, coordinates, spec_of};
+use crate::examples::{ArraySpec, checked, coordinates, fixed, spec_of};
 use std::alloc::Global;
-use std::borrow::CowSlice;
-use std::test::Fail;
+use std::process::Abort;
 use zarr_codecs::{ArrayToBytesCodecTraits, BytesCodec, decode_after_encode, read_after_decode};
 use zarr_parts::{ArrayBytes, CodecError, CodecOptions, Coordinates, DataType};
 
-// Whether the encoding of an array, big endian, is decoded to it.
-fn is_decoded_again(
-    alloc: Global,
-    spec: &ArraySpec,
-    array: &ArrayBytes,
-) -> Result<bool, CodecError> {
+// Decodes the encoding of an array, big endian, to it.
+fn is_decoded_again<R: Abort>(rt: &R, alloc: Global, spec: &ArraySpec, array: &ArrayBytes) {
     let ArraySpec {
         axes,
         data_type,
@@ -20,30 +15,25 @@ fn is_decoded_again(
     } = spec;
     let codec = BytesCodec::big();
     let options = CodecOptions::default();
-    let encoded = codec.encode(alloc, array, axes, data_type, none, &options)?;
+    let encoded = codec.encode(alloc, array, axes, data_type, none, &options);
+    let encoded = encoded.expect(rt, "an encoding");
     let again = decode_after_encode(
         &codec, alloc, array, &encoded, axes, data_type, none, &options,
     );
-    Ok(again? == *array)
-}
-
-// What the encoding of an array of two elements, big endian, is decoded to.
-fn decoded_again(alloc: Global, array: &ArrayBytes) -> Result<bool, CodecError> {
-    let column = spec_of(alloc, &[2, 1], DataType::UInt16, &[0, 0])?;
-    checked(alloc, &BytesCodec::big(), &column)?;
-    is_decoded_again(alloc, &column, array)
+    assert!(rt; again.expect(rt, "an array") == *array);
 }
 
 #[test]
-fn an_encoding_is_decoded_again(rt: HostRuntime) -> Result<(), Fail> {
-    let bytes = CowSlice::Borrowed([1, 2, 3, 4].as_slice());
-    let array = ArrayBytes::new_flen(bytes, 2).ok_or("whole elements")?;
-    same(&rt, decoded_again(rt.alloc(), &array), Ok(true));
-    Ok(())
+fn an_encoding_is_decoded_again(rt: HostRuntime) {
+    let column = spec_of(&rt, rt.alloc(), &[2, 1], DataType::UInt16, &[0, 0]);
+    let served = checked(rt.alloc(), &BytesCodec::big(), &column);
+    served.expect(&rt, "numbers in big endian");
+    is_decoded_again(&rt, rt.alloc(), &column, &fixed(&rt, &[1, 2, 3, 4], 2));
 }
 
 // The cells at coordinates, of bytes that were decoded before.
-fn read_after<C: ArrayToBytesCodecTraits>(
+fn read_after<R: Abort, C: ArrayToBytesCodecTraits>(
+    rt: &R,
     alloc: Global,
     codec: &C,
     spec: &ArraySpec,
@@ -56,20 +46,18 @@ fn read_after<C: ArrayToBytesCodecTraits>(
         none,
     } = spec;
     let options = CodecOptions::default();
-    let array = codec.decode(alloc, bytes, axes, data_type, none, &options)?;
+    let array = codec.decode(alloc, bytes, axes, data_type, none, &options);
+    let array = array.expect(rt, "an array");
     read_after_decode(codec, alloc, bytes, &array, axes, data_type, none, cells)
 }
 
 // The cells 2, 0 and 2 of three bytes, which were decoded before.
-fn read_again(alloc: Global, bytes: &[u8]) -> Result<ArrayBytes<'static>, CodecError> {
-    let three = spec_of(alloc, &[3], DataType::UInt8, &[0])?;
-    let twice = coordinates(alloc, 1, 3, &[2, 0, 2])?;
-    read_after(alloc, &BytesCodec::little(), &three, bytes, &twice)
-}
-
 #[test]
-fn cells_that_are_read_are_those_of_the_array(rt: HostRuntime) -> Result<(), Fail> {
-    let cells = read_again(rt.alloc(), &[7, 8, 9])?;
-    assert!(rt; cells.fixed_bytes() == Some([9, 7, 9].as_slice()));
-    Ok(())
+fn cells_that_are_read_are_those_of_the_array(rt: HostRuntime) {
+    let three = spec_of(&rt, rt.alloc(), &[3], DataType::UInt8, &[0]);
+    let twice = coordinates(&rt, rt.alloc(), 1, 3, &[2, 0, 2]);
+    let little = BytesCodec::little();
+    let found = read_after(&rt, rt.alloc(), &little, &three, &[7, 8, 9], &twice);
+    let cells = found.expect(&rt, "cells");
+    same(&rt, cells.fixed_bytes(), Some([9, 7, 9].as_slice()));
 }

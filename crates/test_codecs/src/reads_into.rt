@@ -3,7 +3,8 @@ use crate::compared::{same, same_at};
 use crate::examples::{coordinates, handle_over, read_into, spec_of, subset};
 use std::alloc::Global;
 use std::ops::Range;
-use zarr_codecs::{BytesCodec, Interval, MemoryHandle};
+use std::process::Abort;
+use zarr_codecs::{BytesCodec, Interval};
 use zarr_parts::{CodecError, DataType, FixedTarget, Indexer};
 
 // One byte, and then 1 to 12 as 16-bit numbers, whose first byte is the last significant one.
@@ -16,33 +17,31 @@ const NUMBERS: Interval = Interval {
     size: 24,
 };
 
-// Reads requested numbers of such, three by four, into a target.
-fn read_numbers<N: Indexer>(
-    alloc: Global,
-    codec: &BytesCodec,
-    handle: &mut MemoryHandle,
-    interval: Interval,
-    indexer: &N,
-    target: &mut FixedTarget,
-) -> Result<(), CodecError> {
-    let twelve = spec_of(alloc, &[3, 4], DataType::UInt16, &[0, 0])?;
-    read_into(alloc, codec, &twelve, handle, interval, indexer, target)
-}
-
-// Reads them of the object.
-fn read_object<N: Indexer>(
+// Reads requested numbers of the object, three by four, into a target.
+fn read_numbers<R: Abort, N: Indexer>(
+    rt: &R,
     alloc: Global,
     codec: &BytesCodec,
     interval: Interval,
     indexer: &N,
     target: &mut FixedTarget,
 ) -> Result<(), CodecError> {
-    let mut handle = handle_over(alloc, Some(&OBJECT))?;
-    read_numbers(alloc, codec, &mut handle, interval, indexer, target)
+    let twelve = spec_of(rt, alloc, &[3, 4], DataType::UInt16, &[0, 0]);
+    let mut handle = handle_over(rt, alloc, Some(&OBJECT));
+    read_into(
+        alloc,
+        codec,
+        &twelve,
+        &mut handle,
+        interval,
+        indexer,
+        target,
+    )
 }
 
 // Reads them into a subset of an array of two by four.
-fn read_into_subset<N: Indexer>(
+fn read_into_subset<R: Abort, N: Indexer>(
+    rt: &R,
     alloc: Global,
     codec: &BytesCodec,
     interval: Interval,
@@ -50,32 +49,23 @@ fn read_into_subset<N: Indexer>(
     into: &[Range<u64>],
     output: &mut [u8],
 ) -> Result<(), CodecError> {
-    let place = subset(alloc, into)?;
-    let mut target = FixedTarget::new(output, 2, &[2, 4], &place).ok_or(CodecError::Fault)?;
-    read_object(alloc, codec, interval, indexer, &mut target)
+    let place = subset(rt, alloc, into);
+    let mut target = FixedTarget::new(output, 2, &[2, 4], &place).expect(rt, "a target");
+    read_numbers(rt, alloc, codec, interval, indexer, &mut target)
 }
 
-// Whether these bytes stand there then, of which each was 77.
-fn are_read<N: Indexer>(
+// Reads them there, where these bytes stand then, of which each was 77.
+fn are_read<R: Abort, N: Indexer>(
+    rt: &R,
     alloc: Global,
     codec: &BytesCodec,
     indexer: &N,
     into: &[Range<u64>],
     want: &[u8; 16],
-) -> Result<bool, CodecError> {
+) {
     let mut output = [77; 16];
-    read_into_subset(alloc, codec, NUMBERS, indexer, into, &mut output)?;
-    Ok(output == *want)
-}
-
-fn subset_is_read(
-    alloc: Global,
-    requested: &[Range<u64>],
-    into: &[Range<u64>],
-    want: &[u8; 16],
-) -> Result<bool, CodecError> {
-    let requested = subset(alloc, requested)?;
-    are_read(alloc, &BytesCodec::little(), &requested, into, want)
+    let answer = read_into_subset(rt, alloc, codec, NUMBERS, indexer, into, &mut output);
+    same(rt, (answer, output), (Ok(()), *want));
 }
 
 // The numbers of a subset go where the target's subset lies, row by row of either: subsets of one shape, and of several.
@@ -105,49 +95,49 @@ fn subsets_are_read_into_subsets(rt: HostRuntime) {
         (&[3..3, 0..4], &[1..1, 0..4], [77; 16]),
     ];
     for (requested, into, want) in rows {
-        same(
+        let requested = subset(&rt, rt.alloc(), requested);
+        are_read(
             &rt,
-            subset_is_read(rt.alloc(), requested, into, &want),
-            Ok(true),
+            rt.alloc(),
+            &BytesCodec::little(),
+            &requested,
+            into,
+            &want,
         );
     }
 }
 
-fn listed_are_read(alloc: Global) -> Result<bool, CodecError> {
-    let want = [77, 77, 77, 77, 77, 77, 77, 77, 12, 0, 1, 0, 77, 77, 77, 77];
-    let listed = coordinates(alloc, 2, 2, &[2, 3, 0, 0])?;
-    are_read(alloc, &BytesCodec::little(), &listed, &[1..2, 0..2], &want)
-}
-
-fn reversed_are_read(alloc: Global) -> Result<bool, CodecError> {
-    let want = [77, 77, 77, 77, 77, 77, 0, 5, 77, 77, 77, 77, 77, 77, 0, 9];
-    let column = subset(alloc, &[1..3, 0..1])?;
-    are_read(alloc, &BytesCodec::big(), &column, &[0..2, 3..4], &want)
-}
-
-// Listed numbers go there in their order, and those that are stored the other way round are turned.
+// Listed numbers go there in their order.
 #[test]
-fn listed_and_reversed_numbers_are_read(rt: HostRuntime) {
-    same(&rt, listed_are_read(rt.alloc()), Ok(true));
-    same(&rt, reversed_are_read(rt.alloc()), Ok(true));
+fn listed_numbers_are_read(rt: HostRuntime) {
+    let want = [77, 77, 77, 77, 77, 77, 77, 77, 12, 0, 1, 0, 77, 77, 77, 77];
+    let listed = coordinates(&rt, rt.alloc(), 2, 2, &[2, 3, 0, 0]);
+    let little = BytesCodec::little();
+    are_read(&rt, rt.alloc(), &little, &listed, &[1..2, 0..2], &want);
 }
 
-// How a read of a subset of an interval into a row of so many is answered; a fault where a refusal wrote.
-fn refused(
+// Numbers that are stored the other way round are turned.
+#[test]
+fn reversed_numbers_are_read(rt: HostRuntime) {
+    let want = [77, 77, 77, 77, 77, 77, 0, 5, 77, 77, 77, 77, 77, 77, 0, 9];
+    let column = subset(&rt, rt.alloc(), &[1..3, 0..1]);
+    let big = BytesCodec::big();
+    are_read(&rt, rt.alloc(), &big, &column, &[0..2, 3..4], &want);
+}
+
+// How a read of a subset of an interval into a row of so many is answered, and the bytes then, of which each was 77.
+fn read_row<R: Abort>(
+    rt: &R,
     alloc: Global,
     interval: Interval,
     requested: &[Range<u64>],
     many: u64,
-) -> Result<(), CodecError> {
-    let requested = subset(alloc, requested)?;
+) -> (Result<(), CodecError>, [u8; 16]) {
+    let requested = subset(rt, alloc, requested);
     let mut output = [77; 16];
     let (little, row) = (BytesCodec::little(), [0..1, 0..many]);
-    let answer = read_into_subset(alloc, &little, interval, &requested, &row, &mut output);
-    if output == [77; 16] {
-        answer
-    } else {
-        Err(CodecError::Fault)
-    }
+    let answer = read_into_subset(rt, alloc, &little, interval, &requested, &row, &mut output);
+    (answer, output)
 }
 
 // The count is tested before the cells, these before the interval, and it before the length of the bytes.
@@ -168,7 +158,7 @@ fn reads_into_a_target_are_refused_in_order(rt: HostRuntime) {
         (short, &[0..1, 0..2], 2, CodecError::Damaged),
     ];
     for (interval, requested, many, want) in rows {
-        let answer = refused(rt.alloc(), interval, requested, many);
-        same_at(&rt, (interval.size, many), answer, Err(want));
+        let found = read_row(&rt, rt.alloc(), interval, requested, many);
+        same_at(&rt, (interval.size, many), found, (Err(want), [77; 16]));
     }
 }

@@ -1,19 +1,26 @@
 // Arrays of the codec `bytes`, decoded into a target.
-use crate::compared::same;
+use crate::compared::same_at;
 use crate::examples::{decoded_into, spec_of, subset};
 use std::alloc::Global;
 use std::ops::Range;
+use std::process::Abort;
 use zarr_codecs::BytesCodec;
 use zarr_parts::{CodecError, DataType, FixedTarget};
 
 // Decodes two big-endian numbers of 16 bits into a target.
-fn decode(alloc: Global, bytes: &[u8], target: &mut FixedTarget) -> Result<(), CodecError> {
-    let two = spec_of(alloc, &[2], DataType::UInt16, &[0, 0])?;
+fn decode<R: Abort>(
+    rt: &R,
+    alloc: Global,
+    bytes: &[u8],
+    target: &mut FixedTarget,
+) -> Result<(), CodecError> {
+    let two = spec_of(rt, alloc, &[2], DataType::UInt16, &[0, 0]);
     decoded_into(alloc, &BytesCodec::big(), &two, bytes, target)
 }
 
 // Decodes them into a range of so many elements.
-fn decode_into(
+fn decode_into<R: Abort>(
+    rt: &R,
     alloc: Global,
     bytes: &[u8],
     size: usize,
@@ -21,27 +28,9 @@ fn decode_into(
     range: Range<u64>,
     output: &mut [u8],
 ) -> Result<(), CodecError> {
-    let cells = subset(alloc, &[range])?;
-    let mut target = FixedTarget::new(output, size, axes, &cells).ok_or(CodecError::Fault)?;
-    decode(alloc, bytes, &mut target)
-}
-
-// What a decoding answers; a fault where the output, whose bytes were 77, has not these then.
-fn decoded(
-    alloc: Global,
-    bytes: &[u8],
-    size: usize,
-    axes: &[u64],
-    range: Range<u64>,
-    want: &[u8],
-) -> Result<(), CodecError> {
-    let mut output = Vec::from_elem(alloc, 77, 8)?;
-    let answer = decode_into(alloc, bytes, size, axes, range, &mut output);
-    if output.as_slice() == want {
-        answer
-    } else {
-        Err(CodecError::Fault)
-    }
+    let cells = subset(rt, alloc, &[range]);
+    let mut target = FixedTarget::new(output, size, axes, &cells).expect(rt, "a target");
+    decode(rt, alloc, bytes, &mut target)
 }
 
 // A target is written where as many elements of its size are decoded, and is left as it was otherwise.
@@ -65,7 +54,8 @@ fn a_target_is_written_or_left(rt: HostRuntime) {
         (&[0, 1], 1, &[8], 1..2, wrong, kept),
     ];
     for (bytes, size, axes, range, answer, want) in rows {
-        let found = decoded(rt.alloc(), bytes, size, axes, range, want);
-        same(&rt, found, answer);
+        let mut output = [77; 8];
+        let found = decode_into(&rt, rt.alloc(), bytes, size, axes, range, &mut output);
+        same_at(&rt, size, (found, output.as_slice()), (answer, want));
     }
 }

@@ -9,26 +9,21 @@ use zarr_parts::CodecError;
 // Bytes that are written, and where.
 type Pieces<'a> = &'a [(u64, &'a [u8])];
 
-// Whether an object has these bytes once pieces are written into it, through the bound alone.
-fn is_written<H: BytesPartialEncoderTraits>(
+// Writes pieces into an object, which has these bytes then, through the bound alone.
+fn is_written<R: Abort, H: BytesPartialEncoderTraits>(
+    rt: &R,
     alloc: Global,
     handle: &mut H,
     pieces: Pieces,
     want: &[u8],
-) -> Result<bool, CodecError> {
-    handle.partial_encode_many(alloc, pieces)?;
+) {
+    let answer = handle.partial_encode_many(alloc, pieces);
+    same_at(rt, pieces, answer, Ok(()));
     let whole = ByteRange::FromStart(0, None);
-    Ok(is_copied(alloc, handle, whole, Ok(Some(want))))
-}
-
-fn is_written_over(
-    alloc: Global,
-    object: Option<&[u8]>,
-    pieces: Pieces,
-    want: &[u8],
-) -> Result<bool, CodecError> {
-    let mut handle = handle_over(alloc, object)?;
-    is_written(alloc, &mut handle, pieces, want)
+    assert!(rt;
+        is_copied(alloc, handle, whole, Ok(Some(want))),
+        "{pieces:?}"
+    );
 }
 
 const FOUR: Option<&[u8]> = Some(&[1, 2, 3, 4]);
@@ -55,8 +50,8 @@ const WRITTEN: &[(Option<&[u8]>, Pieces, &[u8])] = &[
 #[test]
 fn pieces_are_written_in_their_order(rt: HostRuntime) {
     for (object, pieces, want) in WRITTEN {
-        let found = is_written_over(rt.alloc(), *object, pieces, want);
-        same_at(&rt, pieces, found, Ok(true));
+        let mut handle = handle_over(&rt, rt.alloc(), *object);
+        is_written(&rt, rt.alloc(), &mut handle, pieces, want);
     }
 }
 
@@ -65,22 +60,6 @@ fn holds(object: &Option<Vec<u8>>, want: Option<&[u8]>) -> bool {
         Some(bytes) => want == Some(bytes.as_slice()),
         None => want.is_none(),
     }
-}
-
-// Whether a handle over an object refuses pieces as too large, and then others as too much for the memory, and holds the
-// object still.
-fn are_refused(
-    alloc: Global,
-    object: Option<&[u8]>,
-    pieces: Pieces,
-    later: Pieces,
-) -> Result<bool, CodecError> {
-    let mut handle = handle_over(alloc, object)?;
-    let first = handle.partial_encode_many(alloc, pieces);
-    let second = handle.partial_encode_many(alloc, later);
-    let is_first = first == Err(CodecError::TooLarge);
-    let is_second = second == Err(CodecError::OutOfMemory);
-    Ok(is_first && is_second && holds(&handle.into_inner(), object))
 }
 
 // Pieces past `usize::MAX`.
@@ -94,50 +73,49 @@ const TOO_LARGE: [Pieces; 4] = [
 // Pieces that need more memory than there is.
 const NO_MEMORY: Pieces = &[(0, &[7]), (u64::MAX - 1, &[])];
 
-// Writes pieces that are too large, and then those that need too much memory.
-fn refuses_the_largest(rt: &impl Abort, alloc: Global, object: Option<&[u8]>) {
-    for pieces in TOO_LARGE {
-        let found = are_refused(alloc, object, pieces, NO_MEMORY);
-        same_at(&rt, pieces, found, Ok(true));
-    }
+// A handle over an object refuses pieces as too large, and then others as too much for the memory, and holds the object still.
+fn are_refused<R: Abort>(rt: &R, alloc: Global, object: Option<&[u8]>, pieces: Pieces) {
+    let mut handle = handle_over(rt, alloc, object);
+    let answer = handle.partial_encode_many(alloc, pieces);
+    same_at(rt, pieces, answer, Err(CodecError::TooLarge));
+    let answer = handle.partial_encode_many(alloc, NO_MEMORY);
+    same_at(rt, pieces, answer, Err(CodecError::OutOfMemory));
+    assert!(rt; holds(&handle.into_inner(), object), "{pieces:?}");
 }
 
 // An object past the largest size is refused, and what was there is left.
 #[test]
 fn an_object_of_the_largest_size_is_refused(rt: HostRuntime) {
     for object in [Some([1, 2].as_slice()), None] {
-        refuses_the_largest(&rt, rt.alloc(), object);
+        for pieces in TOO_LARGE {
+            are_refused(&rt, rt.alloc(), object, pieces);
+        }
     }
 }
 
-// Whether an object has two bytes once it was replaced by them.
-fn is_replaced(alloc: Global, handle: &mut MemoryHandle) -> Result<bool, CodecError> {
-    handle.replace(alloc, &[8, 9])?;
-    let is_long = handle.len()? == Some(2);
+// Replaces an object by two bytes.
+fn is_replaced<R: Abort>(rt: &R, alloc: Global, handle: &mut MemoryHandle) {
+    same(rt, handle.replace(alloc, &[8, 9]), Ok(()));
+    same(rt, handle.len(), Ok(Some(2)));
     let whole = ByteRange::FromStart(0, None);
-    Ok(is_long && is_copied(alloc, handle, whole, Ok(Some(&[8, 9]))))
+    assert!(rt; is_copied(alloc, handle, whole, Ok(Some(&[8, 9]))));
 }
 
-// Whether there is no object once it was erased, and none is left where it is erased again.
-fn is_erased(mut handle: MemoryHandle) -> Result<bool, CodecError> {
-    handle.erase()?;
-    let there = handle.exists()?;
-    handle.erase()?;
-    Ok(!there && handle.into_inner().is_none())
-}
-
-// Whether both hold, through a handle that can write parts.
-fn is_replaced_and_erased(alloc: Global, object: Option<&[u8]>) -> Result<bool, CodecError> {
-    let mut handle = handle_over(alloc, object)?;
-    let writes = handle.supports_partial_encode();
-    let replaced = is_replaced(alloc, &mut handle)?;
-    Ok(is_erased(handle)? && writes && replaced)
+// Erases an object, and erases it again: none is left.
+fn is_erased<R: Abort>(rt: &R, mut handle: MemoryHandle) {
+    same(rt, handle.erase(), Ok(()));
+    same(rt, handle.exists(), Ok(false));
+    same(rt, handle.erase(), Ok(()));
+    same(rt, handle.into_inner(), None);
 }
 
 // An object is there once it was replaced, whether there was one or not, and is gone once it was erased.
 #[test]
 fn an_object_is_replaced_and_erased(rt: HostRuntime) {
     for object in [Some([1, 2, 3].as_slice()), None] {
-        same(&rt, is_replaced_and_erased(rt.alloc(), object), Ok(true));
+        let mut handle = handle_over(&rt, rt.alloc(), object);
+        assert!(rt; handle.supports_partial_encode());
+        is_replaced(&rt, rt.alloc(), &mut handle);
+        is_erased(&rt, handle);
     }
 }

@@ -1,88 +1,52 @@
 // A shard that was cut after each of its bytes.
 use crate::compared::same_at;
-use crate::shards::{Answer, Shards, plain, shape_of, subset_of};
+use crate::shards::{Case, plain, seven};
 use std::alloc::Global;
-use std::test::Fail;
+use std::process::Abort;
 use std::thread::Threads;
-use test_helpers::{ABSENT, Stored};
-use zarr_codecs::BytesCodec;
-use zarr_parts::{CodecError, CodecOptions, FixedTarget};
+use test_helpers::ABSENT;
+use zarr_parts::CodecError;
 use zarrs_sharding::ShardingIndexLocation::End;
 
-// The shard of 0, 7, 0, 0.
-const SEVEN: Stored = Stored {
-    slices: &[0, 7],
-    index: [0, 2, ABSENT, ABSENT],
-};
-
-// Its first bytes, and the shards of which they are to be one.
-#[derive(Drop)]
-struct Cut {
-    object: Vec<u8>,
-    shards: Shards<BytesCodec>,
-}
-
-fn cut_of(alloc: Global, len: usize) -> Result<Cut, CodecError> {
-    let mut object = SEVEN.object(alloc, false)?;
+// The first bytes of the shard of 0, 7, 0, 0, and the shards of which they are to be one.
+fn cut_of<R: Abort>(rt: &R, alloc: Global, len: usize) -> Case {
+    let mut object = seven(rt, alloc);
     object.truncate(len);
-    Ok(Cut {
+    Case {
         object,
-        shards: plain(alloc, End)?,
-    })
+        shards: plain(rt, alloc, End),
+    }
 }
 
-// How it is refused, if so.
-fn refusal<T: Drop>(answer: Result<T, CodecError>) -> Option<CodecError> {
-    match answer {
+// How it is refused where it is opened for writing, if so.
+fn refusal_opened<R: Abort>(rt: &R, alloc: Global, case: &Case) -> Option<CodecError> {
+    let object = case.object.to_vec(alloc).expect(rt, "memory");
+    match case.shards.open(alloc, object) {
         Ok(_) => None,
-        Err(error) => Some(error),
+        Err((_, error)) => Some(error),
     }
 }
 
-impl Cut {
-    fn decoded_into(&self, alloc: Global) -> Result<(), CodecError> {
-        let all = subset_of(alloc, &(0..4))?;
-        let mut bytes = [77; 4];
-        let mut target = FixedTarget::new(&mut bytes, 1, &[4], &all).ok_or(CodecError::Fault)?;
-        self.shards.decoded_into(alloc, &self.object, &mut target)
-    }
-
-    fn index(&self, alloc: Global) -> Result<Vec<u64>, CodecError> {
-        let grid = shape_of(alloc, 2)?;
-        let options = CodecOptions::default();
-        self.shards
-            .codec
-            .decode_index(alloc, &self.object, &grid, &options)
-    }
-
-    fn read(&self, alloc: Global) -> Answer {
-        let first = subset_of(alloc, &(0..1))?;
-        self.shards.read(alloc, &self.object, &first)
-    }
-
-    fn opened(&self, alloc: Global) -> Result<(), CodecError> {
-        match self.shards.open(alloc, self.object.to_vec(alloc)?) {
-            Ok(_) => Ok(()),
-            Err((_, error)) => Err(error),
-        }
-    }
-
-    // How the calls that use its index refuse it: they decode it, also into a target and in parallel, compact, read or open it.
-    fn refusals<R: Threads + Sync>(&self, rt: &R, alloc: Global) -> [Option<CodecError>; 6] {
-        [
-            refusal(self.shards.decoded(alloc, &self.object)),
-            refusal(self.decoded_into(alloc)),
-            refusal(self.shards.decoded_by_workers(rt, alloc, &self.object, 2)),
-            refusal(self.shards.compacted(alloc, &self.object)),
-            refusal(self.read(alloc)),
-            refusal(self.opened(alloc)),
-        ]
-    }
+// How the calls that use its index refuse it: they decode it, also into a target and in parallel, compact, read or open it.
+fn refusals<R: Abort + Threads + Sync>(
+    rt: &R,
+    alloc: Global,
+    case: &Case,
+) -> [Option<CodecError>; 6] {
+    let Case { object, shards } = case;
+    [
+        shards.decoded(alloc, object).err(),
+        case.decode_over(rt, alloc, &mut [77; 4]).err(),
+        shards.decoded_by_workers(rt, alloc, object, 2).err(),
+        shards.compacted(alloc, object).err(),
+        case.read(rt, alloc, &(0..1)).err(),
+        refusal_opened(rt, alloc, case),
+    ]
 }
 
 // An object that is shorter than the index is too short; two that are not have an index that names slices outside them.
 #[test]
-fn a_shard_is_cut(rt: HostRuntime) -> Result<(), Fail> {
+fn a_shard_is_cut(rt: HostRuntime) {
     let short = Some(CodecError::ShardTooShort);
     let bad = Some(CodecError::BadIndexEntry { number: 0 });
     for len in 0..35 {
@@ -91,14 +55,9 @@ fn a_shard_is_cut(rt: HostRuntime) -> Result<(), Fail> {
             32..34 => bad,
             _ => None,
         };
-        let found = cut_of(rt.alloc(), len)?.refusals(&rt, rt.alloc());
-        same_at(&rt, len, found, [want; 6]);
+        let case = cut_of(&rt, rt.alloc(), len);
+        same_at(&rt, len, refusals(&rt, rt.alloc(), &case), [want; 6]);
     }
-    Ok(())
-}
-
-fn index_of(alloc: Global, len: usize) -> Result<Vec<u64>, CodecError> {
-    cut_of(alloc, len)?.index(alloc)
 }
 
 fn said_of(answer: &Result<Vec<u64>, CodecError>) -> Result<&[u64], CodecError> {
@@ -121,7 +80,8 @@ fn the_index_of_a_cut_shard_is_read(rt: HostRuntime) {
         (33, Ok(&[7, 512, ABSENT - 255, ABSENT])),
         (34, Ok(&[0, 2, ABSENT, ABSENT])),
     ] {
-        let found = index_of(rt.alloc(), len);
+        let case = cut_of(&rt, rt.alloc(), len);
+        let found = case.index(&rt, rt.alloc());
         same_at(&rt, len, said_of(&found), want);
     }
 }

@@ -3,7 +3,6 @@ use crate::compared::same_at;
 use crate::shards::{Answer, Plain, Shards, around, location_of, said, shards_of, subset_of};
 use std::alloc::Global;
 use std::process::Abort;
-use std::test::Fail;
 use std::thread::Threads;
 use test_helpers::{ABSENT, HostileObject, Wanted, hostile_table, object_of};
 use zarr_codecs::{ArrayToBytesCodecTraits, BytesCodec};
@@ -16,32 +15,32 @@ type Twice = ShardingCodec<Plain, BytesCodec>;
 type Thrice = ShardingCodec<Twice, BytesCodec>;
 
 // The codec of an object that nobody wrote.
-fn innermost(alloc: Global, at_start: bool) -> Result<Plain, CodecError> {
-    around(alloc, 2, BytesCodec::little(), location_of(at_start))
+fn innermost<R: Abort>(rt: &R, alloc: Global, at_start: bool) -> Plain {
+    around(rt, alloc, 2, BytesCodec::little(), location_of(at_start))
 }
 
 // Eight elements in two shards.
-fn in_one(alloc: Global, at_start: bool) -> Result<Shards<Plain>, CodecError> {
-    let codec = around(alloc, 4, innermost(alloc, at_start)?, End)?;
-    shards_of(alloc, 8, codec)
+fn in_one<R: Abort>(rt: &R, alloc: Global, at_start: bool) -> Shards<Plain> {
+    let codec = around(rt, alloc, 4, innermost(rt, alloc, at_start), End);
+    shards_of(rt, alloc, 8, codec)
 }
 
 // Thirty-two elements in two shards of two shards of two shards.
-fn in_three(alloc: Global, at_start: bool) -> Result<Shards<Thrice>, CodecError> {
-    let twice = around(alloc, 4, innermost(alloc, at_start)?, End)?;
-    let thrice = around(alloc, 8, twice, End)?;
-    let codec = around(alloc, 16, thrice, End)?;
-    shards_of(alloc, 32, codec)
+fn in_three<R: Abort>(rt: &R, alloc: Global, at_start: bool) -> Shards<Thrice> {
+    let twice = around(rt, alloc, 4, innermost(rt, alloc, at_start), End);
+    let thrice = around(rt, alloc, 8, twice, End);
+    let codec = around(rt, alloc, 16, thrice, End);
+    shards_of(rt, alloc, 32, codec)
 }
 
 // An object as the first subchunk of a shard, whose second is absent; and that as one of another, n times.
-fn put_deep(alloc: Global, hostile: &HostileObject, n: u8) -> Result<Vec<u8>, CodecError> {
-    let mut object = hostile.object(alloc)?;
+fn put_deep<R: Abort>(rt: &R, alloc: Global, hostile: &HostileObject, n: u8) -> Vec<u8> {
+    let mut object = hostile.object(alloc).expect(rt, "memory");
     for _ in 0..n {
         let index = [0, object.len() as u64, ABSENT, ABSENT];
-        object = object_of(alloc, false, &object, &index)?;
+        object = object_of(alloc, false, &object, &index).expect(rt, "memory");
     }
-    Ok(object)
+    object
 }
 
 // An inner shard that is refused is damaged.
@@ -64,7 +63,7 @@ fn one_by_one(half: Wanted) -> [Wanted; 2] {
 }
 
 // The first four elements, where all others are the fill value.
-fn first_four(answer: &Answer) -> Result<&[u8], CodecError> {
+fn first_four<'a>(answer: &'a Answer) -> Result<&'a [u8], CodecError> {
     let elements = said(answer)?;
     let (Some(first), Some(others)) = (elements.get(..4), elements.get(4..)) else {
         return Err(CodecError::InvalidNumberOfElements);
@@ -76,27 +75,6 @@ fn first_four(answer: &Answer) -> Result<&[u8], CodecError> {
     }
 }
 
-fn read<I: ArrayToBytesCodecTraits + Drop>(
-    alloc: Global,
-    shards: &Shards<I>,
-    object: &[u8],
-    element: u64,
-) -> Answer {
-    let requested = subset_of(alloc, &(element..element.saturating_add(1)))?;
-    shards.read(alloc, object, &requested)
-}
-
-// The same in a session.
-fn read_in_session<I: ArrayToBytesCodecTraits + Drop>(
-    alloc: Global,
-    shards: &Shards<I>,
-    object: &[u8],
-    element: u64,
-) -> Answer {
-    let requested = subset_of(alloc, &(element..element.saturating_add(1)))?;
-    shards.read_opened(alloc, object.to_vec(alloc)?, &requested)
-}
-
 // Reads an element of an object in shards by a decoder and in a session.
 fn is_read<R: Abort, I: ArrayToBytesCodecTraits + Drop>(
     rt: &R,
@@ -106,9 +84,11 @@ fn is_read<R: Abort, I: ArrayToBytesCodecTraits + Drop>(
     alloc: Global,
     want: Wanted,
 ) {
-    let found = read(alloc, shards, object, case.1);
+    let requested = subset_of(rt, alloc, &(case.1..case.1.saturating_add(1)));
+    let found = shards.read(alloc, object, &requested);
     same_at(rt, case, said(&found), want);
-    let found = read_in_session(alloc, shards, object, case.1);
+    let object = object.to_vec(alloc).expect(rt, "memory");
+    let found = shards.read_opened(alloc, object, &requested);
     same_at(rt, case, said(&found), want);
 }
 
@@ -153,21 +133,19 @@ fn is_answered<R: Abort + Threads + Sync, I: ArrayToBytesCodecTraits + Drop + Sy
 }
 
 #[test]
-fn one_shard_has_them(rt: HostRuntime) -> Result<(), Fail> {
+fn one_shard_has_them(rt: HostRuntime) {
     for hostile in hostile_table().iter() {
-        let shards = in_one(rt.alloc(), hostile.at_start)?;
-        let object = put_deep(rt.alloc(), hostile, 1)?;
+        let shards = in_one(&rt, rt.alloc(), hostile.at_start);
+        let object = put_deep(&rt, rt.alloc(), hostile, 1);
         is_answered(&rt, rt.alloc(), hostile, &shards, &object);
     }
-    Ok(())
 }
 
 #[test]
-fn shards_in_shards_have_them(rt: HostRuntime) -> Result<(), Fail> {
+fn shards_in_shards_have_them(rt: HostRuntime) {
     for hostile in hostile_table().iter() {
-        let shards = in_three(rt.alloc(), hostile.at_start)?;
-        let object = put_deep(rt.alloc(), hostile, 3)?;
+        let shards = in_three(&rt, rt.alloc(), hostile.at_start);
+        let object = put_deep(&rt, rt.alloc(), hostile, 3);
         is_answered(&rt, rt.alloc(), hostile, &shards, &object);
     }
-    Ok(())
 }

@@ -1,163 +1,119 @@
 // Arrays that are encoded anew by another codec.
 use crate::compared::{same, same_at};
-use crate::shards::{Answer, Case, Plain, Shards, around, case_of, elements_of, said};
+use crate::shards::{Case, Plain, around, case_of, in_squares, said, shape_of, squares};
 use std::alloc::Global;
-use std::test::Fail;
+use std::process::Abort;
 use test_helpers::{HostileObject, hostile_table, object_of};
 use zarr_codecs::BytesCodec;
 use zarr_parts::{ChunkShape, CodecError, DataType, FillValue};
-use zarrs_sharding::ShardingIndexLocation::{End, Start};
+use zarrs_sharding::ShardingIndexLocation::End;
 use zarrs_sharding::{
     ShardingCodec, SubchunkWriteOrder, decode_after_reshard, reshard, reshard_functional,
 };
 
-fn resharded(alloc: Global, from: &Shards<BytesCodec>, to: &Plain, object: &[u8]) -> Answer {
+type Resharded = Result<Vec<u8>, CodecError>;
+
+// An object as a shard with this number of elements in a subchunk.
+fn resharded_to<R: Abort>(rt: &R, alloc: Global, case: &Case, sub: u64) -> Resharded {
+    let to = around(rt, alloc, sub, BytesCodec::little(), End);
+    let from = &case.shards;
     reshard(
         alloc,
         &from.codec,
-        to,
-        object,
+        &to,
+        &case.object,
         &from.shape,
         &DataType::UInt8,
         &from.fill,
     )
 }
 
-// An object as a shard with this number of elements in a subchunk.
-fn resharded_to(alloc: Global, hostile: &HostileObject, sub: u64) -> Answer {
-    let Case { object, shards } = case_of(alloc, hostile)?;
-    let to = around(alloc, sub, BytesCodec::little(), End)?;
-    resharded(alloc, &shards, &to, &object)
-}
-
-// The elements as the one subchunk of a shard.
-fn one_subchunk(alloc: Global, hostile: &HostileObject) -> Answer {
-    Ok(object_of(alloc, false, hostile.elements?, &[0, 4])?)
+// The elements as the one subchunk of a shard, or their refusal.
+fn one_subchunk<R: Abort>(rt: &R, alloc: Global, hostile: &HostileObject) -> Resharded {
+    match hostile.elements {
+        Ok(elements) => Ok(object_of(alloc, false, elements, &[0, 4]).expect(rt, "memory")),
+        Err(error) => Err(error),
+    }
 }
 
 // Bytes that the old codec refuses are refused as it refuses to decode them, after the tests of the new codec.
 #[test]
 fn they_are_resharded(rt: HostRuntime) {
     for hostile in hostile_table().iter() {
-        let found = resharded_to(rt.alloc(), hostile, 4);
-        same_at(&rt, hostile.name, found, one_subchunk(rt.alloc(), hostile));
-        let unserved = resharded_to(rt.alloc(), hostile, 3);
-        let refusal = Err(CodecError::InvalidSubchunkShape);
-        same_at(&rt, hostile.name, said(&unserved), refusal);
+        let case = case_of(&rt, rt.alloc(), hostile);
+        let found = resharded_to(&rt, rt.alloc(), &case, 4);
+        let want = one_subchunk(&rt, rt.alloc(), hostile);
+        same_at(&rt, hostile.name, found, want);
+        let unserved = resharded_to(&rt, rt.alloc(), &case, 3).err();
+        let refusal = Some(CodecError::InvalidSubchunkShape);
+        same_at(&rt, hostile.name, unserved, refusal);
     }
 }
 
-// Sixteen elements of 4 by 4.
-#[derive(Drop)]
-struct Sixteen {
-    shape: ChunkShape,
-    fill: FillValue,
-}
-
-fn axes_of(alloc: Global, axes: &[u64]) -> Result<ChunkShape, CodecError> {
-    ChunkShape::new(alloc, axes)?.ok_or(CodecError::InvalidSubchunkShape)
-}
-
-fn sixteen_elements(alloc: Global) -> Result<Sixteen, CodecError> {
-    Ok(Sixteen {
-        shape: axes_of(alloc, &[4, 4])?,
-        fill: FillValue::from_number(alloc, 255u8)?,
-    })
-}
-
-fn squares(alloc: Global) -> Result<Plain, CodecError> {
-    let little = BytesCodec::little();
-    let codec = ShardingCodec::new(axes_of(alloc, &[2, 2])?, little, little, Start);
-    Ok(codec.with_subchunk_write_order(SubchunkWriteOrder::C))
-}
-
-// The shard of 0 to 15 in four squares behind their index.
-fn in_squares(alloc: Global) -> Answer {
-    let slices = [0, 1, 4, 5, 2, 3, 6, 7, 8, 9, 12, 13, 10, 11, 14, 15];
-    let index = [64, 4, 68, 4, 72, 4, 76, 4];
-    Ok(object_of(alloc, true, &slices, &index)?)
-}
-
-// The shard of 0 to 15 in two halves of two columns each before their index.
-fn in_halves(alloc: Global) -> Answer {
-    let slices = [0, 1, 4, 5, 8, 9, 12, 13, 2, 3, 6, 7, 10, 11, 14, 15];
-    Ok(object_of(alloc, false, &slices, &[0, 8, 8, 8])?)
-}
-
-// The codec of two halves of two columns each before their index.
-fn halves(alloc: Global) -> Result<Plain, CodecError> {
-    let little = BytesCodec::little();
-    Ok(ShardingCodec::new(axes_of(alloc, &[4, 2])?, little, little, End))
-}
-
-// Both codecs.
+// The codecs of 4 by 4 elements in four squares, and in two halves of two columns each; and what they are asked to serve.
 #[derive(Drop)]
 struct Both {
     squares: Plain,
     halves: Plain,
-    sixteen: Sixteen,
+    shape: ChunkShape,
+    fill: FillValue,
 }
 
-fn codecs(alloc: Global) -> Result<Both, CodecError> {
-    let sixteen = sixteen_elements(alloc)?;
-    let squares = squares(alloc)?;
-    let halves = halves(alloc)?;
-    Ok(Both {
-        squares,
-        halves,
-        sixteen,
-    })
+// The codec of 4 by 4 elements in halves, whose index is after them.
+fn halves<R: Abort>(rt: &R, alloc: Global) -> Plain {
+    let (little, sub) = (BytesCodec::little(), shape_of(rt, alloc, &[4, 2]));
+    ShardingCodec::new(sub, little, little, End)
+}
+
+fn codecs<R: Abort>(rt: &R, alloc: Global) -> Both {
+    Both {
+        squares: squares(rt, alloc),
+        halves: halves(rt, alloc),
+        shape: shape_of(rt, alloc, &[4, 4]),
+        fill: FillValue::from_number(alloc, 255u8).expect(rt, "memory"),
+    }
+}
+
+// The shard of 0 to 15 in halves.
+fn in_halves<R: Abort>(rt: &R, alloc: Global) -> Vec<u8> {
+    let slices = [0, 1, 4, 5, 8, 9, 12, 13, 2, 3, 6, 7, 10, 11, 14, 15];
+    object_of(alloc, false, &slices, &[0, 8, 8, 8]).expect(rt, "memory")
 }
 
 // Squares as halves, whose codec has one encoding of each array.
-fn halved(alloc: Global, both: &Both, object: &[u8]) -> Answer {
-    let Sixteen { shape, fill } = &both.sixteen;
-    let to = halves(alloc)?.with_subchunk_write_order(SubchunkWriteOrder::C);
-    reshard_functional(
-        alloc,
-        &both.squares,
-        &to,
-        object,
-        shape,
-        &DataType::UInt8,
-        fill,
-    )
-}
-
-// Halves as squares.
-fn squared(alloc: Global, both: &Both, object: &[u8]) -> Answer {
-    let Sixteen { shape, fill } = &both.sixteen;
-    let (from, to) = (&both.halves, &both.squares);
-    reshard(alloc, from, to, object, shape, &DataType::UInt8, fill)
+fn halved<R: Abort>(rt: &R, alloc: Global, both: &Both, object: &[u8]) -> Resharded {
+    let to = halves(rt, alloc).with_subchunk_write_order(SubchunkWriteOrder::C);
+    let (from, bytes) = (&both.squares, &DataType::UInt8);
+    reshard_functional(alloc, from, &to, object, &both.shape, bytes, &both.fill)
 }
 
 #[test]
-fn squares_become_halves_and_squares_again(rt: HostRuntime) -> Result<(), Fail> {
-    let both = codecs(rt.alloc())?;
-    let squares = in_squares(rt.alloc())?;
-    let halves = in_halves(rt.alloc())?;
-    let found = halved(rt.alloc(), &both, &squares);
-    same(&rt, said(&found), Ok(halves.as_slice()));
-    let found = squared(rt.alloc(), &both, &halves);
-    same(&rt, said(&found), Ok(squares.as_slice()));
-    Ok(())
+fn squares_become_halves(rt: HostRuntime) {
+    let both = codecs(&rt, rt.alloc());
+    let squares = in_squares(&rt, rt.alloc());
+    let found = halved(&rt, rt.alloc(), &both, &squares);
+    same(&rt, found, Ok(in_halves(&rt, rt.alloc())));
 }
 
-// The elements of halves that were squares.
-fn decoded_halves(alloc: Global, both: &Both, object: &[u8]) -> Answer {
-    let Sixteen { shape, fill } = &both.sixteen;
+#[test]
+fn halves_become_squares(rt: HostRuntime) {
+    let both = codecs(&rt, rt.alloc());
+    let Both { shape, fill, .. } = &both;
+    let (from, to, bytes) = (&both.halves, &both.squares, &DataType::UInt8);
+    let halves = in_halves(&rt, rt.alloc());
+    let found = reshard(rt.alloc(), from, to, &halves, shape, bytes, fill);
+    same(&rt, found, Ok(in_squares(&rt, rt.alloc())));
+}
+
+#[test]
+fn what_is_resharded_decodes_to_the_same(rt: HostRuntime) {
+    let both = codecs(&rt, rt.alloc());
+    let Both { shape, fill, .. } = &both;
     let (from, to, bytes) = (&both.squares, &both.halves, &DataType::UInt8);
-    let halves = reshard(alloc, from, to, object, shape, bytes, fill)?;
-    let array = decode_after_reshard(alloc, from, to, object, &halves, shape, bytes, fill);
-    elements_of(alloc, array)
-}
-
-#[test]
-fn what_is_resharded_decodes_to_the_same(rt: HostRuntime) -> Result<(), Fail> {
-    let both = codecs(rt.alloc())?;
-    let squares = in_squares(rt.alloc())?;
-    let found = decoded_halves(rt.alloc(), &both, &squares);
+    let object = in_squares(&rt, rt.alloc());
+    let resharded = reshard(rt.alloc(), from, to, &object, shape, bytes, fill);
+    let halves = resharded.expect(&rt, "halves");
+    let found = decode_after_reshard(rt.alloc(), from, to, &object, &halves, shape, bytes, fill);
     let want = [0, 1, 2, 3, 4, 5, 6, 7, 8, 9, 10, 11, 12, 13, 14, 15];
     same(&rt, said(&found), Ok(want.as_slice()));
-    Ok(())
 }

@@ -1,8 +1,10 @@
-// Shards of elements of one byte with the fill value 0, and the calls that meet their objects.
+// Shards of elements of one byte with the fill value 0, and the calls that meet their objects. What sets the scene is made, or the
+// test ends.
 use std::alloc::Global;
 use std::ops::Range;
+use std::process::Abort;
 use std::thread::Threads;
-use test_helpers::{HostileObject, Wanted};
+use test_helpers::{ABSENT, HostileObject, Wanted, object_of};
 use zarr_codecs::{ArrayToBytesCodecTraits, BytesCodec, MemoryHandle, SliceHandle};
 use zarr_parts::{
     ArrayBytes, ArraySubset, ChunkShape, CodecError, CodecOptions, Coordinates, DataType,
@@ -15,7 +17,7 @@ use zarrs_sharding::{
 
 pub(crate) type Plain = ShardingCodec<BytesCodec, BytesCodec>;
 
-pub(crate) type Answer = Result<Vec<u8>, CodecError>;
+pub(crate) type Answer<'a> = Result<ArrayBytes<'a>, CodecError>;
 
 pub(crate) type Decoder<'a, I> = ShardingPartialDecoder<'a, I, BytesCodec, SliceHandle<'a>>;
 
@@ -29,33 +31,37 @@ pub(crate) struct Shards<I> {
     pub(crate) fill: FillValue,
 }
 
-pub(crate) fn shape_of(alloc: Global, axis: u64) -> Result<ChunkShape, CodecError> {
-    ChunkShape::new(alloc, &[axis])?.ok_or(CodecError::InvalidSubchunkShape)
+pub(crate) fn shape_of<R: Abort>(rt: &R, alloc: Global, axes: &[u64]) -> ChunkShape {
+    ChunkShape::new(alloc, axes)
+        .expect(rt, "memory")
+        .expect(rt, "a shape")
 }
 
 // A codec around another, whose subchunks have this number of elements and are written in row-major order.
-pub(crate) fn around<I: Drop>(
+pub(crate) fn around<R: Abort, I: Drop>(
+    rt: &R,
     alloc: Global,
     sub: u64,
     inner: I,
     location: ShardingIndexLocation,
-) -> Result<ShardingCodec<I, BytesCodec>, CodecError> {
-    let sub = shape_of(alloc, sub)?;
+) -> ShardingCodec<I, BytesCodec> {
+    let sub = shape_of(rt, alloc, &[sub]);
     let codec = ShardingCodec::new(sub, inner, BytesCodec::little(), location);
-    Ok(codec.with_subchunk_write_order(SubchunkWriteOrder::C))
+    codec.with_subchunk_write_order(SubchunkWriteOrder::C)
 }
 
 // Shards of this number of elements.
-pub(crate) fn shards_of<I: Drop>(
+pub(crate) fn shards_of<R: Abort, I: Drop>(
+    rt: &R,
     alloc: Global,
     elements: u64,
     codec: ShardingCodec<I, BytesCodec>,
-) -> Result<Shards<I>, CodecError> {
-    Ok(Shards {
+) -> Shards<I> {
+    Shards {
         codec,
-        shape: shape_of(alloc, elements)?,
-        fill: FillValue::from_number(alloc, 0u8)?,
-    })
+        shape: shape_of(rt, alloc, &[elements]),
+        fill: FillValue::from_number(alloc, 0u8).expect(rt, "memory"),
+    }
 }
 
 pub(crate) fn location_of(at_start: bool) -> ShardingIndexLocation {
@@ -67,12 +73,33 @@ pub(crate) fn location_of(at_start: bool) -> ShardingIndexLocation {
 }
 
 // Two subchunks of two elements.
-pub(crate) fn plain(
+pub(crate) fn plain<R: Abort>(
+    rt: &R,
     alloc: Global,
     location: ShardingIndexLocation,
-) -> Result<Shards<BytesCodec>, CodecError> {
-    let codec = around(alloc, 2, BytesCodec::little(), location)?;
-    shards_of(alloc, 4, codec)
+) -> Shards<BytesCodec> {
+    let codec = around(rt, alloc, 2, BytesCodec::little(), location);
+    shards_of(rt, alloc, 4, codec)
+}
+
+// The object of 0, 7, 0, 0.
+pub(crate) fn seven<R: Abort>(rt: &R, alloc: Global) -> Vec<u8> {
+    let object = object_of(alloc, false, &[0, 7], &[0, 2, ABSENT, ABSENT]);
+    object.expect(rt, "memory")
+}
+
+// The codec of 4 by 4 elements in squares, whose index is before them.
+pub(crate) fn squares<R: Abort>(rt: &R, alloc: Global) -> Plain {
+    let (little, sub) = (BytesCodec::little(), shape_of(rt, alloc, &[2, 2]));
+    let codec = ShardingCodec::new(sub, little, little, ShardingIndexLocation::Start);
+    codec.with_subchunk_write_order(SubchunkWriteOrder::C)
+}
+
+// The shard of 0 to 15 in squares.
+pub(crate) fn in_squares<R: Abort>(rt: &R, alloc: Global) -> Vec<u8> {
+    let slices = [0, 1, 4, 5, 2, 3, 6, 7, 8, 9, 12, 13, 10, 11, 14, 15];
+    let index = [64, 4, 68, 4, 72, 4, 76, 4];
+    object_of(alloc, true, &slices, &index).expect(rt, "memory")
 }
 
 // The bytes of an object, and the shards of which it is to be one.
@@ -82,34 +109,60 @@ pub(crate) struct Case {
     pub(crate) shards: Shards<BytesCodec>,
 }
 
-pub(crate) fn case_of(alloc: Global, hostile: &HostileObject) -> Result<Case, CodecError> {
-    Ok(Case {
-        object: hostile.object(alloc)?,
-        shards: plain(alloc, location_of(hostile.at_start))?,
-    })
+pub(crate) fn case_of<R: Abort>(rt: &R, alloc: Global, hostile: &HostileObject) -> Case {
+    Case {
+        object: hostile.object(alloc).expect(rt, "memory"),
+        shards: plain(rt, alloc, location_of(hostile.at_start)),
+    }
 }
 
-pub(crate) fn subset_of(alloc: Global, range: &Range<u64>) -> Result<ArraySubset, CodecError> {
-    Ok(ArraySubset::from_ranges(alloc, &[range.start..range.end])?)
+impl Case {
+    // Decodes all four elements into these bytes.
+    pub(crate) fn decode_over<R: Abort>(
+        &self,
+        rt: &R,
+        alloc: Global,
+        bytes: &mut [u8],
+    ) -> Result<(), CodecError> {
+        let all = subset_of(rt, alloc, &(0..4));
+        let mut target = FixedTarget::new(bytes, 1, &[4], &all).expect(rt, "a target");
+        self.shards.decoded_into(alloc, &self.object, &mut target)
+    }
+
+    pub(crate) fn index<R: Abort>(&self, rt: &R, alloc: Global) -> Result<Vec<u64>, CodecError> {
+        let grid = shape_of(rt, alloc, &[2]);
+        let options = CodecOptions::default();
+        self.shards
+            .codec
+            .decode_index(alloc, &self.object, &grid, &options)
+    }
+
+    // The elements of a range that a decoder reads.
+    pub(crate) fn read<R: Abort>(
+        &self,
+        rt: &R,
+        alloc: Global,
+        range: &Range<u64>,
+    ) -> Answer<'static> {
+        let requested = subset_of(rt, alloc, range);
+        self.shards.read(alloc, &self.object, &requested)
+    }
+}
+
+pub(crate) fn subset_of<R: Abort>(rt: &R, alloc: Global, range: &Range<u64>) -> ArraySubset {
+    ArraySubset::from_ranges(alloc, &[range.start..range.end]).expect(rt, "a subset")
 }
 
 // The elements 3, 0 and 3.
-pub(crate) fn listed(alloc: Global) -> Result<Coordinates, CodecError> {
-    let numbers = [3, 0, 3].to_vec(alloc)?;
-    Coordinates::new(1, 3, numbers).ok_or(CodecError::IncompatibleDimensionality)
+pub(crate) fn listed<R: Abort>(rt: &R, alloc: Global) -> Coordinates {
+    let numbers = [3, 0, 3].to_vec(alloc).expect(rt, "memory");
+    Coordinates::new(1, 3, numbers).expect(rt, "coordinates")
 }
 
-// The elements of an array, each of which has one size, or the refusal.
-pub(crate) fn elements_of(alloc: Global, answer: Result<ArrayBytes, CodecError>) -> Answer {
-    let array = answer?;
-    let elements = array.fixed_bytes().ok_or(CodecError::WrongElementKind)?;
-    Ok(elements.to_vec(alloc)?)
-}
-
-// What an answer says, for a comparison.
-pub(crate) fn said(answer: &Answer) -> Result<&[u8], CodecError> {
+// What an answer says, for a comparison: the elements, each of which has one size, or the refusal.
+pub(crate) fn said<'a>(answer: &'a Result<ArrayBytes, CodecError>) -> Result<&'a [u8], CodecError> {
     match answer {
-        Ok(bytes) => Ok(bytes.as_slice()),
+        Ok(array) => array.fixed_bytes().ok_or(CodecError::WrongElementKind),
         Err(error) => Err(*error),
     }
 }
@@ -123,17 +176,16 @@ pub(crate) fn over(wanted: Wanted, kept: &'static [u8]) -> (Result<(), CodecErro
 }
 
 impl<I: ArrayToBytesCodecTraits + Drop> Shards<I> {
-    pub(crate) fn decoded(&self, alloc: Global, object: &[u8]) -> Answer {
+    pub(crate) fn decoded<'a>(&self, alloc: Global, object: &'a [u8]) -> Answer<'a> {
         let options = CodecOptions::default();
-        let array = self.codec.decode(
+        self.codec.decode(
             alloc,
             object,
             &self.shape,
             &DataType::UInt8,
             &self.fill,
             &options,
-        );
-        elements_of(alloc, array)
+        )
     }
 
     pub(crate) fn decoded_into(
@@ -210,34 +262,37 @@ impl<I: ArrayToBytesCodecTraits + Drop> Shards<I> {
         alloc: Global,
         object: Vec<u8>,
         requested: &N,
-    ) -> Answer {
+    ) -> Answer<'static> {
         match self.open(alloc, object) {
-            Ok(mut session) => elements_of(
-                alloc,
-                session.partial_decode(alloc, requested, &CodecOptions::default()),
-            ),
+            Ok(mut session) => {
+                session.partial_decode(alloc, requested, &CodecOptions::default())
+            }
             Err((_, error)) => Err(error),
         }
     }
 
     // The elements that a decoder of an object reads.
-    pub(crate) fn read<N: Indexer>(&self, alloc: Global, object: &[u8], requested: &N) -> Answer {
+    pub(crate) fn read<N: Indexer>(
+        &self,
+        alloc: Global,
+        object: &[u8],
+        requested: &N,
+    ) -> Answer<'static> {
         let mut decoder = self.decoder(alloc, object)?;
-        let array = decoder.partial_decode(alloc, requested, &CodecOptions::default());
-        elements_of(alloc, array)
+        decoder.partial_decode(alloc, requested, &CodecOptions::default())
     }
 }
 
 impl<I: ArrayToBytesCodecTraits + Drop + Sync> Shards<I> {
-    pub(crate) fn decoded_by_workers<R: Threads + Sync>(
+    pub(crate) fn decoded_by_workers<'a, R: Threads + Sync>(
         &self,
         rt: &R,
         alloc: Global,
-        object: &[u8],
+        object: &'a [u8],
         workers: usize,
-    ) -> Answer {
+    ) -> Answer<'a> {
         let options = CodecOptions::default().with_concurrent_target(workers);
-        let array = self.codec.decode_by_workers(
+        self.codec.decode_by_workers(
             rt,
             alloc,
             object,
@@ -246,7 +301,6 @@ impl<I: ArrayToBytesCodecTraits + Drop + Sync> Shards<I> {
             &self.fill,
             &NoGate,
             &options,
-        );
-        elements_of(alloc, array)
+        )
     }
 }

@@ -5,9 +5,9 @@ ghost use Rattle.sharding_codec.specs.Decoders.{object_cells};
 ghost use Rattle.sharding_write.specs.Writing.{AreOverlaid};
 
 use crate::compared::same;
-use crate::shards::{elements_of, seven, shape_of, subset_of};
+use crate::shards::{Answer, said, seven, shape_of, subset_of};
 use std::alloc::Global;
-use std::test::Fail;
+use std::process::Abort;
 use zarr_codecs::{ArrayToBytesCodecTraits, BytesCodec, MemoryHandle};
 use zarr_parts::{
     ArrayBytes, ArraySubset, ChunkShape, CodecError, CodecOptions, DataType, FillValue,
@@ -91,45 +91,29 @@ fn written_and_read(
     }
 }
 
-fn four_cells(alloc: Global) -> Result<Coded, CodecError> {
-    Ok(Coded {
-        codec: codec(alloc)?,
-        shape: shape_of(alloc, &[4])?,
-        data_type: DataType::UInt8,
-        fill: FillValue::from_number(alloc, 0u8)?,
-    })
-}
-
-fn codec(alloc: Global) -> Result<Codec, CodecError> {
+fn four_cells<R: Abort>(rt: &R, alloc: Global) -> Coded {
     let (inner, index) = (BytesCodec::little(), BytesCodec::little());
-    let sub = shape_of(alloc, &[2])?;
-    Ok(ShardingCodec::new(sub, inner, index, ShardingIndexLocation::End))
-}
-
-// The cells of an object after an update was written over the first.
-fn updated(
-    alloc: Global,
-    coded: &Coded,
-    before: &[u8],
-    update: &ArrayBytes,
-) -> Result<Vec<u8>, CodecError> {
-    let first = subset_of(alloc, 0..1)?;
-    let all = subset_of(alloc, 0..4)?;
-    let cells = written_and_read(alloc, coded, before, &first, update, &all);
-    elements_of(alloc, cells)
+    let sub = shape_of(rt, alloc, &[2]);
+    Coded {
+        codec: ShardingCodec::new(sub, inner, index, ShardingIndexLocation::End),
+        shape: shape_of(rt, alloc, &[4]),
+        data_type: DataType::UInt8,
+        fill: FillValue::from_number(alloc, 0u8).expect(rt, "memory"),
+    }
 }
 
 // The cells 0, 7, 0, 0 after 5 was written over the first.
-fn five_and_seven(alloc: Global, coded: &Coded) -> Result<Vec<u8>, CodecError> {
-    let before = seven(alloc)?;
-    let update = ArrayBytes::from_numbers(alloc, &[5u8])?;
-    updated(alloc, coded, &before, &update)
+fn five_and_seven<R: Abort>(rt: &R, alloc: Global, coded: &Coded) -> Answer {
+    let before = seven(rt, alloc);
+    let update = ArrayBytes::from_numbers(alloc, &[5u8]).expect(rt, "memory");
+    let first = subset_of(rt, alloc, 0..1);
+    let all = subset_of(rt, alloc, 0..4);
+    written_and_read(alloc, coded, &before, &first, &update, &all)
 }
 
 #[test]
-fn a_read_after_a_write_has_its_cells(rt: HostRuntime) -> Result<(), Fail> {
-    let coded = four_cells(rt.alloc())?;
-    let found = five_and_seven(rt.alloc(), &coded)?;
-    same(&rt, found.as_slice(), [5u8, 7, 0, 0].as_slice());
-    Ok(())
+fn a_read_after_a_write_has_its_cells(rt: HostRuntime) {
+    let coded = four_cells(&rt, rt.alloc());
+    let found = five_and_seven(&rt, rt.alloc(), &coded);
+    same(&rt, said(&found), Ok([5u8, 7, 0, 0].as_slice()));
 }

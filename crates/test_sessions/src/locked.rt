@@ -1,149 +1,109 @@
 // A session that threads share.
 use crate::compared::same;
-use crate::shards::{Shards, Shared, elements_of, seven, subset_of};
+use crate::shards::{Answer, Shards, Shared, said, seven, subset_of};
 use std::alloc::Global;
 use std::ops::Range;
+use std::process::Abort;
 use std::sync::Wait;
-use std::test::Fail;
 use std::thread::{Threads, join};
 use zarr_codecs::MemoryHandle;
 use zarr_parts::{ArrayBytes, CodecError, CodecOptions, DataType};
 use zarrs_sharding::ShardingIndexLocation::End;
 
-fn opened(alloc: Global, shards: &Shards) -> Result<Shared<'_, MemoryHandle>, CodecError> {
-    let handle = MemoryHandle::new(Some(seven(alloc)?));
-    match shards.share(alloc, handle) {
-        Ok(session) => Ok(session),
-        Err((_, error)) => Err(error),
-    }
+type Memory<'a> = Shared<'a, MemoryHandle>;
+
+// A session of the object of 0, 7, 0, 0.
+fn opened<'a, R: Abort>(rt: &R, alloc: Global, shards: &'a Shards) -> Memory<'a> {
+    let handle = MemoryHandle::new(Some(seven(rt, alloc)));
+    shards.share(alloc, handle).ok().expect(rt, "a session")
 }
 
 // Writes one cell.
-fn write<R: Wait>(
+fn write<R: Abort + Wait>(
     rt: &R,
     alloc: Global,
-    session: &Shared<'_, MemoryHandle>,
+    session: &Memory<'_>,
     place: u64,
     cell: u8,
 ) -> Result<(), CodecError> {
-    let subset = subset_of(alloc, place..place.saturating_add(1))?;
-    let update = ArrayBytes::from_numbers(alloc, &[cell])?;
+    let subset = subset_of(rt, alloc, place..place.saturating_add(1));
+    let update = ArrayBytes::from_numbers(alloc, &[cell]).expect(rt, "memory");
     session.partial_encode(rt, alloc, &subset, &update, &CodecOptions::default())
 }
 
 // The cells of a range.
-fn read<R: Wait>(
-    rt: &R,
-    alloc: Global,
-    session: &Shared<'_, MemoryHandle>,
-    range: Range<u64>,
-) -> Result<Vec<u8>, CodecError> {
-    let subset = subset_of(alloc, range)?;
-    let array = session.partial_decode(rt, alloc, &subset, &CodecOptions::default());
-    elements_of(alloc, array)
+fn read<R: Abort + Wait>(rt: &R, alloc: Global, session: &Memory<'_>, range: Range<u64>) -> Answer {
+    let subset = subset_of(rt, alloc, range);
+    session.partial_decode(rt, alloc, &subset, &CodecOptions::default())
 }
 
-// Whether the cells of a range are these.
-fn are_cells<R: Wait>(
+// Ends the test where the cells of a range are not these.
+fn are_cells<R: Abort + Wait>(
     rt: &R,
     alloc: Global,
-    session: &Shared<'_, MemoryHandle>,
+    session: &Memory<'_>,
     range: Range<u64>,
     want: &[u8],
-) -> Result<bool, CodecError> {
-    Ok(read(rt, alloc, session, range)?.as_slice() == want)
+) {
+    let found = read(rt, alloc, session, range);
+    same(rt, said(&found), Ok(want));
 }
 
-// Whether there is an object, and how many bytes are held of it.
-type Told = (bool, usize);
-
-fn told<R: Wait>(rt: &R, session: &Shared<'_, MemoryHandle>) -> Result<Told, CodecError> {
-    let exists = session.exists(rt)?;
-    Ok((exists, session.size_held(rt)))
-}
-
-// Whether the cells are right after a write of the first one; and what is told then, and after an erasure.
-fn told_twice<R: Wait>(
-    rt: &R,
-    alloc: Global,
-    session: &Shared<'_, MemoryHandle>,
-) -> Result<(bool, Told, Told), CodecError> {
-    write(rt, alloc, session, 0, 3)?;
-    let are_right = are_cells(rt, alloc, session, 0..4, &[3, 7, 0, 0])?;
-    let written = told(rt, session)?;
-    session.erase(rt)?;
-    let erased = told(rt, session)?;
-    Ok((are_right, written, erased))
+// Ends the test where it is told otherwise whether there is an object, or how many bytes are held of it.
+fn tells<R: Abort + Wait>(rt: &R, session: &Memory<'_>, exists: bool, held: usize) {
+    same(rt, session.exists(rt), Ok(exists));
+    same(rt, session.size_held(rt), held);
 }
 
 #[test]
-fn a_shared_session_writes_reads_and_erases(rt: HostRuntime) -> Result<(), Fail> {
-    let shards = Shards::new(rt.alloc(), End)?;
-    let session = opened(rt.alloc(), &shards)?;
-    let found = told_twice(&rt, rt.alloc(), &session);
-    same(&rt, found, Ok((true, (true, 34 + 32), (false, 32))));
+fn a_shared_session_writes_reads_and_erases(rt: HostRuntime) {
+    let shards = Shards::new(&rt, rt.alloc(), End);
+    let session = opened(&rt, rt.alloc(), &shards);
+    same(&rt, write(&rt, rt.alloc(), &session, 0, 3), Ok(()));
+    are_cells(&rt, rt.alloc(), &session, 0..4, &[3, 7, 0, 0]);
+    tells(&rt, &session, true, 34 + 32);
+    same(&rt, session.erase(&rt), Ok(()));
+    tells(&rt, &session, false, 32);
     let left = session.into_inner().into_inner();
     same(&rt, left.is_some(), false);
-    Ok(())
-}
-
-// What is told without a lock, and so without a runtime.
-fn told_at_once(session: &Shared<'_, MemoryHandle>) -> (DataType, bool, bool) {
-    let read = session.supports_partial_decode();
-    let write = session.supports_partial_encode();
-    (*session.data_type(), read, write)
 }
 
 #[test]
-fn what_never_changes_is_told_without_a_runtime(rt: HostRuntime) -> Result<(), Fail> {
-    let shards = Shards::new(rt.alloc(), End)?;
-    let session = opened(rt.alloc(), &shards)?;
-    let want = (DataType::UInt8, true, true);
-    same(&rt, told_at_once(&session), want);
-    Ok(())
-}
-
-// How a read is refused, and whether the cells that are read after it are right.
-fn read_after_refusal<R: Wait>(
-    rt: &R,
-    alloc: Global,
-    session: &Shared<'_, MemoryHandle>,
-) -> Result<(bool, bool), CodecError> {
-    let refused = are_cells(rt, alloc, session, 3..5, &[]) == Err(CodecError::OutOfBounds);
-    let are_right = are_cells(rt, alloc, session, 0..2, &[0, 7])?;
-    Ok((refused, are_right))
+fn what_never_changes_is_told_without_a_runtime(rt: HostRuntime) {
+    let shards = Shards::new(&rt, rt.alloc(), End);
+    let session = opened(&rt, rt.alloc(), &shards);
+    same(&rt, *session.data_type(), DataType::UInt8);
+    same(&rt, session.supports_partial_decode(), true);
+    same(&rt, session.supports_partial_encode(), true);
 }
 
 #[test]
-fn a_refused_call_gives_the_lock_back(rt: HostRuntime) -> Result<(), Fail> {
-    let shards = Shards::new(rt.alloc(), End)?;
-    let session = opened(rt.alloc(), &shards)?;
-    let found = read_after_refusal(&rt, rt.alloc(), &session);
-    same(&rt, found, Ok((true, true)));
-    Ok(())
+fn a_refused_call_gives_the_lock_back(rt: HostRuntime) {
+    let shards = Shards::new(&rt, rt.alloc(), End);
+    let session = opened(&rt, rt.alloc(), &shards);
+    let refused = read(&rt, rt.alloc(), &session, 3..5);
+    same(&rt, said(&refused), Err(CodecError::OutOfBounds));
+    are_cells(&rt, rt.alloc(), &session, 0..2, &[0, 7]);
 }
 
-// Whether the cells are right after two threads wrote one each.
-fn written_by_two<R: Threads + Wait + Sync>(
+// How the writes of two threads, of one cell each, are answered.
+fn written_by_two<R: Abort + Threads + Wait + Sync>(
     rt: &R,
     alloc: Global,
-    session: &Shared<'_, MemoryHandle>,
-) -> Result<bool, CodecError> {
-    let (first, second) = join(
+    session: &Memory<'_>,
+) -> (Result<(), CodecError>, Result<(), CodecError>) {
+    join(
         rt,
         || write(rt, alloc, session, 0, 3),
         || write(rt, alloc, session, 3, 9),
-    );
-    first?;
-    second?;
-    are_cells(rt, alloc, session, 0..4, &[3, 7, 0, 9])
+    )
 }
 
 #[test]
-fn two_threads_write_into_one_session(rt: HostRuntime) -> Result<(), Fail> {
-    let shards = Shards::new(rt.alloc(), End)?;
-    let session = opened(rt.alloc(), &shards)?;
-    let found = written_by_two(&rt, rt.alloc(), &session);
-    same(&rt, found, Ok(true));
-    Ok(())
+fn two_threads_write_into_one_session(rt: HostRuntime) {
+    let shards = Shards::new(&rt, rt.alloc(), End);
+    let session = opened(&rt, rt.alloc(), &shards);
+    let written = written_by_two(&rt, rt.alloc(), &session);
+    same(&rt, written, (Ok(()), Ok(())));
+    are_cells(&rt, rt.alloc(), &session, 0..4, &[3, 7, 0, 9]);
 }

@@ -3,6 +3,7 @@ use crate::compared::same;
 use crate::shards::{ABSENT, are_cells, object_of, shape_of, write};
 use std::alloc::Global;
 use std::ops::Range;
+use std::process::Abort;
 use zarr_codecs::{BytesCodec, MemoryHandle};
 use zarr_parts::{ChunkShape, CodecError, CodecOptions, DataType, FillValue};
 use zarrs_sharding::ShardingIndexLocation::End;
@@ -12,10 +13,10 @@ type Inner = ShardingCodec<BytesCodec, BytesCodec>;
 
 type Session<'a> = ShardState<'a, Inner, BytesCodec, MemoryHandle>;
 
-fn codec(alloc: Global) -> Result<ShardingCodec<Inner, BytesCodec>, CodecError> {
+fn codec<R: Abort>(rt: &R, alloc: Global) -> ShardingCodec<Inner, BytesCodec> {
     let little = BytesCodec::little();
-    let inner = ShardingCodec::new(shape_of(alloc, &[1])?, little, little, End);
-    Ok(ShardingCodec::new(shape_of(alloc, &[2])?, inner, little, End))
+    let inner = ShardingCodec::new(shape_of(rt, alloc, &[1]), little, little, End);
+    ShardingCodec::new(shape_of(rt, alloc, &[2]), inner, little, End)
 }
 
 // A codec, and what it is asked to serve.
@@ -27,15 +28,15 @@ struct Nests {
 }
 
 impl Nests {
-    fn new(alloc: Global) -> Result<Self, CodecError> {
-        Ok(Nests {
-            codec: codec(alloc)?,
-            shape: shape_of(alloc, &[4])?,
-            fill: FillValue::from_number(alloc, 0u8)?,
-        })
+    fn new<R: Abort>(rt: &R, alloc: Global) -> Self {
+        Nests {
+            codec: codec(rt, alloc),
+            shape: shape_of(rt, alloc, &[4]),
+            fill: FillValue::from_number(alloc, 0u8).expect(rt, "memory"),
+        }
     }
 
-    fn open(&self, alloc: Global, object: Option<Vec<u8>>) -> Result<Session<'_>, CodecError> {
+    fn open<R: Abort>(&self, rt: &R, alloc: Global, object: Option<Vec<u8>>) -> Session<'_> {
         let opened = self.codec.open_state(
             alloc,
             MemoryHandle::new(object),
@@ -44,81 +45,62 @@ impl Nests {
             &self.fill,
             &CodecOptions::default(),
         );
-        match opened {
-            Ok(session) => Ok(session),
-            Err((_, error)) => Err(error),
-        }
+        opened.ok().expect(rt, "a session")
     }
 }
 
 // How a write over a range of an object is refused, and the object then.
 type Found = (Option<CodecError>, Option<Vec<u8>>);
 
-fn written(
+fn written<R: Abort>(
+    rt: &R,
     alloc: Global,
     object: Option<Vec<u8>>,
     range: Range<u64>,
     cells: &[u8],
-) -> Result<Found, CodecError> {
-    let nests = Nests::new(alloc)?;
-    let mut session = nests.open(alloc, object)?;
-    let refusal = write(alloc, &mut session, range, cells).err();
-    Ok((refusal, session.close().into_inner()))
+) -> Found {
+    let nests = Nests::new(rt, alloc);
+    let mut session = nests.open(rt, alloc, object);
+    let refusal = write(rt, alloc, &mut session, range, cells).err();
+    (refusal, session.close().into_inner())
 }
 
 // The object of two inner shards, each of one stored byte: of cells 0, 5, 6, 0.
-fn two_stored(alloc: Global) -> Result<Vec<u8>, CodecError> {
-    let mut slices = object_of(alloc, End, &[5], [ABSENT, ABSENT, 0, 1])?;
-    slices.extend_from_slice(&object_of(alloc, End, &[6], [0, 1, ABSENT, ABSENT])?)?;
-    object_of(alloc, End, &slices, [0, 33, 33, 33])
-}
-
-fn two_found(alloc: Global) -> Result<Found, CodecError> {
-    Ok((None, Some(two_stored(alloc)?)))
-}
-
-// Whether all cells of that object are these.
-fn are_read(alloc: Global, want: &[u8]) -> Result<bool, CodecError> {
-    let object = two_stored(alloc)?;
-    let nests = Nests::new(alloc)?;
-    let mut session = nests.open(alloc, Some(object))?;
-    let answer = are_cells(alloc, &mut session, 0..4, want);
-    let _ = session.close();
-    answer
+fn two_stored<R: Abort>(rt: &R, alloc: Global) -> Vec<u8> {
+    let mut slices = object_of(rt, alloc, End, &[5], [ABSENT, ABSENT, 0, 1]);
+    let second = object_of(rt, alloc, End, &[6], [0, 1, ABSENT, ABSENT]);
+    slices.extend_from_slice(&second).expect(rt, "memory");
+    object_of(rt, alloc, End, &slices, [0, 33, 33, 33])
 }
 
 // A write into no object makes both, and they are read back.
 #[test]
 fn a_shard_in_a_shard_is_written(rt: HostRuntime) {
-    let found = written(rt.alloc(), None, 1..3, &[5, 6]);
-    same(&rt, found, two_found(rt.alloc()));
-    same(&rt, are_read(rt.alloc(), &[0, 5, 6, 0]), Ok(true));
+    let found = written(&rt, rt.alloc(), None, 1..3, &[5, 6]);
+    same(&rt, found, (None, Some(two_stored(&rt, rt.alloc()))));
+    let nests = Nests::new(&rt, rt.alloc());
+    let object = Some(two_stored(&rt, rt.alloc()));
+    let mut session = nests.open(&rt, rt.alloc(), object);
+    assert!(rt; are_cells(&rt, rt.alloc(), &mut session, 0..4, &[0, 5, 6, 0]));
 }
 
 // An object whose first subchunk is a shard of these bytes and pairs, and whose second is absent.
-fn one_stored(alloc: Global, bytes: &[u8], index: [u64; 4]) -> Result<Vec<u8>, CodecError> {
-    let inner = object_of(alloc, End, bytes, index)?;
-    object_of(alloc, End, &inner, [0, inner.len() as u64, ABSENT, ABSENT])
+fn one_stored<R: Abort>(rt: &R, alloc: Global, bytes: &[u8], index: [u64; 4]) -> Vec<u8> {
+    let inner = object_of(rt, alloc, End, bytes, index);
+    let index = [0, inner.len() as u64, ABSENT, ABSENT];
+    object_of(rt, alloc, End, &inner, index)
 }
 
 // Of such an object with the byte 1, whose first inner pair has this size.
-fn written_over(
+fn written_over<R: Abort>(
+    rt: &R,
     alloc: Global,
     size: u64,
     range: Range<u64>,
     cells: &[u8],
-) -> Result<Found, CodecError> {
-    let object = one_stored(alloc, &[1], [0, size, ABSENT, ABSENT])?;
-    written(alloc, Some(object), range, cells)
-}
-
-fn wanted(
-    alloc: Global,
-    refusal: Option<CodecError>,
-    bytes: &[u8],
-    index: [u64; 4],
-) -> Result<Found, CodecError> {
-    Ok((refusal, Some(one_stored(alloc, bytes, index)?)))
+) -> Found {
+    let object = one_stored(rt, alloc, &[1], [0, size, ABSENT, ABSENT]);
+    written(rt, alloc, Some(object), range, cells)
 }
 
 // A pair that ends outside the inner shard, though inside the object, damages it: it is read where it is not covered, and only then.
@@ -143,7 +125,8 @@ fn an_inner_shard_is_read_where_it_is_not_covered(rt: HostRuntime) {
             [0, 34, ABSENT, ABSENT],
         ),
     ] {
-        let found = written_over(rt.alloc(), size, range, cells);
-        same(&rt, found, wanted(rt.alloc(), refusal, bytes, index));
+        let found = written_over(&rt, rt.alloc(), size, range, cells);
+        let object = one_stored(&rt, rt.alloc(), bytes, index);
+        same(&rt, found, (refusal, Some(object)));
     }
 }

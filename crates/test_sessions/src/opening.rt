@@ -2,37 +2,27 @@
 use crate::compared::same_at;
 use crate::shards::{ABSENT, Shards, object_of};
 use std::alloc::Global;
+use std::process::Abort;
 use zarr_codecs::{BytesPartialDecoderTraits, MemoryHandle};
 use zarr_parts::CodecError;
 use zarrs_sharding::ShardingIndexLocation;
 use zarrs_sharding::ShardingIndexLocation::{End, Start};
 
 // How many bytes the handle of an object that is not opened holds, and why it is not opened.
-fn refused(
+fn refused<R: Abort>(
+    rt: &R,
     alloc: Global,
     location: ShardingIndexLocation,
     object: Vec<u8>,
-) -> Result<Option<(usize, CodecError)>, CodecError> {
-    let shards = Shards::new(alloc, location)?;
+) -> Option<(usize, CodecError)> {
+    let shards = Shards::new(rt, alloc, location);
     match shards.open(alloc, MemoryHandle::new(Some(object))) {
-        Ok(session) => {
-            let _ = session.close();
-            Ok(None)
-        }
-        Err((handle, error)) => Ok(Some((handle.size_held(), error))),
+        Ok(_) => None,
+        Err((handle, error)) => Some((handle.size_held(), error)),
     }
 }
 
-fn refused_index(
-    alloc: Global,
-    location: ShardingIndexLocation,
-    index: [u64; 4],
-) -> Result<Option<(usize, CodecError)>, CodecError> {
-    let object = object_of(alloc, location, &[5, 6], index)?;
-    refused(alloc, location, object)
-}
-
-// The second pair is half empty, passes 64 bits or has no size; lies on the slice of the first, on the index, or behind it;
+// The second pair is half empty, passes 64 bits or has no size; lies on the slice of the first, on the index, or after it;
 // has no byte at the end of the data part. Or the first lies on an index at the start, with bytes or without.
 #[test]
 fn the_lowest_entry_outside_the_data_part_is_named(rt: HostRuntime) {
@@ -49,13 +39,10 @@ fn the_lowest_entry_outside_the_data_part_is_named(rt: HostRuntime) {
         (Start, [32, 2, 34, 0], None),
     ] {
         let want = number.map(|number| (34, CodecError::BadIndexEntry { number }));
-        let found = refused_index(rt.alloc(), location, index);
-        same_at(&rt, index, found, Ok(want));
+        let object = object_of(&rt, rt.alloc(), location, &[5, 6], index);
+        let found = refused(&rt, rt.alloc(), location, object);
+        same_at(&rt, index, found, want);
     }
-}
-
-fn refused_bytes(alloc: Global, len: usize) -> Result<Option<(usize, CodecError)>, CodecError> {
-    refused(alloc, End, vec![in alloc; 255u8; len]?)
 }
 
 // An object shorter than the index, of 32 bytes, is not opened; an index alone is.
@@ -66,6 +53,7 @@ fn a_short_object_is_given_back(rt: HostRuntime) {
         (31, Some((31, CodecError::ShardTooShort))),
         (32, None),
     ] {
-        same_at(&rt, len, refused_bytes(rt.alloc(), len), Ok(want));
+        let object = Vec::from_elem(rt.alloc(), 255u8, len).expect(&rt, "memory");
+        same_at(&rt, len, refused(&rt, rt.alloc(), End, object), want);
     }
 }

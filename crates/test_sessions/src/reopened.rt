@@ -1,64 +1,52 @@
 // Sessions that failed: their handle is opened anew.
 use crate::compared::same_at;
-use crate::shards::{Session, Shards, are_cells, seven, write};
+use crate::shards::{Shards, are_cells, seven, write};
 use std::alloc::Global;
+use std::process::Abort;
 use zarr_codecs::FaultingHandle;
-use zarr_parts::CodecError;
 use zarrs_sharding::ShardingIndexLocation;
 
-type Faulting<'a> = Session<'a, FaultingHandle>;
-
-// Writes 1 over the first cell, or erases.
-fn change(alloc: Global, session: &mut Faulting<'_>, erases: bool) -> Result<(), CodecError> {
-    if erases {
-        session.erase()
-    } else {
-        write(alloc, session, 0..1, &[1])
-    }
-}
-
-// Whether the cells are as they were, and then as they are written.
-fn written_afresh(alloc: Global, session: &mut Faulting<'_>) -> Result<(bool, bool), CodecError> {
-    let before = are_cells(alloc, session, 0..4, &[0, 7, 0, 0])?;
-    write(alloc, session, 0..1, &[1])?;
-    let after = are_cells(alloc, session, 0..4, &[1, 7, 0, 0])?;
-    Ok((before && !session.is_failed(), after))
-}
-
-fn opened_anew(
-    alloc: Global,
-    shards: &Shards,
-    handle: FaultingHandle,
-) -> Result<(bool, bool), CodecError> {
-    match shards.open(alloc, handle) {
-        Ok(mut session) => written_afresh(alloc, &mut session),
-        Err((_, error)) => Err(error),
-    }
-}
-
-// The same of the handle of a session that failed at a change; none where it did not.
-fn afresh(
+// The handle of a session that failed where it wrote 1 over the first cell, or erased; none where it did not fail.
+fn failed_handle<R: Abort>(
+    rt: &R,
     alloc: Global,
     shards: &Shards,
     handle: FaultingHandle,
     erases: bool,
-) -> Result<Option<(bool, bool)>, CodecError> {
-    let Ok(mut session) = shards.open(alloc, handle) else {
-        return Ok(None);
+) -> Option<FaultingHandle> {
+    let mut session = shards.open(alloc, handle).ok()?;
+    let _ = if erases {
+        session.erase()
+    } else {
+        write(rt, alloc, &mut session, 0..1, &[1])
     };
-    let _ = change(alloc, &mut session, erases);
-    if !session.is_failed() {
-        return Ok(None);
+    if session.is_failed() {
+        Some(session.close())
+    } else {
+        None
     }
-    let found = opened_anew(alloc, shards, session.close())?;
-    Ok(Some(found))
 }
 
-// The same of the object of 0, 7, 0, 0, of whose handle the call with this number fails.
-fn run(alloc: Global, fails_at: u64, erases: bool) -> Result<Option<(bool, bool)>, CodecError> {
-    let shards = Shards::new(alloc, ShardingIndexLocation::End)?;
-    let handle = FaultingHandle::new(Some(seven(alloc)?), fails_at);
-    afresh(alloc, &shards, handle, erases)
+// Whether the cells are as they were in a session that a handle opens anew, and then as they are written.
+fn written_afresh<R: Abort>(
+    rt: &R,
+    alloc: Global,
+    shards: &Shards,
+    handle: FaultingHandle,
+) -> (bool, bool) {
+    let mut session = shards.opened(rt, alloc, handle);
+    let before = are_cells(rt, alloc, &mut session, 0..4, &[0, 7, 0, 0]);
+    write(rt, alloc, &mut session, 0..1, &[1]).expect(rt, "a write");
+    let after = are_cells(rt, alloc, &mut session, 0..4, &[1, 7, 0, 0]);
+    (before && !session.is_failed(), after)
+}
+
+// The same of the object of 0, 7, 0, 0, of whose handle the call with this number fails; none where the session does not.
+fn run<R: Abort>(rt: &R, alloc: Global, fails_at: u64, erases: bool) -> Option<(bool, bool)> {
+    let shards = Shards::new(rt, alloc, ShardingIndexLocation::End);
+    let handle = FaultingHandle::new(Some(seven(rt, alloc)), fails_at);
+    let failed = failed_handle(rt, alloc, &shards, handle, erases)?;
+    Some(written_afresh(rt, alloc, &shards, failed))
 }
 
 // A change makes one call that writes, by which the session may fail.
@@ -67,10 +55,10 @@ fn a_failed_session_is_opened_anew(rt: HostRuntime) {
     for erases in [false, true] {
         let mut failed: u64 = 0;
         for fails_at in 0..100 {
-            let found = run(rt.alloc(), fails_at, erases);
-            if found != Ok(None) {
+            let found = run(&rt, rt.alloc(), fails_at, erases);
+            if found.is_some() {
                 failed = failed.saturating_add(1);
-                same_at(&rt, (erases, fails_at), found, Ok(Some((true, true))));
+                same_at(&rt, (erases, fails_at), found, Some((true, true)));
             }
         }
         same_at(&rt, erases, failed, 1);

@@ -1,6 +1,8 @@
-// Shards for the tests: four cells of one byte in two subchunks, with the fill value 0.
+// Shards for the tests: four cells of one byte in two subchunks, with the fill value 0. What sets the scene is made, or the test
+// ends.
 use std::alloc::Global;
 use std::ops::Range;
+use std::process::Abort;
 use zarr_codecs::{ArrayToBytesCodecTraits, BytesCodec, BytesPartialEncoderTraits};
 use zarr_parts::{
     ArrayBytes, ArraySubset, ChunkShape, CodecError, CodecOptions, DataType, FillValue, Indexer,
@@ -12,10 +14,15 @@ pub(crate) type Session<'a, H> = ShardState<'a, BytesCodec, BytesCodec, H>;
 // A session that threads share.
 pub(crate) type Shared<'a, H> = ShardingPartialEncoder<'a, BytesCodec, BytesCodec, H>;
 
+// What a read answers.
+pub(crate) type Answer = Result<ArrayBytes<'static>, CodecError>;
+
 pub(crate) const ABSENT: u64 = u64::MAX;
 
-pub(crate) fn shape_of(alloc: Global, axes: &[u64]) -> Result<ChunkShape, CodecError> {
-    ChunkShape::new(alloc, axes)?.ok_or(CodecError::OutOfBounds)
+pub(crate) fn shape_of<R: Abort>(rt: &R, alloc: Global, axes: &[u64]) -> ChunkShape {
+    ChunkShape::new(alloc, axes)
+        .expect(rt, "memory")
+        .expect(rt, "a shape")
 }
 
 // A codec, and what it is asked to serve.
@@ -27,15 +34,13 @@ pub(crate) struct Shards {
 }
 
 impl Shards {
-    pub(crate) fn new(alloc: Global, location: ShardingIndexLocation) -> Result<Self, CodecError> {
-        let sub = shape_of(alloc, &[2])?;
-        let little = BytesCodec::little();
-        let zero = vec![in alloc; 0u8; 1]?;
-        Ok(Shards {
+    pub(crate) fn new<R: Abort>(rt: &R, alloc: Global, location: ShardingIndexLocation) -> Self {
+        let (sub, little) = (shape_of(rt, alloc, &[2]), BytesCodec::little());
+        Shards {
             codec: ShardingCodec::new(sub, little, little, location),
-            shape: shape_of(alloc, &[4])?,
-            fill: FillValue::new(zero),
-        })
+            shape: shape_of(rt, alloc, &[4]),
+            fill: FillValue::from_number(alloc, 0u8).expect(rt, "memory"),
+        }
     }
 
     pub(crate) fn open<H: BytesPartialEncoderTraits>(
@@ -51,6 +56,16 @@ impl Shards {
             &self.fill,
             &CodecOptions::default(),
         )
+    }
+
+    // A session of an object that can be opened.
+    pub(crate) fn opened<R: Abort, H: BytesPartialEncoderTraits + Drop>(
+        &self,
+        rt: &R,
+        alloc: Global,
+        handle: H,
+    ) -> Session<'_, H> {
+        self.open(alloc, handle).ok().expect(rt, "a session")
     }
 
     pub(crate) fn share<H: BytesPartialEncoderTraits>(
@@ -70,47 +85,35 @@ impl Shards {
 }
 
 // An object of these slices and this index.
-pub(crate) fn object_of(
+pub(crate) fn object_of<R: Abort>(
+    rt: &R,
     alloc: Global,
     location: ShardingIndexLocation,
     slices: &[u8],
     index: [u64; 4],
-) -> Result<Vec<u8>, CodecError> {
+) -> Vec<u8> {
     let mut numbers: Vec<u8> = Vec::new(alloc);
     for number in index.iter() {
-        numbers.extend_from_slice(&number.to_le_bytes())?;
+        let bytes = number.to_le_bytes();
+        numbers.extend_from_slice(&bytes).expect(rt, "memory");
     }
     let (first, last) = match location {
         ShardingIndexLocation::Start => (numbers.as_slice(), slices),
         ShardingIndexLocation::End => (slices, numbers.as_slice()),
     };
-    let mut object = first.to_vec(alloc)?;
-    object.extend_from_slice(last)?;
-    Ok(object)
+    let mut object = first.to_vec(alloc).expect(rt, "memory");
+    object.extend_from_slice(last).expect(rt, "memory");
+    object
 }
 
 // The object of the cells 0, 7, 0, 0.
-pub(crate) fn seven(alloc: Global) -> Result<Vec<u8>, CodecError> {
-    object_of(
-        alloc,
-        ShardingIndexLocation::End,
-        &[0, 7],
-        [0, 2, ABSENT, ABSENT],
-    )
+pub(crate) fn seven<R: Abort>(rt: &R, alloc: Global) -> Vec<u8> {
+    let index = [0, 2, ABSENT, ABSENT];
+    object_of(rt, alloc, ShardingIndexLocation::End, &[0, 7], index)
 }
 
-pub(crate) fn subset_of(alloc: Global, range: Range<u64>) -> Result<ArraySubset, CodecError> {
-    ArraySubset::new_with_ranges(alloc, &[range])?.ok_or(CodecError::OutOfBounds)
-}
-
-// The elements of an array, each of which has one size, or the refusal.
-pub(crate) fn elements_of(
-    alloc: Global,
-    answer: Result<ArrayBytes, CodecError>,
-) -> Result<Vec<u8>, CodecError> {
-    let array = answer?;
-    let elements = array.fixed_bytes().ok_or(CodecError::WrongElementKind)?;
-    Ok(elements.to_vec(alloc)?)
+pub(crate) fn subset_of<R: Abort>(rt: &R, alloc: Global, range: Range<u64>) -> ArraySubset {
+    ArraySubset::from_ranges(alloc, &[range]).expect(rt, "a subset")
 }
 
 // The cells that an indexer requests.
@@ -118,38 +121,39 @@ pub(crate) fn read<I: ArrayToBytesCodecTraits, H: BytesPartialEncoderTraits, N: 
     alloc: Global,
     session: &mut ShardState<'_, I, BytesCodec, H>,
     indexer: &N,
-) -> Result<Vec<u8>, CodecError> {
-    let array = session.partial_decode(alloc, indexer, &CodecOptions::default());
-    elements_of(alloc, array)
+) -> Answer {
+    session.partial_decode(alloc, indexer, &CodecOptions::default())
 }
 
-// Whether the cells of a range are these.
-pub(crate) fn are_cells<I: ArrayToBytesCodecTraits, H: BytesPartialEncoderTraits>(
+// Whether the cells of a range are read, and are these.
+pub(crate) fn are_cells<R: Abort, I: ArrayToBytesCodecTraits, H: BytesPartialEncoderTraits>(
+    rt: &R,
     alloc: Global,
     session: &mut ShardState<'_, I, BytesCodec, H>,
     range: Range<u64>,
     want: &[u8],
-) -> Result<bool, CodecError> {
-    let requested = subset_of(alloc, range)?;
-    Ok(read(alloc, session, &requested)?.as_slice() == want)
+) -> bool {
+    let requested = subset_of(rt, alloc, range);
+    said(&read(alloc, session, &requested)) == Ok(want)
 }
 
 // Writes cells over those of a range.
-pub(crate) fn write<I: ArrayToBytesCodecTraits, H: BytesPartialEncoderTraits>(
+pub(crate) fn write<R: Abort, I: ArrayToBytesCodecTraits, H: BytesPartialEncoderTraits>(
+    rt: &R,
     alloc: Global,
     session: &mut ShardState<'_, I, BytesCodec, H>,
     range: Range<u64>,
     cells: &[u8],
 ) -> Result<(), CodecError> {
-    let subset = subset_of(alloc, range)?;
-    let update = ArrayBytes::from_numbers(alloc, cells)?;
+    let subset = subset_of(rt, alloc, range);
+    let update = ArrayBytes::from_numbers(alloc, cells).expect(rt, "memory");
     session.partial_encode(alloc, &subset, &update, &CodecOptions::default())
 }
 
-// What an answer says, for a comparison.
-pub(crate) fn said(answer: &Result<Vec<u8>, CodecError>) -> Result<&[u8], CodecError> {
+// What an answer says, for a comparison: the cells, each of which has one size, or the refusal.
+pub(crate) fn said(answer: &Answer) -> Result<&[u8], CodecError> {
     match answer {
-        Ok(bytes) => Ok(bytes.as_slice()),
+        Ok(array) => array.fixed_bytes().ok_or(CodecError::WrongElementKind),
         Err(error) => Err(*error),
     }
 }

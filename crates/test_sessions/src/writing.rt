@@ -4,6 +4,7 @@ use crate::shards::{ABSENT, Session, Shards, are_cells, object_of, seven, subset
 use std::alloc::Global;
 use std::borrow::CowSlice;
 use std::ops::Range;
+use std::process::Abort;
 use zarr_codecs::{BytesPartialDecoderTraits, MemoryHandle};
 use zarr_parts::{ArrayBytes, CodecError, CodecOptions, Coordinates, Indexer};
 use zarrs_sharding::ShardingIndexLocation;
@@ -14,59 +15,28 @@ type Memory<'a> = Session<'a, MemoryHandle>;
 // The cells of a range, and what is written there.
 type Step = (Range<u64>, &'static [u8]);
 
-fn write_all(alloc: Global, session: &mut Memory<'_>, steps: &[Step]) -> Result<(), CodecError> {
+fn write_all<R: Abort>(rt: &R, alloc: Global, session: &mut Memory<'_>, steps: &[Step]) {
     for (range, bytes) in steps.iter() {
-        write(alloc, session, range.start..range.end, bytes)?;
+        let written = write(rt, alloc, session, range.start..range.end, bytes);
+        written.expect(rt, "a write");
     }
-    Ok(())
 }
 
-// Whether a session has these cells after these writes.
-fn has_cells_after(
-    alloc: Global,
-    session: &mut Memory<'_>,
-    steps: &[Step],
-    cells: &[u8],
-) -> Result<bool, CodecError> {
-    write_all(alloc, session, steps)?;
-    are_cells(alloc, session, 0..4, cells)
-}
-
-// The object after these writes in one session of no object, and whether it has these cells.
-fn written_in(
+// The object after these writes in one session of no object, which has these cells then.
+fn written<R: Abort>(
+    rt: &R,
     alloc: Global,
     shards: &Shards,
     steps: &[Step],
     cells: &[u8],
-) -> Result<(Option<Vec<u8>>, bool), CodecError> {
-    match shards.open(alloc, MemoryHandle::new(None)) {
-        Ok(mut session) => {
-            let found = has_cells_after(alloc, &mut session, steps, cells);
-            let object = session.close().into_inner();
-            Ok((object, found?))
-        }
-        Err((_, error)) => Err(error),
-    }
-}
-
-fn written(
-    alloc: Global,
-    location: ShardingIndexLocation,
-    steps: &[Step],
-    cells: &[u8],
-) -> Result<(Option<Vec<u8>>, bool), CodecError> {
-    let shards = Shards::new(alloc, location)?;
-    written_in(alloc, &shards, steps, cells)
-}
-
-fn wanted(
-    alloc: Global,
-    location: ShardingIndexLocation,
-    slices: &[u8],
-    index: [u64; 4],
-) -> Result<(Option<Vec<u8>>, bool), CodecError> {
-    let object = object_of(alloc, location, slices, index)?;
-    Ok((Some(object), true))
+) -> Option<Vec<u8>> {
+    let mut session = shards.opened(rt, alloc, MemoryHandle::new(None));
+    write_all(rt, alloc, &mut session, steps);
+    assert!(rt;
+        are_cells(rt, alloc, &mut session, 0..4, cells),
+        "{cells:?}"
+    );
+    session.close().into_inner()
 }
 
 const STEPS: [Step; 3] = [(1..2, &[7]), (2..4, &[1, 2]), (0..1, &[9])];
@@ -86,40 +56,31 @@ fn a_session_writes_more_than_once(rt: HostRuntime) {
         (Start, 2, &[0, 7, 1, 2], [32, 2, 34, 2], [0, 7, 1, 2]),
         (Start, 3, &[0, 7, 1, 2, 9, 7], [36, 2, 34, 2], [9, 7, 1, 2]),
     ] {
-        let found = written(rt.alloc(), location, &STEPS[..many], &cells);
-        same(&rt, found, wanted(rt.alloc(), location, slices, index));
+        let shards = Shards::new(&rt, rt.alloc(), location);
+        let found = written(&rt, rt.alloc(), &shards, &STEPS[..many], &cells);
+        let object = object_of(&rt, rt.alloc(), location, slices, index);
+        same(&rt, found, Some(object));
     }
 }
 
 // An array of two bytes, in elements of this size.
-fn two_bytes(alloc: Global, element_size: usize) -> Result<ArrayBytes<'static>, CodecError> {
-    let bytes = vec![in alloc; 1u8; 2]?;
-    ArrayBytes::new_flen(CowSlice::Owned(bytes), element_size).ok_or(CodecError::WrongElementKind)
+fn two_bytes<R: Abort>(rt: &R, element_size: usize) -> ArrayBytes<'static> {
+    let bytes = CowSlice::Borrowed([1, 1].as_slice());
+    ArrayBytes::new_flen(bytes, element_size).expect(rt, "whole elements")
 }
 
 // How a write into an object of 34 bytes is refused, and how many it has then.
-fn refused<N: Indexer>(
+fn refused<R: Abort, N: Indexer>(
+    rt: &R,
     alloc: Global,
     indexer: &N,
     update: &ArrayBytes,
-) -> Result<(Option<CodecError>, usize), CodecError> {
-    let shards = Shards::new(alloc, End)?;
-    match shards.open(alloc, MemoryHandle::new(Some(seven(alloc)?))) {
-        Ok(mut session) => {
-            let answer = session.partial_encode(alloc, indexer, update, &CodecOptions::default());
-            Ok((answer.err(), session.close().size_held()))
-        }
-        Err((_, error)) => Err(error),
-    }
-}
-
-fn refused_range(
-    alloc: Global,
-    range: Range<u64>,
-    element_size: usize,
-) -> Result<(Option<CodecError>, usize), CodecError> {
-    let subset = subset_of(alloc, range)?;
-    refused(alloc, &subset, &two_bytes(alloc, element_size)?)
+) -> (Option<CodecError>, usize) {
+    let shards = Shards::new(rt, alloc, End);
+    let handle = MemoryHandle::new(Some(seven(rt, alloc)));
+    let mut session = shards.opened(rt, alloc, handle);
+    let answer = session.partial_encode(alloc, indexer, update, &CodecOptions::default());
+    (answer.err(), session.close().size_held())
 }
 
 // Cells outside first, then elements of another size, and another number of them.
@@ -131,20 +92,18 @@ fn a_write_is_refused_in_order(rt: HostRuntime) {
         (0..4, 1, Some(CodecError::InvalidNumberOfElements)),
         (0..2, 1, None),
     ] {
-        let found = refused_range(rt.alloc(), range, element_size);
-        same(&rt, found, Ok((want, 34)));
+        let subset = subset_of(&rt, rt.alloc(), range);
+        let update = two_bytes(&rt, element_size);
+        let found = refused(&rt, rt.alloc(), &subset, &update);
+        same(&rt, found, (want, 34));
     }
-}
-
-fn refused_list(alloc: Global) -> Result<(Option<CodecError>, usize), CodecError> {
-    let list = Coordinates::new(1, 1, [9].to_vec(alloc)?);
-    let list = list.ok_or(CodecError::IncompatibleDimensionality)?;
-    refused(alloc, &list, &two_bytes(alloc, 2)?)
 }
 
 // Also where they lie outside, and the elements have another size.
 #[test]
 fn listed_cells_are_not_written(rt: HostRuntime) {
-    let want = (Some(CodecError::UnsupportedIndexer), 34);
-    same(&rt, refused_list(rt.alloc()), Ok(want));
+    let numbers = [9].to_vec(rt.alloc()).expect(&rt, "memory");
+    let list = Coordinates::new(1, 1, numbers).expect(&rt, "coordinates");
+    let found = refused(&rt, rt.alloc(), &list, &two_bytes(&rt, 2));
+    same(&rt, found, (Some(CodecError::UnsupportedIndexer), 34));
 }

@@ -1,9 +1,9 @@
 // Shards along the Z-curve in parallel, against slices that were sorted by hand.
 use crate::compared::same_at;
-use crate::shards::{Shards, said};
+use crate::shards::{Shards, add_entry, array_of, said};
 use std::alloc::Global;
-use std::thread::Threads;
-use zarr_parts::CodecError;
+use std::process::Abort;
+use zarr_parts::ArrayBytes;
 use zarrs_sharding::NoGate;
 
 const ABSENT: u64 = u64::MAX;
@@ -56,58 +56,45 @@ fn rows() -> [Row; 4] {
 
 const ONES: [u64; 3] = [1; 3];
 
-fn shards_of(alloc: Global, row: &Row) -> Result<Shards, CodecError> {
-    let sub = ONES.get(..row.axes.len()).unwrap_or(&[]);
-    Shards::along_the_curve(alloc, row.axes, sub)
-}
-
-fn encoded<R: Threads + Sync>(
-    rt: &R,
-    alloc: Global,
-    row: &Row,
-    target: usize,
-) -> Result<Vec<u8>, CodecError> {
-    let shards = shards_of(alloc, row)?;
-    let array = shards.array(row.elements.to_vec(alloc)?, 1)?;
-    shards.encoded_by_workers(rt, alloc, &array, &NoGate, target)
+fn shards_of<R: Abort>(rt: &R, alloc: Global, row: &Row) -> Shards {
+    let sub = ONES.get(..row.axes.len()).expect(rt, "three axes at most");
+    Shards::along_the_curve(rt, alloc, row.axes, sub)
 }
 
 // The slices, and then the index, in which each slice has one byte.
-fn shard_of(alloc: Global, row: &Row) -> Result<Vec<u8>, CodecError> {
-    let mut shard = row.slices.to_vec(alloc)?;
+fn shard_of<R: Abort>(rt: &R, alloc: Global, row: &Row) -> Vec<u8> {
+    let mut shard = row.slices.to_vec(alloc).expect(rt, "memory");
     for offset in row.offsets {
         let size = if *offset == ABSENT { ABSENT } else { 1 };
-        shard.extend_from_slice(&offset.to_le_bytes())?;
-        shard.extend_from_slice(&size.to_le_bytes())?;
+        add_entry(rt, &mut shard, *offset, size);
     }
-    Ok(shard)
+    shard
+}
+
+fn elements_of<R: Abort>(rt: &R, alloc: Global, row: &Row) -> ArrayBytes<'static> {
+    array_of(rt, row.elements.to_vec(alloc).expect(rt, "memory"), 1)
 }
 
 #[test]
 fn slices_lie_along_the_curve_whoever_was_first(rt: HostRuntime) {
     for row in rows().iter() {
+        let shards = shards_of(&rt, rt.alloc(), row);
+        let array = elements_of(&rt, rt.alloc(), row);
         for target in [1, 2, 4] {
-            let found = encoded(&rt, rt.alloc(), row, target);
-            same_at(&rt, (row.axes, target), found, shard_of(rt.alloc(), row));
+            let found = shards.encoded_by_workers(&rt, rt.alloc(), &array, &NoGate, target);
+            let want = shard_of(&rt, rt.alloc(), row);
+            same_at(&rt, (row.axes, target), found, Ok(want));
         }
     }
-}
-
-fn decoded<R: Threads + Sync>(
-    rt: &R,
-    alloc: Global,
-    row: &Row,
-    target: usize,
-) -> Result<Vec<u8>, CodecError> {
-    let shard = shard_of(alloc, row)?;
-    shards_of(alloc, row)?.decoded_by_workers(rt, alloc, &shard, &NoGate, target)
 }
 
 #[test]
 fn slices_along_the_curve_are_decoded(rt: HostRuntime) {
     for row in rows().iter() {
+        let shards = shards_of(&rt, rt.alloc(), row);
+        let shard = shard_of(&rt, rt.alloc(), row);
         for target in [1, 2, 4] {
-            let found = decoded(&rt, rt.alloc(), row, target);
+            let found = shards.decoded_by_workers(&rt, rt.alloc(), &shard, &NoGate, target);
             same_at(&rt, (row.axes, target), said(&found), Ok(row.elements));
         }
     }

@@ -1,12 +1,12 @@
 // Arrays that are encoded and decoded again: with the index at either end, in either order, by one worker and by four, and with an
 // inner codec that tells how long its encodings are or does not.
 use crate::compared::same_at;
-use std::alloc::{AllocError, Global};
-use std::test::Fail;
+use std::alloc::Global;
+use std::process::Abort;
 use std::thread::Threads;
 use test_helpers::UnboundedCodec;
 use zarr_codecs::{ArrayToBytesCodecTraits, BytesChain, BytesCodec};
-use zarr_parts::{ArrayBytes, ChunkShape, CodecError, CodecOptions, DataType, FillValue};
+use zarr_parts::{ArrayBytes, ChunkShape, CodecOptions, DataType, FillValue};
 use zarrs_sharding::{NoGate, ShardingCodec, ShardingIndexLocation, SubchunkWriteOrder};
 
 const ABSENT: u64 = u64::MAX;
@@ -47,12 +47,15 @@ fn cell(held: Held, number: u16) -> u16 {
     }
 }
 
-fn cells(alloc: Global, held: Held) -> Result<Vec<u16>, AllocError> {
-    (0..4096u16).map(|number| cell(held, number)).collect(alloc)
+fn cells<R: Abort>(rt: &R, alloc: Global, held: Held) -> Vec<u16> {
+    let cells = (0..4096u16).map(|number| cell(held, number)).collect(alloc);
+    cells.expect(rt, "memory")
 }
 
-fn shape_of(alloc: Global, axes: &[u64]) -> Result<ChunkShape, CodecError> {
-    ChunkShape::new(alloc, axes)?.ok_or(CodecError::InvalidSubchunkShape)
+fn shape_of<R: Abort>(rt: &R, alloc: Global, axes: &[u64]) -> ChunkShape {
+    ChunkShape::new(alloc, axes)
+        .expect(rt, "memory")
+        .expect(rt, "a shape")
 }
 
 // A codec for 16 by 16 by 16 cells in subchunks of 2 by 2 by 2.
@@ -64,25 +67,25 @@ struct Shards<I> {
 }
 
 impl<I: ArrayToBytesCodecTraits + Drop + Sync> Shards<I> {
-    fn new(alloc: Global, inner: I, way: Way) -> Result<Self, CodecError> {
-        let sub = shape_of(alloc, &[2, 2, 2])?;
+    fn new<R: Abort>(rt: &R, alloc: Global, inner: I, way: Way) -> Self {
+        let sub = shape_of(rt, alloc, &[2, 2, 2]);
         let codec = ShardingCodec::new(sub, inner, BytesCodec::little(), way.location);
-        Ok(Shards {
+        Shards {
             codec: codec.with_subchunk_write_order(way.order),
-            shape: shape_of(alloc, &[16, 16, 16])?,
-            fill: FillValue::from_number(alloc, 0u16)?,
-        })
+            shape: shape_of(rt, alloc, &[16, 16, 16]),
+            fill: FillValue::from_number(alloc, 0u16).expect(rt, "memory"),
+        }
     }
 
-    fn encoded<R: Threads + Sync>(
+    fn encoded<R: Abort + Threads + Sync>(
         &self,
         rt: &R,
         alloc: Global,
         array: &ArrayBytes,
         target: usize,
-    ) -> Result<Vec<u8>, CodecError> {
+    ) -> Vec<u8> {
         let options = CodecOptions::default().with_concurrent_target(target);
-        self.codec.encode_by_workers(
+        let shard = self.codec.encode_by_workers(
             rt,
             alloc,
             array,
@@ -91,16 +94,17 @@ impl<I: ArrayToBytesCodecTraits + Drop + Sync> Shards<I> {
             &self.fill,
             &NoGate,
             &options,
-        )
+        );
+        shard.expect(rt, "a shard")
     }
 
-    fn decoded<R: Threads + Sync>(
+    fn decoded<R: Abort + Threads + Sync>(
         &self,
         rt: &R,
         alloc: Global,
         shard: &[u8],
         target: usize,
-    ) -> Result<Vec<u16>, CodecError> {
+    ) -> Vec<u16> {
         let options = CodecOptions::default().with_concurrent_target(target);
         let array = self.codec.decode_by_workers(
             rt,
@@ -111,52 +115,38 @@ impl<I: ArrayToBytesCodecTraits + Drop + Sync> Shards<I> {
             &self.fill,
             &NoGate,
             &options,
-        )?;
-        array.to_numbers(alloc)
+        );
+        let cells = array.expect(rt, "an array").to_numbers(alloc);
+        cells.expect(rt, "numbers")
     }
 
-    fn index(&self, alloc: Global, shard: &[u8]) -> Result<Vec<u64>, CodecError> {
-        let grid = shape_of(alloc, &[8, 8, 8])?;
-        self.codec
-            .decode_index(alloc, shard, &grid, &CodecOptions::default())
+    fn index<R: Abort>(&self, rt: &R, alloc: Global, shard: &[u8]) -> Vec<u64> {
+        let (grid, options) = (shape_of(rt, alloc, &[8, 8, 8]), CodecOptions::default());
+        let index = self.codec.decode_index(alloc, shard, &grid, &options);
+        index.expect(rt, "an index")
     }
 }
 
-fn array_of(alloc: Global, held: Held) -> Result<ArrayBytes<'static>, CodecError> {
-    let cells = cells(alloc, held)?;
-    Ok(ArrayBytes::from_numbers(alloc, &cells)?)
-}
-
-// Decodes a shard, and its index.
-fn read_back<R: Threads + Sync, I: ArrayToBytesCodecTraits + Drop + Sync>(
-    rt: &R,
-    alloc: Global,
-    shards: &Shards<I>,
-    shard: &[u8],
-    target: usize,
-) -> Result<(Vec<u16>, Vec<u64>), CodecError> {
-    let cells = shards.decoded(rt, alloc, shard, target)?;
-    let index = shards.index(alloc, shard)?;
-    Ok((cells, index))
+fn array_of<R: Abort>(rt: &R, alloc: Global, held: Held) -> ArrayBytes<'static> {
+    let array = ArrayBytes::from_numbers(alloc, &cells(rt, alloc, held));
+    array.expect(rt, "memory")
 }
 
 // Encodes cells, and decodes what came out.
-fn travel<R: Threads + Sync, I: ArrayToBytesCodecTraits + Drop + Sync>(
+fn travel<R: Abort + Threads + Sync, I: ArrayToBytesCodecTraits + Drop + Sync>(
     rt: &R,
     alloc: Global,
     shards: &Shards<I>,
     held: Held,
     target: usize,
-) -> Result<Trip, CodecError> {
-    let array = array_of(alloc, held)?;
-    let shard = shards.encoded(rt, alloc, &array, target)?;
-    let differs = array.fixed_bytes() != Some(shard.as_slice());
-    let (cells, index) = read_back(rt, alloc, shards, &shard, target)?;
-    Ok(Trip {
-        cells,
-        index,
-        differs,
-    })
+) -> Trip {
+    let array = array_of(rt, alloc, held);
+    let shard = shards.encoded(rt, alloc, &array, target);
+    Trip {
+        cells: shards.decoded(rt, alloc, &shard, target),
+        index: shards.index(rt, alloc, &shard),
+        differs: array.fixed_bytes() != Some(shard.as_slice()),
+    }
 }
 
 // How many numbers of an index are those of subchunks that are there, and whether the offsets of these ascend.
@@ -173,30 +163,15 @@ fn present(index: &[u64]) -> (usize, bool) {
 }
 
 // The trip with an inner codec that tells how long its encodings are, or with one that does not.
-fn travel_by<R: Threads + Sync>(
-    rt: &R,
-    alloc: Global,
-    held: Held,
-    way: Way,
-) -> Result<Trip, CodecError> {
+fn travel_by<R: Abort + Threads + Sync>(rt: &R, alloc: Global, held: Held, way: Way) -> Trip {
     let inner = BytesCodec::little();
     if way.unbounded {
         let inner = BytesChain::new(inner, UnboundedCodec);
-        travel(
-            rt,
-            alloc,
-            &Shards::new(alloc, inner, way)?,
-            held,
-            way.target,
-        )
+        let shards = Shards::new(rt, alloc, inner, way);
+        travel(rt, alloc, &shards, held, way.target)
     } else {
-        travel(
-            rt,
-            alloc,
-            &Shards::new(alloc, inner, way)?,
-            held,
-            way.target,
-        )
+        let shards = Shards::new(rt, alloc, inner, way);
+        travel(rt, alloc, &shards, held, way.target)
     }
 }
 
@@ -217,25 +192,19 @@ fn way_of(number: u8) -> Way {
 }
 
 #[test]
-fn cells_come_back(rt: HostRuntime) -> Result<(), Fail> {
+fn cells_come_back(rt: HostRuntime) {
     for (held, numbers) in [
         (Held::Zeros, 0),
         (Held::Counted, 1024),
         (Held::TwoSubsets, 6),
     ] {
         for way in (0..16u8).map(way_of) {
-            let trip = travel_by(&rt, rt.alloc(), held, way)?;
+            let trip = travel_by(&rt, rt.alloc(), held, way);
             let (count, ascend) = present(&trip.index);
             let in_order = ascend || matches!(way.order, SubchunkWriteOrder::Unordered);
-            assert!(rt; trip.cells == cells(rt.alloc(), held)?, "{held:?} {way:?}");
-            same_at(
-                &rt,
-                (held, way),
-                (trip.index.len(), count, in_order),
-                (1024, numbers, true),
-            );
-            assert!(rt; trip.differs, "{held:?} {way:?}");
+            let is_same = trip.cells == cells(&rt, rt.alloc(), held);
+            let found = (trip.index.len(), count, in_order, is_same, trip.differs);
+            same_at(&rt, (held, way), found, (1024, numbers, true, true, true));
         }
     }
-    Ok(())
 }

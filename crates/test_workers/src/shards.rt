@@ -1,7 +1,8 @@
 // Shards for the tests, of cells with the fill value 0, whose subchunks are written in ascending number; or with 255, along the
-// Z-curve.
+// Z-curve. What sets the scene is made, or the test ends.
 use std::alloc::Global;
 use std::borrow::CowSlice;
+use std::process::Abort;
 use std::thread::Threads;
 use zarr_codecs::{ArrayToBytesCodecTraits, BytesCodec};
 use zarr_parts::{ArrayBytes, ChunkShape, CodecError, CodecOptions, DataType, FillValue};
@@ -16,67 +17,58 @@ pub(crate) struct Shards {
     fill: FillValue,
 }
 
-fn shape_of(alloc: Global, axes: &[u64]) -> Result<ChunkShape, CodecError> {
-    ChunkShape::new(alloc, axes)?.ok_or(CodecError::OutOfBounds)
+fn shape_of<R: Abort>(rt: &R, alloc: Global, axes: &[u64]) -> ChunkShape {
+    ChunkShape::new(alloc, axes)
+        .expect(rt, "memory")
+        .expect(rt, "a shape")
 }
 
-fn elements_of(alloc: Global, array: &ArrayBytes) -> Result<Vec<u8>, CodecError> {
-    let elements = array.fixed_bytes().ok_or(CodecError::WrongElementKind)?;
-    Ok(elements.to_vec(alloc)?)
+// An array of elements of this size.
+pub(crate) fn array_of<R: Abort>(rt: &R, elements: Vec<u8>, size: usize) -> ArrayBytes<'static> {
+    ArrayBytes::new_flen(CowSlice::Owned(elements), size).expect(rt, "whole elements")
 }
 
 impl Shards {
-    fn new(
+    fn new<R: Abort>(
+        rt: &R,
         alloc: Global,
         axes: &[u64],
         sub: &[u64],
         data_type: DataType,
         fill: &[u8],
-    ) -> Result<Self, CodecError> {
-        let (inner, index) = (BytesCodec::little(), BytesCodec::little());
-        let codec = ShardingCodec::new(
-            shape_of(alloc, sub)?,
-            inner,
-            index,
-            ShardingIndexLocation::End,
-        );
-        Ok(Shards {
+    ) -> Self {
+        let (sub, little) = (shape_of(rt, alloc, sub), BytesCodec::little());
+        let codec = ShardingCodec::new(sub, little, little, ShardingIndexLocation::End);
+        Shards {
             codec: codec.with_subchunk_write_order(SubchunkWriteOrder::C),
-            shape: shape_of(alloc, axes)?,
+            shape: shape_of(rt, alloc, axes),
             data_type,
-            fill: FillValue::new(fill.to_vec(alloc)?),
-        })
+            fill: FillValue::new(fill.to_vec(alloc).expect(rt, "memory")),
+        }
     }
 
     // Cells of one byte.
-    pub(crate) fn of_bytes(alloc: Global, axes: &[u64], sub: &[u64]) -> Result<Self, CodecError> {
-        Shards::new(alloc, axes, sub, DataType::UInt8, &[0])
+    pub(crate) fn of_bytes<R: Abort>(rt: &R, alloc: Global, axes: &[u64], sub: &[u64]) -> Self {
+        Shards::new(rt, alloc, axes, sub, DataType::UInt8, &[0])
     }
 
     // Cells of one byte with the fill value 255, whose subchunks are written along the Z-curve.
-    pub(crate) fn along_the_curve(
+    pub(crate) fn along_the_curve<R: Abort>(
+        rt: &R,
         alloc: Global,
         axes: &[u64],
         sub: &[u64],
-    ) -> Result<Self, CodecError> {
-        let mut shards = Shards::new(alloc, axes, sub, DataType::UInt8, &[255])?;
+    ) -> Self {
+        let mut shards = Shards::new(rt, alloc, axes, sub, DataType::UInt8, &[255]);
         shards.codec = shards
             .codec
             .with_subchunk_write_order(SubchunkWriteOrder::Morton);
-        Ok(shards)
+        shards
     }
 
     // Cells of two bytes.
-    pub(crate) fn of_pairs(alloc: Global, axes: &[u64], sub: &[u64]) -> Result<Self, CodecError> {
-        Shards::new(alloc, axes, sub, DataType::UInt16, &[0, 0])
-    }
-
-    pub(crate) fn array(
-        &self,
-        elements: Vec<u8>,
-        size: usize,
-    ) -> Result<ArrayBytes<'static>, CodecError> {
-        ArrayBytes::new_flen(CowSlice::Owned(elements), size).ok_or(CodecError::WrongElementKind)
+    pub(crate) fn of_pairs<R: Abort>(rt: &R, alloc: Global, axes: &[u64], sub: &[u64]) -> Self {
+        Shards::new(rt, alloc, axes, sub, DataType::UInt16, &[0, 0])
     }
 
     pub(crate) fn encoded(&self, alloc: Global, array: &ArrayBytes) -> Result<Vec<u8>, CodecError> {
@@ -112,16 +104,16 @@ impl Shards {
         )
     }
 
-    pub(crate) fn decoded_by_workers<R: Threads + Sync, G: Gate + Sync>(
+    pub(crate) fn decoded_by_workers<'a, R: Threads + Sync, G: Gate + Sync>(
         &self,
         rt: &R,
         alloc: Global,
-        shard: &[u8],
+        shard: &'a [u8],
         gate: &G,
         target: usize,
-    ) -> Result<Vec<u8>, CodecError> {
+    ) -> Result<ArrayBytes<'a>, CodecError> {
         let options = CodecOptions::default().with_concurrent_target(target);
-        let array = self.codec.decode_by_workers(
+        self.codec.decode_by_workers(
             rt,
             alloc,
             shard,
@@ -130,15 +122,22 @@ impl Shards {
             &self.fill,
             gate,
             &options,
-        )?;
-        elements_of(alloc, &array)
+        )
     }
 }
 
-// What an answer says, for a comparison.
-pub(crate) fn said(answer: &Result<Vec<u8>, CodecError>) -> Result<&[u8], CodecError> {
+// Adds the offset and the size of a slice to an index.
+pub(crate) fn add_entry<R: Abort>(rt: &R, shard: &mut Vec<u8>, offset: u64, size: u64) {
+    for number in [offset, size] {
+        let added = shard.extend_from_slice(&number.to_le_bytes());
+        added.expect(rt, "memory");
+    }
+}
+
+// What an answer says, for a comparison: the elements, each of which has one size, or the refusal.
+pub(crate) fn said<'a>(answer: &'a Result<ArrayBytes, CodecError>) -> Result<&'a [u8], CodecError> {
     match answer {
-        Ok(bytes) => Ok(bytes.as_slice()),
+        Ok(array) => array.fixed_bytes().ok_or(CodecError::WrongElementKind),
         Err(error) => Err(*error),
     }
 }
