@@ -8,14 +8,14 @@ use zarr_parts::CodecError;
 
 // Lends ranges of an object of the bytes 1 to 5.
 fn lend_ranges(rt: &impl Abort, alloc: Global, handle: &mut CountingHandle) {
-    let rows: [(ByteRange, Result<Option<&[u8]>, CodecError>); 4] = [
+    let rows: &[(ByteRange, Result<Option<&[u8]>, CodecError>)] = &[
         (ByteRange::FromStart(1, Some(2)), Ok(Some(&[2, 3]))),
         (ByteRange::Suffix(6), Err(CodecError::OutOfBounds)),
         (ByteRange::Suffix(1), Ok(Some(&[5]))),
         (ByteRange::FromStart(0, Some(1)), Ok(Some(&[1]))),
     ];
     for (range, want) in rows {
-        same_at(rt, range, is_borrowed(alloc, handle, range, want), true);
+        same_at(rt, *range, is_borrowed(alloc, handle, *range, *want), true);
     }
 }
 
@@ -27,6 +27,7 @@ fn a_handle_counts_what_is_read(rt: HostRuntime) {
     lend_ranges(&rt, rt.alloc(), &mut handle);
     same(&rt, handle.bytes_read(), 4);
     let last = Ok(Some([4, 5].as_slice()));
-    assert!(rt; is_copied(rt.alloc(), &mut handle, ByteRange::Suffix(2), last));
+    let found = is_copied(rt.alloc(), &mut handle, ByteRange::Suffix(2), last);
+    same(&rt, found, true);
     same(&rt, handle.bytes_read(), 6);
 }

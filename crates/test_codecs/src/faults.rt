@@ -92,10 +92,8 @@ fn is_refused<R: Abort>(
         Err(CodecError::Fault),
     );
     let whole = ByteRange::FromStart(0, None);
-    assert!(rt;
-        is_borrowed(alloc, handle, whole, Ok(Some(want))),
-        "{number}"
-    );
+    let found = is_borrowed(alloc, handle, whole, Ok(Some(want)));
+    same_at(rt, number, found, true);
 }
 
 // What each call finds.

@@ -20,7 +20,7 @@ fn is_decoded_again<R: Abort>(rt: &R, alloc: Global, spec: &ArraySpec, array: &A
     let again = decode_after_encode(
         &codec, alloc, array, &encoded, axes, data_type, none, &options,
     );
-    assert!(rt; again.expect(rt, "an array") == *array);
+    same(rt, again.expect(rt, "an array") == *array, true);
 }
 
 #[test]

@@ -39,24 +39,24 @@ fn requested_elements_are_read(rt: HostRuntime) {
     are_read(&rt, rt.alloc(), &column, &[2, 0, 4, 0]);
 }
 
+const OUTSIDE: Option<CodecError> = Some(CodecError::OutOfBounds);
+
 // The cell is tested before the size, and this before the place in the object.
 #[test]
 fn reads_are_refused_in_order(rt: HostRuntime) {
-    let object = Some(OBJECT.as_slice());
-    let corner = [1, 1].as_slice();
-    let outside = Some(CodecError::OutOfBounds);
-    let rows: [(Option<&[u8]>, u64, u64, &[u64], Option<CodecError>); 6] = [
-        (object, 1, 8, corner, None),
-        (object, 2, 8, corner, outside),
-        (object, u64::MAX, 8, corner, outside),
-        (object, 1, 6, corner, Some(CodecError::Damaged)),
-        (None, 0, 8, corner, outside),
-        (object, 1, 6, &[1, 2], outside),
+    let rows: &[(Option<&[u8]>, u64, u64, &[u64], Option<CodecError>)] = &[
+        (Some(&OBJECT), 1, 8, &[1, 1], None),
+        (Some(&OBJECT), 2, 8, &[1, 1], OUTSIDE),
+        (Some(&OBJECT), u64::MAX, 8, &[1, 1], OUTSIDE),
+        (Some(&OBJECT), 1, 6, &[1, 1], Some(CodecError::Damaged)),
+        (None, 0, 8, &[1, 1], OUTSIDE),
+        (Some(&OBJECT), 1, 6, &[1, 2], OUTSIDE),
     ];
     for (object, offset, size, cell, want) in rows {
+        let (offset, size) = (*offset, *size);
         let cell = coordinates(&rt, rt.alloc(), 2, 1, cell);
         let interval = Interval { offset, size };
-        let answer = read_numbers(&rt, rt.alloc(), object, interval, &cell);
-        same_at(&rt, (size, offset), answer.err(), want);
+        let answer = read_numbers(&rt, rt.alloc(), *object, interval, &cell);
+        same_at(&rt, (size, offset), answer.err(), *want);
     }
 }

@@ -20,17 +20,18 @@ fn pair_of<R: Abort>(rt: &R, alloc: Global, data_type: DataType) -> ArraySpec {
 #[test]
 fn elements_stand_after_their_lengths(rt: HostRuntime) {
     let pair = pair_of(&rt, rt.alloc(), DataType::Bytes);
-    for (bytes, offsets, text) in [
-        (b"a".as_slice(), [0, 1, 1], TEXT.as_slice()),
+    let rows: &[(&[u8], [usize; 3], &[u8])] = &[
+        (b"a", [0, 1, 1], &TEXT),
         (
             b"bc",
             [0, 0, 2],
             &[2, 0, 0, 0, 0, 0, 0, 0, 2, 0, 0, 0, 98, 99],
         ),
-    ] {
-        let array = variable(&rt, rt.alloc(), bytes, &offsets);
+    ];
+    for (bytes, offsets, text) in rows {
+        let array = variable(&rt, rt.alloc(), bytes, offsets);
         let found = encoded(rt.alloc(), &VlenCodec, &pair, &array);
-        same_at(&rt, bytes, said(&found), Ok(text));
+        same_at(&rt, *bytes, said(&found), Ok(*text));
     }
 }
 
@@ -107,16 +108,17 @@ fn a_shorter_text_is_damaged(rt: HostRuntime) {
 // Texts that claim more than they have, and one with a byte after it.
 #[test]
 fn a_text_of_other_elements_is_damaged(rt: HostRuntime) {
-    for text in [
-        [255, 255, 255, 255].as_slice(),
+    let texts: &[&[u8]] = &[
+        &[255, 255, 255, 255],
         &[2, 0, 0, 0, 255, 255, 255, 255],
         &[2, 0, 0, 0, 1, 0, 0, 0, 97, 0, 0, 0, 0, 0],
         &[2, 0, 0, 0, 0, 0, 0, 0],
         &[1, 0, 0, 0, 1, 0, 0, 0, 97],
         &[3, 0, 0, 0, 0, 0, 0, 0, 0, 0, 0, 0, 0, 0, 0, 0],
-    ] {
+    ];
+    for text in texts {
         let found = elements(&rt, rt.alloc(), text).err();
-        same_at(&rt, text, found, Some(CodecError::Damaged));
+        same_at(&rt, *text, found, Some(CodecError::Damaged));
     }
 }
 
@@ -157,7 +159,7 @@ fn a_text_is_read_whole(rt: HostRuntime) {
 
 #[test]
 fn a_text_may_have_any_length(rt: HostRuntime) {
-    assert!(rt; VlenCodec.is_functional());
+    same(&rt, VlenCodec.is_functional(), true);
     let pair = pair_of(&rt, rt.alloc(), DataType::Bytes);
     same(&rt, plain_size(&VlenCodec, &pair), None);
     let found = told(rt.alloc(), &VlenCodec, &pair);
