@@ -4,6 +4,7 @@ use crate::gates::{Counted, Meeting};
 use crate::shards::{Shards, add_entry, array_of, said};
 use std::alloc::Global;
 use std::process::Abort;
+use zarr_parts::CodecError;
 use zarr_parts::CodecError::{BadIndexEntry, Damaged};
 use zarrs_sharding::NoGate;
 
@@ -54,14 +55,15 @@ fn hurt<R: Abort>(rt: &R, alloc: Global, entries: [(u64, u64); 2]) -> Vec<u8> {
 #[test]
 fn the_lowest_refused_subchunk_gives_the_refusal(rt: HostRuntime) {
     let shards = many(&rt, rt.alloc());
-    for (entries, want) in [
+    let rows: &[([(u64, u64); 2], CodecError)] = &[
         ([(ABSENT, 5), (3000, 2)], BadIndexEntry { number: 1000 }),
         ([(1000, 2), (ABSENT, 5)], Damaged),
-    ] {
-        let shard = hurt(&rt, rt.alloc(), entries);
+    ];
+    for (entries, want) in rows {
+        let shard = hurt(&rt, rt.alloc(), *entries);
         for target in [1, 2, 4] {
             let answer = shards.decoded_by_workers(&rt, rt.alloc(), &shard, &NoGate, target);
-            same_at(&rt, target, said(&answer), Err(want));
+            same_at(&rt, target, said(&answer), Err(*want));
         }
     }
 }
