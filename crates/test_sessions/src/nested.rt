@@ -76,12 +76,13 @@ fn two_stored<R: Abort>(rt: &R, alloc: Global) -> Vec<u8> {
 // A write into no object makes both, and they are read back.
 #[test]
 fn a_shard_in_a_shard_is_written(rt: HostRuntime) {
-    let found = written(&rt, rt.alloc(), None, 1..3, &[5, 6]);
-    same(&rt, found, (None, Some(two_stored(&rt, rt.alloc()))));
-    let nests = Nests::new(&rt, rt.alloc());
-    let object = Some(two_stored(&rt, rt.alloc()));
-    let mut session = nests.open(&rt, rt.alloc(), object);
-    let are_read = are_cells(&rt, rt.alloc(), &mut session, 0..4, &[0, 5, 6, 0]);
+    let alloc = rt.alloc();
+    let found = written(&rt, alloc, None, 1..3, &[5, 6]);
+    same(&rt, found, (None, Some(two_stored(&rt, alloc))));
+    let nests = Nests::new(&rt, alloc);
+    let object = Some(two_stored(&rt, alloc));
+    let mut session = nests.open(&rt, alloc, object);
+    let are_read = are_cells(&rt, alloc, &mut session, 0..4, &[0, 5, 6, 0]);
     same(&rt, are_read, true);
 }
 

@@ -69,7 +69,8 @@ fn read_erased<R: Abort>(
 // Without an object each cell is the fill value, also after an erasure; cells outside are refused in both cases.
 #[test]
 fn cells_are_read_before_and_after_an_erasure(rt: HostRuntime) {
-    let shards = Shards::new(&rt, rt.alloc(), ShardingIndexLocation::End);
+    let alloc = rt.alloc();
+    let shards = Shards::new(&rt, alloc, ShardingIndexLocation::End);
     let rows: &[(bool, u64, Range<u64>, Result<&[u8], CodecError>)] = &[
         (true, 0, 0..4, Ok(&[0, 7, 0, 0])),
         (true, 0, 1..1, Ok(&[])),
@@ -81,8 +82,8 @@ fn cells_are_read_before_and_after_an_erasure(rt: HostRuntime) {
         (false, 0, 5..5, Err(CodecError::OutOfBounds)),
     ];
     for (stored, erasures, range, want) in rows {
-        let mut session = opened(&rt, rt.alloc(), &shards, *stored);
-        let cells = read_erased(&rt, rt.alloc(), &mut session, *erasures, range);
+        let mut session = opened(&rt, alloc, &shards, *stored);
+        let cells = read_erased(&rt, alloc, &mut session, *erasures, range);
         same(&rt, said(&cells), *want);
     }
 }

@@ -41,6 +41,7 @@ const STEPS: &[Step] = &[(1..2, &[7]), (2..4, &[1, 2]), (0..1, &[9])];
 // Each write sees those before it: of the entry that it straddles the other cell stays, and its slice goes after all others.
 #[test]
 fn a_session_writes_more_than_once(rt: HostRuntime) {
+    let alloc = rt.alloc();
     let rows: &[(ShardingIndexLocation, usize, &[u8], [u64; 4], [u8; 4])] = &[
         (End, 2, &[0, 7, 1, 2], [0, 2, 2, 2], [0, 7, 1, 2]),
         (End, 3, &[0, 7, 1, 2, 9, 7], [4, 2, 2, 2], [9, 7, 1, 2]),
@@ -49,9 +50,9 @@ fn a_session_writes_more_than_once(rt: HostRuntime) {
     ];
     for (location, many, slices, index, cells) in rows {
         let steps = STEPS.get(..*many).expect(&rt, "three steps at most");
-        let shards = Shards::new(&rt, rt.alloc(), *location);
-        let found = written(&rt, rt.alloc(), &shards, steps, cells);
-        let object = object_of(&rt, rt.alloc(), *location, slices, *index);
+        let shards = Shards::new(&rt, alloc, *location);
+        let found = written(&rt, alloc, &shards, steps, cells);
+        let object = object_of(&rt, alloc, *location, slices, *index);
         same(&rt, found, Some(object));
     }
 }
