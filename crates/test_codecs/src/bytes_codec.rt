@@ -52,7 +52,7 @@ const SIX: &[u8] = &[1, 2, 3, 4, 5, 6];
 // Whole numbers are stored in the codec's byte order, which is little endian by default, and elements without one as they are.
 #[test]
 fn whole_numbers_are_stored_in_their_order(rt: HostRuntime) {
-    let rows: &[(Option<Endianness>, DataType, usize, &[u8], &[u8])] = &[
+    const ROWS: &[(Option<Endianness>, DataType, usize, &[u8], &[u8])] = &[
         (BIG, DataType::UInt16, 2, &[2, 1], &[1, 2]),
         (LITTLE, DataType::UInt16, 2, &[2, 1], &[2, 1]),
         (BIG, DataType::Int16, 2, SIX, &[2, 1, 4, 3, 6, 5]),
@@ -62,7 +62,7 @@ fn whole_numbers_are_stored_in_their_order(rt: HostRuntime) {
         (None, DataType::Raw(3), 3, SIX, SIX),
         (None, DataType::UInt8, 1, SIX, SIX),
     ];
-    for (order, data_type, size, memory, want) in rows {
+    for (order, data_type, size, memory, want) in ROWS {
         let codec = BytesCodec::new(*order);
         are_stored_as(&rt, rt.alloc(), codec, *data_type, *size, memory, want);
     }
@@ -82,7 +82,7 @@ const LARGE: Result<(), CodecError> = Err(CodecError::TooLarge);
 // The type is tested before the fill value, and this before the shape.
 #[test]
 fn types_fill_values_and_shapes_are_tested_in_order(rt: HostRuntime) {
-    let rows: &[(
+    const ROWS: &[(
         Option<Endianness>,
         DataType,
         &[u8],
@@ -99,7 +99,7 @@ fn types_fill_values_and_shapes_are_tested_in_order(rt: HostRuntime) {
         (LITTLE, DataType::UInt8, &[0], &[u64::MAX], Ok(())),
         (None, DataType::Bool, &[0], &[2], Ok(())),
     ];
-    for (order, data_type, value, axes, want) in rows {
+    for (order, data_type, value, axes, want) in ROWS {
         let codec = BytesCodec::new(*order);
         let spec = spec_of(&rt, rt.alloc(), axes, *data_type, value);
         let answer = checked(rt.alloc(), &codec, &spec);
@@ -116,12 +116,12 @@ fn refused<R: Abort>(rt: &R, alloc: Global, array: &ArrayBytes) -> Option<CodecE
 // The size of an element is tested before the number of elements.
 #[test]
 fn arrays_are_tested_in_order(rt: HostRuntime) {
-    let rows: &[(usize, &[u8], Option<CodecError>)] = &[
+    const ROWS: &[(usize, &[u8], Option<CodecError>)] = &[
         (1, &[0; 3], Some(CodecError::WrongElementKind)),
         (2, &[0; 6], Some(CodecError::InvalidNumberOfElements)),
         (2, &[0; 4], None),
     ];
-    for (size, bytes, want) in rows {
+    for (size, bytes, want) in ROWS {
         let answer = refused(&rt, rt.alloc(), &fixed(&rt, bytes, *size));
         same_at(&rt, (bytes.len(), *size), answer, *want);
     }
@@ -139,13 +139,13 @@ fn arrays_of_no_fixed_size_are_refused(rt: HostRuntime) {
 #[test]
 fn bytes_of_another_length_are_refused(rt: HostRuntime) {
     let two = numbers(&rt, rt.alloc(), &[2]);
-    let rows: &[(&[u8], Option<CodecError>)] = &[
+    const ROWS: &[(&[u8], Option<CodecError>)] = &[
         (&[], Some(CodecError::Damaged)),
         (&[0; 3], Some(CodecError::Damaged)),
         (&[0; 6], Some(CodecError::Damaged)),
         (&[0; 4], None),
     ];
-    for (bytes, want) in rows {
+    for (bytes, want) in ROWS {
         let answer = decoded(rt.alloc(), &BytesCodec::big(), &two, bytes);
         same_at(&rt, bytes.len(), answer.err(), *want);
     }
@@ -162,7 +162,7 @@ fn encodings_have_one_length(rt: HostRuntime) {
 // Elements are plain where they have no byte order, or that of memory; arrays that are not served never are.
 #[test]
 fn elements_in_the_order_of_memory_are_plain(rt: HostRuntime) {
-    let rows: &[(Option<Endianness>, DataType, &[u8], Option<u64>)] = &[
+    const ROWS: &[(Option<Endianness>, DataType, &[u8], Option<u64>)] = &[
         (LITTLE, DataType::UInt16, &[0, 0], Some(4)),
         (BIG, DataType::UInt16, &[0, 0], None),
         (BIG, DataType::UInt8, &[0], Some(2)),
@@ -171,7 +171,7 @@ fn elements_in_the_order_of_memory_are_plain(rt: HostRuntime) {
         (None, DataType::UInt16, &[0, 0], None),
         (LITTLE, DataType::UInt16, &[0], None),
     ];
-    for (order, data_type, none, size) in rows {
+    for (order, data_type, none, size) in ROWS {
         let codec = BytesCodec::new(*order);
         let pair = spec_of(&rt, rt.alloc(), &[2], *data_type, none);
         same_at(&rt, (*data_type, codec), plain_size(&codec, &pair), *size);

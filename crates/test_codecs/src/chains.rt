@@ -19,11 +19,11 @@ const DAMAGED: Result<&[u8], CodecError> = Err(CodecError::Damaged);
 // A chain encodes what its first codec wrote, and refuses what that refuses.
 #[test]
 fn a_chain_encodes_twice(rt: HostRuntime) {
-    let rows: &[(&[u8], Result<&[u8], CodecError>)] = &[
+    const ROWS: &[(&[u8], Result<&[u8], CodecError>)] = &[
         (&[1, 2], Ok(&[1, 2, 42])),
         (&[1], Err(CodecError::InvalidNumberOfElements)),
     ];
-    for (elements, want) in rows {
+    for (elements, want) in ROWS {
         let text = encoded_pair(&rt, rt.alloc(), &marked(), elements);
         same(&rt, said(&text), *want);
     }
@@ -32,14 +32,14 @@ fn a_chain_encodes_twice(rt: HostRuntime) {
 // A chain is damaged where either of its codecs finds its bytes so.
 #[test]
 fn a_chain_decodes_twice(rt: HostRuntime) {
-    let rows: &[(&[u8], Result<&[u8], CodecError>)] = &[
+    const ROWS: &[(&[u8], Result<&[u8], CodecError>)] = &[
         (&[1, 2, 42], Ok(&[1, 2])),
         (&[1, 2, 41], DAMAGED),
         (&[1, 42], DAMAGED),
         (&[42], DAMAGED),
         (&[], DAMAGED),
     ];
-    for (bytes, want) in rows {
+    for (bytes, want) in ROWS {
         let found = decoded_pair(&rt, rt.alloc(), &marked(), bytes);
         same_at(&rt, *bytes, found, wanted(&rt, *want));
     }
@@ -48,13 +48,13 @@ fn a_chain_decodes_twice(rt: HostRuntime) {
 // The bytes of an interval are decoded whole, also for the second cell alone.
 #[test]
 fn a_chain_is_read_whole(rt: HostRuntime) {
-    let rows: &[(u64, u64, Result<&[u8], CodecError>)] = &[
+    const ROWS: &[(u64, u64, Result<&[u8], CodecError>)] = &[
         (1, 3, Ok(&[2])),
         (1, 2, DAMAGED),
         (2, 2, DAMAGED),
         (3, 3, Err(CodecError::OutOfBounds)),
     ];
-    for (offset, size, want) in rows {
+    for (offset, size, want) in ROWS {
         let (offset, size) = (*offset, *size);
         let interval = Interval { offset, size };
         let found = second_of(&rt, rt.alloc(), &marked(), &[7, 1, 2, 42, 7], interval);
@@ -74,13 +74,13 @@ fn a_chain_tells_its_size(rt: HostRuntime) {
 // The check values of CRC-32C.
 #[test]
 fn checksums_are_those_of_crc32c(rt: HostRuntime) {
-    let rows: &[(&[u8], u32)] = &[
+    const ROWS: &[(&[u8], u32)] = &[
         (b"123456789", 0xE306_9283),
         (&[0; 32], 0x8A91_36AA),
         (&[0xFF; 32], 0x62A8_AB43),
         (&[], 0),
     ];
-    for (bytes, want) in rows {
+    for (bytes, want) in ROWS {
         same_at(&rt, *bytes, crc32c(bytes), *want);
     }
 }
@@ -101,7 +101,7 @@ const CHECKED: &[u8] = b"123456789\x83\x92\x06\xE3";
 fn a_checksum_is_compared(rt: HostRuntime) {
     let stored = Crc32cCodec.encode(rt.alloc(), b"123456789");
     same(&rt, said(&stored), Ok(CHECKED));
-    let rows: &[(&[u8], Result<&[u8], CodecError>)] = &[
+    const ROWS: &[(&[u8], Result<&[u8], CodecError>)] = &[
         (CHECKED, Ok(b"123456789")),
         (b"123456788\x83\x92\x06\xE3", DAMAGED),
         (b"123456789\x83\x92\x06\xE2", DAMAGED),
@@ -109,7 +109,7 @@ fn a_checksum_is_compared(rt: HostRuntime) {
         (&[0, 0, 0, 0], Ok(&[])),
         (&[0, 0, 0], DAMAGED),
     ];
-    for (bytes, want) in rows {
+    for (bytes, want) in ROWS {
         let found = Crc32cCodec.decode(rt.alloc(), bytes);
         same_at(&rt, *bytes, said_of(&found), *want);
     }

@@ -109,11 +109,12 @@ const FOUND: [&[u8]; 6] = [
 // The call of the number is refused once, and changes nothing; it is made as the later ones where it is tried again.
 #[test]
 fn the_call_of_the_number_fails_once(rt: HostRuntime) {
+    let alloc = rt.alloc();
     for (number, want) in (0..CALLS).zip(FOUND) {
-        let mut handle = failing(&rt, rt.alloc(), number);
-        make_calls(&rt, rt.alloc(), &mut handle, 0..number);
-        is_refused(&rt, rt.alloc(), &mut handle, number, want);
-        is_ended(&rt, rt.alloc(), handle, number, 1);
+        let mut handle = failing(&rt, alloc, number);
+        make_calls(&rt, alloc, &mut handle, 0..number);
+        is_refused(&rt, alloc, &mut handle, number, want);
+        is_ended(&rt, alloc, handle, number, 1);
     }
 }
 

@@ -15,11 +15,11 @@ fn inverted() -> ArrayChain<InvertedCodec, BytesCodec> {
 // The first codec encodes first, and the second is not given what is no array of the shape.
 #[test]
 fn an_array_is_encoded_before_it_is_stored(rt: HostRuntime) {
-    let rows: &[(&[u8], Result<&[u8], CodecError>)] = &[
+    const ROWS: &[(&[u8], Result<&[u8], CodecError>)] = &[
         (&[1, 2], Ok(&[254, 253])),
         (&[1], Err(CodecError::InvalidNumberOfElements)),
     ];
-    for (elements, want) in rows {
+    for (elements, want) in ROWS {
         let text = encoded_pair(&rt, rt.alloc(), &inverted(), elements);
         same(&rt, said(&text), *want);
     }
@@ -37,12 +37,13 @@ fn is_owned_as<R: Abort>(rt: &R, alloc: Global, array: ArrayBytes, want: &[u8]) 
 
 #[test]
 fn an_array_is_decoded_after_its_bytes(rt: HostRuntime) {
+    let alloc = rt.alloc();
     for (bytes, want) in [([254, 253], [1, 2]), ([254, 254], [1, 1])] {
-        let found = decoded_pair(&rt, rt.alloc(), &inverted(), &bytes);
-        is_owned_as(&rt, rt.alloc(), found.expect(&rt, "an array"), &want);
+        let found = decoded_pair(&rt, alloc, &inverted(), &bytes);
+        is_owned_as(&rt, alloc, found.expect(&rt, "an array"), &want);
     }
     for bytes in [[254].as_slice(), &[]] {
-        let found = decoded_pair(&rt, rt.alloc(), &inverted(), bytes);
+        let found = decoded_pair(&rt, alloc, &inverted(), bytes);
         same_at(&rt, bytes, found.err(), Some(CodecError::Damaged));
     }
 }
@@ -51,13 +52,13 @@ fn an_array_is_decoded_after_its_bytes(rt: HostRuntime) {
 #[test]
 fn an_array_is_read_whole(rt: HostRuntime) {
     same(&rt, inverted().is_functional(), true);
-    let rows: &[(u64, u64, Result<&[u8], CodecError>)] = &[
+    const ROWS: &[(u64, u64, Result<&[u8], CodecError>)] = &[
         (1, 2, Ok(&[2])),
         (2, 2, Ok(&[248])),
         (1, 3, Err(CodecError::Damaged)),
         (3, 2, Err(CodecError::OutOfBounds)),
     ];
-    for (offset, size, want) in rows {
+    for (offset, size, want) in ROWS {
         let (offset, size) = (*offset, *size);
         let interval = Interval { offset, size };
         let found = second_of(&rt, rt.alloc(), &inverted(), &[7, 254, 253, 7], interval);

@@ -42,7 +42,7 @@ const KEPT: &[u8] = &[77; 8];
 // A target is written where as many elements of its size are decoded, and is left as it was otherwise.
 #[test]
 fn a_target_is_written_or_left(rt: HostRuntime) {
-    let rows: &[(
+    const ROWS: &[(
         &[u8],
         usize,
         &[u64],
@@ -62,7 +62,7 @@ fn a_target_is_written_or_left(rt: HostRuntime) {
             KEPT,
         ),
     ];
-    for (bytes, size, axes, range, answer, want) in rows {
+    for (bytes, size, axes, range, answer, want) in ROWS {
         let mut output = [77; 8];
         let found = decode_into(&rt, rt.alloc(), bytes, *size, axes, range, &mut output);
         same_at(&rt, *size, (found, output.as_slice()), (*answer, *want));

@@ -118,7 +118,7 @@ type Row = (
 // A pair that ends outside the inner shard, though inside the object, damages it: it is read where it is not covered, and only then.
 #[test]
 fn an_inner_shard_is_read_where_it_is_not_covered(rt: HostRuntime) {
-    let rows: &[Row] = &[
+    const ROWS: &[Row] = &[
         (1, 1..2, &[3], None, &[1, 3], [0, 1, 1, 1]),
         (34, 0..2, &[9, 9], None, &[9, 9], [0, 1, 1, 1]),
         (
@@ -130,7 +130,7 @@ fn an_inner_shard_is_read_where_it_is_not_covered(rt: HostRuntime) {
             [0, 34, ABSENT, ABSENT],
         ),
     ];
-    for (size, range, cells, refusal, bytes, index) in rows {
+    for (size, range, cells, refusal, bytes, index) in ROWS {
         let found = written_over(&rt, rt.alloc(), *size, range.start..range.end, cells);
         let object = one_stored(&rt, rt.alloc(), bytes, *index);
         same(&rt, found, (*refusal, Some(object)));

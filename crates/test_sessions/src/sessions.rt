@@ -71,7 +71,7 @@ fn read_erased<R: Abort>(
 fn cells_are_read_before_and_after_an_erasure(rt: HostRuntime) {
     let alloc = rt.alloc();
     let shards = Shards::new(&rt, alloc, ShardingIndexLocation::End);
-    let rows: &[(bool, u64, Range<u64>, Result<&[u8], CodecError>)] = &[
+    const ROWS: &[(bool, u64, Range<u64>, Result<&[u8], CodecError>)] = &[
         (true, 0, 0..4, Ok(&[0, 7, 0, 0])),
         (true, 0, 1..1, Ok(&[])),
         (true, 1, 0..4, Ok(&[0, 0, 0, 0])),
@@ -81,7 +81,7 @@ fn cells_are_read_before_and_after_an_erasure(rt: HostRuntime) {
         (true, 1, 3..5, Err(CodecError::OutOfBounds)),
         (false, 0, 5..5, Err(CodecError::OutOfBounds)),
     ];
-    for (stored, erasures, range, want) in rows {
+    for (stored, erasures, range, want) in ROWS {
         let mut session = opened(&rt, alloc, &shards, *stored);
         let cells = read_erased(&rt, alloc, &mut session, *erasures, range);
         same(&rt, said(&cells), *want);

@@ -42,13 +42,13 @@ const STEPS: &[Step] = &[(1..2, &[7]), (2..4, &[1, 2]), (0..1, &[9])];
 #[test]
 fn a_session_writes_more_than_once(rt: HostRuntime) {
     let alloc = rt.alloc();
-    let rows: &[(ShardingIndexLocation, usize, &[u8], [u64; 4], [u8; 4])] = &[
+    const ROWS: &[(ShardingIndexLocation, usize, &[u8], [u64; 4], [u8; 4])] = &[
         (End, 2, &[0, 7, 1, 2], [0, 2, 2, 2], [0, 7, 1, 2]),
         (End, 3, &[0, 7, 1, 2, 9, 7], [4, 2, 2, 2], [9, 7, 1, 2]),
         (Start, 2, &[0, 7, 1, 2], [32, 2, 34, 2], [0, 7, 1, 2]),
         (Start, 3, &[0, 7, 1, 2, 9, 7], [36, 2, 34, 2], [9, 7, 1, 2]),
     ];
-    for (location, many, slices, index, cells) in rows {
+    for (location, many, slices, index, cells) in ROWS {
         let steps = STEPS.get(..*many).expect(&rt, "three steps at most");
         let shards = Shards::new(&rt, alloc, *location);
         let found = written(&rt, alloc, &shards, steps, cells);
@@ -80,13 +80,13 @@ fn refused<R: Abort, N: Indexer>(
 // Cells outside first, then elements of another size, and another number of them.
 #[test]
 fn a_write_is_refused_in_order(rt: HostRuntime) {
-    let rows: &[(Range<u64>, usize, Option<CodecError>)] = &[
+    const ROWS: &[(Range<u64>, usize, Option<CodecError>)] = &[
         (3..5, 2, Some(CodecError::OutOfBounds)),
         (0..4, 2, Some(CodecError::WrongElementKind)),
         (0..4, 1, Some(CodecError::InvalidNumberOfElements)),
         (0..2, 1, None),
     ];
-    for (range, element_size, want) in rows {
+    for (range, element_size, want) in ROWS {
         let subset = subset_of(&rt, rt.alloc(), range.start..range.end);
         let update = two_bytes(&rt, *element_size);
         let found = refused(&rt, rt.alloc(), &subset, &update);
