@@ -57,15 +57,14 @@ fn hurt<R: Abort>(rt: &R, alloc: Global, entries: [(u64, u64); 2]) -> Vec<u8> {
 fn the_lowest_refused_subchunk_gives_the_refusal(rt: HostRuntime) {
     let alloc = rt.alloc();
     let shards = many(&rt, alloc);
-    const ROWS: &[([(u64, u64); 2], CodecError)] = &[
+    for (entries, want) in [
         ([(ABSENT, 5), (3000, 2)], BadIndexEntry { number: 1000 }),
         ([(1000, 2), (ABSENT, 5)], Damaged),
-    ];
-    for (entries, want) in ROWS {
-        let shard = hurt(&rt, alloc, *entries);
+    ] {
+        let shard = hurt(&rt, alloc, entries);
         for target in [1, 2, 4] {
             let answer = shards.decoded_by_workers(&rt, alloc, &shard, &NoGate, target);
-            same_at(&rt, target, said(&answer), Err(*want));
+            same_at(&rt, target, said(&answer), Err(want));
         }
     }
 }
