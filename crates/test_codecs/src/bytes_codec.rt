@@ -5,7 +5,7 @@ use crate::examples::{
 };
 use std::alloc::Global;
 use std::process::Abort;
-use zarr_codecs::{BytesCodec, BytesRepresentation, FunctionalCodec};
+use zarr_codecs::{BytesCodec, BytesRepresentation, Endianness, FunctionalCodec};
 use zarr_parts::{ArrayBytes, CodecError, DataType};
 
 // The numbers of 16 bits of these axes.
@@ -43,56 +43,67 @@ fn are_stored_as<R: Abort>(
     same_at(rt, (data_type, codec), again, Ok(array));
 }
 
-// Whole numbers are stored in the codec's byte order, and elements without one as they are.
+const LITTLE: Option<Endianness> = Some(Endianness::Little);
+
+const BIG: Option<Endianness> = Some(Endianness::Big);
+
+const SIX: &[u8] = &[1, 2, 3, 4, 5, 6];
+
+// Whole numbers are stored in the codec's byte order, which is little endian by default, and elements without one as they are.
 #[test]
 fn whole_numbers_are_stored_in_their_order(rt: HostRuntime) {
-    let six = [1, 2, 3, 4, 5, 6].as_slice();
-    let (big, unordered) = (BytesCodec::big(), BytesCodec::new(None));
-    let (little, default) = (BytesCodec::little(), BytesCodec::default());
-    let rows: [(BytesCodec, DataType, usize, &[u8], &[u8]); 9] = [
-        (big, DataType::UInt16, 2, &[2, 1], &[1, 2]),
-        (little, DataType::UInt16, 2, &[2, 1], &[2, 1]),
-        (default, DataType::UInt16, 2, &[2, 1], &[2, 1]),
-        (big, DataType::Int16, 2, six, &[2, 1, 4, 3, 6, 5]),
-        (big, DataType::UInt8, 1, six, six),
-        (big, DataType::Bool, 1, &[1, 0], &[1, 0]),
-        (big, DataType::Raw(3), 3, six, six),
-        (unordered, DataType::Raw(3), 3, six, six),
-        (unordered, DataType::UInt8, 1, six, six),
+    const ROWS: &[(Option<Endianness>, DataType, usize, &[u8], &[u8])] = &[
+        (BIG, DataType::UInt16, 2, &[2, 1], &[1, 2]),
+        (LITTLE, DataType::UInt16, 2, &[2, 1], &[2, 1]),
+        (BIG, DataType::Int16, 2, SIX, &[2, 1, 4, 3, 6, 5]),
+        (BIG, DataType::UInt8, 1, SIX, SIX),
+        (BIG, DataType::Bool, 1, &[1, 0], &[1, 0]),
+        (BIG, DataType::Raw(3), 3, SIX, SIX),
+        (None, DataType::Raw(3), 3, SIX, SIX),
+        (None, DataType::UInt8, 1, SIX, SIX),
     ];
-    for (codec, data_type, size, memory, want) in rows {
-        are_stored_as(&rt, rt.alloc(), codec, data_type, size, memory, want);
+    for (order, data_type, size, memory, want) in ROWS {
+        let codec = BytesCodec::new(*order);
+        are_stored_as(&rt, rt.alloc(), codec, *data_type, *size, memory, want);
     }
+    let (codec, bytes) = (BytesCodec::default(), [2, 1]);
+    are_stored_as(&rt, rt.alloc(), codec, DataType::UInt16, 2, &bytes, &bytes);
 }
+
+// An array of 2 to the power of 64 elements.
+const WIDE: &[u64] = &[1 << 63, 2];
+
+const UNSUPPORTED: Result<(), CodecError> = Err(CodecError::UnsupportedDataType);
+
+const BAD_FILL: Result<(), CodecError> = Err(CodecError::BadFillValue);
+
+const LARGE: Result<(), CodecError> = Err(CodecError::TooLarge);
 
 // The type is tested before the fill value, and this before the shape.
 #[test]
 fn types_fill_values_and_shapes_are_tested_in_order(rt: HostRuntime) {
-    let (little, unordered) = (BytesCodec::little(), BytesCodec::new(None));
-    let unsupported = Err(CodecError::UnsupportedDataType);
-    let large = Err(CodecError::TooLarge);
-    let wide = [1 << 63, 2].as_slice();
-    let rows: [(BytesCodec, DataType, &[u8], &[u64], Result<(), CodecError>); 9] = [
-        (unordered, DataType::UInt16, &[0], wide, unsupported),
-        (little, DataType::Optional, &[0], wide, unsupported),
-        (little, DataType::Raw(0), &[0], wide, unsupported),
-        (little, DataType::Bytes, &[0], wide, unsupported),
-        (
-            little,
-            DataType::UInt16,
-            &[0],
-            wide,
-            Err(CodecError::BadFillValue),
-        ),
-        (little, DataType::UInt8, &[0], wide, large),
-        (little, DataType::UInt16, &[0, 0], &[1 << 63], large),
-        (little, DataType::UInt8, &[0], &[u64::MAX], Ok(())),
-        (unordered, DataType::Bool, &[0], &[2], Ok(())),
+    const ROWS: &[(
+        Option<Endianness>,
+        DataType,
+        &[u8],
+        &[u64],
+        Result<(), CodecError>,
+    )] = &[
+        (None, DataType::UInt16, &[0], WIDE, UNSUPPORTED),
+        (LITTLE, DataType::Optional, &[0], WIDE, UNSUPPORTED),
+        (LITTLE, DataType::Raw(0), &[0], WIDE, UNSUPPORTED),
+        (LITTLE, DataType::Bytes, &[0], WIDE, UNSUPPORTED),
+        (LITTLE, DataType::UInt16, &[0], WIDE, BAD_FILL),
+        (LITTLE, DataType::UInt8, &[0], WIDE, LARGE),
+        (LITTLE, DataType::UInt16, &[0, 0], &[1 << 63], LARGE),
+        (LITTLE, DataType::UInt8, &[0], &[u64::MAX], Ok(())),
+        (None, DataType::Bool, &[0], &[2], Ok(())),
     ];
-    for (codec, data_type, value, axes, want) in rows {
-        let spec = spec_of(&rt, rt.alloc(), axes, data_type, value);
+    for (order, data_type, value, axes, want) in ROWS {
+        let codec = BytesCodec::new(*order);
+        let spec = spec_of(&rt, rt.alloc(), axes, *data_type, value);
         let answer = checked(rt.alloc(), &codec, &spec);
-        same_at(&rt, (data_type, codec), answer, want);
+        same_at(&rt, (*data_type, codec), answer, *want);
     }
 }
 
@@ -105,14 +116,14 @@ fn refused<R: Abort>(rt: &R, alloc: Global, array: &ArrayBytes) -> Option<CodecE
 // The size of an element is tested before the number of elements.
 #[test]
 fn arrays_are_tested_in_order(rt: HostRuntime) {
-    let rows: [(usize, &[u8], Option<CodecError>); 3] = [
+    const ROWS: &[(usize, &[u8], Option<CodecError>)] = &[
         (1, &[0; 3], Some(CodecError::WrongElementKind)),
         (2, &[0; 6], Some(CodecError::InvalidNumberOfElements)),
         (2, &[0; 4], None),
     ];
-    for (size, bytes, want) in rows {
-        let answer = refused(&rt, rt.alloc(), &fixed(&rt, bytes, size));
-        same_at(&rt, (bytes.len(), size), answer, want);
+    for (size, bytes, want) in ROWS {
+        let answer = refused(&rt, rt.alloc(), &fixed(&rt, bytes, *size));
+        same_at(&rt, (bytes.len(), *size), answer, *want);
     }
 }
 
@@ -128,15 +139,15 @@ fn arrays_of_no_fixed_size_are_refused(rt: HostRuntime) {
 #[test]
 fn bytes_of_another_length_are_refused(rt: HostRuntime) {
     let two = numbers(&rt, rt.alloc(), &[2]);
-    let rows: [(&[u8], Option<CodecError>); 4] = [
+    const ROWS: &[(&[u8], Option<CodecError>)] = &[
         (&[], Some(CodecError::Damaged)),
         (&[0; 3], Some(CodecError::Damaged)),
         (&[0; 6], Some(CodecError::Damaged)),
         (&[0; 4], None),
     ];
-    for (bytes, want) in rows {
+    for (bytes, want) in ROWS {
         let answer = decoded(rt.alloc(), &BytesCodec::big(), &two, bytes);
-        same_at(&rt, bytes.len(), answer.err(), want);
+        same_at(&rt, bytes.len(), answer.err(), *want);
     }
 }
 
@@ -151,34 +162,26 @@ fn encodings_have_one_length(rt: HostRuntime) {
 // Elements are plain where they have no byte order, or that of memory; arrays that are not served never are.
 #[test]
 fn elements_in_the_order_of_memory_are_plain(rt: HostRuntime) {
-    let (little, big, unordered) = (
-        BytesCodec::little(),
-        BytesCodec::big(),
-        BytesCodec::new(None),
-    );
-    let rows: [(BytesCodec, DataType, &[u8], Option<u64>); 7] = [
-        (little, DataType::UInt16, &[0, 0], Some(4)),
-        (big, DataType::UInt16, &[0, 0], None),
-        (big, DataType::UInt8, &[0], Some(2)),
-        (big, DataType::Raw(3), &[0, 0, 0], Some(6)),
-        (unordered, DataType::UInt8, &[7], Some(2)),
-        (unordered, DataType::UInt16, &[0, 0], None),
-        (little, DataType::UInt16, &[0], None),
+    const ROWS: &[(Option<Endianness>, DataType, &[u8], Option<u64>)] = &[
+        (LITTLE, DataType::UInt16, &[0, 0], Some(4)),
+        (BIG, DataType::UInt16, &[0, 0], None),
+        (BIG, DataType::UInt8, &[0], Some(2)),
+        (BIG, DataType::Raw(3), &[0, 0, 0], Some(6)),
+        (None, DataType::UInt8, &[7], Some(2)),
+        (None, DataType::UInt16, &[0, 0], None),
+        (LITTLE, DataType::UInt16, &[0], None),
     ];
-    for (codec, data_type, none, size) in rows {
-        let pair = spec_of(&rt, rt.alloc(), &[2], data_type, none);
-        same_at(&rt, (data_type, codec), plain_size(&codec, &pair), size);
+    for (order, data_type, none, size) in ROWS {
+        let codec = BytesCodec::new(*order);
+        let pair = spec_of(&rt, rt.alloc(), &[2], *data_type, none);
+        same_at(&rt, (*data_type, codec), plain_size(&codec, &pair), *size);
     }
 }
 
 // Equal elements have one encoding, in each byte order.
 #[test]
 fn the_elements_have_one_encoding(rt: HostRuntime) {
-    for codec in [
-        BytesCodec::little(),
-        BytesCodec::big(),
-        BytesCodec::new(None),
-    ] {
-        assert!(rt; codec.is_functional(), "by {codec:?}");
+    for order in [LITTLE, BIG, None] {
+        same_at(&rt, order, BytesCodec::new(order).is_functional(), true);
     }
 }

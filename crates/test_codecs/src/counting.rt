@@ -8,25 +8,27 @@ use zarr_parts::CodecError;
 
 // Lends ranges of an object of the bytes 1 to 5.
 fn lend_ranges(rt: &impl Abort, alloc: Global, handle: &mut CountingHandle) {
-    let rows: [(ByteRange, Result<Option<&[u8]>, CodecError>); 4] = [
+    const ROWS: &[(ByteRange, Result<Option<&[u8]>, CodecError>)] = &[
         (ByteRange::FromStart(1, Some(2)), Ok(Some(&[2, 3]))),
         (ByteRange::Suffix(6), Err(CodecError::OutOfBounds)),
         (ByteRange::Suffix(1), Ok(Some(&[5]))),
         (ByteRange::FromStart(0, Some(1)), Ok(Some(&[1]))),
     ];
-    for (range, want) in rows {
-        same_at(rt, range, is_borrowed(alloc, handle, range, want), true);
+    for (range, want) in ROWS {
+        same_at(rt, *range, is_borrowed(alloc, handle, *range, *want), true);
     }
 }
 
 // The bytes of each range that was read are counted, and none of a range that was refused.
 #[test]
 fn a_handle_counts_what_is_read(rt: HostRuntime) {
-    let object = [1, 2, 3, 4, 5].to_vec(rt.alloc()).expect(&rt, "memory");
+    let alloc = rt.alloc();
+    let object = [1, 2, 3, 4, 5].to_vec(alloc).expect(&rt, "memory");
     let mut handle = CountingHandle::new(object);
-    lend_ranges(&rt, rt.alloc(), &mut handle);
+    lend_ranges(&rt, alloc, &mut handle);
     same(&rt, handle.bytes_read(), 4);
     let last = Ok(Some([4, 5].as_slice()));
-    assert!(rt; is_copied(rt.alloc(), &mut handle, ByteRange::Suffix(2), last));
+    let found = is_copied(alloc, &mut handle, ByteRange::Suffix(2), last);
+    same(&rt, found, true);
     same(&rt, handle.bytes_read(), 6);
 }

@@ -36,10 +36,10 @@ fn read_ranges<H: BytesPartialDecoderTraits>(rt: &impl Abort, alloc: Global, han
 
 // What else a handle tells of an object of 5 bytes.
 fn tells_of_five<H: BytesPartialDecoderTraits>(rt: &impl Abort, handle: &mut H) {
-    assert!(rt; handle.exists() == Ok(true));
-    assert!(rt; handle.len() == Ok(Some(5)));
-    same(&rt, handle.size_held(), 5);
-    assert!(rt; handle.supports_partial_decode());
+    same(rt, handle.exists(), Ok(true));
+    same(rt, handle.len(), Ok(Some(5)));
+    same(rt, handle.size_held(), 5);
+    same(rt, handle.supports_partial_decode(), true);
 }
 
 // Ranges of borrowed bytes are read where they lie inside.
@@ -77,11 +77,11 @@ fn read_nothing(rt: &impl Abort, alloc: Global, handle: &mut MemoryHandle) {
 #[test]
 fn nothing_is_read_where_there_is_no_object(rt: HostRuntime) {
     let mut handle = MemoryHandle::new(None);
-    assert!(rt; handle.exists() == Ok(false));
-    assert!(rt; handle.len() == Ok(None));
+    same(&rt, handle.exists(), Ok(false));
+    same(&rt, handle.len(), Ok(None));
     same(&rt, handle.size_held(), 0);
     read_nothing(&rt, rt.alloc(), &mut handle);
-    assert!(rt; handle.into_inner().is_none());
+    same(&rt, handle.into_inner(), None);
 }
 
 // Borrowed bytes are not copied where they are read.
@@ -90,5 +90,5 @@ fn borrowed_bytes_are_borrowed_on(rt: HostRuntime) {
     let bytes = [1, 2, 3, 4, 5];
     let mut handle = SliceHandle::new(&bytes);
     let read = handle.partial_decode(rt.alloc(), ByteRange::Suffix(1));
-    assert!(rt; matches!(read, Ok(Some(CowSlice::Borrowed([5])))));
+    same(&rt, matches!(read, Ok(Some(CowSlice::Borrowed([5])))), true);
 }

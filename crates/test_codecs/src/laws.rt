@@ -20,15 +20,16 @@ fn is_decoded_again<R: Abort>(rt: &R, alloc: Global, spec: &ArraySpec, array: &A
     let again = decode_after_encode(
         &codec, alloc, array, &encoded, axes, data_type, none, &options,
     );
-    assert!(rt; again.expect(rt, "an array") == *array);
+    same(rt, again.expect(rt, "an array") == *array, true);
 }
 
 #[test]
 fn an_encoding_is_decoded_again(rt: HostRuntime) {
-    let column = spec_of(&rt, rt.alloc(), &[2, 1], DataType::UInt16, &[0, 0]);
-    let served = checked(rt.alloc(), &BytesCodec::big(), &column);
+    let alloc = rt.alloc();
+    let column = spec_of(&rt, alloc, &[2, 1], DataType::UInt16, &[0, 0]);
+    let served = checked(alloc, &BytesCodec::big(), &column);
     served.expect(&rt, "numbers in big endian");
-    is_decoded_again(&rt, rt.alloc(), &column, &fixed(&rt, &[1, 2, 3, 4], 2));
+    is_decoded_again(&rt, alloc, &column, &fixed(&rt, &[1, 2, 3, 4], 2));
 }
 
 // The cells at coordinates, of bytes that were decoded before.
@@ -54,10 +55,11 @@ fn read_after<R: Abort, C: ArrayToBytesCodecTraits>(
 // The cells 2, 0 and 2 of three bytes, which were decoded before.
 #[test]
 fn cells_that_are_read_are_those_of_the_array(rt: HostRuntime) {
-    let three = spec_of(&rt, rt.alloc(), &[3], DataType::UInt8, &[0]);
-    let twice = coordinates(&rt, rt.alloc(), 1, 3, &[2, 0, 2]);
+    let alloc = rt.alloc();
+    let three = spec_of(&rt, alloc, &[3], DataType::UInt8, &[0]);
+    let twice = coordinates(&rt, alloc, 1, 3, &[2, 0, 2]);
     let little = BytesCodec::little();
-    let found = read_after(&rt, rt.alloc(), &little, &three, &[7, 8, 9], &twice);
+    let found = read_after(&rt, alloc, &little, &three, &[7, 8, 9], &twice);
     let cells = found.expect(&rt, "cells");
     same(&rt, cells.fixed_bytes(), Some([9, 7, 9].as_slice()));
 }

@@ -33,30 +33,31 @@ fn are_read<R: Abort, N: Indexer>(rt: &R, alloc: Global, indexer: &N, want: &[u8
 // The elements that are requested are read, one of them twice, and those of a subset in row-major order.
 #[test]
 fn requested_elements_are_read(rt: HostRuntime) {
-    let twice = coordinates(&rt, rt.alloc(), 2, 3, &[1, 1, 0, 0, 1, 1]);
-    are_read(&rt, rt.alloc(), &twice, &[4, 0, 1, 0, 4, 0]);
-    let column = subset(&rt, rt.alloc(), &[0..2, 1..2]);
-    are_read(&rt, rt.alloc(), &column, &[2, 0, 4, 0]);
+    let alloc = rt.alloc();
+    let twice = coordinates(&rt, alloc, 2, 3, &[1, 1, 0, 0, 1, 1]);
+    are_read(&rt, alloc, &twice, &[4, 0, 1, 0, 4, 0]);
+    let column = subset(&rt, alloc, &[0..2, 1..2]);
+    are_read(&rt, alloc, &column, &[2, 0, 4, 0]);
 }
+
+const OUTSIDE: Option<CodecError> = Some(CodecError::OutOfBounds);
 
 // The cell is tested before the size, and this before the place in the object.
 #[test]
 fn reads_are_refused_in_order(rt: HostRuntime) {
-    let object = Some(OBJECT.as_slice());
-    let corner = [1, 1].as_slice();
-    let outside = Some(CodecError::OutOfBounds);
-    let rows: [(Option<&[u8]>, u64, u64, &[u64], Option<CodecError>); 6] = [
-        (object, 1, 8, corner, None),
-        (object, 2, 8, corner, outside),
-        (object, u64::MAX, 8, corner, outside),
-        (object, 1, 6, corner, Some(CodecError::Damaged)),
-        (None, 0, 8, corner, outside),
-        (object, 1, 6, &[1, 2], outside),
+    const ROWS: &[(Option<&[u8]>, u64, u64, &[u64], Option<CodecError>)] = &[
+        (Some(&OBJECT), 1, 8, &[1, 1], None),
+        (Some(&OBJECT), 2, 8, &[1, 1], OUTSIDE),
+        (Some(&OBJECT), u64::MAX, 8, &[1, 1], OUTSIDE),
+        (Some(&OBJECT), 1, 6, &[1, 1], Some(CodecError::Damaged)),
+        (None, 0, 8, &[1, 1], OUTSIDE),
+        (Some(&OBJECT), 1, 6, &[1, 2], OUTSIDE),
     ];
-    for (object, offset, size, cell, want) in rows {
+    for (object, offset, size, cell, want) in ROWS {
+        let (offset, size) = (*offset, *size);
         let cell = coordinates(&rt, rt.alloc(), 2, 1, cell);
         let interval = Interval { offset, size };
-        let answer = read_numbers(&rt, rt.alloc(), object, interval, &cell);
-        same_at(&rt, (size, offset), answer.err(), want);
+        let answer = read_numbers(&rt, rt.alloc(), *object, interval, &cell);
+        same_at(&rt, (size, offset), answer.err(), *want);
     }
 }

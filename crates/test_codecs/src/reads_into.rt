@@ -71,7 +71,7 @@ fn are_read<R: Abort, N: Indexer>(
 // The numbers of a subset go where the target's subset lies, row by row of either: subsets of one shape, and of several.
 #[test]
 fn subsets_are_read_into_subsets(rt: HostRuntime) {
-    let rows: [(&[Range<u64>], &[Range<u64>], [u8; 16]); 5] = [
+    const ROWS: &[(&[Range<u64>], &[Range<u64>], [u8; 16])] = &[
         (
             &[1..3, 1..3],
             &[0..2, 2..4],
@@ -94,7 +94,7 @@ fn subsets_are_read_into_subsets(rt: HostRuntime) {
         ),
         (&[3..3, 0..4], &[1..1, 0..4], [77; 16]),
     ];
-    for (requested, into, want) in rows {
+    for (requested, into, want) in ROWS {
         let requested = subset(&rt, rt.alloc(), requested);
         are_read(
             &rt,
@@ -140,25 +140,27 @@ fn read_row<R: Abort>(
     (answer, output)
 }
 
+const PAST: Interval = Interval {
+    offset: 2,
+    size: 24,
+};
+
+const SHORT: Interval = Interval {
+    offset: 1,
+    size: 22,
+};
+
 // The count is tested before the cells, these before the interval, and it before the length of the bytes.
 #[test]
 fn reads_into_a_target_are_refused_in_order(rt: HostRuntime) {
-    let past = Interval {
-        offset: 2,
-        size: 24,
-    };
-    let short = Interval {
-        offset: 1,
-        size: 22,
-    };
-    let rows: [(Interval, &[Range<u64>], u64, CodecError); 4] = [
-        (past, &[2..4, 0..1], 1, CodecError::InvalidNumberOfElements),
-        (past, &[2..4, 0..1], 2, CodecError::OutOfBounds),
-        (past, &[0..1, 0..2], 2, CodecError::OutOfBounds),
-        (short, &[0..1, 0..2], 2, CodecError::Damaged),
+    const ROWS: &[(Interval, &[Range<u64>], u64, CodecError)] = &[
+        (PAST, &[2..4, 0..1], 1, CodecError::InvalidNumberOfElements),
+        (PAST, &[2..4, 0..1], 2, CodecError::OutOfBounds),
+        (PAST, &[0..1, 0..2], 2, CodecError::OutOfBounds),
+        (SHORT, &[0..1, 0..2], 2, CodecError::Damaged),
     ];
-    for (interval, requested, many, want) in rows {
-        let found = read_row(&rt, rt.alloc(), interval, requested, many);
-        same_at(&rt, (interval.size, many), found, (Err(want), [77; 16]));
+    for (interval, requested, many, want) in ROWS {
+        let found = read_row(&rt, rt.alloc(), *interval, requested, *many);
+        same_at(&rt, (interval.size, *many), found, (Err(*want), [77; 16]));
     }
 }

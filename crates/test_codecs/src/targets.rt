@@ -25,37 +25,46 @@ fn decode_into<R: Abort>(
     bytes: &[u8],
     size: usize,
     axes: &[u64],
-    range: Range<u64>,
+    range: &Range<u64>,
     output: &mut [u8],
 ) -> Result<(), CodecError> {
-    let cells = subset(rt, alloc, &[range]);
+    let cells = subset(rt, alloc, &[range.start..range.end]);
     let mut target = FixedTarget::new(output, size, axes, &cells).expect(rt, "a target");
     decode(rt, alloc, bytes, &mut target)
 }
 
+const FEW: Result<(), CodecError> = Err(CodecError::InvalidNumberOfElements);
+
+const WRITTEN: &[u8] = &[77, 77, 1, 0, 2, 0, 77, 77];
+
+const KEPT: &[u8] = &[77; 8];
+
 // A target is written where as many elements of its size are decoded, and is left as it was otherwise.
 #[test]
 fn a_target_is_written_or_left(rt: HostRuntime) {
-    let kept = [77; 8].as_slice();
-    let written = [77, 77, 1, 0, 2, 0, 77, 77].as_slice();
-    let few = Err(CodecError::InvalidNumberOfElements);
-    let wrong = Err(CodecError::WrongElementKind);
-    let rows: [(
+    const ROWS: &[(
         &[u8],
         usize,
         &[u64],
         Range<u64>,
         Result<(), CodecError>,
         &[u8],
-    ); 4] = [
-        (&[0, 1, 0, 2], 2, &[4], 1..3, Ok(()), written),
-        (&[0, 1], 2, &[4], 1..3, Err(CodecError::Damaged), kept),
-        (&[0, 1], 2, &[4], 1..2, few, kept),
-        (&[0, 1], 1, &[8], 1..2, wrong, kept),
+    )] = &[
+        (&[0, 1, 0, 2], 2, &[4], 1..3, Ok(()), WRITTEN),
+        (&[0, 1], 2, &[4], 1..3, Err(CodecError::Damaged), KEPT),
+        (&[0, 1], 2, &[4], 1..2, FEW, KEPT),
+        (
+            &[0, 1],
+            1,
+            &[8],
+            1..2,
+            Err(CodecError::WrongElementKind),
+            KEPT,
+        ),
     ];
-    for (bytes, size, axes, range, answer, want) in rows {
+    for (bytes, size, axes, range, answer, want) in ROWS {
         let mut output = [77; 8];
-        let found = decode_into(&rt, rt.alloc(), bytes, size, axes, range, &mut output);
-        same_at(&rt, size, (found, output.as_slice()), (answer, want));
+        let found = decode_into(&rt, rt.alloc(), bytes, *size, axes, range, &mut output);
+        same_at(&rt, *size, (found, output.as_slice()), (*answer, *want));
     }
 }

@@ -19,18 +19,20 @@ fn pair_of<R: Abort>(rt: &R, alloc: Global, data_type: DataType) -> ArraySpec {
 // The count stands before the elements, and each after its length.
 #[test]
 fn elements_stand_after_their_lengths(rt: HostRuntime) {
-    let pair = pair_of(&rt, rt.alloc(), DataType::Bytes);
-    for (bytes, offsets, text) in [
-        (b"a".as_slice(), [0, 1, 1], TEXT.as_slice()),
+    let alloc = rt.alloc();
+    let pair = pair_of(&rt, alloc, DataType::Bytes);
+    const ROWS: &[(&[u8], [usize; 3], &[u8])] = &[
+        (b"a", [0, 1, 1], &TEXT),
         (
             b"bc",
             [0, 0, 2],
             &[2, 0, 0, 0, 0, 0, 0, 0, 2, 0, 0, 0, 98, 99],
         ),
-    ] {
-        let array = variable(&rt, rt.alloc(), bytes, &offsets);
-        let found = encoded(rt.alloc(), &VlenCodec, &pair, &array);
-        same_at(&rt, bytes, said(&found), Ok(text));
+    ];
+    for (bytes, offsets, text) in ROWS {
+        let array = variable(&rt, alloc, bytes, offsets);
+        let found = encoded(alloc, &VlenCodec, &pair, &array);
+        same_at(&rt, *bytes, said(&found), Ok(*text));
     }
 }
 
@@ -48,13 +50,14 @@ fn refused<R: Abort>(
 // Another type, elements of one size, another number of elements.
 #[test]
 fn what_has_no_text_is_refused(rt: HostRuntime) {
-    let one = variable(&rt, rt.alloc(), b"a", &[0, 1]);
-    let found = refused(&rt, rt.alloc(), &one, DataType::UInt8);
+    let alloc = rt.alloc();
+    let one = variable(&rt, alloc, b"a", &[0, 1]);
+    let found = refused(&rt, alloc, &one, DataType::UInt8);
     same(&rt, found, Some(CodecError::UnsupportedDataType));
     let bytes = fixed(&rt, &[1, 2], 1);
-    let found = refused(&rt, rt.alloc(), &bytes, DataType::Bytes);
+    let found = refused(&rt, alloc, &bytes, DataType::Bytes);
     same(&rt, found, Some(CodecError::WrongElementKind));
-    let found = refused(&rt, rt.alloc(), &one, DataType::Bytes);
+    let found = refused(&rt, alloc, &one, DataType::Bytes);
     same(&rt, found, Some(CodecError::InvalidNumberOfElements));
 }
 
@@ -107,16 +110,17 @@ fn a_shorter_text_is_damaged(rt: HostRuntime) {
 // Texts that claim more than they have, and one with a byte after it.
 #[test]
 fn a_text_of_other_elements_is_damaged(rt: HostRuntime) {
-    for text in [
-        [255, 255, 255, 255].as_slice(),
+    const TEXTS: &[&[u8]] = &[
+        &[255, 255, 255, 255],
         &[2, 0, 0, 0, 255, 255, 255, 255],
         &[2, 0, 0, 0, 1, 0, 0, 0, 97, 0, 0, 0, 0, 0],
         &[2, 0, 0, 0, 0, 0, 0, 0],
         &[1, 0, 0, 0, 1, 0, 0, 0, 97],
         &[3, 0, 0, 0, 0, 0, 0, 0, 0, 0, 0, 0, 0, 0, 0, 0],
-    ] {
+    ];
+    for text in TEXTS {
         let found = elements(&rt, rt.alloc(), text).err();
-        same_at(&rt, text, found, Some(CodecError::Damaged));
+        same_at(&rt, *text, found, Some(CodecError::Damaged));
     }
 }
 
@@ -136,28 +140,29 @@ fn first_of<R: Abort>(
 // The whole text of the interval is walked, also after the requested element, which is "a".
 #[test]
 fn a_text_is_read_whole(rt: HostRuntime) {
+    let alloc = rt.alloc();
     let found = first_of(
         &rt,
-        rt.alloc(),
+        alloc,
         Interval {
             offset: 1,
             size: 13,
         },
     );
-    same(&rt, found, Ok(variable(&rt, rt.alloc(), b"a", &[0, 1])));
+    same(&rt, found, Ok(variable(&rt, alloc, b"a", &[0, 1])));
     for (offset, size, want) in [
         (1, 12, CodecError::Damaged),
         (1, 14, CodecError::Damaged),
         (2, 14, CodecError::OutOfBounds),
     ] {
-        let found = first_of(&rt, rt.alloc(), Interval { offset, size });
+        let found = first_of(&rt, alloc, Interval { offset, size });
         same_at(&rt, (offset, size), found.err(), Some(want));
     }
 }
 
 #[test]
 fn a_text_may_have_any_length(rt: HostRuntime) {
-    assert!(rt; VlenCodec.is_functional());
+    same(&rt, VlenCodec.is_functional(), true);
     let pair = pair_of(&rt, rt.alloc(), DataType::Bytes);
     same(&rt, plain_size(&VlenCodec, &pair), None);
     let found = told(rt.alloc(), &VlenCodec, &pair);

@@ -20,9 +20,11 @@ fn is_written<R: Abort, H: BytesPartialEncoderTraits>(
     let answer = handle.partial_encode_many(alloc, pieces);
     same_at(rt, pieces, answer, Ok(()));
     let whole = ByteRange::FromStart(0, None);
-    assert!(rt;
+    same_at(
+        rt,
+        pieces,
         is_copied(alloc, handle, whole, Ok(Some(want))),
-        "{pieces:?}"
+        true,
     );
 }
 
@@ -80,7 +82,7 @@ fn are_refused<R: Abort>(rt: &R, alloc: Global, object: Option<&[u8]>, pieces: P
     same_at(rt, pieces, answer, Err(CodecError::TooLarge));
     let answer = handle.partial_encode_many(alloc, NO_MEMORY);
     same_at(rt, pieces, answer, Err(CodecError::OutOfMemory));
-    assert!(rt; holds(&handle.into_inner(), object), "{pieces:?}");
+    same_at(rt, pieces, holds(&handle.into_inner(), object), true);
 }
 
 // An object past the largest size is refused, and what was there is left.
@@ -98,7 +100,7 @@ fn is_replaced<R: Abort>(rt: &R, alloc: Global, handle: &mut MemoryHandle) {
     same(rt, handle.replace(alloc, &[8, 9]), Ok(()));
     same(rt, handle.len(), Ok(Some(2)));
     let whole = ByteRange::FromStart(0, None);
-    assert!(rt; is_copied(alloc, handle, whole, Ok(Some(&[8, 9]))));
+    same(rt, is_copied(alloc, handle, whole, Ok(Some(&[8, 9]))), true);
 }
 
 // Erases an object, and erases it again: none is left.
@@ -114,7 +116,7 @@ fn is_erased<R: Abort>(rt: &R, mut handle: MemoryHandle) {
 fn an_object_is_replaced_and_erased(rt: HostRuntime) {
     for object in [Some([1, 2, 3].as_slice()), None] {
         let mut handle = handle_over(&rt, rt.alloc(), object);
-        assert!(rt; handle.supports_partial_encode());
+        same(&rt, handle.supports_partial_encode(), true);
         is_replaced(&rt, rt.alloc(), &mut handle);
         is_erased(&rt, handle);
     }

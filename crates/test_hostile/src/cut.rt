@@ -70,18 +70,16 @@ fn said_of(answer: &Result<Vec<u64>, CodecError>) -> Result<&[u64], CodecError> 
 // The index is read as many bytes too early as are missing.
 #[test]
 fn the_index_of_a_cut_shard_is_read(rt: HostRuntime) {
-    for (len, want) in [
+    const ROWS: &[(usize, Result<&[u64], CodecError>)] = &[
         (0, Err(CodecError::ShardTooShort)),
         (31, Err(CodecError::ShardTooShort)),
-        (
-            32,
-            Ok([7 << 8, 2 << 16, ABSENT - 65_535, ABSENT].as_slice()),
-        ),
+        (32, Ok(&[7 << 8, 2 << 16, ABSENT - 65_535, ABSENT])),
         (33, Ok(&[7, 512, ABSENT - 255, ABSENT])),
         (34, Ok(&[0, 2, ABSENT, ABSENT])),
-    ] {
-        let case = cut_of(&rt, rt.alloc(), len);
+    ];
+    for (len, want) in ROWS {
+        let case = cut_of(&rt, rt.alloc(), *len);
         let found = case.index(&rt, rt.alloc());
-        same_at(&rt, len, said_of(&found), want);
+        same_at(&rt, *len, said_of(&found), *want);
     }
 }

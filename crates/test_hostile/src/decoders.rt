@@ -24,10 +24,11 @@ fn subsets_are_read(rt: HostRuntime) {
 
 #[test]
 fn listed_elements_are_read(rt: HostRuntime) {
-    let requested = listed(&rt, rt.alloc());
+    let alloc = rt.alloc();
+    let requested = listed(&rt, alloc);
     for hostile in hostile_table().iter() {
-        let case = case_of(&rt, rt.alloc(), hostile);
-        let found = case.shards.read(rt.alloc(), &case.object, &requested);
+        let case = case_of(&rt, alloc, hostile);
+        let found = case.shards.read(alloc, &case.object, &requested);
         same_at(&rt, hostile.name, said(&found), hostile.listed);
     }
 }

@@ -134,18 +134,20 @@ fn is_answered<R: Abort + Threads + Sync, I: ArrayToBytesCodecTraits + Drop + Sy
 
 #[test]
 fn one_shard_has_them(rt: HostRuntime) {
+    let alloc = rt.alloc();
     for hostile in hostile_table().iter() {
-        let shards = in_one(&rt, rt.alloc(), hostile.at_start);
-        let object = put_deep(&rt, rt.alloc(), hostile, 1);
-        is_answered(&rt, rt.alloc(), hostile, &shards, &object);
+        let shards = in_one(&rt, alloc, hostile.at_start);
+        let object = put_deep(&rt, alloc, hostile, 1);
+        is_answered(&rt, alloc, hostile, &shards, &object);
     }
 }
 
 #[test]
 fn shards_in_shards_have_them(rt: HostRuntime) {
+    let alloc = rt.alloc();
     for hostile in hostile_table().iter() {
-        let shards = in_three(&rt, rt.alloc(), hostile.at_start);
-        let object = put_deep(&rt, rt.alloc(), hostile, 3);
-        is_answered(&rt, rt.alloc(), hostile, &shards, &object);
+        let shards = in_three(&rt, alloc, hostile.at_start);
+        let object = put_deep(&rt, alloc, hostile, 3);
+        is_answered(&rt, alloc, hostile, &shards, &object);
     }
 }

@@ -39,12 +39,13 @@ fn one_subchunk<R: Abort>(rt: &R, alloc: Global, hostile: &HostileObject) -> Res
 // Bytes that the old codec refuses are refused as it refuses to decode them, after the tests of the new codec.
 #[test]
 fn they_are_resharded(rt: HostRuntime) {
+    let alloc = rt.alloc();
     for hostile in hostile_table().iter() {
-        let case = case_of(&rt, rt.alloc(), hostile);
-        let found = resharded_to(&rt, rt.alloc(), &case, 4);
-        let want = one_subchunk(&rt, rt.alloc(), hostile);
+        let case = case_of(&rt, alloc, hostile);
+        let found = resharded_to(&rt, alloc, &case, 4);
+        let want = one_subchunk(&rt, alloc, hostile);
         same_at(&rt, hostile.name, found, want);
-        let unserved = resharded_to(&rt, rt.alloc(), &case, 3).err();
+        let unserved = resharded_to(&rt, alloc, &case, 3).err();
         let refusal = Some(CodecError::InvalidSubchunkShape);
         same_at(&rt, hostile.name, unserved, refusal);
     }
@@ -89,31 +90,34 @@ fn halved<R: Abort>(rt: &R, alloc: Global, both: &Both, object: &[u8]) -> Reshar
 
 #[test]
 fn squares_become_halves(rt: HostRuntime) {
-    let both = codecs(&rt, rt.alloc());
-    let squares = in_squares(&rt, rt.alloc());
-    let found = halved(&rt, rt.alloc(), &both, &squares);
-    same(&rt, found, Ok(in_halves(&rt, rt.alloc())));
+    let alloc = rt.alloc();
+    let both = codecs(&rt, alloc);
+    let squares = in_squares(&rt, alloc);
+    let found = halved(&rt, alloc, &both, &squares);
+    same(&rt, found, Ok(in_halves(&rt, alloc)));
 }
 
 #[test]
 fn halves_become_squares(rt: HostRuntime) {
-    let both = codecs(&rt, rt.alloc());
+    let alloc = rt.alloc();
+    let both = codecs(&rt, alloc);
     let Both { shape, fill, .. } = &both;
     let (from, to, bytes) = (&both.halves, &both.squares, &DataType::UInt8);
-    let halves = in_halves(&rt, rt.alloc());
-    let found = reshard(rt.alloc(), from, to, &halves, shape, bytes, fill);
-    same(&rt, found, Ok(in_squares(&rt, rt.alloc())));
+    let halves = in_halves(&rt, alloc);
+    let found = reshard(alloc, from, to, &halves, shape, bytes, fill);
+    same(&rt, found, Ok(in_squares(&rt, alloc)));
 }
 
 #[test]
 fn what_is_resharded_decodes_to_the_same(rt: HostRuntime) {
-    let both = codecs(&rt, rt.alloc());
+    let alloc = rt.alloc();
+    let both = codecs(&rt, alloc);
     let Both { shape, fill, .. } = &both;
     let (from, to, bytes) = (&both.squares, &both.halves, &DataType::UInt8);
-    let object = in_squares(&rt, rt.alloc());
-    let resharded = reshard(rt.alloc(), from, to, &object, shape, bytes, fill);
+    let object = in_squares(&rt, alloc);
+    let resharded = reshard(alloc, from, to, &object, shape, bytes, fill);
     let halves = resharded.expect(&rt, "halves");
-    let found = decode_after_reshard(rt.alloc(), from, to, &object, &halves, shape, bytes, fill);
+    let found = decode_after_reshard(alloc, from, to, &object, &halves, shape, bytes, fill);
     let want = [0, 1, 2, 3, 4, 5, 6, 7, 8, 9, 10, 11, 12, 13, 14, 15];
     same(&rt, said(&found), Ok(want.as_slice()));
 }

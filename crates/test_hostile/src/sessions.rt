@@ -25,9 +25,10 @@ fn opened(alloc: Global, case: Case) -> Opened {
 
 #[test]
 fn they_are_opened_or_given_back(rt: HostRuntime) {
+    let alloc = rt.alloc();
     for hostile in hostile_table().iter() {
-        let found = opened(rt.alloc(), case_of(&rt, rt.alloc(), hostile));
-        let object = hostile.object(rt.alloc()).expect(&rt, "memory");
+        let found = opened(alloc, case_of(&rt, alloc, hostile));
+        let object = hostile.object(alloc).expect(&rt, "memory");
         same_at(&rt, hostile.name, found, (hostile.unopened, Some(object)));
     }
 }
@@ -59,9 +60,10 @@ fn shared(alloc: Global, case: Case) -> Opened {
 
 #[test]
 fn they_are_shared_or_given_back(rt: HostRuntime) {
+    let alloc = rt.alloc();
     for hostile in hostile_table().iter() {
-        let found = shared(rt.alloc(), case_of(&rt, rt.alloc(), hostile));
-        let object = hostile.object(rt.alloc()).expect(&rt, "memory");
+        let found = shared(alloc, case_of(&rt, alloc, hostile));
+        let object = hostile.object(alloc).expect(&rt, "memory");
         same_at(&rt, hostile.name, found, (hostile.unopened, Some(object)));
     }
 }
@@ -98,10 +100,11 @@ fn sessions_read_subsets(rt: HostRuntime) {
 
 #[test]
 fn sessions_read_listed_elements(rt: HostRuntime) {
-    let requested = listed(&rt, rt.alloc());
+    let alloc = rt.alloc();
+    let requested = listed(&rt, alloc);
     for hostile in hostile_table().iter() {
-        let Case { object, shards } = case_of(&rt, rt.alloc(), hostile);
-        let found = shards.read_opened(rt.alloc(), object, &requested);
+        let Case { object, shards } = case_of(&rt, alloc, hostile);
+        let found = shards.read_opened(alloc, object, &requested);
         let want = wanted(hostile, hostile.listed);
         same_at(&rt, hostile.name, said(&found), want);
     }
@@ -122,11 +125,12 @@ fn read_by<R: Wait, N: Indexer>(
 
 #[test]
 fn shared_sessions_read_them(rt: HostRuntime) {
+    let alloc = rt.alloc();
     for hostile in hostile_table().iter() {
         for (range, half) in [0..2, 2..4].iter().zip(hostile.halves.iter()) {
-            let requested = subset_of(&rt, rt.alloc(), range);
-            let case = case_of(&rt, rt.alloc(), hostile);
-            let found = read_by(&rt, rt.alloc(), case, &requested);
+            let requested = subset_of(&rt, alloc, range);
+            let case = case_of(&rt, alloc, hostile);
+            let found = read_by(&rt, alloc, case, &requested);
             let want = wanted(hostile, *half);
             same_at(&rt, (hostile.name, range.start), said(&found), want);
         }
@@ -156,13 +160,14 @@ fn write_seven<R: Abort>(rt: &R, alloc: Global, session: &mut Session<'_, BytesC
 // In one session an object is erased, read and written again as it was.
 #[test]
 fn an_erased_shard_is_written_again(rt: HostRuntime) {
-    let shards = plain(&rt, rt.alloc(), ShardingIndexLocation::End);
-    let mut session = opened_seven(&rt, rt.alloc(), &shards);
+    let alloc = rt.alloc();
+    let shards = plain(&rt, alloc, ShardingIndexLocation::End);
+    let mut session = opened_seven(&rt, alloc, &shards);
     session.erase().expect(&rt, "an erasure");
-    let all = subset_of(&rt, rt.alloc(), &(0..4));
-    let found = session.partial_decode(rt.alloc(), &all, &CodecOptions::default());
+    let all = subset_of(&rt, alloc, &(0..4));
+    let found = session.partial_decode(alloc, &all, &CodecOptions::default());
     same(&rt, said(&found), Ok([0u8, 0, 0, 0].as_slice()));
-    write_seven(&rt, rt.alloc(), &mut session);
+    write_seven(&rt, alloc, &mut session);
     let left = session.close().into_inner();
-    same(&rt, left, Some(seven(&rt, rt.alloc())));
+    same(&rt, left, Some(seven(&rt, alloc)));
 }

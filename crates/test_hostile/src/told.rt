@@ -21,13 +21,14 @@ fn sixteen_elements<R: Abort>(rt: &R, alloc: Global) -> Shards<BytesCodec> {
 // A decoder holds eight bytes for each number of its index besides those that its handle holds.
 #[test]
 fn borrowed_bytes_are_cached_and_read(rt: HostRuntime) {
-    let object = in_squares(&rt, rt.alloc());
-    let shards = sixteen_elements(&rt, rt.alloc());
-    let decoder = shards.decoder(rt.alloc(), &object);
+    let alloc = rt.alloc();
+    let object = in_squares(&rt, alloc);
+    let shards = sixteen_elements(&rt, alloc);
+    let decoder = shards.decoder(alloc, &object);
     let mut decoder = decoder.expect(&rt, "a decoder");
     same(&rt, (object.len(), decoder.size_held()), (80, 80 + 64));
-    let requested = ArraySubset::from_ranges(rt.alloc(), &[1..3, 0..1]).expect(&rt, "a subset");
-    let found = decoder.partial_decode(rt.alloc(), &requested, &CodecOptions::default());
+    let requested = ArraySubset::from_ranges(alloc, &[1..3, 0..1]).expect(&rt, "a subset");
+    let found = decoder.partial_decode(alloc, &requested, &CodecOptions::default());
     same(&rt, said(&found), Ok([4u8, 8].as_slice()));
 }
 

@@ -63,9 +63,10 @@ fn wanted<R: Abort>(rt: &R, alloc: Global, hostile: &HostileObject) -> Compacted
 
 #[test]
 fn they_are_compacted(rt: HostRuntime) {
+    let alloc = rt.alloc();
     for hostile in hostile_table().iter() {
-        let Case { object, shards } = case_of(&rt, rt.alloc(), hostile);
-        let found = shards.compacted(rt.alloc(), &object);
-        same_at(&rt, hostile.name, found, wanted(&rt, rt.alloc(), hostile));
+        let Case { object, shards } = case_of(&rt, alloc, hostile);
+        let found = shards.compacted(alloc, &object);
+        same_at(&rt, hostile.name, found, wanted(&rt, alloc, hostile));
     }
 }

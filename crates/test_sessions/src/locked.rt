@@ -57,10 +57,11 @@ fn tells<R: Abort + Wait>(rt: &R, session: &Memory<'_>, exists: bool, held: usiz
 
 #[test]
 fn a_shared_session_writes_reads_and_erases(rt: HostRuntime) {
-    let shards = Shards::new(&rt, rt.alloc(), End);
-    let session = opened(&rt, rt.alloc(), &shards);
-    same(&rt, write(&rt, rt.alloc(), &session, 0, 3), Ok(()));
-    are_cells(&rt, rt.alloc(), &session, 0..4, &[3, 7, 0, 0]);
+    let alloc = rt.alloc();
+    let shards = Shards::new(&rt, alloc, End);
+    let session = opened(&rt, alloc, &shards);
+    same(&rt, write(&rt, alloc, &session, 0, 3), Ok(()));
+    are_cells(&rt, alloc, &session, 0..4, &[3, 7, 0, 0]);
     tells(&rt, &session, true, 34 + 32);
     same(&rt, session.erase(&rt), Ok(()));
     tells(&rt, &session, false, 32);
@@ -79,11 +80,12 @@ fn what_never_changes_is_told_without_a_runtime(rt: HostRuntime) {
 
 #[test]
 fn a_refused_call_gives_the_lock_back(rt: HostRuntime) {
-    let shards = Shards::new(&rt, rt.alloc(), End);
-    let session = opened(&rt, rt.alloc(), &shards);
-    let refused = read(&rt, rt.alloc(), &session, 3..5);
+    let alloc = rt.alloc();
+    let shards = Shards::new(&rt, alloc, End);
+    let session = opened(&rt, alloc, &shards);
+    let refused = read(&rt, alloc, &session, 3..5);
     same(&rt, said(&refused), Err(CodecError::OutOfBounds));
-    are_cells(&rt, rt.alloc(), &session, 0..2, &[0, 7]);
+    are_cells(&rt, alloc, &session, 0..2, &[0, 7]);
 }
 
 // How the writes of two threads, of one cell each, are answered.
@@ -101,9 +103,10 @@ fn written_by_two<R: Abort + Threads + Wait + Sync>(
 
 #[test]
 fn two_threads_write_into_one_session(rt: HostRuntime) {
-    let shards = Shards::new(&rt, rt.alloc(), End);
-    let session = opened(&rt, rt.alloc(), &shards);
-    let written = written_by_two(&rt, rt.alloc(), &session);
+    let alloc = rt.alloc();
+    let shards = Shards::new(&rt, alloc, End);
+    let session = opened(&rt, alloc, &shards);
+    let written = written_by_two(&rt, alloc, &session);
     same(&rt, written, (Ok(()), Ok(())));
-    are_cells(&rt, rt.alloc(), &session, 0..4, &[3, 7, 0, 9]);
+    are_cells(&rt, alloc, &session, 0..4, &[3, 7, 0, 9]);
 }

@@ -76,12 +76,14 @@ fn two_stored<R: Abort>(rt: &R, alloc: Global) -> Vec<u8> {
 // A write into no object makes both, and they are read back.
 #[test]
 fn a_shard_in_a_shard_is_written(rt: HostRuntime) {
-    let found = written(&rt, rt.alloc(), None, 1..3, &[5, 6]);
-    same(&rt, found, (None, Some(two_stored(&rt, rt.alloc()))));
-    let nests = Nests::new(&rt, rt.alloc());
-    let object = Some(two_stored(&rt, rt.alloc()));
-    let mut session = nests.open(&rt, rt.alloc(), object);
-    assert!(rt; are_cells(&rt, rt.alloc(), &mut session, 0..4, &[0, 5, 6, 0]));
+    let alloc = rt.alloc();
+    let found = written(&rt, alloc, None, 1..3, &[5, 6]);
+    same(&rt, found, (None, Some(two_stored(&rt, alloc))));
+    let nests = Nests::new(&rt, alloc);
+    let object = Some(two_stored(&rt, alloc));
+    let mut session = nests.open(&rt, alloc, object);
+    let are_read = are_cells(&rt, alloc, &mut session, 0..4, &[0, 5, 6, 0]);
+    same(&rt, are_read, true);
 }
 
 // An object whose first subchunk is a shard of these bytes and pairs, and whose second is absent.
@@ -103,18 +105,21 @@ fn written_over<R: Abort>(
     written(rt, alloc, Some(object), range, cells)
 }
 
+// The size in the first inner pair, the cells that are written over a range, and their refusal; the bytes and the pairs then.
+type Row = (
+    u64,
+    Range<u64>,
+    &'static [u8],
+    Option<CodecError>,
+    &'static [u8],
+    [u64; 4],
+);
+
 // A pair that ends outside the inner shard, though inside the object, damages it: it is read where it is not covered, and only then.
 #[test]
 fn an_inner_shard_is_read_where_it_is_not_covered(rt: HostRuntime) {
-    for (size, range, cells, refusal, bytes, index) in [
-        (
-            1,
-            1..2,
-            [3u8].as_slice(),
-            None,
-            [1u8, 3].as_slice(),
-            [0, 1, 1, 1],
-        ),
+    const ROWS: &[Row] = &[
+        (1, 1..2, &[3], None, &[1, 3], [0, 1, 1, 1]),
         (34, 0..2, &[9, 9], None, &[9, 9], [0, 1, 1, 1]),
         (
             34,
@@ -124,9 +129,10 @@ fn an_inner_shard_is_read_where_it_is_not_covered(rt: HostRuntime) {
             &[1],
             [0, 34, ABSENT, ABSENT],
         ),
-    ] {
-        let found = written_over(&rt, rt.alloc(), size, range, cells);
-        let object = one_stored(&rt, rt.alloc(), bytes, index);
-        same(&rt, found, (refusal, Some(object)));
+    ];
+    for (size, range, cells, refusal, bytes, index) in ROWS {
+        let found = written_over(&rt, rt.alloc(), *size, range.start..range.end, cells);
+        let object = one_stored(&rt, rt.alloc(), bytes, *index);
+        same(&rt, found, (*refusal, Some(object)));
     }
 }

@@ -26,7 +26,7 @@ fn refused<R: Abort>(
 // has no byte at the end of the data part. Or the first lies on an index at the start, with bytes or without.
 #[test]
 fn the_lowest_entry_outside_the_data_part_is_named(rt: HostRuntime) {
-    for (location, index, number) in [
+    const ROWS: &[(ShardingIndexLocation, [u64; 4], Option<u64>)] = &[
         (End, [0, 2, ABSENT, 5], Some(1)),
         (End, [0, 2, ABSENT - 1, 2], Some(1)),
         (End, [0, 2, 1, ABSENT], Some(1)),
@@ -37,23 +37,25 @@ fn the_lowest_entry_outside_the_data_part_is_named(rt: HostRuntime) {
         (Start, [0, 2, 32, 2], Some(0)),
         (Start, [0, 0, 32, 2], Some(0)),
         (Start, [32, 2, 34, 0], None),
-    ] {
+    ];
+    for (location, index, number) in ROWS {
         let want = number.map(|number| (34, CodecError::BadIndexEntry { number }));
-        let object = object_of(&rt, rt.alloc(), location, &[5, 6], index);
-        let found = refused(&rt, rt.alloc(), location, object);
-        same_at(&rt, index, found, want);
+        let object = object_of(&rt, rt.alloc(), *location, &[5, 6], *index);
+        let found = refused(&rt, rt.alloc(), *location, object);
+        same_at(&rt, *index, found, want);
     }
 }
 
 // An object shorter than the index, of 32 bytes, is not opened; an index alone is.
 #[test]
 fn a_short_object_is_given_back(rt: HostRuntime) {
-    for (len, want) in [
+    const ROWS: &[(usize, Option<(usize, CodecError)>)] = &[
         (0, Some((0, CodecError::ShardTooShort))),
         (31, Some((31, CodecError::ShardTooShort))),
         (32, None),
-    ] {
-        let object = Vec::from_elem(rt.alloc(), 255u8, len).expect(&rt, "memory");
-        same_at(&rt, len, refused(&rt, rt.alloc(), End, object), want);
+    ];
+    for (len, want) in ROWS {
+        let object = Vec::from_elem(rt.alloc(), 255u8, *len).expect(&rt, "memory");
+        same_at(&rt, *len, refused(&rt, rt.alloc(), End, object), *want);
     }
 }

@@ -57,20 +57,22 @@ fn read_erased<R: Abort>(
     alloc: Global,
     session: &mut Session<'_, MemoryHandle>,
     erasures: u64,
-    range: Range<u64>,
+    range: &Range<u64>,
 ) -> Answer {
     for _ in 0..erasures {
         session.erase().expect(rt, "an erasure");
     }
-    read(alloc, session, &subset_of(rt, alloc, range))
+    let requested = subset_of(rt, alloc, range.start..range.end);
+    read(alloc, session, &requested)
 }
 
 // Without an object each cell is the fill value, also after an erasure; cells outside are refused in both cases.
 #[test]
 fn cells_are_read_before_and_after_an_erasure(rt: HostRuntime) {
-    let shards = Shards::new(&rt, rt.alloc(), ShardingIndexLocation::End);
-    for (stored, erasures, range, want) in [
-        (true, 0, 0..4, Ok([0u8, 7, 0, 0].as_slice())),
+    let alloc = rt.alloc();
+    let shards = Shards::new(&rt, alloc, ShardingIndexLocation::End);
+    const ROWS: &[(bool, u64, Range<u64>, Result<&[u8], CodecError>)] = &[
+        (true, 0, 0..4, Ok(&[0, 7, 0, 0])),
         (true, 0, 1..1, Ok(&[])),
         (true, 1, 0..4, Ok(&[0, 0, 0, 0])),
         (true, 2, 1..3, Ok(&[0, 0])),
@@ -78,9 +80,10 @@ fn cells_are_read_before_and_after_an_erasure(rt: HostRuntime) {
         (true, 0, 3..5, Err(CodecError::OutOfBounds)),
         (true, 1, 3..5, Err(CodecError::OutOfBounds)),
         (false, 0, 5..5, Err(CodecError::OutOfBounds)),
-    ] {
-        let mut session = opened(&rt, rt.alloc(), &shards, stored);
-        let cells = read_erased(&rt, rt.alloc(), &mut session, erasures, range);
-        same(&rt, said(&cells), want);
+    ];
+    for (stored, erasures, range, want) in ROWS {
+        let mut session = opened(&rt, alloc, &shards, *stored);
+        let cells = read_erased(&rt, alloc, &mut session, *erasures, range);
+        same(&rt, said(&cells), *want);
     }
 }

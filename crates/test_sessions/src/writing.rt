@@ -32,33 +32,27 @@ fn written<R: Abort>(
 ) -> Option<Vec<u8>> {
     let mut session = shards.opened(rt, alloc, MemoryHandle::new(None));
     write_all(rt, alloc, &mut session, steps);
-    assert!(rt;
-        are_cells(rt, alloc, &mut session, 0..4, cells),
-        "{cells:?}"
-    );
+    same(rt, are_cells(rt, alloc, &mut session, 0..4, cells), true);
     session.close().into_inner()
 }
 
-const STEPS: [Step; 3] = [(1..2, &[7]), (2..4, &[1, 2]), (0..1, &[9])];
+const STEPS: &[Step] = &[(1..2, &[7]), (2..4, &[1, 2]), (0..1, &[9])];
 
 // Each write sees those before it: of the entry that it straddles the other cell stays, and its slice goes after all others.
 #[test]
 fn a_session_writes_more_than_once(rt: HostRuntime) {
-    for (location, many, slices, index, cells) in [
-        (
-            End,
-            2,
-            [0u8, 7, 1, 2].as_slice(),
-            [0, 2, 2, 2],
-            [0u8, 7, 1, 2],
-        ),
+    let alloc = rt.alloc();
+    const ROWS: &[(ShardingIndexLocation, usize, &[u8], [u64; 4], [u8; 4])] = &[
+        (End, 2, &[0, 7, 1, 2], [0, 2, 2, 2], [0, 7, 1, 2]),
         (End, 3, &[0, 7, 1, 2, 9, 7], [4, 2, 2, 2], [9, 7, 1, 2]),
         (Start, 2, &[0, 7, 1, 2], [32, 2, 34, 2], [0, 7, 1, 2]),
         (Start, 3, &[0, 7, 1, 2, 9, 7], [36, 2, 34, 2], [9, 7, 1, 2]),
-    ] {
-        let shards = Shards::new(&rt, rt.alloc(), location);
-        let found = written(&rt, rt.alloc(), &shards, &STEPS[..many], &cells);
-        let object = object_of(&rt, rt.alloc(), location, slices, index);
+    ];
+    for (location, many, slices, index, cells) in ROWS {
+        let steps = STEPS.get(..*many).expect(&rt, "three steps at most");
+        let shards = Shards::new(&rt, alloc, *location);
+        let found = written(&rt, alloc, &shards, steps, cells);
+        let object = object_of(&rt, alloc, *location, slices, *index);
         same(&rt, found, Some(object));
     }
 }
@@ -86,16 +80,17 @@ fn refused<R: Abort, N: Indexer>(
 // Cells outside first, then elements of another size, and another number of them.
 #[test]
 fn a_write_is_refused_in_order(rt: HostRuntime) {
-    for (range, element_size, want) in [
+    const ROWS: &[(Range<u64>, usize, Option<CodecError>)] = &[
         (3..5, 2, Some(CodecError::OutOfBounds)),
         (0..4, 2, Some(CodecError::WrongElementKind)),
         (0..4, 1, Some(CodecError::InvalidNumberOfElements)),
         (0..2, 1, None),
-    ] {
-        let subset = subset_of(&rt, rt.alloc(), range);
-        let update = two_bytes(&rt, element_size);
+    ];
+    for (range, element_size, want) in ROWS {
+        let subset = subset_of(&rt, rt.alloc(), range.start..range.end);
+        let update = two_bytes(&rt, *element_size);
         let found = refused(&rt, rt.alloc(), &subset, &update);
-        same(&rt, found, (want, 34));
+        same(&rt, found, (*want, 34));
     }
 }
 

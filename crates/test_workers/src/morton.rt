@@ -77,12 +77,13 @@ fn elements_of<R: Abort>(rt: &R, alloc: Global, row: &Row) -> ArrayBytes<'static
 
 #[test]
 fn slices_lie_along_the_curve_whoever_was_first(rt: HostRuntime) {
+    let alloc = rt.alloc();
     for row in rows().iter() {
-        let shards = shards_of(&rt, rt.alloc(), row);
-        let array = elements_of(&rt, rt.alloc(), row);
+        let shards = shards_of(&rt, alloc, row);
+        let array = elements_of(&rt, alloc, row);
         for target in [1, 2, 4] {
-            let found = shards.encoded_by_workers(&rt, rt.alloc(), &array, &NoGate, target);
-            let want = shard_of(&rt, rt.alloc(), row);
+            let found = shards.encoded_by_workers(&rt, alloc, &array, &NoGate, target);
+            let want = shard_of(&rt, alloc, row);
             same_at(&rt, (row.axes, target), found, Ok(want));
         }
     }
@@ -90,11 +91,12 @@ fn slices_lie_along_the_curve_whoever_was_first(rt: HostRuntime) {
 
 #[test]
 fn slices_along_the_curve_are_decoded(rt: HostRuntime) {
+    let alloc = rt.alloc();
     for row in rows().iter() {
-        let shards = shards_of(&rt, rt.alloc(), row);
-        let shard = shard_of(&rt, rt.alloc(), row);
+        let shards = shards_of(&rt, alloc, row);
+        let shard = shard_of(&rt, alloc, row);
         for target in [1, 2, 4] {
-            let found = shards.decoded_by_workers(&rt, rt.alloc(), &shard, &NoGate, target);
+            let found = shards.decoded_by_workers(&rt, alloc, &shard, &NoGate, target);
             same_at(&rt, (row.axes, target), said(&found), Ok(row.elements));
         }
     }

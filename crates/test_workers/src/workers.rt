@@ -4,6 +4,7 @@ use crate::gates::{Counted, Meeting};
 use crate::shards::{Shards, add_entry, array_of, said};
 use std::alloc::Global;
 use std::process::Abort;
+use zarr_parts::CodecError;
 use zarr_parts::CodecError::{BadIndexEntry, Damaged};
 use zarrs_sharding::NoGate;
 
@@ -29,12 +30,13 @@ fn shard_of_ones<R: Abort>(rt: &R, alloc: Global) -> Vec<u8> {
 
 #[test]
 fn two_workers_are_at_work_at_once(rt: HostRuntime) {
+    let alloc = rt.alloc();
     let gate = Meeting::new([0, 4095]);
-    let array = array_of(&rt, ones(&rt, rt.alloc()), 1);
-    let shards = many(&rt, rt.alloc());
-    let shard = shards.encoded_by_workers(&rt, rt.alloc(), &array, &gate, 2);
+    let array = array_of(&rt, ones(&rt, alloc), 1);
+    let shards = many(&rt, alloc);
+    let shard = shards.encoded_by_workers(&rt, alloc, &array, &gate, 2);
     same(&rt, gate.seen(), (2, 0));
-    same(&rt, shard, Ok(shard_of_ones(&rt, rt.alloc())));
+    same(&rt, shard, Ok(shard_of_ones(&rt, alloc)));
 }
 
 // A shard of 4,096 ones, in which the pairs 1,000 and 3,000 are others.
@@ -53,14 +55,15 @@ fn hurt<R: Abort>(rt: &R, alloc: Global, entries: [(u64, u64); 2]) -> Vec<u8> {
 
 #[test]
 fn the_lowest_refused_subchunk_gives_the_refusal(rt: HostRuntime) {
-    let shards = many(&rt, rt.alloc());
+    let alloc = rt.alloc();
+    let shards = many(&rt, alloc);
     for (entries, want) in [
         ([(ABSENT, 5), (3000, 2)], BadIndexEntry { number: 1000 }),
         ([(1000, 2), (ABSENT, 5)], Damaged),
     ] {
-        let shard = hurt(&rt, rt.alloc(), entries);
+        let shard = hurt(&rt, alloc, entries);
         for target in [1, 2, 4] {
-            let answer = shards.decoded_by_workers(&rt, rt.alloc(), &shard, &NoGate, target);
+            let answer = shards.decoded_by_workers(&rt, alloc, &shard, &NoGate, target);
             same_at(&rt, target, said(&answer), Err(want));
         }
     }
@@ -86,15 +89,16 @@ fn planes<R: Abort>(rt: &R, alloc: Global) -> Shards {
 
 #[test]
 fn a_shard_by_workers_is_that_of_encode(rt: HostRuntime) {
-    let shards = planes(&rt, rt.alloc());
-    let array = array_of(&rt, two_subsets(&rt, rt.alloc()), 2);
+    let alloc = rt.alloc();
+    let shards = planes(&rt, alloc);
+    let array = array_of(&rt, two_subsets(&rt, alloc), 2);
     for (target, passed) in [(1, 0), (2, 512), (4, 512)] {
         let gate = Counted::new();
-        let shard = shards.encoded_by_workers(&rt, rt.alloc(), &array, &gate, target);
+        let shard = shards.encoded_by_workers(&rt, alloc, &array, &gate, target);
         let shard = shard.expect(&rt, "a shard");
         same_at(&rt, target, gate.passed(), passed);
         same(&rt, shard.len(), 8240);
-        same_at(&rt, target, Ok(shard), shards.encoded(rt.alloc(), &array));
+        same_at(&rt, target, Ok(shard), shards.encoded(alloc, &array));
     }
 }
 
@@ -106,12 +110,13 @@ fn encoded<R: Abort>(rt: &R, alloc: Global, shards: &Shards) -> Vec<u8> {
 
 #[test]
 fn a_shard_decodes_by_workers(rt: HostRuntime) {
-    let shards = planes(&rt, rt.alloc());
-    let shard = encoded(&rt, rt.alloc(), &shards);
-    let cells = two_subsets(&rt, rt.alloc());
+    let alloc = rt.alloc();
+    let shards = planes(&rt, alloc);
+    let shard = encoded(&rt, alloc, &shards);
+    let cells = two_subsets(&rt, alloc);
     for (target, passed) in [(1, 0), (2, 512), (4, 512)] {
         let gate = Counted::new();
-        let decoded = shards.decoded_by_workers(&rt, rt.alloc(), &shard, &gate, target);
+        let decoded = shards.decoded_by_workers(&rt, alloc, &shard, &gate, target);
         same_at(&rt, target, gate.passed(), passed);
         same_at(&rt, target, said(&decoded), Ok(cells.as_slice()));
     }
