@@ -1,4 +1,9 @@
 // Subsets as they stand on a command line.
+ghost use Rattle.std.specs.Prelude.{◌≡◌, IfOk, List, length, map};
+ghost use Rattle.parts_row_major.specs.Subsets.{subset_of_ranges, LiesIn};
+ghost use Rattle.array_grid.specs.Subsets.{is_coordinate, spread, each_picked};
+ghost use Rattle.array_grid.specs.declared.words.Word.{Word};
+
 use crate::parsing::parse;
 use crate::picking::{Requested, resolve};
 use std::alloc::{AllocError, AllocFailed, Global};
@@ -49,13 +54,13 @@ impl<T: Drop> From<AllocFailed<T>> for SubsetError {
     }
 }
 
-/// The subset of an array of a shape that a text as `0..2,-1` names, or the whole array. Refused as `parse` and `resolve` say.
-pub fn subset_of(
-    alloc: Global,
-    requested: Option<&str>,
-    shape: &[u64],
-) -> Result<Requested, SubsetError> {
-    match requested {
+/// The subset of an array of a shape that a text as `0..2,-1` names, or the whole array: what the words of the text pick of the axes,
+/// which stand for as many axes as `resolve` says. Refused as `parse` and `resolve` say.
+pub fn subset_of(alloc: Global, text: Option<&str>, shape: &[u64]) -> Result<Requested, SubsetError>
+    ensures named { IfOk result (λ found. (words : List Word) × (found.subset ≡ subset_of_ranges (each_picked (spread words (length shape.now)) shape.now)) × (found.dropped.items ≡ map is_coordinate (spread words (length shape.now)))) }
+    ensures inside { IfOk result (λ found. LiesIn found.subset shape.now) }
+{
+    match text {
         Some(text) => resolve(alloc, &parse(alloc, text)?, shape),
         None => resolve(alloc, &[], shape),
     }
