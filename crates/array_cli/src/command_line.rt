@@ -25,6 +25,10 @@ pub enum Work<'a> {
         requested: Option<&'a str>,
         form: Form,
     },
+    Save {
+        requested: Option<&'a str>,
+        path: &'a str,
+    },
     Compact {
         is_dry: bool,
     },
@@ -107,6 +111,16 @@ fn raw_flag<'a>(alloc: Global) -> Result<Arg<'a>, AllocError> {
         .conflicts_with("json")
 }
 
+fn npy_option<'a>(alloc: Global) -> Result<Arg<'a>, AllocError> {
+    Arg::new(alloc, "npy")
+        .long("npy")
+        .value_name("FILE")
+        .help(
+            "A file of NumPy's format, written in place of an answer; an axis named by one coordinate is dropped",
+        )
+        .conflicts_with_all(&["json", "raw"])
+}
+
 // The command `read`, and what it reads.
 fn boxed_command<'a>(alloc: Global) -> Result<Command<'a>, AllocError> {
     Command::new(alloc, "read")
@@ -119,8 +133,11 @@ fn boxed_command<'a>(alloc: Global) -> Result<Command<'a>, AllocError> {
 }
 
 fn read_command<'a>(alloc: Global) -> Result<Command<'a>, AllocError> {
-    let raw = raw_flag(alloc)?;
-    boxed_command(alloc)?.arg(json_flag(alloc))?.arg(raw)
+    let (raw, npy) = (raw_flag(alloc)?, npy_option(alloc)?);
+    boxed_command(alloc)?
+        .arg(json_flag(alloc))?
+        .arg(raw)?
+        .arg(npy)
 }
 
 fn dry_flag<'a>(alloc: Global) -> Arg<'a> {
@@ -181,6 +198,18 @@ fn form_of(matches: &ArgMatches<'_>) -> Form {
     }
 }
 
+// What the command `read` does.
+fn reading<'a>(matches: &ArgMatches<'a>) -> Work<'a> {
+    let requested = matches.get_str("BOX");
+    match matches.get_str("npy") {
+        Some(path) => Work::Save { requested, path },
+        None => Work::Read {
+            requested,
+            form: form_of(matches),
+        },
+    }
+}
+
 /// What the command of a name does.
 pub fn work_of<'a>(name: &str, matches: &ArgMatches<'a>) -> Work<'a> {
     match name {
@@ -191,10 +220,7 @@ pub fn work_of<'a>(name: &str, matches: &ArgMatches<'a>) -> Work<'a> {
             key: matches.get_str("KEY").unwrap_or(""),
             number: matches.get_str("NUMBER").unwrap_or(""),
         },
-        "read" => Work::Read {
-            requested: matches.get_str("BOX"),
-            form: form_of(matches),
-        },
+        "read" => reading(matches),
         "compact" => Work::Compact {
             is_dry: matches.get_flag("dry-run"),
         },

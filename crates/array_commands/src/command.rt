@@ -5,6 +5,7 @@ use crate::check::check;
 use crate::compact::compact;
 use crate::extract::extract;
 use crate::info::info;
+use crate::npy::save_subset;
 use crate::read::read_array;
 use array_cli::{Form, Progress, Work, program, work_of, write_json, write_rows};
 use array_grid::subset_of;
@@ -78,6 +79,7 @@ fn run_work<
         Work::Check { is_index_alone } => check(array, is_index_alone, out, progress),
         Work::Extract { key, number } => extract(array, key, number, out),
         Work::Read { requested, form } => run_read(array, requested, form, out, progress),
+        Work::Save { requested, path } => save_subset(array, requested, path, out, progress),
         Work::Compact { is_dry } => compact(array, is_dry, out, progress),
     }
 }

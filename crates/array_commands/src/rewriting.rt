@@ -164,8 +164,8 @@ fn carry_out<H: BytesPartialDecoderTraits, R: Files + Drop>(
     }
 }
 
-// The new file of a shard, or `None` where one stands there already.
-fn begin<'a, R: Files + AllocGlobal, I, X>(
+/// The new file of a path, or `None` where one stands there already.
+pub fn begin<'a, R: Files + AllocGlobal, I, X>(
     array: &Array<'a, R, I, X>,
     path: &str,
     beside: &str,
@@ -177,8 +177,8 @@ fn begin<'a, R: Files + AllocGlobal, I, X>(
     }
 }
 
-// Tells where a new file has not the owner and the group of the old one.
-fn tell_owner<R: Files, W: Write>(
+/// Tells where a new file has not the owner and the group of the old one.
+pub fn tell_owner<R: Files, W: Write>(
     out: &mut W,
     key: &str,
     replacement: &Replacement<R>,

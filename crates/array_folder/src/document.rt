@@ -9,8 +9,8 @@ use std::rt::Files;
 use std::{fs, io};
 use storage_files::{check_folder, file_length};
 
-// What the system said of the file or folder at a path, with the path where that was refused.
-fn named<T: Drop>(alloc: Global, path: &str, answer: io::Result<T>) -> Result<T, FolderError>
+/// What the system said of the file or folder at a path, with the path where that was refused.
+pub fn named<T: Drop>(alloc: Global, path: &str, answer: io::Result<T>) -> Result<T, FolderError>
     ensures { IfErr result IsPathPrinted }
 {
     match answer {

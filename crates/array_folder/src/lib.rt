@@ -1,4 +1,4 @@
-// What stands in the folder of an array: its metadata, and the files of its chunks.
+// What stands in the folder of an array: its metadata, and the files of its chunks. A file of NumPy's format.
 #![tactic(auto)]
 
 mod chunk_files;
@@ -7,6 +7,7 @@ mod document;
 mod error;
 mod folder_files;
 mod names;
+mod npy;
 
 pub use chunk_files::{ChunkFile, ChunkFiles, list_chunks};
 pub use chunk_grid::ChunkGrid;
@@ -14,3 +15,4 @@ pub use document::{document_length, read_document};
 pub use error::FolderError;
 pub use folder_files::FolderFiles;
 pub use names::KeyForm;
+pub use npy::{npy_beside, npy_header, write_npy};

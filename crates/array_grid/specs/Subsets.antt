@@ -1,6 +1,7 @@
 -- What the words of a subset pick of the axes of an array.
 use Rattle.std.specs.Prelude.{◌≡◌, ◌<◌, ◌≤◌, ◌+◌, ◌-◌, ◌++◌, ℕ, ⊤, Bool, true, false, List, length, map, replicate}
-use Rattle.std.specs.List.{All, zip, count_by, before_first, after_first}
+use Rattle.std.proofs.Math.Bool.{not}
+use Rattle.std.specs.List.{All, filter, zip, count_by, before_first, after_first}
 use Rattle.std.specs.declared.ops.Range.{Range}
 use Rattle.array_grid.specs.declared.words.Position.{Position}
 use Rattle.array_grid.specs.declared.words.Position.TheVariants.{FromStart, FromEnd}
@@ -62,6 +63,10 @@ is_coordinate (word.Coordinate position) = true
 is_coordinate (word.Range start end) = false
 is_coordinate (word.RangeInclusive start last) = false
 is_coordinate word.Ellipsis = false
+
+-- how many coordinates each axis has that is not dropped
+abbrev pub kept_of : List Bool → List ℕ → List ℕ
+kept_of dropped shape = map (λ axis. axis.1) (filter (λ axis. not axis.0) (zip dropped shape))
 
 -- how many axes are named by a word of their own, before the ellipsis or after it
 abbrev pub axes_named : List Word → ℕ

@@ -2,7 +2,7 @@
 ghost use Rattle.std.specs.Prelude.{◌≡◌, ◌≤◌, ◌+◌, IsTrue, ◌↔◌, IfOk, IfErr, OnOk, SomeIff, MatchOption, length, map};
 ghost use Rattle.std.specs.List.{All, position_or_len, before_first, after_first};
 ghost use Rattle.parts_row_major.specs.Subsets.{subset_of_ranges, LiesIn};
-ghost use Rattle.array_grid.specs.Subsets.{place, IsOn, IsCoordinate, picked, LiesOn, is_ellipsis, is_coordinate, axes_named, spread, HasOneEllipsis, each_picked, AllLieOn, IsForward, PickRefusal, IsRefusal};
+ghost use Rattle.array_grid.specs.Subsets.{place, IsOn, IsCoordinate, picked, LiesOn, is_ellipsis, is_coordinate, kept_of, axes_named, spread, HasOneEllipsis, each_picked, AllLieOn, IsForward, PickRefusal, IsRefusal};
 
 use crate::subsets::SubsetError;
 use crate::words::{Position, Word};
@@ -15,6 +15,18 @@ use std::ops::Range;
 pub struct Requested {
     pub subset: ArraySubset,
     pub dropped: Vec<bool>,
+}
+
+impl Requested {
+    /// How many coordinates the subset has along each axis that is not dropped.
+    pub fn kept_shape(&self, alloc: Global) -> Result<Vec<u64>, AllocError>
+        ensures { IfOk result (λ kept. kept.items ≡ kept_of self.now.dropped.items self.now.subset.shape) }
+    {
+        let axes = self.dropped.iter().zip(self.subset.shape());
+        axes.filter(|(is_dropped, _)| !**is_dropped)
+            .map(|(_, count)| *count)
+            .collect(alloc)
+    }
 }
 
 // The place of a position that stands on an axis.

@@ -1,0 +1,69 @@
+// A subset of an array as a file of NumPy's format.
+use crate::read::read_array;
+use crate::rewriting::{begin, tell_owner};
+use array_cli::Progress;
+use array_folder::{npy_beside, npy_header, write_npy};
+use array_grid::subset_of;
+use array_opening::{Array, Ending, Stop};
+use codec_traits::ArrayToBytesCodecTraits;
+use parts_escaped_text::escaped;
+use std::io;
+use std::io::{ErrorKind, Write};
+use std::rt::Files;
+
+// Why a new file is not begun where another one stands.
+fn busy() -> io::Error {
+    io::Error::new(
+        ErrorKind::AlreadyExists,
+        "stands there; if no program writes it, remove it",
+    )
+}
+
+// Makes the file at a path of a header and cells.
+fn save<R: Files + AllocGlobal, I, X, W: Write>(
+    array: &Array<'_, R, I, X>,
+    path: &str,
+    beside: &str,
+    header: &[u8],
+    cells: &[u8],
+    out: &mut W,
+) -> Result<(), Stop> {
+    let shown = escaped(array.alloc(), path)?;
+    let Some(new) = begin(array, path, beside)? else {
+        return Err(Stop::system(array.alloc(), beside, busy()));
+    };
+    // a line that nobody reads stops nothing
+    let _ = tell_owner(out, &shown, &new);
+    match write_npy(new, header, cells) {
+        Ok(()) => Ok(()),
+        Err(error) => Err(Stop::system(array.alloc(), path, error)),
+    }
+}
+
+/// Reads a subset, and makes a file of NumPy's format of it, which has no axis that is named by one coordinate. A file of that
+/// name is replaced once the new one is whole. Where the path is refused nothing is read.
+pub fn save_subset<
+    R: Files + AllocGlobal,
+    I: ArrayToBytesCodecTraits,
+    X: ArrayToBytesCodecTraits,
+    W: Write,
+    M: Write,
+>(
+    array: &Array<'_, R, I, X>,
+    requested: Option<&str>,
+    path: &str,
+    out: &mut W,
+    progress: &mut Progress<'_, M>,
+) -> Result<Ending, Stop> {
+    array.test_read()?;
+    let alloc = array.alloc();
+    let requested = subset_of(alloc, requested, &array.metadata.shape)?;
+    let beside = npy_beside(array.rt, path)?;
+    let shape = requested.kept_shape(alloc)?;
+    let name = array.metadata.data_type.name().unwrap_or("");
+    let header = npy_header(alloc, path, name, &shape)?;
+    let cells = read_array(array, &requested.subset, progress)?;
+    progress.clear();
+    save(array, path, &beside, &header, cells.bytes(), out)?;
+    Ok(Ending::Done)
+}
