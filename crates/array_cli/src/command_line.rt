@@ -14,6 +14,9 @@ pub enum Form {
 #[derive(Debug, Clone, Copy, PartialEq, Eq)]
 pub enum Work<'a> {
     Info,
+    InfoOfShard {
+        key: &'a str,
+    },
     Check {
         is_index_alone: bool,
     },
@@ -40,13 +43,20 @@ fn path_argument<'a>(alloc: Global) -> Arg<'a> {
         .help("The folder of the array, in which its zarr.json lies")
 }
 
+fn key_argument<'a>(alloc: Global) -> Arg<'a> {
+    Arg::new(alloc, "KEY").help("The key of the shard, as c/0/3")
+}
+
 fn info_command<'a>(alloc: Global) -> Result<Command<'a>, AllocError> {
     Command::new(alloc, "info")
         .about(
             "Says what the array holds, and of each shard its key, length, subchunks and dead bytes",
         )
-        .after_help("Example: zarr_shard info weather/temperature")
-        .arg(path_argument(alloc))
+        .after_help(
+            "Example: zarr_shard info weather/temperature\nWith KEY only of this shard, and where in its file each subchunk lies.",
+        )
+        .arg(path_argument(alloc))?
+        .arg(key_argument(alloc))
 }
 
 fn index_flag<'a>(alloc: Global) -> Arg<'a> {
@@ -68,12 +78,6 @@ fn check_command<'a>(alloc: Global) -> Result<Command<'a>, AllocError> {
         .arg(index_flag(alloc))
 }
 
-fn key_argument<'a>(alloc: Global) -> Arg<'a> {
-    Arg::new(alloc, "KEY")
-        .required(true)
-        .help("The key of the shard, as c/0/3")
-}
-
 fn number_argument<'a>(alloc: Global) -> Arg<'a> {
     Arg::new(alloc, "NUMBER").required(true).help(
         "The row-major number of the subchunk in the shard, from 0 on",
@@ -85,7 +89,7 @@ fn extract_command<'a>(alloc: Global) -> Result<Command<'a>, AllocError> {
         .about("Writes the bytes of a subchunk as they are stored, and nothing else")
         .after_help("Example: zarr_shard extract weather/temperature c/0/3 12 | zstd -d")
         .arg(path_argument(alloc))?
-        .arg(key_argument(alloc))?
+        .arg(key_argument(alloc).required(true))?
         .arg(number_argument(alloc))
 }
 
@@ -198,6 +202,14 @@ fn form_of(matches: &ArgMatches<'_>) -> Form {
     }
 }
 
+// What the command `info` does.
+fn telling<'a>(matches: &ArgMatches<'a>) -> Work<'a> {
+    match matches.get_str("KEY") {
+        Some(key) => Work::InfoOfShard { key },
+        None => Work::Info,
+    }
+}
+
 // What the command `read` does.
 fn reading<'a>(matches: &ArgMatches<'a>) -> Work<'a> {
     let requested = matches.get_str("BOX");
@@ -224,6 +236,6 @@ pub fn work_of<'a>(name: &str, matches: &ArgMatches<'a>) -> Work<'a> {
         "compact" => Work::Compact {
             is_dry: matches.get_flag("dry-run"),
         },
-        _ => Work::Info,
+        _ => telling(matches),
     }
 }

@@ -7,6 +7,7 @@ use crate::extract::extract;
 use crate::info::info;
 use crate::npy::save_subset;
 use crate::read::read_array;
+use crate::shard_info::info_of_shard;
 use array_cli::{Form, Progress, Work, program, work_of, write_json, write_rows};
 use array_grid::subset_of;
 use array_metadata::ArrayMetadata;
@@ -76,6 +77,7 @@ fn run_work<
 ) -> Result<Ending, Stop> {
     match work {
         Work::Info => info(array, out, progress),
+        Work::InfoOfShard { key } => info_of_shard(array, key, out),
         Work::Check { is_index_alone } => check(array, is_index_alone, out, progress),
         Work::Extract { key, number } => extract(array, key, number, out),
         Work::Read { requested, form } => run_read(array, requested, form, out, progress),

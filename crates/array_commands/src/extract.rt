@@ -12,8 +12,8 @@ use std::io::Write;
 use std::rt::Files;
 use storage_handles::BytesPartialDecoderTraits;
 
-// The shard that has a key.
-fn shard_of<'s, R: Files + AllocGlobal, I, X>(
+/// The shard that has a key.
+pub fn shard_of<'s, R: Files + AllocGlobal, I, X>(
     array: &Array<'_, R, I, X>,
     files: &'s ChunkFiles,
     key: &str,

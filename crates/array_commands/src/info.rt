@@ -1,8 +1,8 @@
 // What an array on disk holds, and its shards.
 use crate::folder::{Counted, write_folder};
-use crate::index_info::{IndexInfo, index_info, index_range, index_size, info_of, whole_index};
+use crate::index_info::{index_info, index_range, index_size, whole_index};
 use array_cli::{Progress, write_numbers, write_rows};
-use array_folder::{ChunkFile, ChunkFiles, FolderFiles};
+use array_folder::{ChunkFile, ChunkFiles, FolderFiles, IndexInfo, info_of};
 use array_metadata::ArrayMetadata;
 use array_opening::{Array, Ending, Place, Refusal, Shard, Stop, written};
 use codec_traits::ArrayToBytesCodecTraits;
@@ -81,7 +81,7 @@ fn info_in_pieces<I, X: ArrayToBytesCodecTraits, H: BytesPartialDecoderTraits>(
         return Ok(None);
     };
     let info = match whole_index(alloc, codec, shape, file, length) {
-        Ok(index) => info_of(index.numbers, codec.location, size, length),
+        Ok(mut index) => info_of(&mut index.numbers, codec.location, size, length),
         Err(error) => Err(error),
     };
     Ok(Some((length, info)))
@@ -215,8 +215,8 @@ fn write_counts<W: Write>(out: &mut W, counts: &[(u64, &str)]) -> io::Result<()>
     Ok(())
 }
 
-// Writes what is known of a shard.
-fn write_shard<W: Write>(out: &mut W, key: &str, shard: &ShardInfo) -> io::Result<()> {
+/// Writes what is known of a shard.
+pub fn write_shard<W: Write>(out: &mut W, key: &str, shard: &ShardInfo) -> io::Result<()> {
     out.write_all(key.as_bytes())?;
     out.write_all(b": ")?;
     write_counts(out, &[(shard.length, " bytes, ")])?;

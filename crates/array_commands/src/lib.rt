@@ -11,5 +11,6 @@ mod info;
 mod npy;
 mod read;
 mod rewriting;
+mod shard_info;
 
 pub use command::run_command;

@@ -1,4 +1,5 @@
-// What stands in the folder of an array: its metadata, and the files of its chunks. A file of NumPy's format.
+// What stands in the folder of an array: its metadata, the files of its chunks, and what the index of one says of it. A file of NumPy's
+// format.
 #![tactic(auto)]
 
 mod chunk_files;
@@ -6,6 +7,7 @@ mod chunk_grid;
 mod document;
 mod error;
 mod folder_files;
+mod index_info;
 mod names;
 mod npy;
 
@@ -14,5 +16,6 @@ pub use chunk_grid::ChunkGrid;
 pub use document::{document_length, read_document};
 pub use error::FolderError;
 pub use folder_files::FolderFiles;
+pub use index_info::{IndexInfo, Walk, index_interval, info_of, slice_of};
 pub use names::KeyForm;
 pub use npy::{npy_beside, npy_header, write_npy};

@@ -1,0 +1,159 @@
+// Where the subchunks of one shard lie in its file.
+use crate::extract::shard_of;
+use crate::index_info::{index_size, whole_index};
+use crate::info::{ShardInfo, write_shard};
+use array_folder::{IndexInfo, Walk, index_interval, info_of, slice_of};
+use array_opening::{Array, Ending, Place, Stop, written};
+use codec_traits::ArrayToBytesCodecTraits;
+use parts_errors::CodecError;
+use parts_escaped_text::escaped;
+use parts_row_major::unravel_index;
+use parts_subsets::ChunkShape;
+use sharding_codec::ShardingCodec;
+use std::alloc::Global;
+use std::io;
+use std::io::Write;
+use std::rt::Files;
+use storage_handles::BytesPartialDecoderTraits;
+
+// What the index of a shard says: its numbers, as they stand there and sorted.
+#[derive(Drop)]
+struct Layout {
+    numbers: Vec<u64>,
+    sorted: Vec<u64>,
+    info: IndexInfo,
+    // where the index stands
+    index: (u64, u64),
+    // how long the file is
+    length: u64,
+}
+
+// Where the subchunks of the shard in a file lie, whose index has a size; `None` where there is no file.
+fn layout_of<I, X: ArrayToBytesCodecTraits, H: BytesPartialDecoderTraits>(
+    alloc: Global,
+    codec: &ShardingCodec<I, X>,
+    shape: &ChunkShape,
+    size: u64,
+    file: &mut H,
+) -> Result<Option<Layout>, CodecError> {
+    let Some(length) = file.len()? else {
+        return Ok(None);
+    };
+    let numbers = whole_index(alloc, codec, shape, file, length)?.numbers;
+    let mut sorted = Vec::from_slice(alloc, &numbers)?;
+    let info = info_of(&mut sorted, codec.location, size, length)?;
+    Ok(Some(Layout {
+        numbers,
+        sorted,
+        info,
+        index: index_interval(codec.location, size, length),
+        length,
+    }))
+}
+
+// Writes what bytes a line is of, from a start to before an end.
+fn write_bytes<W: Write>(out: &mut W, name: &str, (start, end): (u64, u64)) -> io::Result<()> {
+    let size = end.saturating_sub(start);
+    write!(out, "{name:>8}  {start:>14}  {size:>14}  {end:>14}")
+}
+
+// Writes a line for a subchunk that lies at these bytes.
+fn write_subchunk<W: Write>(
+    out: &mut W,
+    alloc: Global,
+    number: u64,
+    bytes: (u64, u64),
+    subchunks: &[u64],
+) -> io::Result<()> {
+    write_bytes(out, &format!(in alloc; "{number}")?, bytes)?;
+    let mut before = "  ";
+    if let Some(coordinates) = unravel_index(alloc, number, subchunks)? {
+        for coordinate in &coordinates {
+            write!(out, "{before}{coordinate}")?;
+            before = ",";
+        }
+    }
+    out.write_all(b"\n")
+}
+
+// Writes a line for each subchunk that is present.
+fn write_subchunks<W: Write>(
+    out: &mut W,
+    alloc: Global,
+    layout: &Layout,
+    subchunks: &[u64],
+) -> io::Result<()> {
+    for (number, entry) in layout.numbers.chunks(2).enumerate() {
+        if let [offset, size] = entry
+            && let Some(bytes) = slice_of(*offset, *size, layout.length)
+        {
+            write_subchunk(out, alloc, number as u64, bytes, subchunks)?;
+        }
+    }
+    Ok(())
+}
+
+// Writes a line for each range of dead bytes.
+fn write_dead<W: Write>(out: &mut W, mut walk: Walk<'_>) -> io::Result<()> {
+    for _ in 0..walk.steps() {
+        let bytes = walk.pass();
+        if bytes.0 < bytes.1 {
+            write_bytes(out, "dead", bytes)?;
+            out.write_all(b"\n")?;
+        }
+    }
+    Ok(())
+}
+
+// Writes what the index of a shard says, as a table.
+fn write_layout<W: Write>(
+    out: &mut W,
+    alloc: Global,
+    key: &str,
+    layout: &Layout,
+    subchunks: &[u64],
+) -> io::Result<()> {
+    let known = ShardInfo {
+        length: layout.length,
+        index: Ok(layout.info),
+    };
+    write_shard(out, key, &known)?;
+    out.write_all(b"subchunk          offset            size             end  coordinates\n")?;
+    write_subchunks(out, alloc, layout, subchunks)?;
+    write_bytes(out, "index", layout.index)?;
+    out.write_all(b"\n")?;
+    let (present, index) = (layout.info.present, layout.index);
+    write_dead(
+        out,
+        Walk::new(&layout.sorted, present, index, layout.length),
+    )
+}
+
+/// Writes which bytes of a shard, by its key, each subchunk that is present takes, which ones its index, and which are dead. Only the
+/// index is read. Refused where no shard has the key, and where the index is.
+pub fn info_of_shard<R: Files + AllocGlobal, I, X: ArrayToBytesCodecTraits, W: Write>(
+    array: &Array<'_, R, I, X>,
+    key: &str,
+    out: &mut W,
+) -> Result<Ending, Stop> {
+    let alloc = array.alloc();
+    let size = index_size(alloc, &array.codec.index_codec, &array.subchunks)?;
+    let files = array.files()?;
+    let shard = shard_of(array, &files, key)?;
+    let mut file = array.file(shard.key)?;
+    let shape = &array.metadata.shard;
+    let layout = match layout_of(alloc, array.codec, shape, size, &mut file) {
+        Ok(Some(layout)) => layout,
+        Ok(None) => return Err(Stop::NoShard(escaped(alloc, key)?)),
+        Err(error) => {
+            let refusal = array.refusal(&shard, &file, error, Place::opening(&error))?;
+            return Err(Stop::Refused(refusal));
+        }
+    };
+    let subchunks = array.subchunks.as_slice();
+    written(
+        write_layout(out, alloc, shard.key, &layout, subchunks),
+        Ending::Done,
+    )?;
+    Ok(Ending::Done)
+}
