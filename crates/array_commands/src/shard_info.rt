@@ -2,7 +2,7 @@
 use crate::extract::shard_of;
 use crate::index_info::{index_size, whole_index};
 use crate::info::{ShardInfo, write_shard};
-use array_folder::{IndexInfo, Walk, index_interval, info_of, slice_of};
+use array_folder::{DeadBytes, IndexInfo, index_interval, info_of, slice_of};
 use array_opening::{Array, Ending, Place, Stop, written};
 use codec_traits::ArrayToBytesCodecTraits;
 use parts_errors::CodecError;
@@ -94,11 +94,11 @@ fn write_subchunks<W: Write>(
 }
 
 // Writes a line for each range of dead bytes.
-fn write_dead<W: Write>(out: &mut W, mut walk: Walk<'_>) -> io::Result<()> {
-    for _ in 0..walk.steps() {
-        let bytes = walk.pass();
-        if bytes.0 < bytes.1 {
-            write_bytes(out, "dead", bytes)?;
+fn write_dead<W: Write>(out: &mut W, mut bytes: DeadBytes<'_>) -> io::Result<()> {
+    for _ in 0..bytes.steps() {
+        let (start, end) = bytes.pass();
+        if start < end {
+            write_bytes(out, "dead", (start, end))?;
             out.write_all(b"\n")?;
         }
     }
@@ -125,7 +125,7 @@ fn write_layout<W: Write>(
     let (present, index) = (layout.info.present, layout.index);
     write_dead(
         out,
-        Walk::new(&layout.sorted, present, index, layout.length),
+        DeadBytes::new(&layout.sorted, present, index, layout.length),
     )
 }
 

@@ -44,19 +44,19 @@ fn present_in(numbers: &[u64], length: u64) -> Result<u64, CodecError> {
 /// The bytes of an object from the first one on: those of its index, which has a start and an end, and those of slices, sorted offsets
 /// and sizes, in the order in which they begin.
 #[derive(Clone, Copy)]
-pub struct Walk<'s> {
+pub struct DeadBytes<'s> {
     index: Option<(u64, u64)>,
     slices: &'s [[u64; 2]],
     reached: u64,
     length: u64,
 }
 
-impl<'s> Walk<'s> {
+impl<'s> DeadBytes<'s> {
     /// Begins at the first byte of an object of a length, which has an index and the first `present` of these slices.
     pub fn new(sorted: &'s [u64], present: u64, index: (u64, u64), length: u64) -> Self {
         let (slices, _) = sorted.as_chunks::<2>();
         let present = (present as usize).min(slices.len());
-        Walk {
+        DeadBytes {
             index: Some(index),
             slices: &slices[..present],
             reached: 0,
@@ -97,10 +97,10 @@ impl<'s> Walk<'s> {
 }
 
 // How many bytes are dead in all.
-fn dead_bytes(mut walk: Walk<'_>) -> u64 {
+fn dead_bytes(mut bytes: DeadBytes<'_>) -> u64 {
     let mut dead = 0u64;
-    for _ in 0..walk.steps() {
-        let (start, end) = walk.pass();
+    for _ in 0..bytes.steps() {
+        let (start, end) = bytes.pass();
         dead = dead.saturating_add(end.saturating_sub(start));
     }
     dead
@@ -131,6 +131,6 @@ pub fn info_of(
     Ok(IndexInfo {
         present,
         absent: subchunks.saturating_sub(present),
-        dead: dead_bytes(Walk::new(numbers, present, index, length)),
+        dead: dead_bytes(DeadBytes::new(numbers, present, index, length)),
     })
 }

@@ -16,6 +16,6 @@ pub use chunk_grid::ChunkGrid;
 pub use document::{document_length, read_document};
 pub use error::FolderError;
 pub use folder_files::FolderFiles;
-pub use index_info::{IndexInfo, Walk, index_interval, info_of, slice_of};
+pub use index_info::{DeadBytes, IndexInfo, index_interval, info_of, slice_of};
 pub use names::KeyForm;
 pub use npy::{npy_beside, npy_header, write_npy};
