@@ -1,4 +1,4 @@
-// Tests of arrays on disk, their metadata and their shards, of subsets on a command line, and of scripts whose reader or writer fails.
+// Tests of arrays on disk, their metadata and their shards, of subsets on a command line, of files of NumPy's format, and of scripts whose reader or writer fails.
 #![tactic(auto)]
 
 #[cfg(test)]
@@ -15,6 +15,8 @@ mod limits;
 mod messages;
 #[cfg(test)]
 mod metadata;
+#[cfg(test)]
+mod npy;
 #[cfg(test)]
 mod refused;
 #[cfg(test)]

@@ -55,6 +55,7 @@ const TEXTS: &[(&str, &str)] = &[
     ("2,1:3", "[2, 1, 0] [1, 2, 5] [true, false, false]"),
     // spaces and brackets
     ("[1]", "[1, 0, 0] [1, 12, 5] [true, false, false]"),
+    ("[0:2, 3]", "[0, 3, 0] [2, 1, 5] [false, true, false]"),
     (
         "  [ 0..2 ,  -1 , : ]  ",
         "[0, 11, 0] [2, 1, 5] [false, true, false]",
@@ -146,6 +147,32 @@ const LONG_TEXTS: &[(&str, &str)] = &[
 fn words_pick_of_a_long_axis(rt: HostRuntime) {
     for (text, want) in LONG_TEXTS {
         let found = picked(rt.alloc(), text, &[u64::MAX]).expect(&rt, "refused");
+        same_at(&rt, *text, found.as_str(), *want);
+    }
+}
+
+// What is left of the shape of a subset without the axes that one coordinate names.
+fn kept(alloc: Global, text: &str) -> Result<String, AllocError> {
+    match subset_of(alloc, Some(text), &[8, 12, 5]) {
+        Ok(requested) => format!(in alloc; "{:?}", requested.kept_shape(alloc)?),
+        Err(error) => format!(in alloc; "{error}"),
+    }
+}
+
+// Texts, and the shapes that NumPy gives them.
+const KEPT: &[(&str, &str)] = &[
+    ("...", "[8, 12, 5]"),
+    ("2", "[12, 5]"),
+    ("-1,1:3", "[2, 5]"),
+    ("2..3,...,4", "[1, 12]"),
+    ("0,0..0,0", "[0]"),
+    ("0,0,0", "[]"),
+];
+
+#[test]
+fn axes_named_by_one_coordinate_are_dropped(rt: HostRuntime) {
+    for (text, want) in KEPT {
+        let found = kept(rt.alloc(), text).expect(&rt, "refused");
         same_at(&rt, *text, found.as_str(), *want);
     }
 }
