@@ -159,6 +159,19 @@ fn compact_command<'a>(alloc: Global) -> Result<Command<'a>, AllocError> {
         .arg(dry_flag(alloc))
 }
 
+fn list_command<'a>(alloc: Global) -> Result<Command<'a>, AllocError> {
+    Command::new(alloc, "list")
+        .about(
+            "Says what arrays lie below a group, and of each its data type, its shape, and whether it is read",
+        )
+        .after_help("Example: zarr_shard list weather")
+        .arg(
+            Arg::new(alloc, "PATH")
+                .required(true)
+                .help("The folder of the group, in which its zarr.json lies"),
+        )
+}
+
 // The version of the program, and the line of the kit that proves it.
 const VERSION: &str = "0.1.0 (rattle-kit-13f logic dac8208d650f15bf)";
 
@@ -184,7 +197,8 @@ fn with<'a>(
 
 /// The program's command line.
 pub fn program<'a>(alloc: Global) -> Result<Command<'a>, AllocError> {
-    let program = with(bare_program(alloc), info_command(alloc))?;
+    let program = with(bare_program(alloc), list_command(alloc))?;
+    let program = with(program, info_command(alloc))?;
     let program = with(program, check_command(alloc))?;
     let program = with(program, read_command(alloc))?;
     let program = with(program, extract_command(alloc))?;

@@ -5,6 +5,7 @@ use crate::check::check;
 use crate::compact::compact;
 use crate::extract::extract;
 use crate::info::info;
+use crate::list::list;
 use crate::npy::save_subset;
 use crate::read::read_array;
 use crate::shard_info::info_of_shard;
@@ -143,6 +144,16 @@ fn run_array<R: Files + AllocGlobal + Clock, W: Write, M: Write>(
     run_described(rt, path, &metadata, &metadata.codec, work, out, progress)
 }
 
+// Lists the arrays below a group.
+fn run_list<R: Files + AllocGlobal, W: Write>(rt: &R, path: &str, out: &mut W) -> Result<u8, Stop>
+    ensures { IfOk result (λ status. status ≤ 2) }
+{
+    match list(rt, path, out) {
+        Ok(ending) | Err(Stop::Closed(ending)) => Ok(ending.status()),
+        Err(stop) => Err(stop),
+    }
+}
+
 // Does what the words of a command line say.
 fn run_matches<R: Files + AllocGlobal + Clock, W: Write, M: Write>(
     rt: &R,
@@ -157,6 +168,9 @@ fn run_matches<R: Files + AllocGlobal + Clock, W: Write, M: Write>(
         return Ok(2);
     };
     let path = found.get_str("PATH").unwrap_or(".");
+    if name == "list" {
+        return run_list(rt, path, out);
+    }
     let mut progress = Progress::new(messages, shows_progress);
     let ran = run_array(rt, path, work_of(name, found), out, &mut progress);
     progress.clear();

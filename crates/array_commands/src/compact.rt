@@ -1,7 +1,7 @@
 // The compaction of an array's shards.
-use crate::folder::age_of;
 use crate::rewriting::{Planned, plan_of, replace};
 use array_cli::Progress;
+use array_folder::age_of;
 use array_opening::{Array, Ending, Place, Refusal, Shard, ShardFile, Stop, written};
 use codec_traits::ArrayToBytesCodecTraits;
 use parts_escaped_text::escaped;

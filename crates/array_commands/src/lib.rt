@@ -8,6 +8,7 @@ mod extract;
 mod folder;
 mod index_info;
 mod info;
+mod list;
 mod npy;
 mod read;
 mod rewriting;

@@ -11,8 +11,8 @@ use storage_files::check_folder;
 // The name behind which a new file stands until it is whole.
 const REPLACING: &str = ".replacing";
 
-// How many bytes of names are asked for at once.
-const ROOM: usize = 32768;
+/// How many bytes of names are asked for at once.
+pub const ROOM: usize = 32768;
 
 /// The file of a chunk, or while a folder is listed, a folder of chunks: its coordinates in the chunk grid, as far as its name
 /// says, and its key.
@@ -119,8 +119,8 @@ impl Walk<'_, '_> {
     }
 }
 
-// Opens a folder, to read its names.
-fn open_folder<R: Files + AllocGlobal>(rt: &R, path: &str) -> io::Result<R::Dir> {
+/// Opens a folder, to read its names.
+pub fn open_folder<R: Files + AllocGlobal>(rt: &R, path: &str) -> io::Result<R::Dir> {
     check_folder(rt, path)?;
     let path = format!(in rt.alloc(); "{path}/")?;
     rt.open_dir(&path)
