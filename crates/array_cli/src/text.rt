@@ -1,20 +1,24 @@
 // Cells as text and as JSON.
 ghost use Rattle.std.specs.Prelude.{◌<◌};
 
+use array_metadata::{ElementType, FloatFormat, half_to_f32};
 use parts_arrays::{DataType, DataTypeSize};
 use std::io;
 use std::io::Write;
+use std::num::{f32_from_bits_with_nan, f64_from_bits_with_nan};
 
 // What a cell holds. A byte of a `bool` that is not 0 is true.
-#[derive(Debug, Clone, Copy, PartialEq, Eq)]
+#[derive(Debug, Clone, Copy, PartialEq)]
 enum Cell {
     Bool(bool),
     Signed(i64),
     Unsigned(u64),
+    Single(f32),
+    Double(f64),
 }
 
 // Whether the numbers of a type may be negative.
-fn is_signed(data_type: &DataType) -> bool {
+fn is_signed(data_type: DataType) -> bool {
     matches!(
         data_type,
         DataType::Int8 | DataType::Int16 | DataType::Int32 | DataType::Int64
@@ -30,10 +34,33 @@ fn widened(element: &[u8], filler: u8) -> [u8; 8] {
     wide
 }
 
+// The float that bits are: one of sixteen bits as the same number of more.
+fn float_of(format: FloatFormat, bits: u64) -> Cell {
+    match format {
+        FloatFormat::Float16 => Cell::Single(half_to_f32((bits % 0x1_0000) as u16)),
+        FloatFormat::BFloat16 => {
+            Cell::Single(f32_from_bits_with_nan((bits % 0x1_0000 * 0x1_0000) as u32))
+        }
+        FloatFormat::Float32 => Cell::Single(f32_from_bits_with_nan((bits % 0x1_0000_0000) as u32)),
+        FloatFormat::Float64 => Cell::Double(f64_from_bits_with_nan(bits)),
+    }
+}
+
+// The name of a float that is not finite.
+fn word_of(is_positive: bool, is_negative: bool) -> &'static str {
+    if is_positive {
+        "Infinity"
+    } else if is_negative {
+        "-Infinity"
+    } else {
+        "NaN"
+    }
+}
+
 impl Cell {
-    // The cell that an element of a type is.
-    fn of(data_type: &DataType, element: &[u8]) -> Self {
-        if *data_type == DataType::Bool {
+    // The cell that the bytes of a `bool` or a whole number are.
+    fn number(data_type: DataType, element: &[u8]) -> Self {
+        if data_type == DataType::Bool {
             return Cell::Bool(element.iter().any(|byte| *byte != 0));
         }
         if !is_signed(data_type) {
@@ -44,30 +71,53 @@ impl Cell {
         Cell::Signed(i64::from_le_bytes(widened(element, filler)))
     }
 
-    // As text, where `true` is 1 and `false` is 0.
-    fn write<W: Write>(&self, out: &mut W) -> io::Result<()> {
+    // The cell that an element of a type is.
+    fn of(element_type: ElementType, element: &[u8]) -> Self {
+        match element_type {
+            ElementType::Float(format) => {
+                float_of(format, u64::from_le_bytes(widened(element, 0)))
+            }
+            _ => Cell::number(element_type.carrier(), element),
+        }
+    }
+
+    // As text, where `true` is 1 and `false` is 0, and words stand between quotes.
+    fn write_with<W: Write>(&self, out: &mut W, quote: &str) -> io::Result<()> {
         match self {
             Cell::Bool(is_true) => write!(out, "{}", *is_true as u8),
             Cell::Signed(number) => write!(out, "{number}"),
             Cell::Unsigned(number) => write!(out, "{number}"),
+            Cell::Single(x) if x.is_finite() => {
+                out.write_all(ryu::Buffer::new().format_finite(*x).as_bytes())
+            }
+            Cell::Double(x) if x.is_finite() => {
+                out.write_all(ryu::Buffer::new().format_finite(*x).as_bytes())
+            }
+            Cell::Single(x) => write!(out, "{quote}{}{quote}", word_of(*x > 0.0, *x < 0.0)),
+            Cell::Double(x) => write!(out, "{quote}{}{quote}", word_of(*x > 0.0, *x < 0.0)),
         }
     }
 
-    // As JSON, where a `bool` is `true` or `false`.
+    // As text.
+    fn write<W: Write>(&self, out: &mut W) -> io::Result<()> {
+        self.write_with(out, "")
+    }
+
+    // As JSON, where a `bool` is `true` or `false`, and a float that has no digits a string.
     fn write_json<W: Write>(&self, out: &mut W) -> io::Result<()> {
         match self {
             Cell::Bool(true) => out.write_all(b"true"),
             Cell::Bool(false) => out.write_all(b"false"),
-            number => number.write(out),
+            number => number.write_with(out, "\""),
         }
     }
 }
 
 // How many bytes a cell of a type has, at least 1.
-fn cell_size(data_type: &DataType) -> usize
+fn cell_size(element_type: ElementType) -> usize
     ensures { 0 < result }
 {
-    match data_type.size() {
+    match element_type.carrier().size() {
         DataTypeSize::Fixed(size) => size.max(1),
         DataTypeSize::Variable => 1,
     }
@@ -87,17 +137,17 @@ pub fn write_numbers<W: Write>(out: &mut W, name: &str, numbers: &[u64]) -> io::
 /// Writes cells as text, a row of the last axis a line.
 pub fn write_rows<W: Write>(
     out: &mut W,
-    data_type: &DataType,
+    element_type: ElementType,
     bytes: &[u8],
     shape: &[u64],
 ) -> io::Result<()> {
     let row = shape.last().copied().unwrap_or(1);
     let mut column = 0u64;
-    for element in bytes.chunks(cell_size(data_type)) {
+    for element in bytes.chunks(cell_size(element_type)) {
         if column > 0 {
             out.write_all(b" ")?;
         }
-        Cell::of(data_type, element).write(out)?;
+        Cell::of(element_type, element).write(out)?;
         column = column.saturating_add(1);
         if column >= row {
             out.write_all(b"\n")?;
@@ -108,13 +158,17 @@ pub fn write_rows<W: Write>(
 }
 
 // Writes cells as a list of JSON.
-fn write_json_cells<W: Write>(out: &mut W, data_type: &DataType, bytes: &[u8]) -> io::Result<()> {
+fn write_json_cells<W: Write>(
+    out: &mut W,
+    element_type: ElementType,
+    bytes: &[u8],
+) -> io::Result<()> {
     out.write_all(b"[")?;
-    for (number, element) in bytes.chunks(cell_size(data_type)).enumerate() {
+    for (number, element) in bytes.chunks(cell_size(element_type)).enumerate() {
         if number > 0 {
             out.write_all(b",")?;
         }
-        Cell::of(data_type, element).write_json(out)?;
+        Cell::of(element_type, element).write_json(out)?;
     }
     out.write_all(b"]")
 }
@@ -134,13 +188,13 @@ fn write_json_numbers<W: Write>(out: &mut W, numbers: &[u64]) -> io::Result<()> 
 /// `data_type`, and its `shape`.
 pub fn write_json<W: Write>(
     out: &mut W,
-    data_type: &DataType,
+    element_type: ElementType,
     bytes: &[u8],
     shape: &[u64],
 ) -> io::Result<()> {
     out.write_all(b"{\"cells\":")?;
-    write_json_cells(out, data_type, bytes)?;
-    let name = data_type.name().unwrap_or("");
+    write_json_cells(out, element_type, bytes)?;
+    let name = element_type.name();
     write!(out, ",\"data_type\":\"{name}\",\"shape\":")?;
     write_json_numbers(out, shape)?;
     out.write_all(b"}\n")

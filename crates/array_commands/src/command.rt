@@ -11,11 +11,10 @@ use crate::read::read_array;
 use crate::shard_info::info_of_shard;
 use array_cli::{Form, Progress, Work, program, work_of, write_json, write_rows};
 use array_grid::subset_of;
-use array_metadata::ArrayMetadata;
+use array_metadata::{ArrayMetadata, ElementType};
 use array_opening::{Array, Ending, Stop, metadata_of, written};
 use clap::ArgMatches;
 use codec_traits::ArrayToBytesCodecTraits;
-use parts_arrays::DataType;
 use parts_escaped_text::escaped;
 use sharding_codec::ShardingCodec;
 use std::alloc::Global;
@@ -28,14 +27,14 @@ use std::rt::{Clock, Files};
 fn write_cells<W: Write>(
     out: &mut W,
     form: Form,
-    data_type: &DataType,
+    element_type: ElementType,
     cells: &[u8],
     shape: &[u64],
 ) -> io::Result<()> {
     match form {
-        Form::Text => write_rows(out, data_type, cells, shape),
+        Form::Text => write_rows(out, element_type, cells, shape),
         Form::Raw => out.write_all(cells),
-        Form::Json => write_json(out, data_type, cells, shape),
+        Form::Json => write_json(out, element_type, cells, shape),
     }
 }
 
@@ -57,8 +56,8 @@ fn run_read<
     let subset = subset_of(array.alloc(), requested, &array.metadata.shape)?.subset;
     let cells = read_array(array, &subset, progress)?;
     progress.clear();
-    let data_type = &array.metadata.data_type;
-    let wrote = write_cells(out, form, data_type, cells.bytes(), subset.shape());
+    let element_type = array.metadata.element_type;
+    let wrote = write_cells(out, form, element_type, cells.bytes(), subset.shape());
     written(wrote, Ending::Done)?;
     Ok(Ending::Done)
 }

@@ -168,22 +168,14 @@ impl Sums {
 
 // Writes what the metadata says of elements.
 fn write_type<W: Write>(out: &mut W, metadata: &ArrayMetadata) -> io::Result<()> {
-    if let Some(unread) = &metadata.unread_type {
-        let (data_type, fill_value) = (&unread.data_type, &unread.fill_value);
+    if let Some(text) = &metadata.type_text {
+        let (data_type, fill_value) = (&text.data_type, &text.fill_value);
         return writeln!(out, "data type: {data_type}\nfill value: {fill_value}");
     }
-    writeln!(
-        out,
-        "data type: {}",
-        metadata.data_type.name().unwrap_or("raw")
-    )?;
+    let element_type = metadata.element_type;
+    writeln!(out, "data type: {}", element_type.name())?;
     out.write_all(b"fill value: ")?;
-    write_rows(
-        out,
-        &metadata.data_type,
-        metadata.fill_value.as_ne_bytes(),
-        &[],
-    )
+    write_rows(out, element_type, metadata.fill_value.as_ne_bytes(), &[])
 }
 
 // Writes what the metadata says.

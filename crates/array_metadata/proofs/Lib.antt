@@ -1,4 +1,5 @@
 pub mod Lengths
 pub mod Elements
+pub mod SaidFloats
 pub mod Types
 pub mod Lists

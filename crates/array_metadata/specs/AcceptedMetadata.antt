@@ -11,9 +11,9 @@ use Rattle.parts_arrays.specs.declared.data_type.DataTypeSize.TheVariants.{Fixed
 use Rattle.sharding_configuration.specs.Configuration.{shape_in}
 use Rattle.array_metadata.specs.MetadataFields.{member_in, configured_in, whole_number_in, whole_numbers_in, is_understood}
 use Rattle.array_metadata.specs.KeyEncodings.{encoding_name, default_separator, separator_text}
-use Rattle.array_metadata.specs.FillValues.{number_in, number_of}
+use Rattle.array_metadata.specs.FillValues.{IsFillIn}
 use Rattle.array_metadata.specs.ArrayCodecs.{shards_in, subchunks_in}
-use Rattle.array_metadata.specs.ElementTypes.{IsTypeIn}
+use Rattle.array_metadata.specs.ElementTypes.{IsTypeIn, carrier}
 use Rattle.array_metadata.specs.UnreadCodecs.{chunks_in, unread_codec_in}
 use Rattle.array_metadata.specs.declared.metadata.ArrayMetadata.{ArrayMetadata}
 
@@ -28,15 +28,14 @@ pub record IsServedText (text : Bytes) : Type 0 where
 -- metadata says what its text says
 pub record IsReadAs (text : Bytes) (metadata : ArrayMetadata) : Type 0 where
   pub shape : option_and_then whole_numbers_in (member_in (codes "shape") text) ≡ Some metadata.shape.items
-  pub data_type : IsTypeIn (option_map string_bytes metadata.unread) (option_and_then name_in (member_in (codes "data_type") text))
-      metadata.data_type
+  pub element_type : IsTypeIn (option_map string_bytes metadata.unread) (option_and_then name_in (member_in (codes "data_type") text))
+      metadata.element_type
   pub shard : option_and_then whole_numbers_in (option_and_then (configured_in (codes "chunk_shape")) (member_in (codes "chunk_grid") text))
       ≡ Some metadata.shard
   pub encoding : option_and_then name_in (member_in (codes "chunk_key_encoding") text) ≡ Some (encoding_name metadata.keys.encoding)
   pub separator : unwrap_or (option_and_then as_str (option_and_then (configured_in (codes "separator"))
       (member_in (codes "chunk_key_encoding") text))) (default_separator metadata.keys.encoding) ≡ separator_text metadata.keys.slashes
-  pub fill_value : option_and_then (number_in metadata.data_type) (member_in (codes "fill_value") text)
-      ≡ Some (number_of metadata.data_type metadata.fill_value)
+  pub fill_value : IsFillIn metadata.element_type (member_in (codes "fill_value") text) metadata.fill_value
   pub subchunk : option_and_then shape_in (option_and_then (configured_in (codes "chunk_shape"))
       (option_and_then chunks_in (member_in (codes "codecs") text))) ≡ Some metadata.subchunk
   pub codecs : option_map (shards_in subchunks_in) (option_and_then chunks_in (member_in (codes "codecs") text))
@@ -50,5 +49,6 @@ pub record FitsTogether (metadata : ArrayMetadata) : Type 0 where
   pub subchunk : length metadata.subchunk ≡ vec_len metadata.shape
   pub divides : Divides metadata.subchunk metadata.shard
   pub codec : metadata.codec.subchunk_shape ≡ metadata.subchunk
+  pub data_type : metadata.data_type ≡ carrier metadata.element_type
   pub elements : HasElements metadata.data_type
   pub fill_value : size_of metadata.data_type ≡ Fixed (length metadata.fill_value)

@@ -1,41 +1,78 @@
--- The data type of an array: one whose elements are read, or the number of bytes that an element has.
-use Rattle.std.specs.Prelude.{◌≡◌, ◌⊎◌, ◌<◌, ◌*◌, ℕ, Option, Some, None, if◌then◌else◌, ◌||◌, codes, bytes_eq, drop}
+-- The data type of an array: what its elements are, and as what the codecs take them.
+use Rattle.std.specs.Prelude.{◌≡◌, ◌⊎◌, ◌<◌, ◌*◌, ℕ, Option, Some, None, if◌then◌else◌, codes, bytes_eq, drop}
 use Rattle.std.specs.Str.Parse.{digits_value, without_leading_plus}
 use Rattle.parts_errors.specs.Words.{Bytes as Text}
 use Rattle.parts_arrays.specs.Types.{type_name}
 use Rattle.parts_arrays.specs.declared.data_type.DataType.{DataType}
-use Rattle.parts_arrays.specs.declared.data_type.DataType.TheVariants.{Bytes, Raw}
+use Rattle.parts_arrays.specs.declared.data_type.DataType.TheVariants.{UInt16, UInt32, UInt64, Int64, Raw, Bytes}
+use Rattle.array_metadata.specs.declared.floats.FloatFormat.{FloatFormat}
+use Rattle.array_metadata.specs.declared.floats.FloatFormat.TheVariants.{Float16, BFloat16, Float32, Float64}
+use Rattle.array_metadata.specs.declared.element_types.ElementType.{ElementType}
+use Rattle.array_metadata.specs.declared.element_types.ElementType.TheVariants.{Number, Float, DateTime64, TimeDelta64, Unread}
 
--- how many bytes an element has of the types of a name that are not read
-abbrev pub listed_size : Text → Option ℕ
-listed_size name =
-    if bytes_eq name (codes "float16") || bytes_eq name (codes "bfloat16") then Some 2 else
-    if bytes_eq name (codes "float32") then Some 4 else
-    if bytes_eq name (codes "float64") || bytes_eq name (codes "complex64") then Some 8 else
-    if bytes_eq name (codes "complex128") then Some 16 else
-    if bytes_eq name (codes "numpy.datetime64") || bytes_eq name (codes "numpy.timedelta64") then Some 8 else None
+-- the types of the names that the codecs do not know: floats, times, and how many bytes an element has of others
+abbrev pub listed_type : Text → Option ElementType
+listed_type name =
+    if bytes_eq name (codes "float16") then Some (Float Float16) else
+    if bytes_eq name (codes "bfloat16") then Some (Float BFloat16) else
+    if bytes_eq name (codes "float32") then Some (Float Float32) else
+    if bytes_eq name (codes "float64") then Some (Float Float64) else
+    if bytes_eq name (codes "numpy.datetime64") then Some DateTime64 else
+    if bytes_eq name (codes "numpy.timedelta64") then Some TimeDelta64 else
+    if bytes_eq name (codes "complex64") then Some (Unread 8) else
+    if bytes_eq name (codes "complex128") then Some (Unread 16) else None
+
+-- as what the codecs take a float: as the unsigned number of the same size
+abbrev pub float_carrier : FloatFormat → DataType
+float_carrier Float16 = UInt16
+float_carrier BFloat16 = UInt16
+float_carrier Float32 = UInt32
+float_carrier Float64 = UInt64
+
+-- as what the codecs take an element
+abbrev pub carrier : ElementType → DataType
+carrier (Number data_type) = data_type
+carrier (Float format) = float_carrier format
+carrier DateTime64 = Int64
+carrier TimeDelta64 = Int64
+carrier (Unread size) = Raw size
+
+-- elements of the type are read
+abbrev pub IsRead : ElementType → Type 0
+IsRead (Unread size) = ⊥
+IsRead element_type = Unit {0}
 
 -- the name says how many bits there are, behind an `r`
 pub record IsRaw (name : Text) (size : ℕ) : Type 0 where
   pub some : 0 < size
   pub bits : digits_value 10 (without_leading_plus (drop 1 name)) ≡ 8 * size
 
--- no type that is read has the name
-abbrev pub IsUnread : Text → Type 0
-IsUnread name = (data_type : DataType) → type_name data_type ≡ Some name → data_type ≡ Bytes
+-- a type that the codecs know has the name
+abbrev pub IsNamed : Text → ElementType → Type 0
+IsNamed name (Number data_type) = type_name data_type ≡ Some name
+IsNamed name element_type = ⊥
 
--- how many bytes an element has of a name; where a codec of elements is not served, which is named, a size that is not known is 1
-abbrev pub IsSizeOf : Option Text → Option ℕ → Text → ℕ → Type 0
-IsSizeOf codec (Some listed) name size = size ≡ listed
-IsSizeOf None None name size = IsRaw name size
-IsSizeOf (Some codec) None name size = IsRaw name size ⊎ (size ≡ 1)
+-- none has it, but for `bytes`, whose elements are not of one size
+abbrev pub IsUnnamed : Text → Type 0
+IsUnnamed name = (data_type : DataType) → type_name data_type ≡ Some name → data_type ≡ Bytes
+
+-- how many bytes an element has of a name that is not listed; where a codec of elements is not served, which is named, a size that is
+-- not known is 1
+abbrev pub IsSizeOf : Option Text → Text → ℕ → Type 0
+IsSizeOf None name size = IsRaw name size
+IsSizeOf (Some codec) name size = IsRaw name size ⊎ (size ≡ 1)
+
+-- the type of a name by what is listed of it
+abbrev pub IsListedOr : Option ElementType → Option Text → Text → ElementType → Type 0
+IsListedOr (Some listed) codec name element_type = element_type ≡ listed
+IsListedOr None codec name (Unread size) = IsSizeOf codec name size
+IsListedOr None codec name element_type = ⊥
 
 -- the type of a name
-abbrev pub IsTypeOf : Option Text → Text → DataType → Type 0
-IsTypeOf codec name (Raw size) = IsUnread name × IsSizeOf codec (listed_size name) name size
-IsTypeOf codec name data_type = type_name data_type ≡ Some name
+abbrev pub IsTypeOf : Option Text → Text → ElementType → Type 0
+IsTypeOf codec name element_type = IsNamed name element_type ⊎ (IsUnnamed name × IsListedOr (listed_type name) codec name element_type)
 
 -- the type of metadata that gives a name
-abbrev pub IsTypeIn : Option Text → Option Text → DataType → Type 0
-IsTypeIn codec None data_type = ⊥
-IsTypeIn codec (Some name) data_type = IsTypeOf codec name data_type
+abbrev pub IsTypeIn : Option Text → Option Text → ElementType → Type 0
+IsTypeIn codec None element_type = ⊥
+IsTypeIn codec (Some name) element_type = IsTypeOf codec name element_type

@@ -1,11 +1,17 @@
--- The fill value that the metadata gives: of `bool` true or false, of the other types a whole number.
-use Rattle.std.specs.Prelude.{ℤ, pos, Option, Some, option_map, option_and_then}
+-- The fill value that the metadata gives: of `bool` true or false, of whole numbers and times a whole number, of floats a number, the
+-- name of one, or its bits.
+use Rattle.std.specs.Prelude.{◌≡◌, ℕ, ℤ, pos, negsuc, Option, Some, None, if◌then◌else◌, option_map, option_and_then, codes, bytes_eq}
 use Rattle.std.specs.Int.{w8, w16, w32, w64, from_bool, from_le_bytes, cast_signed}
 use Rattle.parts_errors.specs.Words.{Bytes as Text}
 use Rattle.parts_arrays.specs.declared.data_type.DataType.{DataType}
 use Rattle.parts_arrays.specs.declared.data_type.DataType.TheVariants.{Bool, Int8, Int16, Int32, Int64, UInt8, UInt16, UInt32, UInt64, Raw, Bytes, Optional}
-use Rattle.serde_json.specs.Data.{Data}
-use Rattle.serde_json.specs.Find.{as_bool, as_number, as_integer}
+use Rattle.serde_json.specs.Data.{Data, null, boolean, number, string, array, object}
+use Rattle.serde_json.specs.Find.{as_bool, as_number, as_integer, to_float}
+use Rattle.array_metadata.specs.declared.floats.FloatFormat.{FloatFormat}
+use Rattle.array_metadata.specs.declared.element_types.ElementType.{ElementType}
+use Rattle.array_metadata.specs.declared.element_types.ElementType.TheVariants.{Number, Float, DateTime64, TimeDelta64, Unread}
+use Rattle.array_metadata.specs.ElementTypes.{carrier}
+use Rattle.array_metadata.specs.Floats.{IsFloatText, IsFloatNumber}
 
 -- the whole number that an element is, its bytes least significant first, of a signed type in two's complement; of the types that are read
 abbrev pub number_of : DataType → Text → ℤ
@@ -27,3 +33,27 @@ abbrev pub number_in : DataType → Data → Option ℤ
 number_in Bool d = option_map (λ b. pos (from_bool b)) (as_bool d)
 number_in (Raw n) d = Some (pos 0)
 number_in data_type d = option_and_then as_integer (as_number d)
+
+-- the number of units that a value says of a time: "NaT", no time, is the least number
+abbrev pub time_in : Data → Option ℤ
+time_in (string text) = if bytes_eq text (codes "NaT") then Some (negsuc 0x7fff_ffff_ffff_ffff) else None
+time_in d = option_and_then as_integer (as_number d)
+
+-- the bits that a value says of a float: by a text, or by a number of JSON, which is a float64 and rounded once more
+abbrev pub IsFloatIn : FloatFormat → Data → ℕ → Type 0
+IsFloatIn format (string text) bits = IsFloatText format text bits
+IsFloatIn format (number n) bits = IsFloatNumber format (to_float n) bits
+IsFloatIn format d bits = ⊥
+
+-- what a value says of an element that is this number, where floats are their bits; of types that are not read nothing is said
+abbrev pub IsElementIn : ElementType → Data → ℤ → Type 0
+IsElementIn (Number data_type) d z = number_in data_type d ≡ Some z
+IsElementIn (Float format) d z = (bits : ℕ) × (z ≡ pos bits) × IsFloatIn format d bits
+IsElementIn DateTime64 d z = time_in d ≡ Some z
+IsElementIn TimeDelta64 d z = time_in d ≡ Some z
+IsElementIn (Unread size) d z = Unit {0}
+
+-- the fill value of metadata that gives a value of one
+abbrev pub IsFillIn : ElementType → Option Data → Text → Type 0
+IsFillIn element_type None element = ⊥
+IsFillIn element_type (Some d) element = IsElementIn element_type d (number_of (carrier element_type) element)

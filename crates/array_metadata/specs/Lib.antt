@@ -1,6 +1,7 @@
 pub mod MetadataFields
 pub mod KeyEncodings
 pub mod ElementTypes
+pub mod Floats
 pub mod FillValues
 pub mod OpaqueCodec
 pub mod OpaqueLaws

@@ -224,7 +224,7 @@ fn crc32c_codec(alloc: Global, metadata: &Placed) -> Result<Crc32cCodec, Metadat
     ensures read { IfOk result (λ codec. crc32c_in (view metadata.now.value.now) ≡ Ok codec) }
 {
     if let Some(configuration) = metadata.member(alloc, "configuration")? {
-        configuration.only_member(alloc, "")?;
+        configuration.only_members(alloc, &[])?;
     }
     Ok(Crc32cCodec)
 }

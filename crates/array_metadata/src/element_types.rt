@@ -3,10 +3,11 @@ ghost use Rattle.std.specs.Prelude.{◌≡◌, ◌<◌, Some, None, IfOk, IfSome
 ghost use Rattle.serde_json.specs.View.{view};
 ghost use Rattle.codec_metadata.specs.Metadata.{name_in};
 ghost use Rattle.parts_arrays.specs.Types.{type_name, HasElements};
-ghost use Rattle.array_metadata.specs.ElementTypes.{IsTypeIn, IsTypeOf, IsSizeOf, IsUnread, IsRaw, listed_size};
+ghost use Rattle.array_metadata.specs.ElementTypes.{IsTypeIn, IsTypeOf, IsListedOr, IsUnnamed, IsRaw, carrier, listed_type};
 
 use crate::error::MetadataError;
 use crate::fields::Placed;
+use crate::floats::FloatFormat;
 use codec_metadata::PluginCreateError;
 use parts_arrays::DataType;
 use parts_escaped_text::escaped;
@@ -15,12 +16,60 @@ use std::alloc::{AllocError, Global};
 // How many bytes an element may have of a type that is named by its bits: 64 KiB.
 const MOST_BYTES: usize = 65_536;
 
-// The type of a name, of those whose elements are read.
-#[tactic(auto, using(crate::proofs::Types::unread))]
-fn read_type(name: &str) -> Option<DataType>
+/// What the elements of an array are.
+#[derive(Debug, Clone, Copy, PartialEq, Eq)]
+pub enum ElementType {
+    /// `bool`, or a whole number, as the codecs know it.
+    Number(DataType),
+    /// A float.
+    Float(FloatFormat),
+    /// A time, by how many units after 1970 it is (Zarr extension `numpy.datetime64`).
+    DateTime64,
+    /// A length of time in units (Zarr extension `numpy.timedelta64`).
+    TimeDelta64,
+    /// So many bytes that are not read.
+    Unread(usize),
+}
+
+impl ElementType {
+    /// As what the codecs take an element: a float as the unsigned number of the same size, a time as `int64`.
+    pub fn carrier(self) -> DataType
+        ensures { result ≡ carrier self }
+    {
+        match self {
+            ElementType::Number(data_type) => data_type,
+            ElementType::Float(format) => format.carrier(),
+            ElementType::DateTime64 | ElementType::TimeDelta64 => DataType::Int64,
+            ElementType::Unread(size) => DataType::Raw(size),
+        }
+    }
+
+    /// The Zarr name, of types that are read.
+    pub fn name(self) -> &'static str {
+        match self {
+            ElementType::Number(data_type) => data_type.name().unwrap_or("raw"),
+            ElementType::Float(format) => format.name(),
+            ElementType::DateTime64 => "numpy.datetime64",
+            ElementType::TimeDelta64 => "numpy.timedelta64",
+            ElementType::Unread(_) => "raw",
+        }
+    }
+
+    // The keys that the configuration of the type may have.
+    fn configuration_keys(self) -> &'static [&'static str] {
+        match self {
+            ElementType::DateTime64 | ElementType::TimeDelta64 => &["scale_factor", "unit"],
+            _ => &[],
+        }
+    }
+}
+
+// The type of a name that the codecs know, and whose elements are of one size.
+#[tactic(auto, using(crate::proofs::Types::unnamed))]
+fn known_type(name: &str) -> Option<DataType>
     ensures named { IfSome result (λ data_type. type_name data_type ≡ Some name.now) }
     ensures elements { IfSome result HasElements }
-    ensures unread { IfNone result (IsUnread name.now) }
+    ensures unnamed { IfNone result (IsUnnamed name.now) }
 {
     match DataType::from_name(name) {
         Some(DataType::Bytes) | None => None,
@@ -28,17 +77,20 @@ fn read_type(name: &str) -> Option<DataType>
     }
 }
 
-// How many bytes an element has of the types of a name that are not read.
-fn listed_size(name: &str) -> Option<usize>
-    ensures listed { result ≡ listed_size name.now }
-    ensures some { IfSome result (λ size. 0 < size) }
+// The type of a name that the codecs do not know.
+fn listed_type(name: &str) -> Option<ElementType>
+    ensures listed { result ≡ listed_type name.now }
+    ensures elements { IfSome result (λ element_type. HasElements (carrier element_type)) }
 {
     match name {
-        "float16" | "bfloat16" => Some(2),
-        "float32" => Some(4),
-        "float64" | "complex64" => Some(8),
-        "complex128" => Some(16),
-        "numpy.datetime64" | "numpy.timedelta64" => Some(8),
+        "float16" => Some(ElementType::Float(FloatFormat::Float16)),
+        "bfloat16" => Some(ElementType::Float(FloatFormat::BFloat16)),
+        "float32" => Some(ElementType::Float(FloatFormat::Float32)),
+        "float64" => Some(ElementType::Float(FloatFormat::Float64)),
+        "numpy.datetime64" => Some(ElementType::DateTime64),
+        "numpy.timedelta64" => Some(ElementType::TimeDelta64),
+        "complex64" => Some(ElementType::Unread(8)),
+        "complex128" => Some(ElementType::Unread(16)),
         _ => None,
     }
 }
@@ -54,59 +106,67 @@ fn raw_size(name: &str) -> Option<usize>
     Some(bits / 8)
 }
 
-// How many bytes an element has of a type of a name that is not read, if that is known.
-fn unread_size(name: &str) -> Option<usize>
-    ensures known { IfSome result (IsSizeOf None (listed_size name.now) name.now) }
-    ensures some { IfSome result (λ size. 0 < size) }
-    ensures unknown { IfNone result (listed_size name.now ≡ None) }
-{
-    match listed_size(name) {
-        Some(size) => Some(size),
-        None => raw_size(name),
-    }
-}
-
 // Why elements of a type are not read.
 pub fn unread_type(alloc: Global, name: &str) -> Result<MetadataError, AllocError> {
     let name = escaped(alloc, name)?;
     let sentence = format!(in alloc;
-        "elements of the data type {name} are not read, only bool, int8 to int64 and uint8 to uint64"
+        "elements of the data type {name} are not read, only bool, int8 to int64, uint8 to uint64, floats and times"
     )?;
     let error = PluginCreateError::bad_field(alloc, "data_type");
     Ok(MetadataError::refused(alloc, error, "data_type", sentence.as_str()))
 }
 
-// The type that has a name, which a codec of elements that is not served may tell nothing of.
-#[tactic(auto, using(crate::proofs::Types::sized))]
-fn sized_type(alloc: Global, name: &str, codec: &Option<String>) -> Result<DataType, MetadataError>
-    requires { IsUnread name.now }
-    ensures elements { IfOk result HasElements }
+// The type of a name that is not listed, which a codec of elements that is not served may tell nothing of.
+fn sized_type(
+    alloc: Global,
+    name: &str,
+    codec: &Option<String>,
+) -> Result<ElementType, MetadataError>
+    ensures elements { IfOk result (λ element_type. HasElements (carrier element_type)) }
+    ensures sized { IfOk result (IsListedOr None (option_map string_bytes codec.now) name.now) }
+{
+    match raw_size(name) {
+        Some(size) => Ok(ElementType::Unread(size)),
+        None if codec.is_some() => Ok(ElementType::Unread(1)),
+        None => Err(unread_type(alloc, name)?),
+    }
+}
+
+// The type that has a name.
+fn named_type(
+    alloc: Global,
+    name: &str,
+    codec: &Option<String>,
+) -> Result<ElementType, MetadataError>
+    ensures elements { IfOk result (λ element_type. HasElements (carrier element_type)) }
     ensures named { IfOk result (IsTypeOf (option_map string_bytes codec.now) name.now) }
 {
-    match unread_size(name) {
-        Some(size) => Ok(DataType::Raw(size)),
-        None if codec.is_some() => Ok(DataType::Raw(1)),
-        None => Err(unread_type(alloc, name)?),
+    if let Some(data_type) = known_type(name) {
+        return Ok(ElementType::Number(data_type));
+    }
+    match listed_type(name) {
+        Some(element_type) => Ok(element_type),
+        None => sized_type(alloc, name, codec),
     }
 }
 
 // The type of elements that a value names: one that is read, or the number of its bytes. Where a codec of elements is not served, which is
 // named, elements of an unknown size are one byte. Refused as `BadField`.
-#[tactic(auto, using(crate::proofs::Types::named))]
-pub fn data_type_in(
+pub fn element_type_in(
     alloc: Global,
     value: &Placed,
     codec: &Option<String>,
-) -> Result<DataType, MetadataError>
-    ensures elements { IfOk result HasElements }
+) -> Result<ElementType, MetadataError>
+    ensures elements { IfOk result (λ element_type. HasElements (carrier element_type)) }
     ensures named { IfOk result (IsTypeIn (option_map string_bytes codec.now) (name_in (view value.now.value.now))) }
 {
     let name = value.extension_name(alloc)?;
-    let Some(data_type) = read_type(name) else {
-        return sized_type(alloc, name, codec);
-    };
-    if let Some(configuration) = value.member(alloc, "configuration")? {
-        configuration.only_member(alloc, "")?;
+    let element_type = named_type(alloc, name, codec)?;
+    if matches!(element_type, ElementType::Unread(_)) {
+        return Ok(element_type);
     }
-    Ok(data_type)
+    if let Some(configuration) = value.member(alloc, "configuration")? {
+        configuration.only_members(alloc, element_type.configuration_keys())?;
+    }
+    Ok(element_type)
 }

@@ -146,13 +146,13 @@ impl<'a> Placed<'a> {
         }
     }
 
-    // Refused as `BadField` with the first member of an object, in the order of keys, that has another key.
-    pub fn only_member(&self, alloc: Global, key: &str) -> Result<(), MetadataError> {
+    // Refused as `BadField` with the first member of an object, in the order of keys, that has none of these keys.
+    pub fn only_members(&self, alloc: Global, keys: &[&str]) -> Result<(), MetadataError> {
         let Some(members) = self.value.as_object() else {
             return Err(self.bad(alloc, "this is no object"));
         };
         for (other, _) in members.iter() {
-            if other.as_str() != key {
+            if !keys.iter().any(|key| *key == other.as_str()) {
                 let error = PluginCreateError::bad_field(alloc, other.as_str());
                 return Err(self.refused(alloc, error, "the key is not known"));
             }

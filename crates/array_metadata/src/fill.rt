@@ -1,17 +1,22 @@
 // The fill value.
-ghost use Rattle.std.specs.Prelude.{◌≡◌, ◌≤◌, ◌≤ℤ◌, ℤ, pos, Some, IfOk, IfSome, length, take, option_and_then};
+ghost use Rattle.std.specs.Prelude.{◌≡◌, ◌≤◌, ◌<◌, ◌*◌, ◌≤ℤ◌, ℤ, pos, Some, IfOk, IfSome, length, take, option_and_then};
 ghost use Rattle.std.specs.Int.{w64, to_le_bytes};
 ghost use Rattle.serde_json.specs.Find.{as_number, as_integer};
 ghost use Rattle.serde_json.specs.View.{view};
 ghost use Rattle.parts_arrays.specs.Types.{size_of, byte_size};
 ghost use Rattle.parts_arrays.specs.declared.data_type.DataTypeSize.TheVariants.{Fixed};
-ghost use Rattle.array_metadata.specs.FillValues.{number_in, number_of};
+ghost use Rattle.parts_arrays.specs.declared.data_type.DataType.TheVariants.{Int64};
+ghost use Rattle.array_metadata.specs.ElementTypes.{carrier};
+ghost use Rattle.array_metadata.specs.Floats.{sign_of};
+ghost use Rattle.array_metadata.specs.FillValues.{number_in, number_of, time_in, IsFloatIn, IsElementIn, IsFillIn};
 
+use crate::element_types::ElementType;
 use crate::error::MetadataError;
 use crate::fields::Placed;
+use crate::floats::FloatFormat;
 use parts_arrays::{DataType, DataTypeSize, FillValue};
 use serde_json::Value;
-use std::alloc::Global;
+use std::alloc::{AllocError, Global};
 
 // The number of a value that fits an unsigned element of which the largest is `most`.
 fn unsigned(value: &Value, most: u64) -> Option<u64>
@@ -36,9 +41,9 @@ fn signed(value: &Value, least: i64, most: i64) -> Option<i64>
     }
 }
 
-// The bits of an element that a value is, as of an element of 64 bits. `None` where it is no element of the type.
+// The bits of a bool or a whole number that a value is, as of an element of 64 bits. `None` where it is no element of the type.
 #[tactic(auto, using(crate::proofs::Elements::read_elements))]
-fn bits_in(value: &Value, data_type: DataType) -> Option<u64>
+fn number_bits(value: &Value, data_type: DataType) -> Option<u64>
     ensures { IfSome result (λ bits. number_in data_type (view value.now) ≡ Some (number_of data_type (take (byte_size (size_of data_type)) (to_le_bytes w64 bits)))) }
 {
     match data_type {
@@ -55,22 +60,83 @@ fn bits_in(value: &Value, data_type: DataType) -> Option<u64>
     }
 }
 
+// The bits of a time that a value is.
+#[tactic(auto, using(crate::proofs::Elements::read_elements, crate::proofs::SaidFloats::time_text, crate::proofs::SaidFloats::time_number))]
+fn time_bits(value: &Value) -> Option<u64>
+    ensures { IfSome result (λ bits. time_in (view value.now) ≡ Some (number_of Int64 (take 8 (to_le_bytes w64 bits)))) }
+{
+    match value.as_str() {
+        Some("NaT") => Some(0x8000_0000_0000_0000),
+        Some(_) => None,
+        None => signed(value, i64::MIN, i64::MAX).map(i64::cast_unsigned),
+    }
+}
+
+// The bits of a float that a value is: by a text, or by a number.
+#[tactic(auto, using(crate::proofs::SaidFloats::text_said, crate::proofs::SaidFloats::number_said))]
+fn said_bits(value: &Value, format: FloatFormat) -> Option<u64>
+    ensures { IfSome result (IsFloatIn format (view value.now)) }
+{
+    match value.as_str() {
+        Some(text) => format.text_bits(text),
+        None => format.number_bits(value.as_f64()?),
+    }
+}
+
+// The same, where it has as many bits as the format.
+fn float_bits(value: &Value, format: FloatFormat) -> Option<u64>
+    ensures said { IfSome result (IsFloatIn format (view value.now)) }
+    ensures fits { IfSome result (λ bits. bits < 2 * sign_of format) }
+{
+    match said_bits(value, format) {
+        Some(bits) if bits / 2 < format.sign() => Some(bits),
+        _ => None,
+    }
+}
+
+// The bits of an element that a value is, as of an element of 64 bits. `None` where it is no element of the type.
+#[tactic(auto, using(crate::proofs::SaidFloats::float_element))]
+fn element_bits(value: &Value, element_type: ElementType) -> Option<u64>
+    ensures { IfSome result (λ bits. IsElementIn element_type (view value.now) (number_of (carrier element_type) (take (byte_size (size_of (carrier element_type))) (to_le_bytes w64 bits)))) }
+{
+    match element_type {
+        ElementType::Number(data_type) => number_bits(value, data_type),
+        ElementType::Float(format) => float_bits(value, format),
+        ElementType::DateTime64 | ElementType::TimeDelta64 => time_bits(value),
+        ElementType::Unread(_) => None,
+    }
+}
+
+// Why a value is no fill value.
+fn sentence_of(
+    alloc: Global,
+    value: &Value,
+    element_type: ElementType,
+) -> Result<String, AllocError> {
+    let name = element_type.name();
+    match element_type {
+        ElementType::Float(_) if value.is_number() => {
+            format!(in alloc; "this number is past the range of {name}")
+        }
+        _ => format!(in alloc; "this is no element of {name}"),
+    }
+}
+
 // The fill value that a value is. Refused as `BadField`.
 pub fn fill_value_in(
     alloc: Global,
     fill: &Placed,
-    data_type: DataType,
+    element_type: ElementType,
 ) -> Result<FillValue, MetadataError>
-    ensures size { IfOk result (λ fill_value. size_of data_type ≡ Fixed (length fill_value)) }
-    ensures read { IfOk result (λ fill_value. number_in data_type (view fill.now.value.now) ≡ Some (number_of data_type fill_value)) }
+    ensures size { IfOk result (λ fill_value. size_of (carrier element_type) ≡ Fixed (length fill_value)) }
+    ensures read { IfOk result (IsFillIn element_type (Some (view fill.now.value.now))) }
 {
-    let Some(bits) = bits_in(fill.value, data_type) else {
-        let name = data_type.name().unwrap_or("the data type");
-        let sentence = format!(in alloc; "this is no element of {name}")?;
+    let Some(bits) = element_bits(fill.value, element_type) else {
+        let sentence = sentence_of(alloc, fill.value, element_type)?;
         return Err(fill.bad(alloc, sentence.as_str()));
     };
     let bytes = bits.to_le_bytes();
-    match data_type.size() {
+    match element_type.carrier().size() {
         DataTypeSize::Fixed(size) if size <= bytes.len() => {
             Ok(FillValue::new(bytes[..size].to_vec(alloc)?))
         }

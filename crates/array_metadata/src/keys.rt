@@ -83,7 +83,7 @@ fn separator_in(alloc: Global, named: &Placed) -> Result<Option<bool>, MetadataE
     let Some(configuration) = named.member(alloc, "configuration")? else {
         return Ok(None);
     };
-    configuration.only_member(alloc, "separator")?;
+    configuration.only_members(alloc, &["separator"])?;
     let Some(separator) = configuration.member(alloc, "separator")? else {
         return Ok(None);
     };

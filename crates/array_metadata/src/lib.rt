@@ -6,6 +6,7 @@ mod element_types;
 mod error;
 mod fields;
 mod fill;
+mod floats;
 mod json;
 mod keys;
 mod metadata;
@@ -13,7 +14,9 @@ mod opaque_codec;
 mod unread;
 
 pub use codecs::{ArrayCodec, ElementCodec, IndexCodec, InnerCodec, ServedCodec};
+pub use element_types::ElementType;
 pub use error::{LONGEST_TEXT, MetadataError};
+pub use floats::{FloatFormat, half_to_f32};
 pub use keys::{ChunkKeys, KeyEncoding};
-pub use metadata::{ArrayMetadata, MOST_AXES, UnreadType};
+pub use metadata::{ArrayMetadata, MOST_AXES, TypeText};
 pub use opaque_codec::OpaqueCodec;

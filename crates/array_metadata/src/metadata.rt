@@ -6,17 +6,17 @@ ghost use Rattle.serde_json.specs.View.{view, members_view};
 ghost use Rattle.codec_metadata.specs.Metadata.{name_in, first_refused, members_in};
 ghost use Rattle.array_metadata.specs.AcceptedMetadata.{IsServedText, IsReadAs, FitsTogether};
 ghost use Rattle.array_metadata.specs.MetadataFields.{configured_in, whole_number_in, whole_numbers_in, is_understood};
-ghost use Rattle.array_metadata.specs.FillValues.{number_in, number_of};
+ghost use Rattle.array_metadata.specs.FillValues.{IsFillIn};
 ghost use Rattle.array_metadata.specs.ArrayCodecs.{shards_in, subchunks_in};
 ghost use Rattle.array_metadata.specs.UnreadCodecs.{chunks_in, unread_codec_in};
-ghost use Rattle.array_metadata.specs.ElementTypes.{IsTypeIn};
+ghost use Rattle.array_metadata.specs.ElementTypes.{IsTypeIn, IsRead, carrier};
 ghost use Rattle.sharding_configuration.specs.Configuration.{shape_in};
 ghost use Rattle.parts_subsets.specs.Grid.{Divides};
 ghost use Rattle.parts_arrays.specs.Types.{size_of, HasElements};
 ghost use Rattle.parts_arrays.specs.declared.data_type.DataTypeSize.TheVariants.{Fixed};
 
 use crate::codecs::{ArrayCodec, InnerCodec, ServedCodec, array_codec, unserved};
-use crate::element_types::{data_type_in, unread_type};
+use crate::element_types::{ElementType, element_type_in, unread_type};
 use crate::error::MetadataError;
 use crate::fields::Placed;
 use crate::fill::fill_value_in;
@@ -33,9 +33,9 @@ use std::alloc::Global;
 /// How many axes an array may have whose metadata is read. The codecs know no such bound.
 pub const MOST_AXES: usize = 64;
 
-/// The values of `data_type` and `fill_value` of an array whose elements are not read, as they stand in the text, for a terminal.
+/// The values of `data_type` and `fill_value` of an array, as they stand in the text, for a terminal.
 #[derive(Debug, Drop)]
-pub struct UnreadType {
+pub struct TypeText {
     pub data_type: String,
     pub fill_value: String,
 }
@@ -51,14 +51,16 @@ pub struct ArrayMetadata {
     pub subchunk: ChunkShape,
     /// The names of the chunks' files.
     pub keys: ChunkKeys,
+    pub element_type: ElementType,
+    /// As what the codecs take the elements.
     pub data_type: DataType,
     pub fill_value: FillValue,
     pub codec: ArrayCodec,
     /// The name of the first codec that elements go through and that is not served; then no subchunk is looked into.
     pub unread: Option<String>,
-    /// Of elements that are not read, what stands in the text. Then `data_type` is as many bytes, and `fill_value` has zeros in the
-    /// place of its own.
-    pub unread_type: Option<UnreadType>,
+    /// Of elements that are no whole numbers and no `bool`, what stands in the text. Where they are not read, `fill_value` has zeros in
+    /// the place of its own.
+    pub type_text: Option<TypeText>,
     /// The value of `codecs`, as it stands in the text, for a terminal.
     pub codecs: String,
 }
@@ -141,7 +143,7 @@ fn shard_in(alloc: Global, grid: &Placed, axes: usize) -> Result<ChunkShape, Met
         return Err(grid.bad(alloc, sentence.as_str()));
     }
     let configuration = grid.required(alloc, "configuration")?;
-    configuration.only_member(alloc, "chunk_shape")?;
+    configuration.only_members(alloc, &["chunk_shape"])?;
     let chunk_shape = configuration.required(alloc, "chunk_shape")?;
     chunk_shape.chunk_shape(alloc, axes)
 }
@@ -150,7 +152,7 @@ fn shard_in(alloc: Global, grid: &Placed, axes: usize) -> Result<ChunkShape, Met
 #[derive(Drop)]
 struct Cells {
     shape: Vec<u64>,
-    data_type: DataType,
+    element_type: ElementType,
     shard: ChunkShape,
 }
 
@@ -174,35 +176,38 @@ fn axes_in(alloc: Global, shape: &Placed) -> Result<Vec<u64>, MetadataError>
 // `chunk_grid` in turn.
 fn cells_in(alloc: Global, whole: &Placed, codec: &Option<String>) -> Result<Cells, MetadataError>
     ensures shape_read { IfOk result (λ cells. option_and_then whole_numbers_in (get (codes "shape") (view whole.now.value.now)) ≡ Some cells.shape.items) }
-    ensures data_type_read { IfOk result (λ cells. IsTypeIn (option_map string_bytes codec.now) (option_and_then name_in (get (codes "data_type") (view whole.now.value.now))) cells.data_type) }
+    ensures element_type_read { IfOk result (λ cells. IsTypeIn (option_map string_bytes codec.now) (option_and_then name_in (get (codes "data_type") (view whole.now.value.now))) cells.element_type) }
     ensures shard_read { IfOk result (λ cells.
         option_and_then whole_numbers_in (option_and_then (configured_in (codes "chunk_shape")) (get (codes "chunk_grid") (view whole.now.value.now))) ≡ Some cells.shard) }
     ensures grid_read { OnOk result (option_and_then name_in (get (codes "chunk_grid") (view whole.now.value.now)) ≡ Some (codes "regular")) }
     ensures few { IfOk result (λ cells. vec_len cells.shape ≤ 64) }
     ensures shard { IfOk result (λ cells. length cells.shard ≡ vec_len cells.shape) }
-    ensures elements { IfOk result (λ cells. HasElements cells.data_type) }
+    ensures elements { IfOk result (λ cells. HasElements (carrier cells.element_type)) }
 {
     let shape = axes_in(alloc, &whole.required(alloc, "shape")?)?;
-    let data_type = data_type_in(alloc, &whole.required(alloc, "data_type")?, codec)?;
+    let element_type = element_type_in(alloc, &whole.required(alloc, "data_type")?, codec)?;
     let shard = shard_in(alloc, &whole.required(alloc, "chunk_grid")?, shape.len())?;
     Ok(Cells {
         shape,
-        data_type,
+        element_type,
         shard,
     })
 }
 
 // The fill value of an array whose elements are of this type. Refused for `fill_value`.
-fn fill_in(alloc: Global, whole: &Placed, data_type: DataType) -> Result<FillValue, MetadataError>
-    ensures size { IfOk result (λ fill_value. size_of data_type ≡ Fixed (length fill_value)) }
-    ensures read { IfOk result (λ fill_value.
-        option_and_then (number_in data_type) (get (codes "fill_value") (view whole.now.value.now)) ≡ Some (number_of data_type fill_value)) }
+fn fill_in(
+    alloc: Global,
+    whole: &Placed,
+    element_type: ElementType,
+) -> Result<FillValue, MetadataError>
+    ensures size { IfOk result (λ fill_value. size_of (carrier element_type) ≡ Fixed (length fill_value)) }
+    ensures read { IfOk result (IsFillIn element_type (get (codes "fill_value") (view whole.now.value.now))) }
 {
     let fill = whole.required(alloc, "fill_value")?;
-    if let DataType::Raw(size) = data_type {
+    if let ElementType::Unread(size) = element_type {
         return Ok(FillValue::new(Vec::from_elem(alloc, 0u8, size)?));
     }
-    fill_value_in(alloc, &fill, data_type)
+    fill_value_in(alloc, &fill, element_type)
 }
 
 // What stands under a key, for a terminal.
@@ -215,16 +220,16 @@ fn shown(alloc: Global, whole: &Placed, key: &'static str) -> Result<String, Met
     Ok(escaped_whole(alloc, text.as_str())?)
 }
 
-// The data type and the fill value of an array, where elements of the type are not read.
-fn unread_type_in(
+// The data type and the fill value of an array, where elements of the type are no whole numbers and no `bool`.
+fn type_text_in(
     alloc: Global,
     whole: &Placed,
-    data_type: DataType,
-) -> Result<Option<UnreadType>, MetadataError> {
-    if !matches!(data_type, DataType::Raw(_)) {
+    element_type: ElementType,
+) -> Result<Option<TypeText>, MetadataError> {
+    if matches!(element_type, ElementType::Number(_)) {
         return Ok(None);
     }
-    Ok(Some(UnreadType {
+    Ok(Some(TypeText {
         data_type: shown(alloc, whole, "data_type")?,
         fill_value: shown(alloc, whole, "fill_value")?,
     }))
@@ -304,7 +309,8 @@ fn with_codecs(
     fill_value: FillValue,
 ) -> Result<ArrayMetadata, MetadataError>
     ensures shape { IfOk result (λ metadata. metadata.shape ≡ cells.shape) }
-    ensures data_type { IfOk result (λ metadata. metadata.data_type ≡ cells.data_type) }
+    ensures element_type { IfOk result (λ metadata. metadata.element_type ≡ cells.element_type) }
+    ensures data_type { IfOk result (λ metadata. metadata.data_type ≡ carrier cells.element_type) }
     ensures shard { IfOk result (λ metadata. metadata.shard ≡ cells.shard) }
     ensures keys { IfOk result (λ metadata. metadata.keys ≡ keys) }
     ensures fill_value { IfOk result (λ metadata. metadata.fill_value ≡ fill_value) }
@@ -321,19 +327,21 @@ fn with_codecs(
     let codecs = whole.required(alloc, "codecs")?;
     let Cells {
         shape,
-        data_type,
+        element_type,
         shard,
     } = cells;
+    let data_type = element_type.carrier();
     let codec = array_codec(alloc, &codecs, data_type, shape.len())?;
     let unread = unread_codec(alloc, &codecs)?;
     test_subchunks(alloc, &shard, &codec)?;
     Ok(ArrayMetadata {
         subchunk: codec.subchunk_shape.try_clone(alloc)?,
         codecs: escaped_whole(alloc, codecs.value.to_string(alloc)?.as_str())?,
-        unread_type: unread_type_in(alloc, whole, data_type)?,
+        type_text: type_text_in(alloc, whole, element_type)?,
         shape,
         shard,
         keys,
+        element_type,
         data_type,
         fill_value,
         codec,
@@ -346,16 +354,17 @@ impl ArrayMetadata {
     /// not served, and as `BadField` where their type is not read.
     pub fn test_read(&self, alloc: Global) -> Result<(), MetadataError>
         ensures codec { OnOk result (self.now.unread ≡ None) }
-        ensures data_type { OnOk result (self.now.unread_type ≡ None) }
+        ensures element_type { OnOk result (IsRead self.now.element_type) }
     {
         if let Some(name) = &self.unread {
             let error = PluginCreateError::unsupported_codec(alloc, name);
             let place = "codecs[0].configuration.codecs";
             return Err(MetadataError::refused(alloc, error, place, unserved(name)));
         }
-        match &self.unread_type {
-            Some(unread) => Err(unread_type(alloc, &unread.data_type)?),
-            None => Ok(()),
+        match (self.element_type, &self.type_text) {
+            (ElementType::Unread(_), Some(text)) => Err(unread_type(alloc, &text.data_type)?),
+            (ElementType::Unread(_), None) => Err(unread_type(alloc, "raw")?),
+            _ => Ok(()),
         }
     }
 
@@ -363,7 +372,7 @@ impl ArrayMetadata {
     /// nests deeper than is read, has a number past the range of a
     /// float, is no object, of another `zarr_format` than 3, of another `node_type` than `array`, has an unknown member that must be
     /// understood, or `storage_transformers`; and then for `shape` (whole numbers), `data_type` (`bool`, `int8` to `int64`,
-    /// `uint8` to `uint64`, or a type whose elements have a known size), `chunk_grid` (`regular`), `chunk_key_encoding` (`default` or `v2`), `fill_value` (an element of the
+    /// `uint8` to `uint64`, floats, times, or a type whose elements have a known size), `chunk_grid` (`regular`), `chunk_key_encoding` (`default` or `v2`), `fill_value` (an element of the
     /// type, or of one that is not read any value) and `codecs` (`sharding_indexed` alone, with `bytes`, `bytes` and `crc32c`,
     /// `sharding_indexed` once more inside, or codecs of other names, which are not looked into) in turn: each with its place, and
     /// a sentence that says what is not served; or as `OutOfMemory`. Where elements go through a codec of another name, their type
@@ -379,7 +388,7 @@ impl ArrayMetadata {
         let unread = unread_in(alloc, &whole)?;
         let cells = cells_in(alloc, &whole, &unread)?;
         let keys = keys_in(alloc, &whole.required(alloc, "chunk_key_encoding")?)?;
-        let fill_value = fill_in(alloc, &whole, cells.data_type)?;
+        let fill_value = fill_in(alloc, &whole, cells.element_type)?;
         with_codecs(alloc, &whole, cells, keys, fill_value)
     }
 }
