@@ -1,6 +1,6 @@
 -- Which bits a float has that metadata gives by a name, by its bits, or by a number (IEEE 754; Zarr V3 core, "Data types").
 use Rattle.std.specs.Prelude.{◌≡◌, ◌⊎◌, ◌<◌, ◌+◌, ◌-◌, ◌*◌, ◌%◌, ◌^◌, ℕ, pos, Bool, true, ◌&&◌, ◌==◌, Float, length, take, drop, nat_lt, if◌then◌else◌, ◌↔◌, ◌≤◌, false, Option, Some, None, codes, bytes_eq, to_bits, from_bits}
-use Rattle.std.specs.Float.{binary32, binary64, inf, nan, is_sign_negative, float_with_sign, round_to_format}
+use Rattle.std.specs.Float.{binary32, binary64, is_sign_negative, float_with_sign, round_to_format}
 use Rattle.std.specs.Float.Ieee.{le, lt, neg, div, of_int}
 use Rattle.std.specs.Str.Parse.{AllDigits, digits_value}
 use Rattle.parts_errors.specs.Words.{Bytes as Text}
@@ -54,7 +54,8 @@ IsFloatText format text bits = (named_bits format text ≡ Some bits) ⊎ IsHexa
 -- the numbers that float16 would have with one binary digit more, in order: the bits of a float16 and a 0 or 1 behind them
 abbrev pub finer_half : ℕ → Float
 finer_half m =
-    if nat_lt m 2048 then div binary32 (of_int binary32 (pos m)) (of_int binary32 (pos (2 ^ 25))) else from_bits binary32 (m * 2 ^ 12 + 112 * 2 ^ 23)
+    if nat_lt m 2048 then div binary32 (of_int binary32 (pos m)) (of_int binary32 (pos (2 ^ 25)))
+    else from_bits binary32 (m * 2 ^ 12 + 112 * 2 ^ 23)
 
 -- and those of bfloat16, which is the upper half of a float32
 abbrev pub finer_brain : ℕ → Float
@@ -86,7 +87,9 @@ pub record IsFloatNumber (format : FloatFormat) (x : Float) (bits : ℕ) : Type 
 
 -- the number that the bits of a float16 are
 abbrev pub half_size : ℕ → Float
-half_size bits = if nat_lt bits 0x7c00 then finer_half (2 * bits) else if bits == 0x7c00 then inf false else nan
+half_size bits =
+    if nat_lt bits 0x7c00 then finer_half (2 * bits) else
+    if bits == 0x7c00 then from_bits binary32 (infinity_of Float32) else from_bits binary32 (nan_of Float32)
 
 abbrev pub half_value : ℕ → Float
 half_value bits = if nat_lt bits 0x8000 then half_size bits else neg (half_size (bits % 0x8000))

@@ -180,7 +180,10 @@ fn half_bits(x: f64) -> Option<u64>
     if bits >= 0x7c00 {
         return None;
     }
-    let (lower, upper) = (finer_half((2 * bits).saturating_sub(1)), finer_half(2 * bits + 1));
+    let (lower, upper) = (
+        finer_half((2 * bits).saturating_sub(1)),
+        finer_half(2 * bits + 1),
+    );
     if is_between(bits, lower, x, upper) {
         Some(bits)
     } else {
@@ -193,11 +196,19 @@ fn brain_bits(x: f64) -> Option<u64>
     ensures nearest { IfSome result (λ bits. is_nearest finer_brain x bits ≡ true) }
     ensures finite { IfSome result (λ bits. bits < 0x7f80) }
 {
-    let bits = guessed(x, 896, 0x2000_0000_0000, f64_from_bits_with_nan(0x4840_0000_0000_0000));
+    let bits = guessed(
+        x,
+        896,
+        0x2000_0000_0000,
+        f64_from_bits_with_nan(0x4840_0000_0000_0000),
+    );
     if bits >= 0x7f80 {
         return None;
     }
-    let (lower, upper) = (finer_brain((2 * bits).saturating_sub(1)), finer_brain(2 * bits + 1));
+    let (lower, upper) = (
+        finer_brain((2 * bits).saturating_sub(1)),
+        finer_brain(2 * bits + 1),
+    );
     if is_between(bits, lower, x, upper) {
         Some(bits)
     } else {
@@ -249,9 +260,9 @@ fn half_size(bits: u64) -> f32
     if bits < 0x7c00 {
         finer_half(2 * bits)
     } else if bits == 0x7c00 {
-        f32::INFINITY
+        f32_from_bits_with_nan(0x7f80_0000)
     } else {
-        f32::NAN
+        f32_from_bits_with_nan(0x7fc0_0000)
     }
 }
 

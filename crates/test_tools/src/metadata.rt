@@ -2,7 +2,7 @@
 use crate::compared::same;
 use crate::examples::{told_inside, told_with};
 
-// The arrays: start of the index and big endian elements, an axis of no cells, no axes, and one byte for each element.
+// The arrays: start of the index and big endian elements, an axis of no cells, no axes, times, and one byte for each element.
 const ARRAYS: &[(&str, &str)] = &[
     (
         r#""storage_transformers": []"#,
@@ -35,6 +35,10 @@ const ARRAYS: &[(&str, &str)] = &[
         "codecs": [{"name": "sharding_indexed", "configuration": {"chunk_shape": [], "codecs": [{"name": "bytes"}],
             "index_codecs": [{"name": "bytes", "configuration": {"endian": "little"}}]}}]"#,
         "[] [] [] [0] 0",
+    ),
+    (
+        r#""data_type": {"name": "numpy.timedelta64", "configuration": {"unit": "ns", "scale_factor": 1}}, "fill_value": -2"#,
+        "[8, 8] [4, 4] [2, 2] [254, 255, 255, 255, 255, 255, 255, 255] c/8/8",
     ),
     (
         r#""shape": [6], "data_type": "bool", "fill_value": false,
@@ -80,6 +84,29 @@ const FILL_VALUES: &[(&str, &str, &str)] = &[
         "18446744073709551615",
         "[255, 255, 255, 255, 255, 255, 255, 255]",
     ),
+    ("float16", "0.1", "[102, 46]"),
+    ("float16", "65519.99", "[255, 123]"),
+    ("float16", "2049", "[0, 104]"),
+    ("float16", "-2.9802322387695316e-8", "[1, 128]"),
+    ("float16", "\"NaN\"", "[0, 126]"),
+    ("float16", "\"-Infinity\"", "[0, 252]"),
+    ("bfloat16", "0.1", "[205, 61]"),
+    ("bfloat16", "1.00390625", "[128, 63]"),
+    ("bfloat16", "1.003906250000001", "[129, 63]"),
+    ("bfloat16", "4.6e-41", "[1, 0]"),
+    ("bfloat16", "\"0x7fc1\"", "[193, 127]"),
+    ("float32", "-0.0", "[0, 0, 0, 128]"),
+    ("float32", "16777217", "[0, 0, 128, 75]"),
+    ("float32", "\"Infinity\"", "[0, 0, 128, 127]"),
+    ("float32", "\"0x7fC00001\"", "[1, 0, 192, 127]"),
+    ("float64", "0.1", "[154, 153, 153, 153, 153, 153, 185, 63]"),
+    ("float64", "\"NaN\"", "[0, 0, 0, 0, 0, 0, 248, 127]"),
+    (
+        "numpy.datetime64",
+        "-1",
+        "[255, 255, 255, 255, 255, 255, 255, 255]",
+    ),
+    ("numpy.datetime64", "\"NaT\"", "[0, 0, 0, 0, 0, 0, 0, 128]"),
 ];
 
 // The codecs of subchunks.

@@ -70,15 +70,15 @@ const MEMBERS: &[(&str, &str)] = &[
     ),
     (
         r#""data_type": "r12""#,
-        "4 BadField data_type: in data_type: elements of the data type r12 are not read, only bool, int8 to int64 and uint8 to uint64",
+        "4 BadField data_type: in data_type: elements of the data type r12 are not read, only bool, int8 to int64, uint8 to uint64, floats and times",
     ),
     (
         r#""data_type": "bytes""#,
-        "4 BadField data_type: in data_type: elements of the data type bytes are not read, only bool, int8 to int64 and uint8 to uint64",
+        "4 BadField data_type: in data_type: elements of the data type bytes are not read, only bool, int8 to int64, uint8 to uint64, floats and times",
     ),
     (
         r#""data_type": {"name": "x"}"#,
-        "4 BadField data_type: in data_type: elements of the data type x are not read, only bool, int8 to int64 and uint8 to uint64",
+        "4 BadField data_type: in data_type: elements of the data type x are not read, only bool, int8 to int64, uint8 to uint64, floats and times",
     ),
     (
         r#""chunk_grid": {"name": "rectilinear"}"#,
@@ -133,12 +133,40 @@ const MEMBERS: &[(&str, &str)] = &[
         "4 BadField fill_value: in fill_value: this is no element of bool",
     ),
     (
+        r#""data_type": "float16", "fill_value": 65520"#,
+        "4 BadField fill_value: in fill_value: this number is past the range of float16",
+    ),
+    (
+        r#""data_type": "bfloat16", "fill_value": 3.4e38"#,
+        "4 BadField fill_value: in fill_value: this number is past the range of bfloat16",
+    ),
+    (
+        r#""data_type": "float32", "fill_value": -3.5e38"#,
+        "4 BadField fill_value: in fill_value: this number is past the range of float32",
+    ),
+    (
+        r#""data_type": "float32", "fill_value": "0x+fc00000""#,
+        "4 BadField fill_value: in fill_value: this is no element of float32",
+    ),
+    (
+        r#""data_type": "float64", "fill_value": "inf""#,
+        "4 BadField fill_value: in fill_value: this is no element of float64",
+    ),
+    (
+        r#""data_type": "numpy.datetime64", "fill_value": 1.5"#,
+        "4 BadField fill_value: in fill_value: this is no element of numpy.datetime64",
+    ),
+    (
+        r#""data_type": {"name": "numpy.datetime64", "configuration": {"units": "s"}}"#,
+        "4 BadField units: in data_type.configuration: the key is not known",
+    ),
+    (
         r#""\u001b[31m\n": 1"#,
         r"4 BadField \u{1b}[31m\n: in \u{1b}[31m\n: the key is not known, and must be understood",
     ),
     (
         r#""data_type": "a\tb\u202ec""#,
-        r"4 BadField data_type: in data_type: elements of the data type a\tb\u{202e}c are not read, only bool, int8 to int64 and uint8 to uint64",
+        r"4 BadField data_type: in data_type: elements of the data type a\tb\u{202e}c are not read, only bool, int8 to int64, uint8 to uint64, floats and times",
     ),
     (
         r#""chunk_grid": {"name": "\u0085"}"#,
