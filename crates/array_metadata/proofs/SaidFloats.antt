@@ -1,7 +1,7 @@
 -- What values say of floats and times.
-use Rattle.std.proofs.Common.{◌≡◌, ◌<◌, ◌*◌, ◌%◌, ◌^◌, ℕ, Option, None, Some, take, refl, sym, ap, ◌∙◌, arith, codes, option_map, option_and_then, subst}
-use Rattle.std.specs.Prelude.{ℤ, pos, Float}
-use Rattle.std.specs.Int.{w16, w32, w64, from_le_bytes, to_le_bytes, cast_signed}
+use Rattle.std.proofs.Common.{◌≡◌, ◌<◌, ◌*◌, ℕ, None, Some, take, refl, sym, ap, ◌∙◌, arith, codes, option_map, option_and_then, subst}
+use Rattle.std.specs.Prelude.{pos, Float}
+use Rattle.std.specs.Int.{w64, to_le_bytes, cast_signed}
 use Rattle.std.proofs.lemmas.Nat.{from_le_bytes-to_le_bytes_8}
 use Rattle.serde_json.specs.Data.{Data, null, boolean, number, string, array, object}
 use Rattle.serde_json.specs.Find.{as_str, as_number, as_integer, to_float}

@@ -5,7 +5,7 @@ use Rattle.std.specs.Int.{w8, w16, w32, w64, from_bool, from_le_bytes, cast_sign
 use Rattle.parts_errors.specs.Words.{Bytes as Text}
 use Rattle.parts_arrays.specs.declared.data_type.DataType.{DataType}
 use Rattle.parts_arrays.specs.declared.data_type.DataType.TheVariants.{Bool, Int8, Int16, Int32, Int64, UInt8, UInt16, UInt32, UInt64, Raw, Bytes, Optional}
-use Rattle.serde_json.specs.Data.{Data, null, boolean, number, string, array, object}
+use Rattle.serde_json.specs.Data.{Data, number, string}
 use Rattle.serde_json.specs.Find.{as_bool, as_number, as_integer, to_float}
 use Rattle.array_metadata.specs.declared.floats.FloatFormat.{FloatFormat}
 use Rattle.array_metadata.specs.declared.element_types.ElementType.{ElementType}
