@@ -1,5 +1,5 @@
 -- The data type of an array: what its elements are, and as what the codecs take them.
-use Rattle.std.specs.Prelude.{◌≡◌, ◌⊎◌, ◌<◌, ◌*◌, ℕ, Option, Some, None, if◌then◌else◌, codes, bytes_eq, drop}
+use Rattle.std.specs.Prelude.{◌≡◌, ◌⊎◌, ◌<◌, ◌*◌, ℕ, Option, Some, None, if◌then◌else◌, codes, bytes_eq, drop, unwrap_or}
 use Rattle.std.specs.Str.Parse.{digits_value, without_leading_plus}
 use Rattle.parts_errors.specs.Words.{Bytes as Text}
 use Rattle.parts_arrays.specs.Types.{type_name}
@@ -36,6 +36,12 @@ carrier (Float format) = float_carrier format
 carrier DateTime64 = Int64
 carrier TimeDelta64 = Int64
 carrier (Unread size) = Raw size
+
+-- the name of a type by which it is found, if it is read
+abbrev pub IsNameOf : ElementType → Text → Type 0
+IsNameOf (Number data_type) name = name ≡ unwrap_or (type_name data_type) (codes "raw")
+IsNameOf (Unread size) name = name ≡ codes "raw"
+IsNameOf element_type name = listed_type name ≡ Some element_type
 
 -- elements of the type are read
 abbrev pub IsRead : ElementType → Type 0

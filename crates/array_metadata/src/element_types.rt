@@ -3,7 +3,7 @@ ghost use Rattle.std.specs.Prelude.{◌≡◌, ◌<◌, Some, None, IfOk, IfSome
 ghost use Rattle.serde_json.specs.View.{view};
 ghost use Rattle.codec_metadata.specs.Metadata.{name_in};
 ghost use Rattle.parts_arrays.specs.Types.{type_name, HasElements};
-ghost use Rattle.array_metadata.specs.ElementTypes.{IsTypeIn, IsTypeOf, IsListedOr, IsUnnamed, IsRaw, carrier, listed_type};
+ghost use Rattle.array_metadata.specs.ElementTypes.{IsTypeIn, IsTypeOf, IsListedOr, IsUnnamed, IsRaw, IsNameOf, carrier, listed_type};
 
 use crate::error::MetadataError;
 use crate::fields::Placed;
@@ -45,7 +45,9 @@ impl ElementType {
     }
 
     /// The Zarr name, of types that are read.
-    pub fn name(self) -> &'static str {
+    pub fn name(self) -> &'static str
+        ensures { IsNameOf self result.now }
+    {
         match self {
             ElementType::Number(data_type) => data_type.name().unwrap_or("raw"),
             ElementType::Float(format) => format.name(),

@@ -1,7 +1,8 @@
 // Floats: their formats, and the bits that metadata gives them.
 ghost use Rattle.std.specs.Prelude.{◌≡◌, ◌↔◌, ◌≤◌, ◌<◌, ◌^◌, ◌%◌, IfSome, true};
 ghost use Rattle.std.specs.Float.{NotNan, is_sign_negative};
-ghost use Rattle.array_metadata.specs.ElementTypes.{float_carrier};
+ghost use Rattle.array_metadata.specs.ElementTypes.{float_carrier, IsNameOf};
+ghost use Rattle.array_metadata.specs.declared.element_types.ElementType.TheVariants.{Float};
 ghost use Rattle.array_metadata.specs.Floats.{digits_of, infinity_of, nan_of, sign_of, named_bits, IsHexadecimal, IsFloatText, finer_half, finer_brain, is_between, is_nearest, half_size, half_value, IsFloatNumber};
 
 use parts_arrays::DataType;
@@ -25,7 +26,9 @@ pub enum FloatFormat {
 
 impl FloatFormat {
     /// The Zarr name.
-    pub fn name(self) -> &'static str {
+    pub fn name(self) -> &'static str
+        ensures { IsNameOf (Float self) result.now }
+    {
         match self {
             FloatFormat::Float16 => "float16",
             FloatFormat::BFloat16 => "bfloat16",
