@@ -25,9 +25,9 @@ fn write_array<W: Write>(
     metadata: &ArrayMetadata,
     refused: Option<MetadataError>,
 ) -> io::Result<()> {
-    let data_type = match &metadata.unread_type {
-        Some(unread) => unread.data_type.as_str(),
-        None => metadata.data_type.name().unwrap_or("raw"),
+    let data_type = match &metadata.type_text {
+        Some(text) => text.data_type.as_str(),
+        None => metadata.element_type.name(),
     };
     write!(out, "{name}: {data_type} {:?}", metadata.shape)?;
     match refused {

@@ -60,7 +60,7 @@ pub fn save_subset<
     let requested = subset_of(alloc, requested, &array.metadata.shape)?;
     let beside = npy_beside(array.rt, path)?;
     let shape = requested.kept_shape(alloc)?;
-    let name = array.metadata.data_type.name().unwrap_or("");
+    let name = array.metadata.element_type.name();
     let header = npy_header(alloc, path, name, &shape)?;
     let cells = read_array(array, &requested.subset, progress)?;
     progress.clear();

@@ -23,6 +23,9 @@ fn descr_of(name: &str) -> Option<&'static str> {
         "uint16" => Some("<u2"),
         "uint32" => Some("<u4"),
         "uint64" => Some("<u8"),
+        "float16" => Some("<f2"),
+        "float32" => Some("<f4"),
+        "float64" => Some("<f8"),
         _ => None,
     }
 }
@@ -65,7 +68,7 @@ fn described(alloc: Global, name: &str, shape: &[u64]) -> io::Result<Vec<u8>> {
     let Some(descr) = descr_of(name) else {
         return Err(io::Error::new(
             ErrorKind::Unsupported,
-            "NumPy's format has no such data type",
+            "elements of this data type are not written in NumPy's format",
         ));
     };
     let tuple = tuple_of(alloc, shape)?;
@@ -81,8 +84,8 @@ fn described(alloc: Global, name: &str, shape: &[u64]) -> io::Result<Vec<u8>> {
     Ok(header_of(alloc, &text)?)
 }
 
-/// What stands before the elements in a file at a path, of the data type with a name and with a shape. Refused where NumPy has no
-/// such type.
+/// What stands before the elements in a file at a path, of the data type with a name and with a shape. Refused where
+/// elements of the type are not written.
 pub fn npy_header(
     alloc: Global,
     path: &str,

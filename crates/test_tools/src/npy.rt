@@ -60,7 +60,7 @@ const HEADERS: &[(&str, &[u64], &str)] = &[
         &[18446744073709551615, 18446744073709551615, 0, 1, 2, 3],
         "128 {'descr': '<u8', 'fortran_order': False, 'shape': (18446744073709551615, 18446744073709551615, 0, 1, 2, 3), }",
     ),
-    ("r8", &[1], "a.npy: NumPy's format has no such data type"),
+    ("r8", &[1], "a.npy: elements of this data type are not written in NumPy's format"),
 ];
 
 #[test]
