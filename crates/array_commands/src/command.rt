@@ -239,9 +239,9 @@ fn run_buffered<R: Files + AllocGlobal + Clock, S: AsStr, W: Write + Drop, M: Wr
 
 /// Runs a command line, whose first word is the program's name: writes the answer, or one sentence to the messages, and
 /// returns the status for the program to end with. 0 where it was done; 1 where a shard is refused; 2 where it, or a part of
-/// it, could not be done, and then nothing is written but what `check` and `compact` had said before. A message that is not
-/// taken is dropped, and an answer that nobody reads. Where `shows_progress` is true, the messages show how far the command is
-/// while it runs, and it is blanked before an answer or a sentence is written.
+/// it, could not be done, and then nothing is written but what `list`, `check` and `compact` had said before, and a line on the
+/// owner of a new file. A message that is not taken is dropped, and an answer that nobody reads. Where `shows_progress` is
+/// true, the messages show how far the command is while it runs, and it is blanked before an answer or a sentence is written.
 pub fn run_command<R: Files + AllocGlobal + Clock, S: AsStr, W: Write + Drop, M: Write + Drop>(
     rt: &R,
     words: &[S],
