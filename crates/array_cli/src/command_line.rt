@@ -122,7 +122,8 @@ fn npy_option<'a>(alloc: Global) -> Result<Arg<'a>, AllocError> {
         .help(
             "A file of NumPy's format, written in place of an answer; an axis named by one coordinate is dropped",
         )
-        .conflicts_with_all(&["json", "raw"])
+        .conflicts_with("json")?
+        .conflicts_with("raw")
 }
 
 // The command `read`, and what it reads.

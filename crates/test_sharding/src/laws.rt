@@ -7,7 +7,7 @@ use std::alloc::Global;
 use std::borrow::CowSlice;
 use std::process::Abort;
 use zarr_codecs::{ArrayToBytesCodecTraits, BytesCodec};
-use zarr_parts::{ArrayBytes, CodecOptions, DataType};
+use zarr_parts::{ArrayBytes, ChunkShape, CodecError, CodecOptions, DataType};
 use zarrs_sharding::{
     ShardingCodec, ShardingIndexLocation, SubchunkWriteOrder, compact_again, compact_encoded,
     decode_served, decode_sound, encode_functional,
@@ -56,26 +56,22 @@ fn a_shard_has_one_encoding(rt: HostRuntime) {
 }
 
 // What the encoding of the cells before their index, in any order, is compacted to.
-fn compacted_encoding<R: Abort>(
-    rt: &R,
+fn compacted_encoding(
     alloc: Global,
+    sub: ChunkShape,
     array: &ArrayBytes,
     cells: &Cells,
-) -> Option<Vec<u8>> {
+) -> Result<Option<Vec<u8>>, CodecError> {
     let codec = ShardingCodec::new(
-        shape_of(rt, alloc, &[2]),
+        sub,
         BytesCodec::big(),
         BytesCodec::big(),
         ShardingIndexLocation::End,
     );
     let (shape, bytes, fill) = (&cells.shape, &DataType::UInt8, &cells.fill);
     let options = CodecOptions::default();
-    let shard = codec
-        .encode(alloc, array, shape, bytes, fill, &options)
-        .expect(rt, "refused");
-    compact_encoded(&codec, alloc, &shard, array, shape, bytes, fill, &options).expect(
-        rt, "refused",
-    )
+    let shard = codec.encode(alloc, array, shape, bytes, fill, &options)?;
+    compact_encoded(&codec, alloc, &shard, array, shape, bytes, fill, &options)
 }
 
 // Nothing stands in an encoding that a compaction leaves out.
@@ -83,8 +79,9 @@ fn compacted_encoding<R: Abort>(
 fn an_encoding_is_compact(rt: HostRuntime) {
     let array = array(&rt, rt.alloc());
     let cells = cells_of(&rt, rt.alloc(), &[4]);
-    let compacted = compacted_encoding(&rt, rt.alloc(), &array, &cells);
-    same(&rt, compacted, None);
+    let sub = shape_of(&rt, rt.alloc(), &[2]);
+    let compacted = compacted_encoding(rt.alloc(), sub, &array, &cells);
+    same(&rt, compacted, Ok(None));
 }
 
 // The cells of a shard that the codec serves.
@@ -112,27 +109,16 @@ fn served_cells<R: Abort>(rt: &R, alloc: Global, codec: &Plain, shard: &[u8]) ->
 }
 
 // The cells of a shard, decoded a second time.
-fn sound_cells<R: Abort>(rt: &R, alloc: Global, codec: &Plain, shard: &[u8]) -> Vec<u8> {
-    let shape = shape_of(rt, alloc, &[4]);
-    let zero = fill_of(rt, alloc, &[0]);
+fn sound_cells<'a>(
+    alloc: Global,
+    codec: &Plain,
+    cells: &Cells,
+    shard: &'a [u8],
+) -> Result<ArrayBytes<'a>, CodecError> {
+    let (shape, bytes, fill) = (&cells.shape, &DataType::UInt8, &cells.fill);
     let options = CodecOptions::default();
-    let first = codec
-        .decode(alloc, shard, &shape, &DataType::UInt8, &zero, &options)
-        .expect(rt, "refused");
-    elements_of(
-        rt,
-        alloc,
-        decode_sound(
-            codec,
-            alloc,
-            shard,
-            &shape,
-            &DataType::UInt8,
-            &zero,
-            &options,
-        ),
-    )
-    .expect(rt, "refused")
+    let first = codec.decode(alloc, shard, shape, bytes, fill, &options)?;
+    decode_sound(codec, alloc, shard, shape, bytes, fill, &options)
 }
 
 #[test]
@@ -141,8 +127,9 @@ fn an_encoding_is_decoded(rt: HostRuntime) {
     let shard = encoded(&rt, rt.alloc(), &codec, &[4], &CELLS);
     let served = served_cells(&rt, rt.alloc(), &codec, &shard);
     same(&rt, served.as_slice(), CELLS.as_slice());
-    let sound = sound_cells(&rt, rt.alloc(), &codec, &shard);
-    same(&rt, sound.as_slice(), CELLS.as_slice());
+    let cells = cells_of(&rt, rt.alloc(), &[4]);
+    let sound = sound_cells(rt.alloc(), &codec, &cells, &shard).expect(&rt, "refused");
+    same(&rt, sound.fixed_bytes(), Some(CELLS.as_slice()));
 }
 
 // Whether a shard is compacted to one of so many bytes, which is compact.
