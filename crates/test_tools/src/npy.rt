@@ -60,7 +60,11 @@ const HEADERS: &[(&str, &[u64], &str)] = &[
         &[18446744073709551615, 18446744073709551615, 0, 1, 2, 3],
         "128 {'descr': '<u8', 'fortran_order': False, 'shape': (18446744073709551615, 18446744073709551615, 0, 1, 2, 3), }",
     ),
-    ("r8", &[1], "a.npy: elements of this data type are not written in NumPy's format"),
+    (
+        "r8",
+        &[1],
+        "a.npy: elements of this data type are not written in NumPy's format",
+    ),
 ];
 
 #[test]
