@@ -98,6 +98,64 @@ def strangers(program, top):
     expect([program, "no\x1bwork"], 2, "no\\u{1b}work")
 
 
+def places(value, path=()):
+    """The places of the members and elements in a JSON value."""
+    found = []
+    items = value.items() if isinstance(value, dict) else enumerate(value) if isinstance(value, list) else ()
+    for key, item in items:
+        found += [(*path, key), *places(item, (*path, key))]
+    return found
+
+
+def changed(document, place, value):
+    """A JSON value with another one at a place, or with none where that is `places` itself."""
+    copy = json.loads(json.dumps(document))
+    inner = copy
+    for key in place[:-1]:
+        inner = inner[key]
+    if value is places:
+        del inner[place[-1]]
+    else:
+        inner[place[-1]] = value
+    return copy
+
+
+def malformed_texts():
+    """1,000 texts made from metadata that is served: each member and element left out or replaced, and the text cut or with a byte changed."""
+    dice, texts = random.Random(3), []
+    others = [places, None, True, -1, 0, 2**64, 1.5, "", "\u001bx", [], {}, [[]], {"name": "x"}, "0x" + "f" * 70, [1] * 70]
+    for name in ("heights", "damaged"):
+        with open(f"{TOP}/examples/{name}/zarr.json", encoding="utf-8") as file:
+            whole = file.read()
+        document = json.loads(whole)
+        for place in places(document):
+            texts += [json.dumps(changed(document, place, other)).encode() for other in others]
+        for _ in range(400):
+            at = dice.randrange(len(whole))
+            texts.append(whole.encode()[:at])
+            texts.append(whole.encode()[:at] + bytes([dice.randrange(256)]) + whole.encode()[at + 1 :])
+    return dice.sample(sorted(set(texts)), 1000)
+
+
+def malformed(program, top):
+    """Metadata that is wrong in one place is refused in sentences, with nothing written, or it is served as it is."""
+    path, served = f"{top}/malformed", 0
+    os.makedirs(path)
+    for text in malformed_texts():
+        with open(f"{path}/zarr.json", "wb") as file:
+            file.write(text)
+        ran = subprocess.run([program, "info", path], capture_output=True, timeout=MOST, stdin=subprocess.DEVNULL)
+        lines = ran.stderr.decode(errors="replace").splitlines()
+        is_told = lines and all(it.isprintable() and len(it) < 600 for it in lines) and len(lines) < 10
+        is_refused = ran.returncode == 2 and not ran.stdout and is_told
+        is_served = ran.returncode == 0 and ran.stdout and not lines
+        served += is_served
+        if not is_refused and not is_served:
+            bad.append(f"info of {text[:300]!r}: status {ran.returncode}, {ran.stderr[:600]!r}")
+    if not 20 <= served <= 500:
+        bad.append(f"{served} of 1000 malformed documents were served")
+
+
 def closed(program, top):
     """A pipe whose reader is gone: the program ends silently, with the status of what was done."""
     array(f"{top}/large", [1000, 1000], [1000, 1000], [10, 10])
@@ -234,7 +292,7 @@ if __name__ == "__main__":
     with tempfile.TemporaryDirectory(prefix="strangers-") as folder:
         shutil.copyfile(built, f"{folder}/zarr_shard")
         os.chmod(f"{folder}/zarr_shard", 0o755)
-        for case in (strangers, closed, killed, large, indexed, owners, limits):
+        for case in (strangers, malformed, closed, killed, large, indexed, owners, limits):
             case(f"{folder}/zarr_shard", folder)
     print("\n".join(bad) or "each command ended as it must")
     sys.exit(bool(bad))

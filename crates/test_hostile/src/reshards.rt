@@ -8,7 +8,8 @@ use zarr_codecs::BytesCodec;
 use zarr_parts::{ChunkShape, CodecError, DataType, FillValue};
 use zarrs_sharding::ShardingIndexLocation::End;
 use zarrs_sharding::{
-    ShardingCodec, SubchunkWriteOrder, decode_after_reshard, reshard, reshard_functional,
+    ArraySpecRef, ShardingCodec, SubchunkWriteOrder, decode_after_reshard, reshard,
+    reshard_functional,
 };
 
 type Resharded = Result<Vec<u8>, CodecError>;
@@ -117,7 +118,12 @@ fn what_is_resharded_decodes_to_the_same(rt: HostRuntime) {
     let object = in_squares(&rt, alloc);
     let resharded = reshard(alloc, from, to, &object, shape, bytes, fill);
     let halves = resharded.expect(&rt, "halves");
-    let found = decode_after_reshard(alloc, from, to, &object, &halves, shape, bytes, fill);
+    let spec = ArraySpecRef {
+        shape,
+        data_type: bytes,
+        fill_value: fill,
+    };
+    let found = decode_after_reshard(alloc, from, to, &object, &halves, &spec);
     let want = [0, 1, 2, 3, 4, 5, 6, 7, 8, 9, 10, 11, 12, 13, 14, 15];
     same(&rt, said(&found), Ok(want.as_slice()));
 }

@@ -9,8 +9,8 @@ use std::process::Abort;
 use zarr_codecs::{ArrayToBytesCodecTraits, BytesCodec};
 use zarr_parts::{ArrayBytes, ChunkShape, CodecError, CodecOptions, DataType};
 use zarrs_sharding::{
-    ShardingCodec, ShardingIndexLocation, SubchunkWriteOrder, compact_again, compact_encoded,
-    decode_served, decode_sound, encode_functional,
+    ArraySpecRef, ShardingCodec, ShardingIndexLocation, SubchunkWriteOrder, compact_again,
+    compact_encoded, decode_served, decode_sound, encode_functional,
 };
 
 // Two subchunks of two cells, of which the first is all fill.
@@ -71,7 +71,12 @@ fn compacted_encoding(
     let (shape, bytes, fill) = (&cells.shape, &DataType::UInt8, &cells.fill);
     let options = CodecOptions::default();
     let shard = codec.encode(alloc, array, shape, bytes, fill, &options)?;
-    compact_encoded(&codec, alloc, &shard, array, shape, bytes, fill, &options)
+    let spec = ArraySpecRef {
+        shape,
+        data_type: bytes,
+        fill_value: fill,
+    };
+    compact_encoded(&codec, alloc, &shard, array, &spec, &options)
 }
 
 // Nothing stands in an encoding that a compaction leaves out.
@@ -150,10 +155,13 @@ fn is_compacted_to<R: Abort>(
     let Some(compacted) = compacted else {
         return false;
     };
-    let again = compact_again(
-        codec, alloc, shard, &compacted, shape, bytes, fill, &options,
-    )
-    .expect(rt, "refused");
+    let spec = ArraySpecRef {
+        shape,
+        data_type: bytes,
+        fill_value: fill,
+    };
+    let again =
+        compact_again(codec, alloc, shard, &compacted, &spec, &options).expect(rt, "refused");
     again.is_none() && compacted.len() == len
 }
 

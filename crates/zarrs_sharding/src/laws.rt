@@ -14,6 +14,7 @@ ghost use Rattle.sharding_format.specs.Holding.{Holds};
 ghost use Rattle.sharding_format.specs.Compacting.{IsCompact};
 ghost use Rattle.sharding_format.specs.Scratch.{scratch};
 ghost use Rattle.sharding_format.specs.Serves.{subchunk_spec};
+ghost use Rattle.sharding_index.specs.steps.Plans.{spec_of};
 ghost use Rattle.sharding_codec.specs.Meanings.{layout_in};
 ghost use Rattle.sharding_format.specs.DecodeRefusals.{IsLowestBad};
 ghost use Rattle.storage_handles.specs.Handles.{seen};
@@ -27,6 +28,7 @@ use parts_arrays::{ArrayBytes, DataType, FillValue};
 use parts_errors::{CodecError, CodecOptions};
 use parts_subsets::{ArraySubset, ChunkShape, Indexer};
 use sharding_codec::{ShardingCodec, ShardingPartialDecoder};
+use sharding_format::ArraySpecRef;
 use std::alloc::Global;
 use storage_handles::BytesPartialDecoderTraits;
 
@@ -116,31 +118,30 @@ pub fn compact_encoded<I: FunctionalCodec, X: FunctionalCodec>(
     alloc: Global,
     encoded: &[u8],
     array: &ArrayBytes,
-    shape: &ChunkShape,
-    data_type: &DataType,
-    fill_value: &FillValue,
+    spec: &ArraySpecRef<'_>,
     options: &CodecOptions,
 ) -> Result<Option<Vec<u8>>, CodecError>
-    requires serves { (⟦<ShardingCodec<I, X> as ArrayToBytesCodecTraits>⟧.meaning codec.now (array_spec shape.now data_type.now fill_value.now)).serves }
-    requires array { IsArrayOf (array_spec shape.now data_type.now fill_value.now) array.now.elements }
-    requires holds { let g = array_spec shape.now data_type.now fill_value.now in let s = codec.now in
+    requires serves { (⟦<ShardingCodec<I, X> as ArrayToBytesCodecTraits>⟧.meaning codec.now (spec_of spec.now)).serves }
+    requires array { IsArrayOf (spec_of spec.now) array.now.elements }
+    requires holds { let g = spec_of spec.now in let s = codec.now in
         let inner_written = (I.meaning s.inner (subchunk_spec s.subchunk_shape g)).written in let index_cells = (X.meaning s.index_codec (index_spec (grid_of g.shape s.subchunk_shape))).cells in
         Holds inner_written index_cells (layout_in s (X.meaning s.index_codec (index_spec (grid_of g.shape s.subchunk_shape))) g) array.now.elements encoded.now }
     requires functional { let s = codec.now in IsTrue (I.functional s.inner && X.functional s.index_codec) }
-    ensures scratch { let g = array_spec shape.now data_type.now fill_value.now in let s = codec.now in let index_g = index_spec (grid_of g.shape s.subchunk_shape) in
+    ensures scratch { let g = spec_of spec.now in let s = codec.now in let index_g = index_spec (grid_of g.shape s.subchunk_shape) in
         IfOk result (λ answer. IfSome answer (λ new. new.items ≡ scratch (I.encoding s.inner (subchunk_spec s.subchunk_shape g)) (X.encoding s.index_codec index_g)
         (layout_in s (X.meaning s.index_codec index_g) g) array.now.elements)) }
-    ensures compacted { let g = array_spec shape.now data_type.now fill_value.now in
+    ensures compacted { let g = spec_of spec.now in
         IfOk result (λ answer. IfSome answer (λ new. (⟦<ShardingCodec<I, X> as ArrayToBytesCodecTraits>⟧.meaning codec.now g).compacted encoded.now new.items)) }
-    ensures kept { let g = array_spec shape.now data_type.now fill_value.now in let s = codec.now in
+    ensures kept { let g = spec_of spec.now in let s = codec.now in
         let index_cells = (X.meaning s.index_codec (index_spec (grid_of g.shape s.subchunk_shape))).cells in
         IfOk result (λ answer. IfNone answer (IsCompact index_cells (layout_in s (X.meaning s.index_codec (index_spec (grid_of g.shape s.subchunk_shape))) g) encoded.now)) }
-    ensures lawful { let g = array_spec shape.now data_type.now fill_value.now in
+    ensures lawful { let g = spec_of spec.now in
         IfErr result (MayRefuseCompact ((⟦<ShardingCodec<I, X> as ArrayToBytesCodecTraits>⟧.meaning codec.now g).cells encoded.now)) }
-    ensures refused { let g = array_spec shape.now data_type.now fill_value.now in
+    ensures refused { let g = spec_of spec.now in
         IfErr result (RefusedBy ((⟦<ShardingCodec<I, X> as ArrayToBytesCodecTraits>⟧.meaning codec.now g).compact_refusals encoded.now)) }
 {
-    codec.compact(alloc, encoded, shape, data_type, fill_value, options)
+    let (shape, data_type) = (spec.shape, spec.data_type);
+    codec.compact(alloc, encoded, shape, data_type, spec.fill_value, options)
 }
 
 /// Compacts what `compact` made of a shard that the codec serves: there is nothing to gain, so the answer is `None`. Refused
@@ -150,21 +151,20 @@ pub fn compact_again<I: ArrayToBytesCodecTraits, X: ArrayToBytesCodecTraits>(
     alloc: Global,
     _shard: &[u8],
     compacted: &[u8],
-    shape: &ChunkShape,
-    data_type: &DataType,
-    fill_value: &FillValue,
+    spec: &ArraySpecRef<'_>,
     options: &CodecOptions,
 ) -> Result<Option<Vec<u8>>, CodecError>
-    requires serves { (⟦<ShardingCodec<I, X> as ArrayToBytesCodecTraits>⟧.meaning codec.now (array_spec shape.now data_type.now fill_value.now)).serves }
-    requires compacted { let g = array_spec shape.now data_type.now fill_value.now in
+    requires serves { (⟦<ShardingCodec<I, X> as ArrayToBytesCodecTraits>⟧.meaning codec.now (spec_of spec.now)).serves }
+    requires compacted { let g = spec_of spec.now in
         (⟦<ShardingCodec<I, X> as ArrayToBytesCodecTraits>⟧.meaning codec.now g).compacted _shard.now compacted.now }
-    ensures compact { let g = array_spec shape.now data_type.now fill_value.now in let s = codec.now in
+    ensures compact { let g = spec_of spec.now in let s = codec.now in
         let index = X.meaning s.index_codec (index_spec (grid_of g.shape s.subchunk_shape)) in
         IsCompact index.cells (layout_in s index g) compacted.now }
     ensures nothing { IfOk result (λ answer. answer ≡ None) }
     ensures refused { IfErr result (λ e. e ≡ OutOfMemory) }
 {
-    codec.compact(alloc, compacted, shape, data_type, fill_value, options)
+    let (shape, data_type) = (spec.shape, spec.data_type);
+    codec.compact(alloc, compacted, shape, data_type, spec.fill_value, options)
 }
 
 /// Reads some cells of an object into which an update was written over the cells of a subset, by a decoder that was opened after

@@ -20,8 +20,9 @@ pub use sharding_codec::{
 };
 pub use sharding_configuration::{ShardingCodecConfiguration, ShardingCodecConfigurationV1};
 pub use sharding_format::{
-    PartialDecoderCapability, PartialEncoderCapability, ShardIndex, ShardingCodecOptions,
-    ShardingIndexLocation, SubchunkWriteOrder, calculate_chunks_per_shard, sharding_index_shape,
+    ArraySpecRef, PartialDecoderCapability, PartialEncoderCapability, ShardIndex,
+    ShardingCodecOptions, ShardingIndexLocation, SubchunkWriteOrder, calculate_chunks_per_shard,
+    sharding_index_shape,
 };
 pub use sharding_layout::CompactionPlan;
 pub use sharding_workers::{Gate, NoGate};

@@ -1,5 +1,4 @@
 use Rattle.std.proofs.Common.{◌≡◌, ◌<◌, ◌+◌, ◌^◌, Option, Some, None, Result, Ok, Err, IfOk, IfSome, IfNone, length, refl, arith}
-use Rattle.parts_arrays.specs.ArraySpec.{array_spec}
 use Rattle.parts_subsets.specs.Grid.{grid_of}
 use Rattle.codec_traits.proofs.CodecLaws.{refused_so}
 use Rattle.sharding_format.specs.Index.{index_spec}
@@ -8,6 +7,7 @@ use Rattle.sharding_format.specs.Compacting.{IsCompact}
 use Rattle.sharding_format.proofs.RefusalLemmas.{index_short}
 use Rattle.sharding_format.proofs.CompactAgain.{again_compact, never_compacted, refused_for_memory}
 use Rattle.sharding_codec.specs.Meanings.{layout_in}
+use Rattle.sharding_index.specs.steps.Plans.{spec_of}
 use Rattle.zarrs_sharding.proofs.laws.compact_again.Goals as goal
 
 -- an answer that can't be bytes is none
@@ -19,8 +19,8 @@ nothing P (Err e) h never = tt
 pub returns-clause-compact : goal.returns-clause-compact
 returns-clause-compact g c =
     let s = c.args.codec.now in
-    let spec = array_spec c.args.shape.now c.args.data_type.now c.args.fill_value.now in
-    let index_g = index_spec (grid_of c.args.shape.now s.subchunk_shape) in
+    let spec = spec_of c.args.spec.now in
+    let index_g = index_spec (grid_of c.args.spec.now.shape.now s.subchunk_shape) in
     let index = g.X.ArrayToBytesCodecTraits.meaning s.index_codec index_g in
     again_compact (g.I.ArrayToBytesCodecTraits.meaning s.inner (subchunk_spec s.subchunk_shape spec)) index s.subchunk_shape s.location s.order spec
     c.args._shard.now c.args.compacted.now
@@ -30,8 +30,8 @@ returns-clause-compact g c =
 pub returns-clause-nothing : goal.returns-clause-nothing
 returns-clause-nothing g c =
     let s = c.args.codec.now in
-    let spec = array_spec c.args.shape.now c.args.data_type.now c.args.fill_value.now in
-    let index_g = index_spec (grid_of c.args.shape.now s.subchunk_shape) in
+    let spec = spec_of c.args.spec.now in
+    let index_g = index_spec (grid_of c.args.spec.now.shape.now s.subchunk_shape) in
     let inner = g.I.ArrayToBytesCodecTraits.meaning s.inner (subchunk_spec s.subchunk_shape spec) in
     let index = g.X.ArrayToBytesCodecTraits.meaning s.index_codec index_g in
     nothing _ c.compact.result c.compact.ensures.compacted
@@ -43,8 +43,8 @@ returns-clause-nothing g c =
 pub returns-clause-refused : goal.returns-clause-refused
 returns-clause-refused g c =
     let s = c.args.codec.now in
-    let spec = array_spec c.args.shape.now c.args.data_type.now c.args.fill_value.now in
-    let index_g = index_spec (grid_of c.args.shape.now s.subchunk_shape) in
+    let spec = spec_of c.args.spec.now in
+    let index_g = index_spec (grid_of c.args.spec.now.shape.now s.subchunk_shape) in
     let inner = g.I.ArrayToBytesCodecTraits.meaning s.inner (subchunk_spec s.subchunk_shape spec) in
     let index = g.X.ArrayToBytesCodecTraits.meaning s.index_codec index_g in
     let law = g.met.X.ArrayToBytesCodecTraits.lawful s.index_codec index_g in

@@ -1,11 +1,11 @@
 use Rattle.std.proofs.Common.{Option, Some, None, Result, Ok, Err, IfOk, IfSome}
 use Rattle.std.proofs.lemmas.Bool.{and_parts}
-use Rattle.parts_arrays.specs.ArraySpec.{array_spec}
 use Rattle.parts_subsets.specs.Grid.{grid_of}
 use Rattle.sharding_format.specs.Index.{index_spec}
 use Rattle.sharding_format.specs.Serves.{subchunk_spec}
 use Rattle.codec_traits.proofs.CodecLaws.{refused_so}
 use Rattle.sharding_format.proofs.CompactionLemmas.{scratch_of_compacted}
+use Rattle.sharding_index.specs.steps.Plans.{spec_of}
 use Rattle.zarrs_sharding.proofs.laws.compact_encoded.Goals as goal
 
 -- what an answer's facts say of it
@@ -17,9 +17,9 @@ rewritten P Q (Err e) h told = tt
 pub returns-clause-scratch : goal.returns-clause-scratch
 returns-clause-scratch g c =
     let s = c.args.codec.now in
-    let spec = array_spec c.args.shape.now c.args.data_type.now c.args.fill_value.now in
+    let spec = spec_of c.args.spec.now in
     let inner_g = subchunk_spec s.subchunk_shape spec in
-    let index_g = index_spec (grid_of c.args.shape.now s.subchunk_shape) in
+    let index_g = index_spec (grid_of c.args.spec.now.shape.now s.subchunk_shape) in
     let inner = g.I.FunctionalCodec in
     let index = g.X.FunctionalCodec in
     let serves = c.requires.serves in
