@@ -300,6 +300,42 @@ fn test_subchunks(
     }
 }
 
+// What the member `codecs` says: the codec of shards, the first codec inside that is not served, its text, and how the codec cuts shards.
+#[derive(Drop)]
+struct ShardCodecs {
+    codec: ArrayCodec,
+    unread: Option<String>,
+    text: String,
+    subchunk: ChunkShape,
+}
+
+// What the member `codecs` says of an array of these cells. Refused for `codecs`.
+fn codecs_of_cells(
+    alloc: Global,
+    codecs: &Placed,
+    cells: &Cells,
+) -> Result<ShardCodecs, MetadataError>
+    ensures divides { IfOk result (λ found. Divides found.subchunk cells.now.shard) }
+    ensures axes { IfOk result (λ found. length found.subchunk ≡ vec_len cells.now.shape) }
+    ensures codec { IfOk result (λ found. found.codec.subchunk_shape ≡ found.subchunk) }
+    ensures subchunk_read { IfOk result (λ found. option_and_then shape_in (option_and_then (configured_in (codes "chunk_shape")) (chunks_in (view codecs.now.value.now))) ≡ Some found.subchunk) }
+    ensures read { IfOk result (λ found. option_map (shards_in subchunks_in) (chunks_in (view codecs.now.value.now)) ≡ Some (Ok found.codec)) }
+    ensures unread { IfOk result (λ found. option_map string_bytes found.unread ≡ unread_codec_in (chunks_in (view codecs.now.value.now))) }
+{
+    let data_type = cells.element_type.carrier();
+    let codec = array_codec(alloc, codecs, data_type, cells.shape.len())?;
+    test_subchunks(alloc, &cells.shard, &codec)?;
+    let subchunk = codec.subchunk_shape.try_clone(alloc)?;
+    let unread = unread_codec(alloc, codecs)?;
+    let text = escaped_whole(alloc, codecs.value.to_string(alloc)?.as_str())?;
+    Ok(ShardCodecs {
+        codec,
+        unread,
+        text,
+        subchunk,
+    })
+}
+
 // The metadata of an array, but for its codecs: these cells, and their fill value. Refused for `codecs`.
 fn with_codecs(
     alloc: Global,
@@ -324,28 +360,20 @@ fn with_codecs(
     ensures unread { IfOk result (λ metadata.
         option_map string_bytes metadata.unread ≡ unread_codec_in (option_and_then chunks_in (get (codes "codecs") (view whole.now.value.now)))) }
 {
-    let codecs = whole.required(alloc, "codecs")?;
-    let Cells {
-        shape,
-        element_type,
-        shard,
-    } = cells;
-    let data_type = element_type.carrier();
-    let codec = array_codec(alloc, &codecs, data_type, shape.len())?;
-    let unread = unread_codec(alloc, &codecs)?;
-    test_subchunks(alloc, &shard, &codec)?;
+    let codecs = codecs_of_cells(alloc, &whole.required(alloc, "codecs")?, &cells)?;
+    let type_text = type_text_in(alloc, whole, cells.element_type)?;
     Ok(ArrayMetadata {
-        subchunk: codec.subchunk_shape.try_clone(alloc)?,
-        codecs: escaped_whole(alloc, codecs.value.to_string(alloc)?.as_str())?,
-        type_text: type_text_in(alloc, whole, element_type)?,
-        shape,
-        shard,
+        subchunk: codecs.subchunk,
+        codecs: codecs.text,
+        type_text,
+        shape: cells.shape,
+        shard: cells.shard,
         keys,
-        element_type,
-        data_type,
+        element_type: cells.element_type,
+        data_type: cells.element_type.carrier(),
         fill_value,
-        codec,
-        unread,
+        codec: codecs.codec,
+        unread: codecs.unread,
     })
 }
 
@@ -369,14 +397,13 @@ impl ArrayMetadata {
     }
 
     /// The metadata that a `zarr.json` holds (Zarr V3 core, "Array metadata"). Refused, in this order, where the text is no JSON,
-    /// nests deeper than is read, has a number past the range of a
-    /// float, is no object, of another `zarr_format` than 3, of another `node_type` than `array`, has an unknown member that must be
-    /// understood, or `storage_transformers`; and then for `shape` (whole numbers), `data_type` (`bool`, `int8` to `int64`,
-    /// `uint8` to `uint64`, floats, times, or a type whose elements have a known size), `chunk_grid` (`regular`), `chunk_key_encoding` (`default` or `v2`), `fill_value` (an element of the
-    /// type, or of one that is not read any value) and `codecs` (`sharding_indexed` alone, with `bytes`, `bytes` and `crc32c`,
-    /// `sharding_indexed` once more inside, or codecs of other names, which are not looked into) in turn: each with its place, and
-    /// a sentence that says what is not served; or as `OutOfMemory`. Where elements go through a codec of another name, their type
-    /// may have any name.
+    /// nests deeper than is read, has a number past the range of a float, is no object, of another `zarr_format` than 3, of another
+    /// `node_type` than `array`, has an unknown member that must be understood, or `storage_transformers`; and then for `shape` (whole
+    /// numbers), `data_type` (`bool`, `int8` to `int64`, `uint8` to `uint64`, floats, times, or a type whose elements have a known
+    /// size), `chunk_grid` (`regular`), `chunk_key_encoding` (`default` or `v2`), `fill_value` (an element of the type, or of one that
+    /// is not read any value) and `codecs` (`sharding_indexed` alone, with `bytes`, `bytes` and `crc32c`, `sharding_indexed` once more
+    /// inside, or codecs of other names, which are not looked into) in turn: each with its place, and a sentence that says what is not
+    /// served; or as `OutOfMemory`. Where elements go through a codec of another name, their type may have any name.
     pub fn from_text(alloc: Global, text: &str) -> Result<Self, MetadataError>
         ensures served { OnOk result (IsServedText text.now) }
         ensures read { IfOk result (IsReadAs text.now) }
