@@ -243,8 +243,7 @@ fn listed_elements(
     list.element_codec(alloc, data_type)
 }
 
-// The configuration of a shard. Refused as `ShardingCodecConfiguration::from_value` refuses, or as `BadField` where a subchunk
-// has another number of axes.
+// The configuration of a shard. Refused as `from_value` refuses, or as `BadField` where a subchunk has other axes.
 fn parsed_configuration(
     alloc: Global,
     configuration: &Placed,
