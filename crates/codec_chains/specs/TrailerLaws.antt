@@ -1,5 +1,5 @@
 -- A codec that puts a trailer behind bytes keeps the laws.
-use Rattle.std.proofs.Common.{◌≡◌, ◌≢◌, ℕ, ◌+◌, ◌-◌, ◌^◌, ◌≤◌, ◌++◌, Bool, true, false, if◌then◌else◌, nat_lt, Option, Some, None, length, take, bytes_eq, refl, ap, ◌∙◌, arith, length-append}
+use Rattle.std.proofs.Common.{◌≡◌, ◌≢◌, ℕ, ◌+◌, ◌-◌, ◌^◌, Bool, true, false, if◌then◌else◌, nat_lt, Some, None, length, take, bytes_eq, refl, ap, ◌∙◌, arith, length-append}
 use Rattle.std.proofs.lemmas.Slice.Eq.{bytes_eq-Decides}
 use Rattle.std.proofs.Math.Seq.{take-append_seam}
 use Rattle.parts_errors.specs.Words.{Bytes}

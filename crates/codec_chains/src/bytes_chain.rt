@@ -207,8 +207,8 @@ impl<C: ArrayToBytesCodecTraits, B: BytesToBytesCodecTraits> ArrayToBytesCodecTr
             .check(alloc, shape, data_type, fill_value)
     }
 
-    /// Encodes by the first codec, and its bytes by the second. Refused as `encode` of the first codec, then as `encode` of
-    /// the second.
+    /// Encodes by the first codec, and its bytes by the second. Refused as `encode` of the first codec, then as `TooLarge`
+    /// only where some encoding by the second passes `usize::MAX`; or as `OutOfMemory`.
     fn encode(
         &self,
         alloc: Global,
