@@ -1,14 +1,13 @@
--- Steps of a codec that puts a trailer behind bytes.
-use Rattle.std.proofs.Common.{◌≡◌, ◌≢◌, ℕ, ◌+◌, ◌-◌, ◌^◌, ◌<◌, ◌++◌, Bool, true, false, not, nat_eq, Option, Some, None, IsSome, length, take, drop, length-drop, take-append-drop, refl, sym, ap, subst, ◌∙◌, arith, inl, inr}
+-- Steps of a codec that puts a trailer behind bytes, where it decodes.
+use Rattle.std.proofs.Common.{◌≡◌, ◌≢◌, ℕ, ◌+◌, ◌-◌, ◌<◌, ◌++◌, Bool, true, false, not, nat_eq, Option, Some, None, IsSome, length, take, drop, length-drop, take-append-drop, refl, sym, ap, ◌∙◌, arith, inl, inr, rules}
 use Rattle.std.proofs.lemmas.List.Prefix.{end_rest}
 use Rattle.std.proofs.lemmas.Bool.Decides.{Decides-eqb}
 use Rattle.std.proofs.Math.Seq.{take-length}
 use Rattle.std.specs.Cmp.Lexicographic.{pointwise, pointwise_decides}
 use Rattle.parts_errors.specs.Words.{Bytes}
 use Rattle.parts_errors.specs.Order.{◌or◌then◌, done, RefusedBy}
-use Rattle.parts_errors.specs.declared.error.CodecError.TheVariants.{TooLarge, Damaged}
-use Rattle.codec_chains.specs.Codings.{AreAddressable}
-use Rattle.codec_chains.specs.Trailers.{with_trailer, before_trailer, without_trailer, trailer_coding}
+use Rattle.parts_errors.specs.declared.error.CodecError.TheVariants.{Damaged}
+use Rattle.codec_chains.specs.Trailers.{with_trailer, before_trailer, without_trailer}
 use Rattle.codec_chains.specs.TrailerLaws.{length-with_trailer, checked, unchecked}
 
 -- where there is no inverse, it is refused
@@ -32,12 +31,6 @@ agree : (xs ys : Bytes) → false ≡ not (pointwise nat_eq xs ys) → xs ≡ ys
 agree xs ys test = (pointwise_decides Decides-eqb xs ys).0 (not_false (pointwise nat_eq xs ys) test)
 
 module _ (size : ℕ) (trailer : Bytes → Bytes) (sized : (bytes : Bytes) → length (trailer bytes) ≡ size) where
-  -- bytes that are too long with their trailer
-  pub refused_long : (bytes : Bytes) → ¬ (length bytes + size < 2 ^ 64)
-      → RefusedBy (AreAddressable (trailer_coding size trailer) bytes or TooLarge then done) TooLarge
-  refused_long bytes long =
-      inr (inl ((λ all. long (subst (λ n. n < 2 ^ 64) (length-with_trailer size trailer sized bytes) (all (with_trailer trailer bytes) refl))), refl))
-
   -- bytes that are too short for a trailer
   pub refused_short : (b : Bytes) → length b < size → RefusedBy (IsSome (without_trailer size trailer b) or Damaged then done) Damaged
   refused_short b short =
