@@ -1,2 +1,3 @@
 pub mod ChainSteps
+pub mod InnerSteps
 pub mod TrailerSteps

@@ -1,5 +1,5 @@
 -- A codec that puts a trailer behind bytes keeps the laws.
-use Rattle.std.proofs.Common.{◌≡◌, ◌≢◌, ℕ, ◌+◌, ◌-◌, ◌^◌, ◌≤◌, ◌++◌, Bool, true, false, if◌then◌else◌, nat_lt, Option, Some, None, length, take, bytes_eq, refl, ap, ◌∙◌, arith, length-append}
+use Rattle.std.proofs.Common.{◌≡◌, ◌≢◌, ℕ, ◌+◌, ◌-◌, ◌^◌, Bool, true, false, if◌then◌else◌, nat_lt, Some, None, length, take, bytes_eq, refl, ap, ◌∙◌, arith, length-append}
 use Rattle.std.proofs.lemmas.Slice.Eq.{bytes_eq-Decides}
 use Rattle.std.proofs.Math.Seq.{take-append_seam}
 use Rattle.parts_errors.specs.Words.{Bytes}
@@ -44,9 +44,10 @@ module _ (size : ℕ) (trailer : Bytes → Bytes) where
 
     -- the bytes come back
     pub trailer_invertible : IsInvertible (trailer_coding size trailer)
-    trailer_invertible bytes =
+    trailer_invertible bytes encoded is =
         let before = before-with_trailer bytes in
-        checked (with_trailer trailer bytes) (ap (with_trailer trailer) before) ∙ ap Some before
+        ap (without_trailer size trailer) is
+        ∙ (checked (with_trailer trailer bytes) (ap (with_trailer trailer) before) ∙ ap Some before)
 
     longer : (told : BytesRepresentation) (bytes : Bytes) → IsWithin (Some told) (length bytes)
         → IsWithin (Some (longer_by size told)) (length (with_trailer trailer bytes))
@@ -58,4 +59,4 @@ module _ (size : ℕ) (trailer : Bytes → Bytes) where
 
     -- an encoding is as long as is told
     pub trailer_bounded : IsBounded (trailer_coding size trailer)
-    trailer_bounded = record { unbounded = refl; within = longer }
+    trailer_bounded = record { unbounded = refl; within = λ told bytes encoded h is. rw is (longer told bytes h) }

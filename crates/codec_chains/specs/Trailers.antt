@@ -1,5 +1,5 @@
 -- Codecs from bytes to bytes that put a trailer behind the bytes: as many bytes more, always, which the bytes give.
-use Rattle.std.specs.Prelude.{◌+◌, ◌-◌, ◌^◌, ◌++◌, ℕ, if◌then◌else◌, nat_lt, Option, Some, None, length, take, bytes_eq}
+use Rattle.std.specs.Prelude.{◌≡◌, ◌+◌, ◌-◌, ◌^◌, ◌++◌, ℕ, if◌then◌else◌, nat_lt, Option, Some, None, length, take, bytes_eq}
 use Rattle.parts_errors.specs.Words.{Bytes}
 use Rattle.codec_traits.specs.declared.representation.BytesRepresentation.{BytesRepresentation}
 use Rattle.codec_traits.specs.declared.representation.BytesRepresentation.TheVariants.{FixedSize, BoundedSize, UnboundedSize}
@@ -28,7 +28,7 @@ longer_by size UnboundedSize = UnboundedSize
 -- what such a codec means
 abbrev pub trailer_coding : ℕ → (Bytes → Bytes) → Coding
 trailer_coding size trailer = record {
-  encoding = with_trailer trailer;
+  written = λ bytes encoded. encoded ≡ with_trailer trailer bytes;
   decoding = without_trailer size trailer;
   representation = longer_by size;
 }

@@ -1,12 +1,15 @@
 // A codec with a codec from bytes to bytes after it.
-ghost use Rattle.std.specs.Prelude.{◌≡◌, Some, IfOk, IfErr, map};
+ghost use Rattle.std.specs.Prelude.{◌≡◌, Some, IsSome, IfOk, IfErr, map};
 ghost use Rattle.std.specs.Cow.{cow_slice_items};
-ghost use Rattle.parts_errors.specs.Order.{RefusedBy};
+ghost use Rattle.parts_errors.specs.Order.{◌or◌then◌, done, RefusedBy};
+ghost use Rattle.parts_errors.specs.declared.error.CodecError.TheVariants.{OutOfMemory, Damaged};
 ghost use Rattle.parts_arrays.specs.ArraySpec.{array_spec, IsArrayOf};
 ghost use Rattle.parts_arrays.specs.Types.{size_of};
 ghost use Rattle.codec_traits.specs.Refusals.{MayRefuseDecode};
+ghost use Rattle.codec_traits.specs.declared.representation.BytesRepresentation.TheVariants.{FixedSize};
+ghost use Rattle.codec_chains.specs.Chains.{inner_bytes, chain_bytes};
 
-use crate::bytes_to_bytes::BytesToBytesCodecTraits;
+use crate::bytes_to_bytes::{BytesToBytesCodecTraits, FunctionalBytesCodec};
 use codec_traits::{
     ArrayToBytesCodecTraits, BytesRepresentation, FunctionalCodec, RecommendedConcurrency,
 };
@@ -39,6 +42,88 @@ impl<C, B> BytesChain<C, B> {
             bytes_to_bytes,
         }
     }
+}
+
+// How long the encodings of a codec are, or `None` where no number can say it. Refused only as `OutOfMemory`.
+fn told_representation<C: ArrayToBytesCodecTraits>(
+    codec: &C,
+    alloc: Global,
+    shape: &ChunkShape,
+    data_type: &DataType,
+    fill_value: &FillValue,
+) -> Result<Option<BytesRepresentation>, CodecError>
+    requires { (C.meaning codec.now (array_spec shape.now data_type.now fill_value.now)).serves }
+    ensures told { let m = C.meaning codec.now (array_spec shape.now data_type.now fill_value.now) in
+        IfOk result (λ told. told ≡ m.representation) }
+    ensures refused { IfErr result (λ e. e ≡ OutOfMemory) }
+{
+    match codec.encoded_representation(alloc, shape, data_type, fill_value) {
+        Ok(told) => Ok(Some(told)),
+        Err(CodecError::TooLarge) => Ok(None),
+        Err(error) => Err(error),
+    }
+}
+
+// The bytes that these are an encoding of, which must have this length. Refused as `Damaged` where these are no encoding, or
+// one of bytes of another length.
+fn decode_sized<'a, B: BytesToBytesCodecTraits>(
+    codec: &B,
+    alloc: Global,
+    bytes: &'a [u8],
+    size: u64,
+) -> Result<CowSlice<'a, u8>, CodecError>
+    ensures decoded { IfOk result (λ inner. inner_bytes (Some (FixedSize size)) ((B.coding codec.now).decoding bytes.now) ≡ Some (cow_slice_items inner)) }
+    ensures refused { IfErr result (RefusedBy (
+        IsSome (inner_bytes (Some (FixedSize size)) ((B.coding codec.now).decoding bytes.now)) or Damaged then
+        done)) }
+{
+    let inner = codec.decode_within(alloc, bytes, size as usize)?;
+    if inner.len() as u64 != size {
+        return Err(CodecError::Damaged);
+    }
+    Ok(inner)
+}
+
+// The bytes that these are an encoding of, which must have the fixed length that is known of them, if any. Refused as
+// `Damaged` where these are no encoding, or one of bytes of another length.
+#[tactic(auto, unfolding(crate::specs::Chains::inner_bytes))]
+fn decode_told<'a, B: BytesToBytesCodecTraits>(
+    codec: &B,
+    alloc: Global,
+    bytes: &'a [u8],
+    told: Option<BytesRepresentation>,
+) -> Result<CowSlice<'a, u8>, CodecError>
+    ensures decoded { IfOk result (λ inner. inner_bytes told ((B.coding codec.now).decoding bytes.now) ≡ Some (cow_slice_items inner)) }
+    ensures refused { IfErr result (RefusedBy (
+        IsSome (inner_bytes told ((B.coding codec.now).decoding bytes.now)) or Damaged then
+        done)) }
+{
+    let Some(BytesRepresentation::FixedSize(size)) = told else {
+        return codec.decode(alloc, bytes);
+    };
+    decode_sized(codec, alloc, bytes, size)
+}
+
+// The bytes that the first codec wrote, by the second one. Where the first tells a fixed length, no more bytes are decoded.
+// Refused as `Damaged` where these are no encoding of the second, or one of bytes of another length.
+fn decode_bytes<'a, C: ArrayToBytesCodecTraits, B: BytesToBytesCodecTraits>(
+    chain: &BytesChain<C, B>,
+    alloc: Global,
+    bytes: &'a [u8],
+    shape: &ChunkShape,
+    data_type: &DataType,
+    fill_value: &FillValue,
+) -> Result<CowSlice<'a, u8>, CodecError>
+    requires { (C.meaning chain.now.array_to_bytes (array_spec shape.now data_type.now fill_value.now)).serves }
+    ensures decoded { let m = C.meaning chain.now.array_to_bytes (array_spec shape.now data_type.now fill_value.now) in
+        IfOk result (λ inner. chain_bytes (B.coding chain.now.bytes_to_bytes) m bytes.now ≡ Some (cow_slice_items inner)) }
+    ensures refused { let m = C.meaning chain.now.array_to_bytes (array_spec shape.now data_type.now fill_value.now) in
+        IfErr result (RefusedBy (
+        IsSome (chain_bytes (B.coding chain.now.bytes_to_bytes) m bytes.now) or Damaged then
+        done)) }
+{
+    let told = told_representation(&chain.array_to_bytes, alloc, shape, data_type, fill_value)?;
+    decode_told(&chain.bytes_to_bytes, alloc, bytes, told)
 }
 
 // Decodes bytes that it lets go, to an array with bytes of its own.
@@ -123,7 +208,7 @@ impl<C: ArrayToBytesCodecTraits, B: BytesToBytesCodecTraits> ArrayToBytesCodecTr
     }
 
     /// Encodes by the first codec, and its bytes by the second. Refused as `encode` of the first codec, then as `TooLarge`
-    /// where the bytes of the second pass `usize::MAX`; or as `OutOfMemory`.
+    /// only where some encoding by the second passes `usize::MAX`; or as `OutOfMemory`.
     fn encode(
         &self,
         alloc: Global,
@@ -140,8 +225,9 @@ impl<C: ArrayToBytesCodecTraits, B: BytesToBytesCodecTraits> ArrayToBytesCodecTr
         Ok(encoded)
     }
 
-    /// Decodes by the second codec, and its bytes by the first. Refused as `check` refuses, then as `Damaged` where the
-    /// second has no inverse of the bytes, then as `decode` of the first.
+    /// Decodes by the second codec, and its bytes by the first. Where the first tells a fixed length, the second decodes no
+    /// more bytes. Refused as `check` refuses, then as `Damaged` where the bytes are no encoding of the second, or one of
+    /// another length than the first tells, then as `decode` of the first.
     fn decode<'a>(
         &self,
         alloc: Global,
@@ -154,7 +240,7 @@ impl<C: ArrayToBytesCodecTraits, B: BytesToBytesCodecTraits> ArrayToBytesCodecTr
         self.array_to_bytes
             .check(alloc, shape, data_type, fill_value)?;
         let _axes = shape.as_slice();
-        let inner = self.bytes_to_bytes.decode(alloc, bytes)?;
+        let inner = decode_bytes(self, alloc, bytes, shape, data_type, fill_value)?;
         decode_inner(
             &self.array_to_bytes,
             alloc,
@@ -191,9 +277,9 @@ impl<C: ArrayToBytesCodecTraits, B: BytesToBytesCodecTraits> ArrayToBytesCodecTr
         Ok(self.bytes_to_bytes.encoded_representation(inner))
     }
 
-    /// Reads the whole interval, and by the first codec the requested cells of the bytes that the second decodes. Refused as
-    /// the trait says, then as `Damaged` where the second codec has no inverse of the bytes, then as the first refuses
-    /// these bytes.
+    /// Reads the whole interval, and by the first codec the requested cells of the bytes that the second decodes, as `decode`
+    /// does. Refused as the trait says, then as `Damaged` where the bytes are no encoding of the second codec, or one of
+    /// another length than the first tells, then as the first refuses these bytes.
     fn partial_decode<H: BytesPartialDecoderTraits, N: Indexer>(
         &self,
         alloc: Global,
@@ -215,7 +301,7 @@ impl<C: ArrayToBytesCodecTraits, B: BytesToBytesCodecTraits> ArrayToBytesCodecTr
         let Some(bytes) = read_range(handle, &mut room, alloc, range)? else {
             return Err(CodecError::OutOfBounds);
         };
-        let inner = self.bytes_to_bytes.decode(alloc, bytes)?;
+        let inner = decode_bytes(self, alloc, bytes, shape, data_type, fill_value)?;
         let whole = Interval {
             offset: 0,
             size: inner.len() as u64,
@@ -235,19 +321,23 @@ impl<C: ArrayToBytesCodecTraits, B: BytesToBytesCodecTraits> ArrayToBytesCodecTr
     }
 }
 
-impl<C: FunctionalCodec, B: BytesToBytesCodecTraits> FunctionalCodec for BytesChain<C, B> {
+impl<C: FunctionalCodec, B: FunctionalBytesCodec> FunctionalCodec for BytesChain<C, B> {
+    ghost use Rattle.std.specs.Prelude.{◌&&◌};
+    ghost use Rattle.std.proofs.lemmas.Bool.{and_parts};
     ghost use Rattle.codec_chains.specs.ChainLaws.{chained_encoding};
 
-    ghost functional = { λ s. C.functional s.array_to_bytes };
+    ghost functional = { λ s. C.functional s.array_to_bytes && B.functional s.bytes_to_bytes };
 
-    ghost encoding = { λ s g elements. (B.coding s.bytes_to_bytes).encoding (C.encoding s.array_to_bytes g elements) };
+    ghost encoding = { λ s g elements. B.encoding s.bytes_to_bytes (C.encoding s.array_to_bytes g elements) };
 
-    /// Where the first codec is.
+    /// Where both codecs are.
     fn is_functional(&self) -> bool {
-        self.array_to_bytes.is_functional()
+        self.array_to_bytes.is_functional() && self.bytes_to_bytes.is_functional()
     }
 
     ghost one_encoding = { λ s g elements b functional serves array written.
-        chained_encoding _ (B.coding s.bytes_to_bytes).encoding elements b (C.encoding s.array_to_bytes g elements) written
-        (λ inner h. C.one_encoding s.array_to_bytes g elements inner functional serves array h) };
+        let both = and_parts (C.functional s.array_to_bytes) (B.functional s.bytes_to_bytes) functional in
+        chained_encoding _ (B.coding s.bytes_to_bytes) (B.encoding s.bytes_to_bytes) elements b (C.encoding s.array_to_bytes g elements) written
+        (λ inner h. C.one_encoding s.array_to_bytes g elements inner both.0 serves array h)
+        (λ inner encoded h. B.one_encoding s.bytes_to_bytes inner encoded both.1 h) };
 }

@@ -6,5 +6,5 @@ mod bytes_to_bytes;
 mod either_codec;
 
 pub use bytes_chain::BytesChain;
-pub use bytes_to_bytes::BytesToBytesCodecTraits;
+pub use bytes_to_bytes::{BytesToBytesCodecTraits, FunctionalBytesCodec};
 pub use either_codec::EitherCodec;

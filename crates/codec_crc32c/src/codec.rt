@@ -1,7 +1,7 @@
 // The codec `crc32c`.
 
 use crate::checksum::crc32c;
-use codec_chains::BytesToBytesCodecTraits;
+use codec_chains::{BytesToBytesCodecTraits, FunctionalBytesCodec};
 use codec_traits::BytesRepresentation;
 use parts_errors::CodecError;
 use std::alloc::Global;
@@ -64,4 +64,21 @@ impl BytesToBytesCodecTraits for Crc32cCodec {
             BytesRepresentation::UnboundedSize => BytesRepresentation::UnboundedSize,
         }
     }
+}
+
+impl FunctionalBytesCodec for Crc32cCodec {
+    ghost use Rattle.std.specs.Prelude.{true};
+    ghost use Rattle.codec_chains.specs.Trailers.{with_trailer};
+    ghost use Rattle.codec_crc32c.specs.Crc32c.{checksum_bytes};
+
+    ghost functional = { λ _. true };
+
+    ghost encoding = { λ _ b. with_trailer checksum_bytes b };
+
+    /// Always.
+    fn is_functional(&self) -> bool {
+        true
+    }
+
+    ghost one_encoding = { λ _ b encoded functional h. h };
 }

@@ -4,9 +4,10 @@ use crate::examples::{said, told};
 use crate::pairs::{decoded_pair, encoded_pair, second_of, two_cells, wanted};
 use codec_crc32c::{Crc32cCodec, crc32c};
 use std::borrow::CowSlice;
-use test_helpers::MarkedCodec;
+use test_helpers::{MarkedCodec, PackedCodec};
 use zarr_codecs::{
-    BytesChain, BytesCodec, BytesRepresentation, BytesToBytesCodecTraits, FunctionalCodec, Interval,
+    BytesChain, BytesCodec, BytesRepresentation, BytesToBytesCodecTraits, FunctionalBytesCodec,
+    FunctionalCodec, Interval,
 };
 use zarr_parts::CodecError;
 
@@ -71,6 +72,25 @@ fn a_chain_tells_its_size(rt: HostRuntime) {
     same(&rt, found, Ok(BytesRepresentation::FixedSize(3)));
 }
 
+// Bytes that stand for more than memory holds are damaged behind a codec that tells how long its encodings are: they are not
+// decoded.
+#[test]
+fn a_chain_decodes_no_more_than_is_told(rt: HostRuntime) {
+    const ROWS: &[(&[u8], Result<&[u8], CodecError>)] = &[
+        (&[0, 1, 2], Ok(&[1, 2])),
+        (&[0, 1], DAMAGED),
+        (&[0, 1, 2, 3], DAMAGED),
+        (&[1, 255], DAMAGED),
+    ];
+    let packed = BytesChain::new(BytesCodec::little(), PackedCodec);
+    for (bytes, want) in ROWS {
+        let found = decoded_pair(&rt, rt.alloc(), &packed, bytes);
+        same_at(&rt, *bytes, found, wanted(&rt, *want));
+    }
+    let found = PackedCodec.decode(rt.alloc(), &[1, 255]);
+    same(&rt, said_of(&found), Err(CodecError::OutOfMemory));
+}
+
 // The check values of CRC-32C.
 #[test]
 fn checksums_are_those_of_crc32c(rt: HostRuntime) {
@@ -112,5 +132,20 @@ fn a_checksum_is_compared(rt: HostRuntime) {
     for (bytes, want) in ROWS {
         let found = Crc32cCodec.decode(rt.alloc(), bytes);
         same_at(&rt, *bytes, said_of(&found), *want);
+    }
+}
+
+// A text is decoded within its length, and not within less.
+#[test]
+fn a_checksum_is_compared_within_a_limit(rt: HostRuntime) {
+    same(&rt, Crc32cCodec.is_functional(), true);
+    const ROWS: &[(usize, Result<&[u8], CodecError>)] = &[
+        (usize::MAX, Ok(b"123456789")),
+        (9, Ok(b"123456789")),
+        (8, DAMAGED),
+    ];
+    for (limit, want) in ROWS {
+        let found = Crc32cCodec.decode_within(rt.alloc(), CHECKED, *limit);
+        same_at(&rt, *limit, said_of(&found), *want);
     }
 }

@@ -2,3 +2,4 @@ pub mod Marked
 pub mod Inverted
 pub mod InvertedLaws
 pub mod Unbounded
+pub mod Packed

@@ -4,9 +4,11 @@
 mod hostile_objects;
 mod inverted;
 mod marked;
+mod packed;
 mod unbounded;
 
 pub use hostile_objects::{ABSENT, HostileObject, Stored, Wanted, hostile_table, object_of};
 pub use inverted::InvertedCodec;
 pub use marked::MarkedCodec;
+pub use packed::PackedCodec;
 pub use unbounded::UnboundedCodec;

@@ -1,5 +1,5 @@
 // A codec that marks bytes.
-use codec_chains::BytesToBytesCodecTraits;
+use codec_chains::{BytesToBytesCodecTraits, FunctionalBytesCodec};
 use codec_traits::BytesRepresentation;
 use std::alloc::Global;
 use std::borrow::CowSlice;
@@ -51,4 +51,20 @@ impl BytesToBytesCodecTraits for MarkedCodec {
             BytesRepresentation::UnboundedSize => BytesRepresentation::UnboundedSize,
         }
     }
+}
+
+impl FunctionalBytesCodec for MarkedCodec {
+    ghost use Rattle.std.specs.Prelude.{true};
+    ghost use Rattle.codec_chains.specs.Trailers.{with_trailer};
+    ghost use Rattle.test_helpers.specs.Marked.{mark};
+
+    ghost functional = { λ _. true };
+
+    ghost encoding = { λ _ b. with_trailer mark b };
+
+    fn is_functional(&self) -> bool {
+        true
+    }
+
+    ghost one_encoding = { λ _ b encoded functional h. h };
 }

@@ -1,5 +1,5 @@
 // A codec that leaves bytes as they are, and does not tell how long they are.
-use codec_chains::BytesToBytesCodecTraits;
+use codec_chains::{BytesToBytesCodecTraits, FunctionalBytesCodec};
 use codec_traits::BytesRepresentation;
 use std::alloc::Global;
 use std::borrow::CowSlice;
@@ -29,4 +29,18 @@ impl BytesToBytesCodecTraits for UnboundedCodec {
     fn encoded_representation(&self, _decoded: BytesRepresentation) -> BytesRepresentation {
         BytesRepresentation::UnboundedSize
     }
+}
+
+impl FunctionalBytesCodec for UnboundedCodec {
+    ghost use Rattle.std.specs.Prelude.{true};
+
+    ghost functional = { λ _. true };
+
+    ghost encoding = { λ _ b. b };
+
+    fn is_functional(&self) -> bool {
+        true
+    }
+
+    ghost one_encoding = { λ _ b encoded functional h. h };
 }
