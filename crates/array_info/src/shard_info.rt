@@ -1,5 +1,5 @@
 // Where the subchunks of one shard lie in its file.
-use crate::extract::shard_of;
+use crate::folder::shard_of;
 use crate::index_info::{index_size, whole_index};
 use crate::info::{ShardInfo, write_shard};
 use array_folder::{DeadBytes, IndexInfo, index_interval, info_of, slice_of};
@@ -130,7 +130,9 @@ fn write_layout<W: Write>(
 }
 
 /// Writes which bytes of a shard, by its key, each subchunk that is present takes, which ones its index, and which are dead. Only the
-/// index is read. Refused where no shard has the key, and where the index is.
+/// index is read. Refused, in this order, as `Stop::Codec` where the index has no fixed size, as `Stop::System` where the folder is not
+/// read, as `Stop::NoShard` where no shard has the key, as `Stop::System` or `Stop::Refused` where its index is not read, and as
+/// `Stop::Output` or `Stop::Closed` where the answer is not taken.
 pub fn info_of_shard<R: Files + AllocGlobal, I, X: ArrayToBytesCodecTraits, W: Write>(
     array: &Array<'_, R, I, X>,
     key: &str,

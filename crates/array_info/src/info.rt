@@ -280,8 +280,10 @@ fn write_info<R: Files + AllocGlobal + Clock, I, X, W: Write>(
     write_sums(out, sums)
 }
 
-/// Writes what the metadata says, and what is known of the shards that are there. Of each only the index is read.
-pub fn info<
+/// Writes what the metadata says, and what is known of the shards that are there. Of each only the index is read; a shard that is
+/// refused has a line that says why. Refused, in this order, as `Stop::Codec` where the index has no fixed size, as `Stop::System`
+/// where the folder or a file is not read, and as `Stop::Output` or `Stop::Closed` where the answer is not taken.
+pub fn info_of_array<
     R: Files + AllocGlobal + Clock,
     I: ArrayToBytesCodecTraits,
     X: ArrayToBytesCodecTraits,

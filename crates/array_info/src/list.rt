@@ -122,8 +122,10 @@ fn list_next<R: Files + AllocGlobal, W: Write>(
 }
 
 /// Writes a line for the array or the group at a path, and for each below a group: its name, what its elements are, its shape, and
-/// whether they are read. What is refused has a line, and the listing goes on; but what stands at the path itself stops it.
-pub fn list<R: Files + AllocGlobal, W: Write>(
+/// whether they are read. What is refused has a line, and the listing goes on. Refused as `metadata_of` refuses what stands at the path
+/// itself, as `Stop::System` where the members of a group are not listed, and as `Stop::Output` or `Stop::Closed` where a line is not
+/// taken.
+pub fn list_nodes<R: Files + AllocGlobal, W: Write>(
     rt: &R,
     path: &str,
     out: &mut W,
