@@ -1,7 +1,7 @@
 // Whether the shards of an array are sound.
-use crate::folder::write_folder;
 use array_cli::Progress;
 use array_folder::{ChunkFiles, Counted};
+use array_info::write_folder;
 use array_opening::{
     Array, Decoder, Ending, Place, Refusal, Shard, ShardFile, Stop, is_present, read_through,
     written,

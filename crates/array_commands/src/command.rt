@@ -4,13 +4,11 @@ ghost use Rattle.std.specs.Prelude.{◌≤◌, IfOk};
 use crate::check::check;
 use crate::compact::compact;
 use crate::extract::extract;
-use crate::info::info;
-use crate::list::list;
 use crate::npy::save_subset;
 use crate::read::read_array;
-use crate::shard_info::info_of_shard;
 use array_cli::{Form, Progress, Work, program, work_of, write_json, write_rows};
 use array_grid::subset_of;
+use array_info::{info_of_array, info_of_shard, list_nodes};
 use array_metadata::{ArrayMetadata, ElementType};
 use array_opening::{Array, Ending, Stop, metadata_of, written};
 use clap::ArgMatches;
@@ -76,7 +74,7 @@ fn run_work<
     progress: &mut Progress<'_, M>,
 ) -> Result<Ending, Stop> {
     match work {
-        Work::Info => info(array, out, progress),
+        Work::Info => info_of_array(array, out, progress),
         Work::InfoOfShard { key } => info_of_shard(array, key, out),
         Work::Check { is_index_alone } => check(array, is_index_alone, out, progress),
         Work::Extract { key, number } => extract(array, key, number, out),
@@ -147,7 +145,7 @@ fn run_array<R: Files + AllocGlobal + Clock, W: Write, M: Write>(
 fn run_list<R: Files + AllocGlobal, W: Write>(rt: &R, path: &str, out: &mut W) -> Result<u8, Stop>
     ensures { IfOk result (λ status. status ≤ 2) }
 {
-    match list(rt, path, out) {
+    match list_nodes(rt, path, out) {
         Ok(ending) | Err(Stop::Closed(ending)) => Ok(ending.status()),
         Err(stop) => Err(stop),
     }

@@ -1,5 +1,5 @@
 // The bytes of a subchunk as they are stored.
-use array_folder::ChunkFiles;
+use array_info::shard_of;
 use array_opening::{Array, Decoder, Ending, Place, Shard, Stop, written};
 use codec_traits::ArrayToBytesCodecTraits;
 use parts_errors::CodecError;
@@ -11,23 +11,6 @@ use std::borrow::CowSlice;
 use std::io::Write;
 use std::rt::Files;
 use storage_handles::BytesPartialDecoderTraits;
-
-/// The shard that has a key.
-pub fn shard_of<'s, R: Files + AllocGlobal, I, X>(
-    array: &Array<'_, R, I, X>,
-    files: &'s ChunkFiles,
-    key: &str,
-) -> Result<Shard<'s>, Stop> {
-    for file in files.chunks.iter() {
-        if file.key.as_str() == key {
-            return Ok(Shard {
-                key: &file.key,
-                coordinates: &file.coordinates,
-            });
-        }
-    }
-    Err(Stop::NoShard(escaped(array.alloc(), key)?))
-}
 
 // The number of a subchunk that a word is.
 fn number_of<R: Files + AllocGlobal, I, X>(

@@ -1,5 +1,5 @@
 // A compact shard that is written in the place of a shard's file.
-use crate::index_info::whole_index;
+use array_info::whole_index;
 use array_opening::{Array, Place, Shard, ShardFile, Stop};
 use codec_traits::ArrayToBytesCodecTraits;
 use parts_errors::{CodecError, CodecOptions};

@@ -3,3 +3,4 @@ pub mod CauseLemmas
 pub mod StepLemmas
 pub mod OpeningLemmas
 pub mod SessionCauses
+pub mod EqualityLemmas

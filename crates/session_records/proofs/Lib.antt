@@ -3,4 +3,3 @@ pub mod HistoryLemmas
 pub mod OpeningLemmas
 pub mod ReceiptLemmas
 pub mod WholeLemmas
-pub mod EqualityLemmas

@@ -16,7 +16,7 @@ use Rattle.sharding_codec.specs.declared.codec.ShardingCodec.{ShardingCodec}
 use Rattle.session_model.specs.Objects.{shards_of, IsSound}
 use Rattle.session_model.proofs.CauseLemmas.{selection_first}
 use Rattle.session_model.proofs.OpeningLemmas.{usable_in_step}
-use Rattle.session_records.specs.Histories.{IsCellsOf}
+use Rattle.session_model.specs.Histories.{IsCellsOf}
 use Rattle.session_records.specs.Recorded.{full_subset, meaning_in, WholeReadRefusals, RecordedRefusals}
 
 -- tests that look at an object, also from before a reading call

@@ -1,4 +1,3 @@
-pub mod Histories
 pub mod Recorded
 pub mod SharedRecords
 pub mod Receipts

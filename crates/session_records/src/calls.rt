@@ -4,14 +4,13 @@ ghost use Rattle.parts_subsets.specs.Selections.{subset_selection};
 ghost use Rattle.sharding_codec.specs.Sessions.{IsInStep};
 ghost use Rattle.sharding_codec.specs.LockedSessions.{HasWritten, HasRefusedWrite, HasRead, HasRefusedRead, HasErased};
 ghost use Rattle.session_records.specs.RefusedErasures.{HasRefusedToErase};
-ghost use Rattle.session_records.specs.declared.event.Event.TheVariants.{Write, Read, Erase};
+ghost use Rattle.session_model.specs.declared.event.Event.TheVariants.{Write, Read, Erase};
 
-use crate::event::{Event, Receipt};
-use crate::history::History;
 use codec_traits::ArrayToBytesCodecTraits;
 use parts_arrays::ArrayBytes;
 use parts_errors::{CodecError, CodecOptions};
 use parts_subsets::ArraySubset;
+use session_model::{Event, History, Receipt};
 use sharding_codec::{ShardState, ShardingCodec};
 use std::alloc::Global;
 use storage_handles::BytesPartialEncoderTraits;
@@ -44,10 +43,8 @@ pub fn record_write<
     history.take_room(receipts)?;
     let event = Event::of_write(alloc, subset, bytes)?;
     let told = Event::of_write(alloc, subset, bytes)?;
-    match state.partial_encode(alloc, subset, bytes, &CodecOptions::default()) {
-        Ok(()) => Ok(history.put(receipts, event, told)),
-        Err(error) => Err(error),
-    }
+    let call = state.partial_encode(alloc, subset, bytes, &CodecOptions::default());
+    history.put_accepted(receipts, call, event, told)
 }
 
 /// Reads the cells of a subset, as the session's `partial_decode`, with an event and a receipt; the number is the event's place. A
@@ -105,6 +102,6 @@ pub fn record_erase<
     ensures refused { IfErr result (λ e. HasRefusedToErase H.state e state.old state.new) }
 {
     history.take_room(receipts)?;
-    state.erase()?;
-    Ok(history.put(receipts, Event::Erase, Event::Erase))
+    let call = state.erase();
+    history.put_accepted(receipts, call, Event::Erase, Event::Erase)
 }

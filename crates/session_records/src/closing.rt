@@ -3,11 +3,11 @@ ghost use Rattle.std.specs.Prelude.{◌≡◌, ◌≤◌, false, length, replica
 ghost use Rattle.session_records.specs.Receipts.{Agree, receipts_of};
 ghost use Rattle.session_records.specs.Closing.{IsRefusedClose, Carries};
 
-use crate::event::{Event, same_elements};
 use crate::receipts::{first_mismatch, have_as_many};
 use crate::seat::Seat;
 use parts_arrays::ArrayBytes;
 use parts_errors::CodecError;
+use session_model::{Event, same_elements};
 
 /// What a recorded session leaves: the handle, the cells that it opened with, and what was done since, in order.
 #[derive(Debug, Drop)]

@@ -4,8 +4,6 @@
 mod calls;
 mod closing;
 mod encoder;
-mod event;
-mod history;
 mod naming;
 mod receipts;
 mod seat;
@@ -14,8 +12,6 @@ mod shard;
 pub use calls::{record_erase, record_read, record_write};
 pub use closing::{CloseError, Closed};
 pub use encoder::{RecordedPartialEncoder, recorded};
-pub use event::{Event, Receipt, same_elements, same_event};
-pub use history::History;
 pub use naming::Naming;
 pub use seat::Seat;
 pub use shard::RecordedShard;

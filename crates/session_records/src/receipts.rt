@@ -4,8 +4,8 @@ ghost use Rattle.std.specs.List.{All};
 ghost use Rattle.session_records.specs.Receipts.{Stands, RiseFrom, times, receipts_of, Agree, IsMismatch};
 ghost use Rattle.session_records.specs.steps.Marks.{mark_at, marks, IsSeatMismatch};
 
-use crate::event::{Event, Receipt, same_event};
 use crate::seat::Seat;
+use session_model::{Event, Receipt, same_event};
 
 // Whether a receipt's event stands at its place.
 fn stands(events: &[Event], receipt: &Receipt) -> bool

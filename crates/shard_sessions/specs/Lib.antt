@@ -4,7 +4,7 @@ pub use Rattle.session_model.specs.Causes
 pub use Rattle.session_model.specs.Runs
 pub use Rattle.session_model.specs.Ended
 pub use Rattle.session_runs.specs.FromScratch
-pub use Rattle.session_records.specs.Histories
+pub use Rattle.session_model.specs.Histories
 pub use Rattle.session_records.specs.Recorded
 pub use Rattle.session_records.specs.SharedRecords
 pub use Rattle.session_records.specs.Receipts

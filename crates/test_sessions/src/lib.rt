@@ -1,4 +1,4 @@
-// Tests of shards that are held open for reading and writing, over their public calls alone.
+// Tests of shards that are held open for reading and writing, and of whole shards in parallel, over their public calls alone.
 #![tactic(auto)]
 
 #[cfg(test)]
@@ -6,9 +6,13 @@ mod compared;
 #[cfg(test)]
 mod faults;
 #[cfg(test)]
+mod gates;
+#[cfg(test)]
 mod laws;
 #[cfg(test)]
 mod locked;
+#[cfg(test)]
+mod morton;
 #[cfg(test)]
 mod nested;
 #[cfg(test)]
@@ -16,8 +20,14 @@ mod opening;
 #[cfg(test)]
 mod reopened;
 #[cfg(test)]
+mod round_trips;
+#[cfg(test)]
 mod sessions;
 #[cfg(test)]
 mod shards;
+#[cfg(test)]
+mod whole_shards;
+#[cfg(test)]
+mod workers;
 #[cfg(test)]
 mod writing;

@@ -1,10 +1,14 @@
+use Rattle.std.proofs.Common.{◌≡◌, Err}
+use Rattle.std.proofs.lemmas.Result.{IfErr-weaker}
 use Rattle.session_records.proofs.calls.record_write.Goals as goal
 
-pub returns-in-Err-clause-refused : goal.returns-in-Err-clause-refused
-returns-in-Err-clause-refused g c =
-    let e = c.in-Err.ensures in
-    record { failed = e.failed; fault = e.fault; refused = e.refused }
-
--- of a refused call no clause says that it has written
-pub returns-in-Err-clause-written : goal.returns-in-Err-clause-written
-returns-in-Err-clause-written g c = tt
+-- the history hands on the refusal of the call, so it is what the call says of it
+pub returns-clause-refused : goal.returns-clause-refused
+returns-clause-refused g c =
+    IfErr-weaker c.put_accepted.result _ _
+    (λ e is. record {
+      failed = rw is at c.partial_encode-call.ensures.failed;
+      fault = rw is at c.partial_encode-call.ensures.fault;
+      refused = rw is at c.partial_encode-call.ensures.refused;
+    })
+    c.put_accepted.ensures.refused

@@ -14,7 +14,7 @@ use Rattle.sharding_codec.specs.Decoders.{ObjectCellsRefusals}
 use Rattle.sharding_open.proofs.PreparedLemmas.{length-object_cells}
 use Rattle.session_model.specs.Objects.{shards_of}
 use Rattle.session_model.proofs.CauseLemmas.{session_first}
-use Rattle.session_records.specs.Histories.{IsCellsOf}
+use Rattle.session_model.specs.Histories.{IsCellsOf}
 use Rattle.session_records.specs.Recorded.{full_subset, meaning_in}
 use Rattle.session_records.proofs.WholeLemmas.{whole_cells}
 use Rattle.session_records.proofs.OpeningLemmas.{cells_left}

@@ -1,9 +1,27 @@
-// What stands in an array's folder besides its shards.
+// What stands in an array's folder: the shard that has a key, and what is no shard.
 use array_folder::{ChunkFiles, age_of};
-use array_opening::Array;
+use array_opening::{Array, Shard, Stop};
+use parts_escaped_text::escaped;
 use std::io;
 use std::io::Write;
 use std::rt::{Clock, Files};
+
+/// The shard of an array that has a key, among the files of its chunks. Refused as `Stop::NoShard` where none has it.
+pub fn shard_of<'s, R: Files + AllocGlobal, I, X>(
+    array: &Array<'_, R, I, X>,
+    files: &'s ChunkFiles,
+    key: &str,
+) -> Result<Shard<'s>, Stop> {
+    for file in files.chunks.iter() {
+        if file.key.as_str() == key {
+            return Ok(Shard {
+                key: &file.key,
+                coordinates: &file.coordinates,
+            });
+        }
+    }
+    Err(Stop::NoShard(escaped(array.alloc(), key)?))
+}
 
 // Writes a line for the new file with a key, which stands beside a shard.
 fn write_replacing<R: Files + AllocGlobal + Clock, I, X, W: Write>(
@@ -19,7 +37,7 @@ fn write_replacing<R: Files + AllocGlobal + Clock, I, X, W: Write>(
 }
 
 /// Writes what stands in an array's folder besides its shards: a line for each new file that stands beside a shard, and how
-/// many other files there are.
+/// many other files there are. Refused as the writer refuses.
 pub fn write_folder<R: Files + AllocGlobal + Clock, I, X, W: Write>(
     array: &Array<'_, R, I, X>,
     out: &mut W,

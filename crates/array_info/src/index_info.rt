@@ -57,7 +57,8 @@ pub fn index_info<I, X: ArrayToBytesCodecTraits>(
     info_of(&mut numbers, codec.location, bytes.len() as u64, length)
 }
 
-/// The index of the shard that is an object of a length. Only the index is read, a long one in pieces.
+/// The index of the shard that is an object of a length. Only the index is read, a long one in pieces. Refused as
+/// `ShardingCodec::read_index` refuses.
 pub fn whole_index<I, X: ArrayToBytesCodecTraits, H: BytesPartialDecoderTraits>(
     alloc: Global,
     codec: &ShardingCodec<I, X>,

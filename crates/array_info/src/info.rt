@@ -4,7 +4,7 @@ use crate::index_info::{index_info, index_range, index_size, whole_index};
 use array_cli::{Progress, write_numbers, write_rows};
 use array_folder::{ChunkFile, ChunkFiles, Counted, FolderFiles, IndexInfo, info_of};
 use array_metadata::ArrayMetadata;
-use array_opening::{Array, Ending, Place, Refusal, Shard, Stop, written};
+use array_opening::{Array, Ending, Place, Refusal, Shard, ShardFile, Stop, written};
 use codec_traits::ArrayToBytesCodecTraits;
 use parts_errors::CodecError;
 use parts_subsets::ChunkShape;
@@ -87,6 +87,21 @@ fn info_in_pieces<I, X: ArrayToBytesCodecTraits, H: BytesPartialDecoderTraits>(
     Ok(Some((length, info)))
 }
 
+// What is known of a shard in a file, which has a length and whose index says this or is refused so.
+fn known<'a, R: Files + AllocGlobal, I, X>(
+    array: &Array<'a, R, I, X>,
+    shard: &Shard<'_>,
+    file: &ShardFile<'a, R>,
+    length: u64,
+    read: Result<IndexInfo, CodecError>,
+) -> Result<ShardInfo, Stop> {
+    let index = match read {
+        Ok(info) => Ok(info),
+        Err(error) => Err(array.refusal(shard, file, error, Place::opening(&error))?),
+    };
+    Ok(ShardInfo { length, index })
+}
+
 // What is known of a shard, whose index has a size and is read in pieces; nothing where its file is gone.
 fn read_in_pieces<R: Files + AllocGlobal, I, X: ArrayToBytesCodecTraits>(
     array: &Array<'_, R, I, X>,
@@ -95,16 +110,11 @@ fn read_in_pieces<R: Files + AllocGlobal, I, X: ArrayToBytesCodecTraits>(
 ) -> Result<Option<ShardInfo>, Stop> {
     let mut file = array.file(shard.key)?;
     let shape = &array.metadata.shard;
-    let (length, index) = match info_in_pieces(array.alloc(), array.codec, shape, size, &mut file) {
-        Ok(Some((length, Ok(info)))) => (length, Ok(info)),
-        Ok(Some((length, Err(error)))) => {
-            let refusal = array.refusal(shard, &file, error, Place::opening(&error))?;
-            (length, Err(refusal))
-        }
-        Ok(None) => return Ok(None),
-        Err(error) => return Err(Stop::Refused(array.refusal(shard, &file, error, Place::Shard)?)),
-    };
-    Ok(Some(ShardInfo { length, index }))
+    match info_in_pieces(array.alloc(), array.codec, shape, size, &mut file) {
+        Ok(Some((length, read))) => Ok(Some(known(array, shard, &file, length, read)?)),
+        Ok(None) => Ok(None),
+        Err(error) => Err(Stop::Refused(array.refusal(shard, &file, error, Place::Shard)?)),
+    }
 }
 
 // What is known of the shards in these files, whose indexes have a size; nothing of one whose file is gone.
@@ -280,8 +290,10 @@ fn write_info<R: Files + AllocGlobal + Clock, I, X, W: Write>(
     write_sums(out, sums)
 }
 
-/// Writes what the metadata says, and what is known of the shards that are there. Of each only the index is read.
-pub fn info<
+/// Writes what the metadata says, and what is known of the shards that are there. Of each only the index is read; a shard that is
+/// refused has a line that says why. Refused, in this order, as `Stop::Codec` where the index has no fixed size, as `Stop::System`
+/// where the folder or a file is not read, and as `Stop::Output` or `Stop::Closed` where the answer is not taken.
+pub fn info_of_array<
     R: Files + AllocGlobal + Clock,
     I: ArrayToBytesCodecTraits,
     X: ArrayToBytesCodecTraits,

@@ -1,5 +1,5 @@
 // Where the subchunks of one shard lie in its file.
-use crate::extract::shard_of;
+use crate::folder::shard_of;
 use crate::index_info::{index_size, whole_index};
 use crate::info::{ShardInfo, write_shard};
 use array_folder::{DeadBytes, IndexInfo, index_interval, info_of, slice_of};
@@ -10,6 +10,7 @@ use parts_escaped_text::escaped;
 use parts_row_major::unravel_index;
 use parts_subsets::ChunkShape;
 use sharding_codec::ShardingCodec;
+use sharding_format::ShardingIndexLocation;
 use std::alloc::Global;
 use std::io;
 use std::io::Write;
@@ -28,6 +29,27 @@ struct Layout {
     length: u64,
 }
 
+impl Layout {
+    // What an index of these numbers and this size says, of a shard in a file of a length.
+    fn new(
+        alloc: Global,
+        numbers: Vec<u64>,
+        location: ShardingIndexLocation,
+        size: u64,
+        length: u64,
+    ) -> Result<Self, CodecError> {
+        let mut sorted = Vec::from_slice(alloc, &numbers)?;
+        let info = info_of(&mut sorted, location, size, length)?;
+        Ok(Layout {
+            numbers,
+            sorted,
+            info,
+            index: index_interval(location, size, length),
+            length,
+        })
+    }
+}
+
 // Where the subchunks of the shard in a file lie, whose index has a size; `None` where there is no file.
 fn layout_of<I, X: ArrayToBytesCodecTraits, H: BytesPartialDecoderTraits>(
     alloc: Global,
@@ -39,22 +61,18 @@ fn layout_of<I, X: ArrayToBytesCodecTraits, H: BytesPartialDecoderTraits>(
     let Some(length) = file.len()? else {
         return Ok(None);
     };
-    let numbers = whole_index(alloc, codec, shape, file, length)?.numbers;
-    let mut sorted = Vec::from_slice(alloc, &numbers)?;
-    let info = info_of(&mut sorted, codec.location, size, length)?;
-    Ok(Some(Layout {
-        numbers,
-        sorted,
-        info,
-        index: index_interval(codec.location, size, length),
-        length,
-    }))
+    let index = whole_index(alloc, codec, shape, file, length)?;
+    let layout = Layout::new(alloc, index.numbers, codec.location, size, length)?;
+    Ok(Some(layout))
 }
 
 // Writes what bytes a line is of, from a start to before an end.
 fn write_bytes<W: Write>(out: &mut W, name: &str, (start, end): (u64, u64)) -> io::Result<()> {
-    let size = end.saturating_sub(start);
-    write!(out, "{name:>8}  {start:>14}  {size:>14}  {end:>14}")
+    write!(out, "{name:>8}")?;
+    for number in [start, end.saturating_sub(start), end] {
+        write!(out, "  {number:>14}")?;
+    }
+    Ok(())
 }
 
 // Writes a line for a subchunk that lies at these bytes.
@@ -130,7 +148,9 @@ fn write_layout<W: Write>(
 }
 
 /// Writes which bytes of a shard, by its key, each subchunk that is present takes, which ones its index, and which are dead. Only the
-/// index is read. Refused where no shard has the key, and where the index is.
+/// index is read. Refused, in this order, as `Stop::Codec` where the index has no fixed size, as `Stop::System` where the folder is not
+/// read, as `Stop::NoShard` where no shard has the key, as `Stop::System` or `Stop::Refused` where its index is not read, and as
+/// `Stop::Output` or `Stop::Closed` where the answer is not taken.
 pub fn info_of_shard<R: Files + AllocGlobal, I, X: ArrayToBytesCodecTraits, W: Write>(
     array: &Array<'_, R, I, X>,
     key: &str,

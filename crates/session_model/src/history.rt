@@ -1,7 +1,8 @@
 // What was done in a session: room for one more event is taken before a call, and the event is put there once the call is accepted.
-ghost use Rattle.std.specs.Prelude.{◌≡◌, ◌<◌, ◌++◌, ◌∷◌, [], false, OnOk, length, vec_len, vec_capacity};
+ghost use Rattle.std.specs.Prelude.{◌≡◌, ◌<◌, ◌++◌, ◌∷◌, [], false, Ok, Err, IfOk, IfErr, OnOk, OnErr, length, vec_len, vec_capacity};
 
 use crate::event::{Event, Receipt};
+use parts_errors::CodecError;
 use std::alloc::{AllocError, Global};
 
 /// What was done in a session, in order, and for each event a mark whether its receipt was seen.
@@ -52,5 +53,31 @@ impl History {
         self.seen.push_reserved(false);
         receipts.push_reserved(Receipt { place, event: told });
         place
+    }
+
+    /// Puts the event of an accepted call, as `put`. A refused call is no event, and its refusal is handed on.
+    pub fn put_accepted(
+        &mut self,
+        receipts: &mut Vec<Receipt>,
+        call: Result<(), CodecError>,
+        event: Event,
+        told: Event,
+    ) -> Result<u64, CodecError>
+        requires events { vec_len self.old.events < vec_capacity self.old.events }
+        requires seen { vec_len self.old.seen < vec_capacity self.old.seen }
+        requires receipts { vec_len receipts.old < vec_capacity receipts.old }
+        ensures accepted { OnOk result (call ≡ Ok tt) }
+        ensures refused { IfErr result (λ e. call ≡ Err e) }
+        ensures place { IfOk result (λ place. place ≡ length self.old.events.items) }
+        ensures events { OnOk result (self.new.events.items ≡ self.old.events.items ++ event ∷ []) }
+        ensures seen { OnOk result (self.new.seen.items ≡ self.old.seen.items ++ false ∷ []) }
+        ensures receipts { IfOk result (λ place. receipts.new.items ≡ receipts.old.items ++ record { place = place; event = told } ∷ []) }
+        ensures no_event { OnErr result ((self.new.events.items ≡ self.old.events.items) × (receipts.new.items ≡ receipts.old.items)) }
+        ensures no_mark { OnErr result (self.new.seen.items ≡ self.old.seen.items) }
+    {
+        match call {
+            Ok(()) => Ok(self.put(receipts, event, told)),
+            Err(error) => Err(error),
+        }
     }
 }

@@ -1,7 +1,7 @@
 // What workers answer, and that they are there.
 use crate::compared::{same, same_at};
 use crate::gates::{Counted, Meeting};
-use crate::shards::{Shards, add_entry, array_of, said};
+use crate::whole_shards::{Shards, add_entry, array_of, said};
 use std::alloc::Global;
 use std::process::Abort;
 use zarr_parts::CodecError;

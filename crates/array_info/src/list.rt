@@ -9,11 +9,12 @@ use std::io::Write;
 use std::rt::Files;
 
 // Whether what is refused is the metadata of a group.
-fn is_group(error: &MetadataError) -> bool {
-    match error {
-        MetadataError::Refused { sentence, .. } => {
-            sentence.as_str() == "this is a group, not an array"
-        }
+fn is_group(stop: &Stop) -> bool {
+    match stop {
+        Stop::Metadata {
+            error: MetadataError::Refused { sentence, .. },
+            ..
+        } => sentence.as_str() == "this is a group, not an array",
         _ => false,
     }
 }
@@ -44,18 +45,22 @@ enum Node {
     Refused(Stop),
 }
 
+// What stands at a path where no metadata of an array is read.
+fn other_node(stop: Stop) -> Result<Node, Stop> {
+    if is_group(&stop) {
+        return Ok(Node::Group);
+    }
+    if matches!(&stop, Stop::OutOfMemory) {
+        return Err(stop);
+    }
+    Ok(Node::Refused(stop))
+}
+
 // What stands at a path.
 fn node_at<R: Files + AllocGlobal>(rt: &R, path: &str) -> Result<Node, Stop> {
     match metadata_of(rt, path) {
         Ok(metadata) => Ok(Node::Array(metadata)),
-        Err(Stop::OutOfMemory) => Err(Stop::OutOfMemory),
-        Err(Stop::Metadata { path, error }) => {
-            if is_group(&error) {
-                return Ok(Node::Group);
-            }
-            Ok(Node::Refused(Stop::Metadata { path, error }))
-        }
-        Err(stop) => Ok(Node::Refused(stop)),
+        Err(stop) => other_node(stop),
     }
 }
 
@@ -122,8 +127,10 @@ fn list_next<R: Files + AllocGlobal, W: Write>(
 }
 
 /// Writes a line for the array or the group at a path, and for each below a group: its name, what its elements are, its shape, and
-/// whether they are read. What is refused has a line, and the listing goes on; but what stands at the path itself stops it.
-pub fn list<R: Files + AllocGlobal, W: Write>(
+/// whether they are read. What is refused has a line, and the listing goes on. Refused as `metadata_of` refuses what stands at the path
+/// itself, as `Stop::System` where the members of a group are not listed, and as `Stop::Output` or `Stop::Closed` where a line is not
+/// taken.
+pub fn list_nodes<R: Files + AllocGlobal, W: Write>(
     rt: &R,
     path: &str,
     out: &mut W,

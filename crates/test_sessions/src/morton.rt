@@ -1,6 +1,6 @@
 // Shards along the Z-curve in parallel, against slices that were sorted by hand.
 use crate::compared::same_at;
-use crate::shards::{Shards, add_entry, array_of, said};
+use crate::whole_shards::{Shards, add_entry, array_of, said};
 use std::alloc::Global;
 use std::process::Abort;
 use zarr_parts::ArrayBytes;
