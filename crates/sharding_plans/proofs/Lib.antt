@@ -1,2 +1,3 @@
 mod PutLemmas
 mod PlanLemmas
+mod AxesLemmas

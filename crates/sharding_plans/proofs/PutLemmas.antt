@@ -1,5 +1,5 @@
 -- Parts of a subset, put one after the other in any order.
-use Rattle.std.proofs.Common.{◌≡◌, ◌≢◌, ℕ, ◌<◌, List, [], ◌∷◌, Some, inl, inr, refl, sym, ap, subst, ◌∙◌, arith}
+use Rattle.std.proofs.Common.{◌≡◌, ◌≢◌, ℕ, ◌<◌, List, ◌∷◌, Some, inl, inr, refl, sym, ap, ◌∙◌, arith}
 use Rattle.std.proofs.lemmas.Bool.{cases_eq}
 use Rattle.parts_errors.specs.Words.{Bytes, CellsOf}
 use Rattle.parts_row_major.specs.Numbering.{count_of}
@@ -10,7 +10,7 @@ use Rattle.parts_row_major.proofs.PieceLaws.{number_in_below}
 use Rattle.parts_subsets.proofs.GridLaws.{position_number-below, cell_number-located, subchunk_number-cell_number}
 use Rattle.sharding_format.specs.Cells.{indexed_cell}
 use Rattle.sharding_gather.specs.SubchunkOverlaps.{IsSubchunkOverlap}
-use Rattle.sharding_plans.specs.Puts.{IsAmong, element_of, ArePut, AreApart, AllArePut, AreDecoded}
+use Rattle.sharding_plans.specs.Puts.{element_of, ArePut, AreApart, AllArePut, AreDecoded}
 
 module _ (shape sub : List ℕ) (subset : Subset) (divides : Divides sub shape) (lies : LiesIn subset shape) (place : ℕ → ℕ) (element : ℕ → ℕ → Bytes) where
   module _ (puts : List ℕ) (first old new : ℕ → Bytes) (k : ℕ) (in_subchunk in_subset : Subset) (apart : AreApart subset place) (below : k < count_of (grid_of shape sub))

@@ -1,6 +1,5 @@
 -- That a subchunk shape divides a shard's holds in one way at most, so that a struct can keep it.
-use Rattle.std.specs.Prelude.{◌≡◌, ◌%◌, ℕ, List, [], ◌∷◌}
-use Rattle.std.specs.List.{AllZip}
+use Rattle.std.specs.Prelude.{◌%◌, ℕ, List, [], ◌∷◌}
 use Rattle.std.specs.Coded.{×_prop, Unit-prop, Coded-set, coded_ℕ}
 use Rattle.parts_subsets.specs.Grid.{Divides}
 

@@ -44,9 +44,10 @@ pub fn put_part(
     ensures passed { OnOk result (CanBePut element_size from.now.subset.now from.now.shape.now into.now.subset.now into.now.shape.now (length decoded.now) (length answer.old)) }
     ensures refused { IfErr result (PutRefusals element_size from.now.subset.now from.now.shape.now into.now.subset.now into.now.shape.now (length decoded.now) (length answer.old)) }
 {
+    let (from_axes, into_axes) = (from.subset.shape(), into.subset.shape());
     let positions = check_subset(from.subset, from.shape)?;
     let count = check_subset(into.subset, into.shape)?;
-    if from.subset.shape() != into.subset.shape() {
+    if from_axes != into_axes {
         return Err(CodecError::InvalidNumberOfElements);
     }
     if element_size == 0 {
@@ -80,6 +81,7 @@ pub fn fill_part(answer: &mut [u8], into: &Part, element: &[u8]) -> Result<(), C
     ensures passed { OnOk result (IsTarget (length answer.old) (length element.now) into.now.shape.now into.now.subset.now) }
     ensures refused { IfErr result (FillRefusals (length element.now) into.now.subset.now into.now.shape.now (length answer.old)) }
 {
+    let _axes = into.subset.shape();
     let count = check_subset(into.subset, into.shape)?;
     if element.is_empty() {
         return Err(CodecError::WrongElementKind);

@@ -113,6 +113,7 @@ impl ShardGrid {
         ensures passed { OnOk result (IsWithin self.now.shape subset.now) }
         ensures refused { IfErr result (RefusedBy (WithinRefusals self.now.shape subset.now done)) }
     {
+        let _axes = subset.shape();
         check_subset(subset, self.shape.as_slice())?;
         let touched = subset.touched_subchunks(alloc, &self.shape, &self.subchunk_shape)?;
         Ok(touched)
