@@ -61,11 +61,18 @@ SubsetTests layout subset later =
     StartRefusals subset.start.now subset.shape.now (WithinRefusals layout.shape.now (told_subset subset) done) then
     later
 
--- the tests of a plan with a row for each of some subchunks, in a room of so many numbers
-abbrev pub RowsTests : Layout → List ℕ → (needed room : ℕ) → Refusal → Type 0
-RowsTests layout numbers needed room =
-    needed < 2 ^ 64 or_refused Codec TooLarge then
-    needed ≤ room or_refused RoomTooSmall needed then
+-- how many numbers the rows of some subchunks have, and that a number can say it
+abbrev pub rows_length : Layout → ℕ → ℕ
+rows_length layout rows = rows * row_length (length layout.shape.now)
+
+abbrev pub CanBeCounted : Layout → ℕ → Type 0
+CanBeCounted layout rows = row_length (length layout.shape.now) < 2 ^ 64 × rows_length layout rows < 2 ^ 64
+
+-- the tests of a plan with so many rows, in a room of so many numbers
+abbrev pub RowsTests : Layout → List ℕ → (rows room : ℕ) → Refusal → Type 0
+RowsTests layout numbers rows room =
+    CanBeCounted layout rows or_refused Codec TooLarge then
+    rows_length layout rows ≤ room or_refused RoomTooSmall (rows_length layout rows) then
     HasEntries layout.shape.now layout.subchunk_shape.now numbers or_refused_by
     (HasEntries layout.shape.now layout.subchunk_shape.now numbers or InvalidNumberOfElements then done) then
     passed
@@ -76,7 +83,7 @@ PlanTests layout numbers subset room =
     LaidTests layout (
     SubsetTests layout subset (λ refusal.
     (touched : List ℕ) × AreTouched layout.shape.now layout.subchunk_shape.now (told_subset subset) touched
-    × RowsTests layout numbers (length touched * row_length (length layout.shape.now)) room refusal))
+    × RowsTests layout numbers (length touched) room refusal))
 
 -- the tests of a row: its axes, its parts, and those of a put
 abbrev pub RowPutRefusals : Layout → List ℕ → ℕ → List ℕ → ℕ → Refusals

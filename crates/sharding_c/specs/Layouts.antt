@@ -54,10 +54,13 @@ pub record IsIndexRange (layout : Layout) (len : ℕ) (range : Range) : Type 0 w
   pub within : range.size ≤ len
   pub offset : range.offset ≡ (if is_set layout.index 1 then 0 else len - range.size)
 
--- number i of an index
+-- number i of an index whose numbers are big endian or little endian
+abbrev pub number_as : Bool → Bytes → ℕ → ℕ
+number_as is_big index i =
+    if is_big then from_be_bytes w64 (take 8 (drop (8 * i) index)) else from_le_bytes w64 (take 8 (drop (8 * i) index))
+
 abbrev pub number_at : ℕ → Bytes → ℕ → ℕ
-number_at flags index i =
-    if is_set flags 2 then from_be_bytes w64 (take 8 (drop (8 * i) index)) else from_le_bytes w64 (take 8 (drop (8 * i) index))
+number_at flags index i = number_as (is_set flags 2) index i
 
 -- bytes are an index: as many as it has, and where there is a checksum its bytes are that of the numbers
 pub record IsIndex (flags subchunks : ℕ) (index : Bytes) : Type 0 where

@@ -31,7 +31,7 @@ row_length axes = 3 + 3 * axes
 
 -- the part of a row in its subchunk, and in the answer
 abbrev pub in_subchunk : ℕ → List ℕ → Subset
-in_subchunk axes row = record { start = take axes (drop 3 row); shape = drop (3 + 2 * axes) row }
+in_subchunk axes row = record { start = take axes (drop 3 row); shape = take axes (drop (3 + 2 * axes) row) }
 
 abbrev pub in_answer : ℕ → List ℕ → Subset
-in_answer axes row = record { start = take axes (drop (3 + axes) row); shape = drop (3 + 2 * axes) row }
+in_answer axes row = record { start = take axes (drop (3 + axes) row); shape = take axes (drop (3 + 2 * axes) row) }

@@ -17,7 +17,7 @@ status_of BadFlags = 65
 pub record IsRefused (tests : Refusal → Type 0) (status : ℕ) : Type 0 where
   pub refusal : Refusal
   pub tested : tests refusal
-  pub status : status ≡ status_of refusal
+  pub numbered : status ≡ status_of refusal
 
 -- what a refused call tells: how much room it needs, where that is the refusal, and nothing else
 abbrev pub told_after : Refusal → Told → Told
@@ -29,7 +29,7 @@ told_after BadFlags told = told
 pub record IsRefusedTelling (tests : Refusal → Type 0) (status : ℕ) (old new : Told) : Type 0 where
   pub refusal : Refusal
   pub tested : tests refusal
-  pub status : status ≡ status_of refusal
+  pub numbered : status ≡ status_of refusal
   pub told : new ≡ told_after refusal old
 
 -- where P fails the refusal is r, and where it holds it comes from the later tests

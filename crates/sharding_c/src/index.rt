@@ -1,8 +1,8 @@
 // The index of a shard: where it stands, and its numbers.
-ghost use Rattle.std.specs.Prelude.{◌≡◌, ◌↔◌, ◌<◌, ◌≤◌, ◌*◌, ℕ, IsTrue, IfOk, IfErr, OnOk, OnErr, length, slice_index};
+ghost use Rattle.std.specs.Prelude.{◌≡◌, ◌↔◌, ◌<◌, ◌≤◌, ◌+◌, ◌*◌, ℕ, IsTrue, IfOk, IfErr, OnOk, OnErr, length, slice_index};
 ghost use Rattle.std.specs.Int.{to_le_bytes, w32};
 ghost use Rattle.codec_crc32c.specs.Checksum.{checksum};
-ghost use Rattle.sharding_c.specs.Layouts.{index_size, subchunks_of, IsLaidOut, IsIndexRange, IsIndex, AreIndexNumbers, number_at};
+ghost use Rattle.sharding_c.specs.Layouts.{index_size, subchunks_of, IsLaidOut, IsIndexRange, IsIndex, AreIndexNumbers, number_as, number_at};
 ghost use Rattle.sharding_c.specs.Exports.{IndexRangeTests, IndexReadTests};
 
 use crate::layout::{AT_START, BIG_ENDIAN, CRC32C, Layout, Range, has, shard_of};
@@ -30,20 +30,30 @@ pub(crate) fn index_range(alloc: Global, layout: &Layout, len: u64) -> Result<Ra
     Ok(Range { offset, size })
 }
 
-// Writes numbers of eight bytes each.
+// Number i of an index.
+fn number_in(is_big: bool, bytes: &[u8], i: usize) -> u64
+    requires within { 8 * i + 8 ≤ length bytes.now }
+    ensures { result ≡ number_as is_big bytes.now i }
+{
+    let Some(number) = bytes[8 * i..].first_chunk::<8>() else {
+        unreachable!()
+    };
+    if is_big {
+        u64::from_be_bytes(*number)
+    } else {
+        u64::from_le_bytes(*number)
+    }
+}
+
+// Reads the numbers of an index.
 fn read_numbers(flags: u32, bytes: &[u8], numbers: &mut [u64])
     requires whole { 8 * length numbers.old ≤ length bytes.now }
     ensures length { length numbers.new ≡ length numbers.old }
     ensures read { (i : ℕ) → i < length numbers.old → slice_index numbers.new i ≡ number_at flags bytes.now i }
 {
     let is_big = has(flags, BIG_ENDIAN);
-    let (chunks, _) = bytes.as_chunks::<8>();
     for i in 0..numbers.len() {
-        numbers[i] = if is_big {
-            u64::from_be_bytes(chunks[i])
-        } else {
-            u64::from_le_bytes(chunks[i])
-        };
+        numbers[i] = number_in(is_big, bytes, i);
     }
 }
 

@@ -142,5 +142,8 @@ pub(crate) fn subset_of(alloc: Global, start: &[u64], shape: &[u64]) -> Result<A
     }
     let start = Axes::from_slice(alloc, start)?;
     let shape = Axes::from_slice(alloc, shape)?;
-    ArraySubset::new_with_axes(start, shape).ok_or(CodecError::OutOfBounds)
+    match ArraySubset::new_with_axes(start, shape) {
+        Some(subset) => Ok(subset),
+        None => Err(CodecError::OutOfBounds),
+    }
 }

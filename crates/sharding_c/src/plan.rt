@@ -1,5 +1,5 @@
 // Plans of reads as rows of numbers.
-ghost use Rattle.std.specs.Prelude.{◌≡◌, ◌≤◌, ◌*◌, ◌^◌, ◌<◌, SomeIff, IfOk, IfErr, OnOk, OnErr, length};
+ghost use Rattle.std.specs.Prelude.{◌≡◌, ◌≤◌, ◌*◌, ◌^◌, ◌<◌, ◌++◌, SomeIff, IfOk, IfErr, OnOk, OnErr, length, drop};
 ghost use Rattle.sharding_c.specs.Layouts.{IsLaidOut};
 ghost use Rattle.sharding_c.specs.Rows.{row_length};
 ghost use Rattle.sharding_c.specs.Exports.{IsPlanWritten, PlanTests};
@@ -20,10 +20,18 @@ pub(crate) struct Planned {
 
 // How many numbers so many rows have, where a number can say it.
 fn numbers_of_rows(rows: usize, axes: usize) -> Option<u64>
-    ensures { SomeIff result (rows * row_length axes < 2 ^ 64) (rows * row_length axes) }
+    ensures { SomeIff result (row_length axes < 2 ^ 64 × rows * row_length axes < 2 ^ 64) (rows * row_length axes) }
 {
     let numbers = (axes as u64).checked_mul(3)?.checked_add(3)?;
     numbers.checked_mul(rows as u64)
+}
+
+// Writes numbers to the front of a room.
+fn write_front(numbers: &[u64], room: &mut [u64])
+    requires { length numbers.now ≤ length room.old }
+    ensures { room.new ≡ numbers.now ++ drop (length numbers.now) room.old }
+{
+    room[..numbers.len()].copy_from_slice(numbers);
 }
 
 /// Writes the rows of a read of a subset, one for each subchunk that it touches, up to the first whose index entry is bad. Refused, in this
@@ -55,7 +63,7 @@ pub(crate) fn plan_subset(
     let index = IndexNumbers { len, numbers };
     let plan = shard.grid.plan_touched(alloc, &index, &subset, &touched)?;
     let rows = rows_of_plan(alloc, &plan)?;
-    room[..rows.len()].copy_from_slice(&rows);
+    write_front(&rows, room);
     Ok(Planned {
         rows: plan.parts.len() as u64,
         bad: plan.bad,

@@ -22,10 +22,12 @@ fn part_at(
 ) -> Result<ArraySubset, CodecError>
     requires row { length row.now ≡ row_length axes }
     requires place { place ≤ 3 + axes }
-    ensures part { IfOk result (λ part. part ≡ record { start = take axes (drop place row.now); shape = drop (3 + 2 * axes) row.now }) }
-    ensures refused { IfErr result (RefusedBy (StartRefusals (take axes (drop place row.now)) (drop (3 + 2 * axes) row.now) done)) }
+    ensures part { IfOk result (λ part. part ≡ record { start = take axes (drop place row.now); shape = take axes (drop (3 + 2 * axes) row.now) }) }
+    ensures passed { OnOk result (IsSubset (take axes (drop place row.now)) (take axes (drop (3 + 2 * axes) row.now))) }
+    ensures refused { IfErr result (RefusedBy (StartRefusals (take axes (drop place row.now)) (take axes (drop (3 + 2 * axes) row.now)) done)) }
 {
-    subset_of(alloc, &row[place..place + axes], &row[3 + 2 * axes..])
+    let lengths = 3 + 2 * axes;
+    subset_of(alloc, &row[place..place + axes], &row[lengths..lengths + axes])
 }
 
 // Whether a row has the numbers of so many axes.

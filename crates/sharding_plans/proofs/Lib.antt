@@ -1,3 +1,3 @@
 mod PutLemmas
 mod PlanLemmas
-mod AxesLemmas
+pub mod AxesLemmas
