@@ -1,12 +1,12 @@
 -- The rows of a plan have room where there is room for a row of each touched subchunk.
-use Rattle.std.proofs.Common.{◌≡◌, ◌<◌, ◌≤◌, ◌+◌, ◌*◌, ◌^◌, ◌++◌, ◌∙◌, ℕ, List, [], ◌∷◌, Option, Some, None, length, map, take, sym, ap, refl, inl, inr, arith}
+use Rattle.std.proofs.Common.{◌≡◌, ◌<◌, ◌≤◌, ◌+◌, ◌*◌, ◌^◌, ◌++◌, ◌∙◌, ℕ, List, [], ◌∷◌, Option, Some, None, length, refl, inl, inr, arith}
 use Rattle.std.specs.List.{All}
-use Rattle.std.proofs.lemmas.List.{length-append, length-map, length-take}
+use Rattle.std.proofs.lemmas.List.{length-append}
 use Rattle.std.proofs.lemmas.List.Elements.{All-head, All-tail, length_all_zip}
 use Rattle.parts_errors.specs.Order.{done, RefusedBy}
 use Rattle.parts_errors.specs.declared.error.CodecError.{CodecError}
 use Rattle.parts_errors.specs.declared.error.CodecError.TheVariants.{TooLarge}
-use Rattle.parts_row_major.specs.Subsets.{Subset as Part, IsSubset, LiesIn}
+use Rattle.parts_row_major.specs.Subsets.{Subset as Part, IsSubset}
 use Rattle.parts_subsets.specs.Touched.{AreTouched}
 use Rattle.sharding_plans.specs.declared.read_plan.ReadPart.{ReadPart}
 use Rattle.sharding_plans.specs.declared.read_plan.ReadPlan.{ReadPlan}
@@ -27,9 +27,14 @@ record HasAxes (axes : ℕ) (part : ReadPart) : Type 0 where
 
 length-row_of : (axes : ℕ) (part : ReadPart) → HasAxes axes part → length (row_of part) ≡ row_length axes
 length-row_of axes part has =
-    omega (arith, has.start, has.in_answer, has.lengths,
-    length-append (part.overlap.in_subchunk.start ++ part.overlap.in_subset.start) part.overlap.in_subset.shape,
-    length-append part.overlap.in_subchunk.start part.overlap.in_subset.start)
+    omega (
+      arith,
+      has.start,
+      has.in_answer,
+      has.lengths,
+      length-append (part.overlap.in_subchunk.start ++ part.overlap.in_subset.start) part.overlap.in_subset.shape,
+      length-append part.overlap.in_subchunk.start part.overlap.in_subset.start,
+    )
 
 length-rows_of : (axes : ℕ) (parts : List ReadPart) → All (HasAxes axes) parts → length (rows_of parts) ≡ length parts * row_length axes
 length-rows_of axes [] all = omega arith

@@ -1,5 +1,5 @@
 -- What a put by a row refuses, in the order of its tests.
-use Rattle.std.proofs.Common.{◌≡◌, ◌<◌, ◌+◌, ◌^◌, ℕ, List, Result, Ok, Err, IfErr, IsErrAnd, length, inl, inr, subst, sym}
+use Rattle.std.proofs.Common.{◌≡◌, ◌<◌, ◌+◌, ◌^◌, ℕ, List, Result, Ok, Err, IfErr, IsErrAnd, length, inr, subst, sym}
 use Rattle.std.proofs.lemmas.List.Elements.{length_all_zip}
 use Rattle.parts_errors.specs.Words.{Refusals}
 use Rattle.parts_errors.specs.Order.{RefusedBy}
@@ -39,5 +39,8 @@ module _ (row : List ℕ) (shape : List ℕ) (answer : ℕ) (axes : length row �
       → RefusedBy (RowPutRefusals layout row decoded shape answer) e
   row_put_refused layout decoded e from h =
       let rest : Refusals = PutRefusals layout.element_size (in_subchunk (length shape) row) layout.subchunk_shape.now (in_answer (length shape) row) shape decoded answer in
-      inr (inr (axes, started_then (in_subchunk (length shape) row) (StartRefusals (in_answer (length shape) row).start (in_answer (length shape) row).shape rest) e from
-      (started_then (in_answer (length shape) row) rest e well h)))
+      inr (inr (
+        axes,
+        started_then (in_subchunk (length shape) row) (StartRefusals (in_answer (length shape) row).start (in_answer (length shape) row).shape rest) e from
+            (started_then (in_answer (length shape) row) rest e well h),
+      ))

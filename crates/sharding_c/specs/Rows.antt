@@ -1,6 +1,6 @@
 -- The rows of a plan: for each part the number of its subchunk, the offset and the size of its slice, where it starts in the subchunk and in
 -- the answer, and its shape.
-use Rattle.std.specs.Prelude.{◌≡◌, ◌+◌, ◌*◌, ◌-◌, ◌^◌, ◌++◌, ℕ, List, [], ◌∷◌, flat_map, length, take, drop}
+use Rattle.std.specs.Prelude.{◌+◌, ◌*◌, ◌++◌, ℕ, List, ◌∷◌, flat_map, take, drop}
 use Rattle.parts_row_major.specs.Subsets.{Subset}
 use Rattle.sharding_format.specs.Index.{absent_number}
 use Rattle.sharding_format.specs.declared.slot.Slot.{Slot}

@@ -132,7 +132,11 @@ pub(crate) fn shard_of(alloc: Global, layout: &Layout) -> Result<Shard, Refusal>
 
 /// The subset that C tells. Refused, in this order, as `IncompatibleDimensionality` where start and shape differ in their number of axes,
 /// and as `OutOfBounds` where an end passes 2^64; or as `OutOfMemory`.
-pub(crate) fn subset_of(alloc: Global, start: &[u64], shape: &[u64]) -> Result<ArraySubset, CodecError>
+pub(crate) fn subset_of(
+    alloc: Global,
+    start: &[u64],
+    shape: &[u64],
+) -> Result<ArraySubset, CodecError>
     ensures subset { IfOk result (λ made. made ≡ record { start = start.now; shape = shape.now }) }
     ensures passed { OnOk result (IsSubset start.now shape.now) }
     ensures refused { IfErr result (RefusedBy (StartRefusals start.now shape.now done)) }

@@ -14,12 +14,7 @@ use sharding_plans::{Part, fill_part, put_part};
 use std::alloc::Global;
 
 // The part that a row tells, whose start stands at a place of the row.
-fn part_at(
-    alloc: Global,
-    row: &[u64],
-    place: usize,
-    axes: usize,
-) -> Result<ArraySubset, CodecError>
+fn part_at(alloc: Global, row: &[u64], place: usize, axes: usize) -> Result<ArraySubset, CodecError>
     requires row { length row.now ≡ row_length axes }
     requires place { place ≤ 3 + axes }
     ensures part { IfOk result (λ part. part ≡ record { start = take axes (drop place row.now); shape = take axes (drop (3 + 2 * axes) row.now) }) }
@@ -27,7 +22,11 @@ fn part_at(
     ensures refused { IfErr result (RefusedBy (StartRefusals (take axes (drop place row.now)) (take axes (drop (3 + 2 * axes) row.now)) done)) }
 {
     let lengths = 3 + 2 * axes;
-    subset_of(alloc, &row[place..place + axes], &row[lengths..lengths + axes])
+    subset_of(
+        alloc,
+        &row[place..place + axes],
+        &row[lengths..lengths + axes],
+    )
 }
 
 // Whether a row has the numbers of so many axes.

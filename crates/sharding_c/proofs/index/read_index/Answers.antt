@@ -1,4 +1,4 @@
-use Rattle.std.proofs.Common.{◌≡◌, ◌≤◌, ◌<◌, ◌*◌, ◌++◌, ℕ, length, take, drop, slice_index, ap, subst, rules, arith}
+use Rattle.std.proofs.Common.{◌≡◌, ◌≤◌, ◌<◌, ◌*◌, ◌++◌, ℕ, length, drop, slice_index, ap, subst, rules, arith}
 use Rattle.std.proofs.lemmas.List.{length-take-le}
 use Rattle.sharding_c.specs.Layouts.{number_at, subchunks_of, AreIndexNumbers}
 use Rattle.sharding_c.proofs.FrontLemmas.{are_numbers}

@@ -1,4 +1,4 @@
-use Rattle.std.proofs.Common.{◌≡◌, ◌≤◌, ◌<◌, ◌*◌, ◌^◌, ◌++◌, ◌∙◌, ℕ, length, take, drop, rules, sym, ap, refl, arith}
+use Rattle.std.proofs.Common.{◌≡◌, ◌≤◌, ◌*◌, ◌++◌, ◌∙◌, length, drop, rules, ap, refl}
 use Rattle.parts_subsets.specs.Touched.{AreTouched}
 use Rattle.sharding_plans.specs.ReadPlans.{HasEntries, IsPlanOf, IsWithin}
 use Rattle.sharding_c.specs.Rows.{rows_of, row_length}
