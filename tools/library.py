@@ -5,6 +5,7 @@
     python3 tools/library.py test          reads of shards that are written here, by a C program under address checks and by the module
     python3 tools/library.py header        status 1 where include/zarr_sharding.h and the exports differ
 """
+import ctypes
 import os
 import random
 import re
@@ -229,11 +230,15 @@ def try_refusals(zarr_sharding):
     index = struct.pack("<8Q", *numbers)
     whole = index + struct.pack("<I", crc32c(index))
     read = layout.index(whole)
+
+    def as_numbers(values):
+        return (ctypes.c_uint64 * len(values))(*values)
+
     wanted = [
         (7, None, lambda: layout.index_range(67)), (15, None, lambda: layout.index(whole[:-1])), (15, None, lambda: layout.index(whole[:-1] + b"\0")),
         (3, None, lambda: layout.plan(68, read, (0,), (4,))), (4, None, lambda: layout.plan(68, read, (3, 3), (1, 2))),
-        (5, None, lambda: layout.plan(68, read[:-2], (0, 0), (4, 4))),
-        (9, 2, lambda: layout.plan(68, (zarr_sharding.ctypes.c_uint64 * 8)(*numbers[:4], 65, 4, 0, 4), (0, 0), (4, 4))),
+        (5, None, lambda: layout.plan(68, as_numbers(numbers[:-2]), (0, 0), (4, 4))),
+        (9, 2, lambda: layout.plan(68, as_numbers([*numbers[:4], 65, 4, 0, 4]), (0, 0), (4, 4))),
         (15, None, lambda: layout.put(layout.plan(68, read, (0, 0), (4, 4))[0], part[1:], bytearray(16), (4, 4))),
         (5, None, lambda: layout.put(layout.plan(68, read, (0, 0), (4, 4))[0], part, bytearray(15), (4, 4))),
         (12, None, lambda: layout.put_fill(layout.plan(68, read, (0, 0), (4, 4))[0], b"", bytearray(16), (4, 4))),

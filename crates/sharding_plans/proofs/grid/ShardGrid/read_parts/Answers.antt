@@ -6,4 +6,4 @@ loop-j-preserved c =
     let a = c.args in
     let told = rw c.in-Some.is at c.in_ok-part.ensures.part in
     planned_more a.self.now.shape a.self.now.subchunk_shape a.index.now.len a.index.now.numbers.now a.subset.now a.touched.now
-    c.loop-j.j c.loop-j.parts.items c.push.new.self.items c.in-Some.part c.loop-j-test.true c.in_ok-push.ensures.items told.0 told.1 c.loop-j.invariant
+    c.loop-j.j c.loop-j.parts.items c.push.new.self.items c.in-Some.part (omega (arith, c.loop-j-test.true)) c.in_ok-push.ensures.items told.0 told.1 c.loop-j.invariant
