@@ -1,3 +1,4 @@
+use Rattle.std.proofs.Common.{arith}
 use Rattle.sharding_plans.proofs.PlanLemmas.{planned_more}
 use Rattle.sharding_plans.proofs.grid.ShardGrid.read_parts.Goals as goal
 
