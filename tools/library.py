@@ -2,7 +2,7 @@
 """The C library of `sharding_indexed`: made, installed, and tried from C and from Python.
 
     python3 tools/library.py install DIR   DIR/include, DIR/lib (.a, .so, pkg-config) and DIR/python, after its proof
-    python3 tools/library.py test          reads of shards that are written here, by a C program under address checks and by the module
+    python3 tools/library.py               reads of shards that are written here, by a C program under address checks and by the module
     python3 tools/library.py header        status 1 where include/zarr_sharding.h and the exports differ
 """
 import ctypes
@@ -87,18 +87,43 @@ def kit():
     return os.path.dirname(subprocess.run(["rt", "doc"], check=True, capture_output=True, text=True).stdout.strip().split("\n")[0])
 
 
+def uses(name):
+    """The crates that a crate uses, by crates.txt, those of the kit too."""
+    with open(f"{TOP}/crates.txt", encoding="utf-8") as file:
+        found = re.search(rf"(?m)^{name}\b[^:]*:(.*)$", file.read())
+    return found[1].split()
+
+
+def archive(to):
+    """Proves and compiles the crate of the calls: over the libraries that the merge gate proved, where it left them here, else with these."""
+    rlibs = {it: f"{TOP}/crates/{it}/out/rlib" for it in uses("sharding_c")}
+    if not all(os.path.isdir(f"{at}/{it}.rlib") for it, at in rlibs.items()):
+        run("rt", "lib", cwd=CRATE, stdout=subprocess.DEVNULL)
+        shutil.copy(f"{CRATE}/out/libsharding_c.a", to)
+        return
+    known = f"{kit()}/rlibs"
+    words = ["--crate-name", "sharding_c", "src/lib.rt", "--crate-type", "staticlib", "--extern", f"std={known}/std.rlib", "-L", f"dependency={known}"]
+    for name, at in rlibs.items():
+        words += ["--extern", f"{name}={at}/{name}.rlib"]
+    for name in sorted(os.listdir(f"{TOP}/crates")):
+        words += ["-L", f"dependency={TOP}/crates/{name}/out/rlib"]
+    logic = ["--antt-project", f"{kit()}/rattle/logic/antt-project.json", "--logic-built", f"{kit()}/logic_built"]
+    made = ["--links", "sharding_c=", "--toolchain", f"{kit()}/toolchain", "--backend", "llvm", "-o", to]
+    run(f"{kit()}/bin/rattle", "build", *words, *logic, *made, cwd=CRATE, stdout=subprocess.DEVNULL)
+
+
 def build(to):
     """The archive, in which only the calls of the header are global, and the shared library."""
-    archive = f"{CRATE}/out/libsharding_c.a"
-    run("rt", "lib", cwd=CRATE, stdout=subprocess.DEVNULL)
-    whole = f"{to}/zarr_sharding.o"
-    run("ld", "-r", "-o", whole, "--whole-archive", archive, "--no-whole-archive", f"{kit()}/c/liblibc_c.a")
+    whole, made = f"{to}/zarr_sharding.o", f"{to}/libsharding_c.a"
+    archive(made)
+    run("ld", "-r", "-o", whole, "--whole-archive", made, "--no-whole-archive", f"{kit()}/c/liblibc_c.a")
     run("objcopy", "--wildcard", "--keep-global-symbol=zs_*", whole)
     if os.path.exists(f"{to}/libzarr_sharding.a"):
         os.remove(f"{to}/libzarr_sharding.a")
     run("ar", "rcs", f"{to}/libzarr_sharding.a", whole)
     run("cc", "-shared", "-o", f"{to}/libzarr_sharding.so", whole, "-Wl,-z,text,--no-undefined,-soname,libzarr_sharding.so")
     os.remove(whole)
+    os.remove(made)
 
 
 def install(prefix):
@@ -257,8 +282,8 @@ def try_refusals(zarr_sharding):
 
 
 if __name__ == "__main__":
-    if sys.argv[1:] in (["test"], ["header"]):
-        sys.exit({"test": test, "header": header}[sys.argv[1]]())
+    if sys.argv[1:] in ([], ["header"]):
+        sys.exit(header() if sys.argv[1:] else test())
     if sys.argv[1:2] == ["install"] and len(sys.argv) == 3:
         sys.exit(install(sys.argv[2]))
     sys.exit(__doc__)

@@ -19,7 +19,7 @@ use Rattle.sharding_c.specs.Layouts.{IsLaidOut, StartRefusals}
 use Rattle.sharding_c.specs.Rows.{row_of, rows_of, row_length}
 use Rattle.sharding_c.specs.Exports.{CanBeCounted, PlanTests, RowsTests, told_subset}
 
--- a part of so many axes
+-- a part whose starts and shape have this number of axes
 record HasAxes (axes : ℕ) (part : ReadPart) : Type 0 where
   start : length part.overlap.in_subchunk.start ≡ axes
   in_answer : length part.overlap.in_subset.start ≡ axes

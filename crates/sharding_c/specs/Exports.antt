@@ -32,7 +32,7 @@ IndexRangeTests layout len =
     index_size layout.index (subchunks_of layout) ≤ len or_refused Codec ShardTooShort then
     passed)
 
--- the tests of reading an index into a room of so many numbers
+-- the tests of reading an index into a room, by how many numbers it holds
 abbrev pub IndexReadTests : Layout → Bytes → ℕ → Refusal → Type 0
 IndexReadTests layout index room =
     LaidTests layout (
@@ -45,7 +45,8 @@ abbrev pub told_subset : Subset → subsets.Subset
 told_subset subset = record { start = subset.start.now; shape = subset.shape.now }
 
 -- the rows of a plan of a read stand in front of a room, and what was behind them there still does
-pub record IsPlanWritten (layout : Layout) (len : ℕ) (numbers : List ℕ) (subset : Subset) (old new : List ℕ) (rows : ℕ) (bad : Option ℕ) : Type 0 where
+pub record IsPlanWritten (layout : Layout) (len : ℕ) (numbers : List ℕ) (subset : Subset) (old new : List ℕ) (rows : ℕ) (bad : Option ℕ)
+    : Type 0 where
   pub plan : ReadPlan
   pub planned : IsReadPlan layout.shape.now layout.subchunk_shape.now len numbers (told_subset subset) plan
   pub entries : HasEntries layout.shape.now layout.subchunk_shape.now numbers
@@ -68,7 +69,7 @@ rows_length layout rows = rows * row_length (length layout.shape.now)
 abbrev pub CanBeCounted : Layout → ℕ → Type 0
 CanBeCounted layout rows = row_length (length layout.shape.now) < 2 ^ 64 × rows_length layout rows < 2 ^ 64
 
--- the tests of a plan with so many rows, in a room of so many numbers
+-- the tests of a plan with this number of rows, by how many numbers the room holds
 abbrev pub RowsTests : Layout → List ℕ → (rows room : ℕ) → Refusal → Type 0
 RowsTests layout numbers rows room =
     CanBeCounted layout rows or_refused Codec TooLarge then
@@ -91,7 +92,8 @@ RowPutRefusals layout row decoded shape answer =
     length row ≡ row_length (length shape) or IncompatibleDimensionality then
     StartRefusals (in_subchunk (length shape) row).start (in_subchunk (length shape) row).shape (
     StartRefusals (in_answer (length shape) row).start (in_answer (length shape) row).shape (
-    PutRefusals layout.element_size (in_subchunk (length shape) row) layout.subchunk_shape.now (in_answer (length shape) row) shape decoded answer))
+    PutRefusals layout.element_size (in_subchunk (length shape) row) layout.subchunk_shape.now (in_answer (length shape) row) shape
+    decoded answer))
 
 abbrev pub RowFillRefusals : List ℕ → ℕ → List ℕ → ℕ → Refusals
 RowFillRefusals row element shape answer =

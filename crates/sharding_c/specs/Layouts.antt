@@ -19,7 +19,7 @@ is_set flags flag = flags / flag % 2 == 1
 abbrev pub subchunks_of : Layout → ℕ
 subchunks_of layout = count_of (grid_of layout.shape.now layout.subchunk_shape.now)
 
--- the bytes of an index: two numbers of eight bytes for each subchunk, and four bytes of a checksum where there is one
+-- the bytes of an index: two numbers of eight bytes for each subchunk, and the four bytes of a checksum, if it has one
 abbrev pub index_size : ℕ → ℕ → ℕ
 index_size flags subchunks = 16 * subchunks + (if is_set flags 4 then 4 else 0)
 
@@ -48,7 +48,7 @@ StartRefusals start shape later =
     IsSubset start shape or OutOfBounds then
     later
 
--- the range of the index in an object of so many bytes
+-- the range of the index in an object of this length in bytes
 pub record IsIndexRange (layout : Layout) (len : ℕ) (range : Range) : Type 0 where
   pub size : range.size ≡ index_size layout.index (subchunks_of layout)
   pub within : range.size ≤ len

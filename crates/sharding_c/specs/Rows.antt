@@ -1,5 +1,5 @@
--- The rows of a plan: for each part the number of its subchunk, the offset and the size of its slice, where it starts in the subchunk and in
--- the answer, and its shape.
+-- The rows of a plan: for each part the number of its subchunk, the offset and the size of its slice, where it starts in the subchunk
+-- and in the answer, and its shape.
 use Rattle.std.specs.Prelude.{◌+◌, ◌*◌, ◌++◌, ℕ, List, ◌∷◌, flat_map, take, drop}
 use Rattle.parts_row_major.specs.Subsets.{Subset}
 use Rattle.sharding_format.specs.Index.{absent_number}
@@ -20,7 +20,8 @@ size_of Bad = absent_number
 
 abbrev pub row_of : ReadPart → List ℕ
 row_of part =
-    part.number ∷ offset_of part.slot ∷ size_of part.slot ∷ (part.overlap.in_subchunk.start ++ part.overlap.in_subset.start ++ part.overlap.in_subset.shape)
+    part.number ∷ offset_of part.slot ∷ size_of part.slot
+    ∷ (part.overlap.in_subchunk.start ++ part.overlap.in_subset.start ++ part.overlap.in_subset.shape)
 
 abbrev pub rows_of : List ReadPart → List ℕ
 rows_of parts = flat_map row_of parts

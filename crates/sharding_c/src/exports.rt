@@ -1,4 +1,4 @@
-// The calls of the C library. Each is one of this crate's own, whose refusal is told by a status; `zarr_sharding.h` says them in C's words.
+// The calls of the C library. Each is one of this crate's own, whose refusal a status says; `zarr_sharding.h` says them in C's words.
 ghost use Rattle.std.specs.Prelude.{◌≡◌, ◌≢◌, ◌<◌, ◌≤◌, ◌+◌, ◌*◌, ◌++◌, ◌∷◌, Some, None, length, drop};
 ghost use Rattle.sharding_c.specs.Statuses.{IsRefused, IsRefusedTelling, status_name};
 ghost use Rattle.sharding_c.specs.Layouts.{AreIndexNumbers, IsIndex, IsIndexRange, IsLaidOut, subchunks_of};
@@ -21,7 +21,7 @@ pub extern "C" fn zs_version() -> u32
     1
 }
 
-/// The bytes of an object of so many bytes that are its index (Zarr V3 `sharding_indexed`, "Binary shard format"). Refused, in this order, as
+/// The bytes of an object of `object_size` bytes that are its index (Zarr V3 `sharding_indexed`, "Binary shard format"). Refused, in this order, as
 /// `BadFlags`, `IncompatibleDimensionality`, `InvalidSubchunkShape`, `TooLarge` and `ShardTooShort`; or as `OutOfMemory`.
 #[unsafe(no_mangle)]
 pub extern "C" fn zs_index_range(

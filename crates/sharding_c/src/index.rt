@@ -11,7 +11,7 @@ use codec_crc32c::crc32c;
 use parts_errors::CodecError;
 use std::alloc::Global;
 
-/// The range of the index in an object of so many bytes. Refused, in this order, as the layout is, and as `ShardTooShort` where the object
+/// The range of the index in an object of `len` bytes. Refused, in this order, as the layout is, and as `ShardTooShort` where the object
 /// is shorter than its index.
 pub(crate) fn index_range(alloc: Global, layout: &Layout, len: u64) -> Result<Range, Refusal>
     ensures range { IfOk result (IsIndexRange layout.now len) }
@@ -65,7 +65,7 @@ fn is_checked(bytes: &[u8], trailer: &[u8]) -> bool
     trailer == checksum.as_slice()
 }
 
-// Whether bytes are the index of so many subchunks.
+// Whether bytes are an index with an entry of each subchunk.
 fn is_index(flags: u32, subchunks: u64, size: u64, bytes: &[u8]) -> bool
     requires { size ≡ index_size flags subchunks }
     ensures { IsTrue result ↔ IsIndex flags subchunks bytes.now }

@@ -63,7 +63,7 @@ pub(crate) fn has(flags: u32, flag: u32) -> bool
     flags / flag % 2 == 1
 }
 
-// How many bytes the index of so many subchunks has, where a number can say it.
+// How many bytes the index of these subchunks has, or `None` past 2^64.
 fn size_of_index(flags: u32, subchunks: u64) -> Option<u64>
     ensures { SomeIff result (index_size flags subchunks < 2 ^ 64) (index_size flags subchunks) }
 {

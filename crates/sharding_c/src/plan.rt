@@ -18,7 +18,7 @@ pub(crate) struct Planned {
     pub bad: Option<u64>,
 }
 
-// How many numbers so many rows have, where a number can say it.
+// How many numbers these rows have, or `None` past 2^64.
 fn numbers_of_rows(rows: usize, axes: usize) -> Option<u64>
     ensures { SomeIff result (row_length axes < 2 ^ 64 × rows * row_length axes < 2 ^ 64) (rows * row_length axes) }
 {

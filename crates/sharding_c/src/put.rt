@@ -29,7 +29,7 @@ fn part_at(alloc: Global, row: &[u64], place: usize, axes: usize) -> Result<Arra
     )
 }
 
-// Whether a row has the numbers of so many axes.
+// Whether a row has the numbers of this number of axes.
 fn has_axes(row: &[u64], axes: usize) -> bool
     ensures { IsTrue result ↔ (length row.now ≡ row_length axes) }
 {

@@ -9,7 +9,7 @@ use parts_errors::CodecError;
 #[derive(Clone, Copy)]
 pub enum Refusal {
     Codec(CodecError),
-    /// What is to be written needs room for so many numbers.
+    /// What is to be written needs room for `room` numbers.
     RoomTooSmall { room: u64 },
     /// The flags of a layout have no meaning.
     BadFlags,

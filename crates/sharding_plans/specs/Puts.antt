@@ -13,10 +13,11 @@ use Rattle.sharding_format.specs.Index.{slot_at}
 use Rattle.sharding_format.specs.Cells.{cell_in, indexed_cell}
 use Rattle.sharding_gather.specs.SubchunkOverlaps.{IsSubchunkOverlap}
 
--- the elements of a part of an array stand in a part of an answer, both in row-major order; all others of the answer are as before
+-- the elements of a part of an array stand in a part of an answer, both in row-major order; all others there are as before
 abbrev pub IsPut : (size : ℕ) (from : Subset) (sub : List ℕ) (into : Subset) (shape : List ℕ) (decoded old new : Bytes) → Type 0
 IsPut size from sub into shape decoded old new =
-    IsUpdated (count_of into.shape) (number_in into shape) (piece size old) (λ k. piece size decoded (number_in from sub k)) (piece size new)
+    IsUpdated (count_of into.shape) (number_in into shape) (piece size old) (λ k. piece size decoded (number_in from sub k))
+    (piece size new)
 
 -- the element stands everywhere in a part of an answer; all others of the answer are as before
 abbrev pub IsFilled : (element : Bytes) (into : Subset) (shape : List ℕ) (old new : Bytes) → Type 0
@@ -29,7 +30,7 @@ pub record CanBePut (size : ℕ) (from : Subset) (sub : List ℕ) (into : Subset
   pub answer_target : IsTarget answer size shape into
   pub same_shape : from.shape ≡ into.shape
 
--- the tests of a put, of decoded elements and an answer of so many bytes
+-- the tests of a put, by how many bytes the decoded elements and the answer have
 abbrev pub PutRefusals : (size : ℕ) (from : Subset) (sub : List ℕ) (into : Subset) (shape : List ℕ) (decoded answer : ℕ) → Refusals
 PutRefusals size from sub into shape decoded answer =
     SubsetRefusals from sub (

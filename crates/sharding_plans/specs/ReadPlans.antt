@@ -26,7 +26,7 @@ abbrev pub EndsAt : ℕ → List ℕ → List ℕ → ℕ → Option ℕ → Typ
 EndsAt len numbers touched parts None = parts ≡ length touched
 EndsAt len numbers touched parts (Some k) = (parts < length touched) × (slice_index touched parts ≡ k) × (slot_at len numbers k ≡ Bad)
 
--- a plan of a read, of a shard of so many bytes whose index has these numbers, by the subchunks that its subset touches: a part of each,
+-- a plan of a read, by a shard's length, its index's numbers and the subchunks that the subset touches: a part of each,
 -- up to the first whose index entry is bad
 pub record IsPlanOf (shape sub : List ℕ) (len : ℕ) (numbers : List ℕ) (subset : Subset) (touched : List ℕ) (plan : ReadPlan) : Type 0 where
   pub numbered : map (λ part. part.number) plan.parts.items ≡ take (length plan.parts.items) touched

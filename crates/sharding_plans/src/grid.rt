@@ -27,7 +27,7 @@ pub struct ShardGrid {
     ghost index_fits: { 16 * subchunks < 2 ^ 64 },
 }
 
-/// The index of a shard of so many bytes: two numbers for each subchunk, in row-major order, its offset and its size, both 2^64 - 1
+/// The index of a shard of `len` bytes: two numbers for each subchunk, in row-major order, its offset and its size, both 2^64 - 1
 /// where it is absent.
 #[derive(Clone, Copy)]
 pub struct IndexNumbers<'a> {

@@ -16,7 +16,7 @@ pub struct Part<'a> {
     pub subset: &'a ArraySubset,
 }
 
-// Whether bytes are so many elements of a size.
+// Whether bytes are this number of elements of a size.
 fn is_whole(bytes: &[u8], count: u64, element_size: usize) -> bool
     ensures { IsTrue result ↔ (length bytes.now ≡ count * element_size) }
 {
