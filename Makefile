@@ -1,6 +1,7 @@
 # make run                   a first look, without proofs: after a minute zarr_shard on example arrays, then shard_tool on a script
 # make install PREFIX=DIR    proves zarr_shard and shard_tool, and installs them in DIR/bin
-# make test                  the merge gate: lint, every proof, the must-fail edits, the tests, the programs, tools/scripts.py, make refuse, and tools/strangers.py
+# make library PREFIX=DIR    proves the library for C, and installs header, archives and its module for Python in DIR
+# make test                  the merge gate: lint, every proof, the must-fail edits, the tests, the programs, tools/scripts.py, make refuse, tools/strangers.py, and tools/library.py
 # make check CRATE=NAME      proves one crate, over what earlier checks kept; ONLY=path::of::a_function proves that one alone
 # make lint                  the rules that no compiler checks, in seconds
 # make reference             writes docs/REFERENCE.md from the sources
@@ -8,7 +9,7 @@
 # make wrap                  wraps the paragraphs of all pages
 # make refuse                refuses each allocation of a program in turn: the answers must stay (no proof)
 export PYTHONDONTWRITEBYTECODE := 1
-.PHONY: help run install test check lint reference readme wrap refuse
+.PHONY: help run install library test check lint reference readme wrap refuse
 
 help:
 	@sed -n 's/^# //p' Makefile
@@ -19,6 +20,9 @@ run:
 PREFIX ?= /usr/local
 install:
 	@python3 tools/prove.py install $(PREFIX)
+
+library:
+	@python3 tools/library.py install $(PREFIX)
 
 test: lint
 	@python3 tools/prove.py test

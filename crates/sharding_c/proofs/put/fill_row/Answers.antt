@@ -1,0 +1,12 @@
+use Rattle.std.proofs.Common.{◌≡◌, length, rules}
+use Rattle.sharding_c.proofs.RowLemmas.{refused_as, row_fill_refused}
+use Rattle.sharding_c.specs.Rows.{row_length}
+use Rattle.sharding_c.proofs.put.fill_row.Goals as goal
+
+pub returns-clause-refused : goal.returns-clause-refused
+returns-clause-refused c =
+    let a = c.args in
+    let axes : length a.row.now ≡ row_length (length a.answer_shape.now) = search rules in
+    let refused = rw c.in_ok-into.ensures.part at c.fill_part.ensures.refused in
+    refused_as _ _ c.fill_part.result refused
+    (λ e h. row_fill_refused a.row.now a.answer_shape.now (length a.answer.now) axes c.in_ok-into.ensures.passed (length a.element.now) e h)

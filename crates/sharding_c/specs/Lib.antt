@@ -1,0 +1,4 @@
+pub mod Statuses
+pub mod Layouts
+pub mod Rows
+pub mod Exports

@@ -1,0 +1,174 @@
+// The calls of the C library. Each is one of this crate's own, whose refusal a status says; `zarr_sharding.h` says them in C's words.
+ghost use Rattle.std.specs.Prelude.{◌≡◌, ◌≢◌, ◌<◌, ◌≤◌, ◌+◌, ◌*◌, ◌++◌, ◌∷◌, Some, None, length, drop};
+ghost use Rattle.sharding_c.specs.Statuses.{IsRefused, IsRefusedTelling, status_name};
+ghost use Rattle.sharding_c.specs.Layouts.{AreIndexNumbers, IsIndex, IsIndexRange, IsLaidOut, subchunks_of};
+ghost use Rattle.sharding_c.specs.Rows.{in_answer, in_subchunk};
+ghost use Rattle.sharding_c.specs.Exports.{FillTests, IndexRangeTests, IndexReadTests, IsPlanWritten, PlanTests, PutTests};
+ghost use Rattle.sharding_plans.specs.Puts.{IsFilled, IsPut};
+
+use crate::index::{index_range, read_index};
+use crate::layout::{Layout, Range, Subset, Told};
+use crate::plan::plan_subset;
+use crate::put::{fill_row, put_row};
+use crate::status::name_of;
+use std::alloc::Global;
+
+/// The version of the header's structs and signatures.
+#[unsafe(no_mangle)]
+pub extern "C" fn zs_version() -> u32
+    ensures { result ≡ 1 }
+{
+    1
+}
+
+/// The bytes of an object of `object_size` bytes that are its index (Zarr V3 `sharding_indexed`, "Binary shard format"). Refused, in this order, as
+/// `BadFlags`, `IncompatibleDimensionality`, `InvalidSubchunkShape`, `TooLarge` and `ShardTooShort`; or as `OutOfMemory`.
+#[unsafe(no_mangle)]
+pub extern "C" fn zs_index_range(
+    alloc: Global,
+    layout: &Layout,
+    object_size: u64,
+    range: &mut Range,
+) -> u32
+    ensures range { result ≡ 0 → IsIndexRange layout.now object_size range.new }
+    ensures laid { result ≡ 0 → IsLaidOut layout.now }
+    ensures kept { result ≢ 0 → range.new ≡ range.old }
+    ensures refused { result ≢ 0 → IsRefused (IndexRangeTests layout.now object_size) result }
+{
+    match index_range(alloc, layout, object_size) {
+        Ok(found) => {
+            *range = found;
+            0
+        }
+        Err(refusal) => refusal.status(),
+    }
+}
+
+/// The numbers of an index, two for each subchunk in row-major order, at the front of a room; `told.room` is how many they are, also where
+/// the room is too small. Refused, in this order, as the layout is, as `RoomTooSmall`, and as `Damaged` where the bytes are no index.
+#[unsafe(no_mangle)]
+pub extern "C" fn zs_index_read(
+    alloc: Global,
+    layout: &Layout,
+    index: &[u8],
+    numbers: &mut [u64],
+    told: &mut Told,
+) -> u32
+    ensures numbers { result ≡ 0 → AreIndexNumbers layout.now.index (2 * subchunks_of layout.now) index.now numbers.old numbers.new }
+    ensures index { result ≡ 0 → IsIndex layout.now.index (subchunks_of layout.now) index.now }
+    ensures told { result ≡ 0 → told.new ≡ record { room = 2 * subchunks_of layout.now; subchunk = told.old.subchunk } }
+    ensures length { length numbers.new ≡ length numbers.old }
+    ensures kept { result ≢ 0 → numbers.new ≡ numbers.old }
+    ensures refused { result ≢ 0 → IsRefusedTelling (IndexReadTests layout.now index.now (length numbers.old)) result told.old told.new }
+{
+    match read_index(alloc, layout, index, numbers) {
+        Ok(many) => {
+            told.room = many;
+            0
+        }
+        Err(refusal) => {
+            refusal.tell(told);
+            refusal.status()
+        }
+    }
+}
+
+/// The rows of a read of a subset: for each subchunk that it touches where its slice is, where its part starts in the subchunk and in the
+/// answer, and the part's shape. `told.room` is the count of rows, or of the numbers that need room. Where the index entry of a touched
+/// subchunk is bad the status is 9, `told.subchunk` is the lowest of their numbers, and the rows are those before it. Refused, in this
+/// order, as the layout is, as the subset is, as `TooLarge`, `RoomTooSmall`, and `InvalidNumberOfElements`; or as `OutOfMemory`.
+#[unsafe(no_mangle)]
+pub extern "C" fn zs_plan_subset(
+    alloc: Global,
+    layout: &Layout,
+    object_size: u64,
+    numbers: &[u64],
+    subset: &Subset,
+    plan: &mut [u64],
+    told: &mut Told,
+) -> u32
+    ensures planned { result ≡ 0 → IsPlanWritten layout.now object_size numbers.now subset.now plan.old plan.new told.new.room None }
+    ensures bad { result ≡ 9 → IsPlanWritten layout.now object_size numbers.now subset.now plan.old plan.new told.new.room (Some told.new.subchunk) }
+    ensures length { length plan.new ≡ length plan.old }
+    ensures kept { result ≢ 0 → result ≢ 9 → plan.new ≡ plan.old }
+    ensures refused { result ≢ 0 → result ≢ 9 → IsRefusedTelling (PlanTests layout.now numbers.now subset.now (length plan.old)) result told.old told.new }
+{
+    match plan_subset(alloc, layout, object_size, numbers, subset, plan) {
+        Ok(planned) => {
+            told.room = planned.rows;
+            match planned.bad {
+                None => 0,
+                Some(subchunk) => {
+                    told.subchunk = subchunk;
+                    9
+                }
+            }
+        }
+        Err(refusal) => {
+            refusal.tell(told);
+            refusal.status()
+        }
+    }
+}
+
+/// Puts a row's part of a decoded subchunk into an answer, an array of `answer_shape`. Rows may be put in any order, and again. Refused, in
+/// this order, as `IncompatibleDimensionality`, `OutOfBounds`, `TooLarge`, `InvalidNumberOfElements`, `WrongElementKind`, `Damaged` where
+/// `decoded` is no subchunk, and `InvalidNumberOfElements` where the answer has another length; or as `OutOfMemory`.
+#[unsafe(no_mangle)]
+pub extern "C" fn zs_put(
+    alloc: Global,
+    layout: &Layout,
+    row: &[u64],
+    decoded: &[u8],
+    answer_shape: &[u64],
+    answer: &mut [u8],
+) -> u32
+    ensures put { let axes = length answer_shape.now in
+        result ≡ 0 → IsPut layout.now.element_size (in_subchunk axes row.now) layout.now.subchunk_shape.now (in_answer axes row.now) answer_shape.now decoded.now answer.old answer.new }
+    ensures length { length answer.new ≡ length answer.old }
+    ensures kept { result ≢ 0 → answer.new ≡ answer.old }
+    ensures refused { result ≢ 0 → IsRefused (PutTests layout.now row.now (length decoded.now) answer_shape.now (length answer.old)) result }
+{
+    match put_row(alloc, layout, row, decoded, answer_shape, answer) {
+        Ok(()) => 0,
+        Err(error) => error.number() as u32,
+    }
+}
+
+/// Fills a row's part of an answer with the fill value. Refused, in this order, as `IncompatibleDimensionality`, `OutOfBounds`, `TooLarge`,
+/// `WrongElementKind`, and `InvalidNumberOfElements` where the answer has another length; or as `OutOfMemory`.
+#[unsafe(no_mangle)]
+pub extern "C" fn zs_put_fill(
+    alloc: Global,
+    row: &[u64],
+    fill_value: &[u8],
+    answer_shape: &[u64],
+    answer: &mut [u8],
+) -> u32
+    ensures filled { let axes = length answer_shape.now in
+        result ≡ 0 → IsFilled fill_value.now (in_answer axes row.now) answer_shape.now answer.old answer.new }
+    ensures length { length answer.new ≡ length answer.old }
+    ensures kept { result ≢ 0 → answer.new ≡ answer.old }
+    ensures refused { result ≢ 0 → IsRefused (FillTests row.now (length fill_value.now) answer_shape.now (length answer.old)) result }
+{
+    match fill_row(alloc, row, fill_value, answer_shape, answer) {
+        Ok(()) => 0,
+        Err(error) => error.number() as u32,
+    }
+}
+
+/// Writes the name of a status, ended by a zero, where there is room for both, and returns its length without the zero.
+#[unsafe(no_mangle)]
+pub extern "C" fn zs_error_name(status: u32, name: &mut [u8]) -> usize
+    ensures value { result ≡ length (status_name status) }
+    ensures written { (length (status_name status) < length name.old) → name.new ≡ status_name status ++ 0 ∷ drop (length (status_name status) + 1) name.old }
+    ensures kept { (length name.old ≤ length (status_name status)) → name.new ≡ name.old }
+{
+    let text = name_of(status).as_bytes();
+    let length = text.len();
+    if length < name.len() {
+        name[..length].copy_from_slice(text);
+        name[length] = 0;
+    }
+    length
+}

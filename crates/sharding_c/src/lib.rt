@@ -1,0 +1,11 @@
+// The sharding codec for C and every language that calls C: numbers and slices in, numbers and slices out. Nothing is opened, started or
+// kept between calls. `zarr_sharding.h` says each call in C's words.
+#![tactic(auto)]
+
+mod exports;
+mod index;
+mod layout;
+mod plan;
+mod put;
+mod rows;
+mod status;

@@ -1,0 +1,3 @@
+mod PutLemmas
+mod PlanLemmas
+pub mod AxesLemmas

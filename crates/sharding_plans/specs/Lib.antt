@@ -1,0 +1,3 @@
+pub mod ReadPlans
+pub mod Puts
+pub mod CutLaws

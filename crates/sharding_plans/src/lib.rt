@@ -1,0 +1,11 @@
+// Reads of a shard as plans: which stored subchunks a subset takes, and where each of their elements goes. Nothing is read or decoded
+// here: the caller fetches the bytes of each subchunk, decodes them, and puts their elements into an answer, in any order.
+#![tactic(auto)]
+
+mod grid;
+mod put;
+mod read_plan;
+
+pub use grid::{IndexNumbers, ShardGrid};
+pub use put::{Part, fill_part, put_law, put_part};
+pub use read_plan::{ReadPart, ReadPlan};

@@ -1,0 +1,147 @@
+/* zarr_sharding.h: reads of the Zarr V3 codec `sharding_indexed` as ranges and copies.
+ *
+ * The caller fetches and decompresses; the library says which bytes to fetch and where each element goes. It opens nothing, starts nothing
+ * and keeps nothing between calls.
+ *
+ * A read: zs_index_range -> fetch these bytes -> zs_index_read (once for a shard) -> zs_plan_subset -> for each row, in any order: fetch its
+ * bytes, decode them by the inner codec, and zs_put; or zs_put_fill where the subchunk is absent.
+ *
+ * WHAT THE CALLER OWES at every call, which no call can test:
+ *   1. A pointer is valid for as many elements as the length after it says, and aligned for their type. Lengths count elements: of bytes for
+ *      uint8_t, of numbers for uint64_t. A null pointer with length 0 is an empty slice; NULL with another length is not.
+ *   2. A pointer without a length after it is never NULL, and points to one initialised struct. So do the pointers in structs, by rule 1.
+ *   3. What is written through a pointer that is not const overlaps nothing else that the same call is given, and nobody else reads or writes
+ *      it during the call. What is const may overlap what is const, and may be read by others during the call.
+ *   4. Room that is written need not be initialised. (The library is not instrumented: MemorySanitizer takes what it writes for
+ *      uninitialised. AddressSanitizer, ThreadSanitizer and valgrind need nothing.)
+ *   5. A length times the size of an element is at most PTRDIFF_MAX.
+ * Everything else is tested: numbers of axes, subsets, counts, sums and products that pass 64 bits, rows of a plan that were changed.
+ *
+ * WHAT IS KEPT: 1. No call reads or writes outside of what it was given. 2. Threads may call anything at any time, by rule 3, but no call
+ * comes from a signal handler, or from the forked child of a process with threads. 3. A call that is refused has written nothing but `told`,
+ * or what its description names. 4. Calls never block and never end the process; each ends.
+ *
+ * ABI: x86-64 System V, little endian, size_t of 64 bits. ZS_VERSION changes where a struct or a signature does.
+ */
+#ifndef ZARR_SHARDING_H
+#define ZARR_SHARDING_H
+
+#include <stddef.h>
+#include <stdint.h>
+
+#ifdef __cplusplus
+extern "C" {
+#endif
+
+#define ZS_VERSION 1
+
+/* A status. 0 is Ok; 1 to 17 are the refusals of the codec, by the numbers of its errors; from 64 on those of this library alone. */
+typedef uint32_t zs_status;
+enum {
+    ZS_OK = 0,
+    ZS_OUT_OF_MEMORY = 1,
+    ZS_TOO_LARGE = 2,                   /* a count or a size passes 64 bits */
+    ZS_INCOMPATIBLE_DIMENSIONALITY = 3, /* numbers of axes differ */
+    ZS_OUT_OF_BOUNDS = 4,               /* a subset does not lie in its array */
+    ZS_INVALID_NUMBER_OF_ELEMENTS = 5,  /* a buffer of another length than its shape says */
+    ZS_INVALID_SUBCHUNK_SHAPE = 6,      /* an axis is 0, or is not divided evenly */
+    ZS_SHARD_TOO_SHORT = 7,             /* the object is shorter than its index */
+    ZS_BAD_INDEX_ENTRY = 9,             /* an index entry that is half empty or ends after the object: told->subchunk is its number */
+    ZS_WRONG_ELEMENT_KIND = 12,         /* an element of no bytes */
+    ZS_DAMAGED = 15,                    /* an index or a subchunk of the wrong length, or a wrong checksum of the index */
+    ZS_ROOM_TOO_SMALL = 64,             /* told->room is the room that is needed; nothing was written */
+    ZS_BAD_FLAGS = 65                   /* index flags that have no meaning */
+};
+
+/* A subchunk that is not stored has these numbers as offset and size: it is all fill value. */
+#define ZS_ABSENT UINT64_MAX
+
+/* How the index stands in a shard: 0, or some of these added. */
+enum {
+    ZS_INDEX_AT_START = 1,   /* else at the end */
+    ZS_INDEX_BIG_ENDIAN = 2, /* else little endian */
+    ZS_INDEX_CRC32C = 4      /* a CRC-32C of four bytes follows its numbers */
+};
+
+/* How a shard is laid out. Both shapes have one number for each axis; no axes are NULL and 0. */
+typedef struct zs_layout {
+    const uint64_t *shape; /* of the shard: the chunk shape of the array */
+    size_t shape_axes;
+    const uint64_t *subchunk_shape; /* `chunk_shape` of the codec's configuration */
+    size_t subchunk_axes;
+    uint64_t element_size; /* bytes of a decoded element */
+    uint32_t index;        /* ZS_INDEX_.. */
+} zs_layout;
+
+/* A subset of elements: its first element and how many it has along each axis. */
+typedef struct zs_subset {
+    const uint64_t *start;
+    size_t start_axes;
+    const uint64_t *shape;
+    size_t shape_axes;
+} zs_subset;
+
+/* Bytes of an object. */
+typedef struct zs_range {
+    uint64_t offset;
+    uint64_t size;
+} zs_range;
+
+/* What a call tells beside its status. A call writes only the field that its description names. */
+typedef struct zs_told {
+    uint64_t room;     /* Ok: how many were written. ZS_ROOM_TOO_SMALL: how many need room */
+    uint64_t subchunk; /* ZS_BAD_INDEX_ENTRY: whose index entry is bad, the lowest one that is touched */
+} zs_told;
+
+/* ZS_VERSION of the library. */
+uint32_t zs_version(void);
+
+/* The bytes of an object of `object_size` bytes that are its index. Refused, in this order, as 65, 3, 6, 2, 7; or as 1. */
+zs_status zs_index_range(const zs_layout *layout, uint64_t object_size, zs_range *range);
+
+/* The numbers of an index, two for each subchunk in row-major order: offset and size, or ZS_ABSENT twice. A shard without an object has
+ * ZS_ABSENT everywhere (fill with bytes of 255). Ok and ZS_ROOM_TOO_SMALL: told->room is how many they are. Refused, in this order, as the
+ * layout is (65, 3, 6, 2), as 64, and as 15 for another length than zs_index_range's, or another checksum; or as 1. */
+zs_status zs_index_read(const zs_layout *layout, const uint8_t *index, size_t index_size, uint64_t *numbers, size_t numbers_room, zs_told *told);
+
+/* The numbers of a row of a plan, of so many axes. */
+#define ZS_ROW(axes) (3 + 3 * (size_t)(axes))
+/* The parts of a row: where the subchunk is stored (ZS_ABSENT twice: nowhere), and for each axis the first element of its part within the
+ * subchunk, the first element within the answer, and how many elements. */
+#define ZS_ROW_SUBCHUNK 0
+#define ZS_ROW_OFFSET 1
+#define ZS_ROW_SIZE 2
+#define ZS_ROW_IN_SUBCHUNK(axes) 3
+#define ZS_ROW_IN_ANSWER(axes) (3 + (size_t)(axes))
+#define ZS_ROW_SHAPE(axes) (3 + 2 * (size_t)(axes))
+
+/* What a read of a subset takes: a row of ZS_ROW(axes) numbers for each subchunk that the subset touches, ascending by the subchunks'
+ * row-major number. Every element of the answer, an array of the subset's shape, lies in exactly one row's part. `numbers` are those of
+ * zs_index_read. Ok: told->room is the count of rows. ZS_ROOM_TOO_SMALL: told->room is the count of numbers that `plan` must have, which
+ * depends on the layout and the subset alone: ask with `plan` NULL and 0, also before anything is fetched, with `numbers` NULL and 0. A
+ * subset without elements has no row. ZS_BAD_INDEX_ENTRY: the rows before told->subchunk are written, told->room of them, so that who wants
+ * the first refusal in the subchunks' order decodes these first. Refused, in this order, as the layout is; as 3, 4, 2; 64; 5 for another
+ * count of numbers; then 9; or as 1. */
+zs_status zs_plan_subset(const zs_layout *layout, uint64_t object_size, const uint64_t *numbers, size_t numbers_count,
+                         const zs_subset *subset, uint64_t *plan, size_t plan_room, zs_told *told);
+
+/* Puts a row's part of a decoded subchunk into the answer. `decoded` has all elements of the subchunk, in row-major order. The answer is an
+ * array of `answer_shape`; a row may be put into another array than its plan's subset, after its "in answer" numbers were moved there. Rows
+ * of one plan may be put in any order, and again. Two calls may not run at one time on one answer, also where their rows share no element
+ * (rule 3: all of `answer` counts as written): fetch and decode side by side, and put under a lock. Refused, in this order, as 3; 4; 2; 12;
+ * 15 where `decoded_size` is not that of a subchunk; 5 where `answer_size` is not that of the answer; or as 1. */
+zs_status zs_put(const zs_layout *layout, const uint64_t *row, size_t row_numbers, const uint8_t *decoded, size_t decoded_size,
+                 const uint64_t *answer_shape, size_t answer_axes, uint8_t *answer, size_t answer_size);
+
+/* The same of a row whose subchunk is absent: each of its elements becomes the fill value, which has the bytes of one element. Refused, in
+ * this order, as 3; 4; 2; 12 for a fill value of no bytes; 5; or as 1. */
+zs_status zs_put_fill(const uint64_t *row, size_t row_numbers, const uint8_t *fill_value, size_t fill_size, const uint64_t *answer_shape,
+                      size_t answer_axes, uint8_t *answer, size_t answer_size);
+
+/* Writes the name of a status, ended by a zero, where there is room for both, and returns its length without the zero. */
+size_t zs_error_name(uint32_t status, uint8_t *name, size_t name_room);
+
+#ifdef __cplusplus
+}
+#endif
+#endif

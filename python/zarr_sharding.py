@@ -1,0 +1,192 @@
+"""Reads of the Zarr V3 codec `sharding_indexed`, over the C library and ctypes alone.
+
+    layout = Layout((256, 256), (32, 32), element_size=2, crc32c=True)
+    answer = bytearray(layout.answer_size((16, 16)))
+    layout.read(fetch, object_size, (5, 7), (16, 16), answer, decode, fill_value=bytes(2))
+
+`fetch(offset, size)` gives bytes of the object, and `decode(bytes)` the elements of a subchunk. An answer is any writable object of the buffer
+protocol, as a bytearray or a contiguous NumPy array. The library is found by the variable ZARR_SHARDING, or by its name.
+"""
+import ctypes
+import os
+import threading
+
+ABSENT = 2**64 - 1
+ROOM_TOO_SMALL, BAD_INDEX_ENTRY = 64, 9
+
+_u64s, _size, _pointer = ctypes.POINTER(ctypes.c_uint64), ctypes.c_size_t, ctypes.c_void_p
+
+
+class _Layout(ctypes.Structure):
+    _fields_ = [
+        ("shape", _u64s), ("shape_axes", _size), ("subchunk_shape", _u64s), ("subchunk_axes", _size),
+        ("element_size", ctypes.c_uint64), ("index", ctypes.c_uint32),
+    ]
+
+
+class _Subset(ctypes.Structure):
+    _fields_ = [("start", _u64s), ("start_axes", _size), ("shape", _u64s), ("shape_axes", _size)]
+
+
+class _Range(ctypes.Structure):
+    _fields_ = [("offset", ctypes.c_uint64), ("size", ctypes.c_uint64)]
+
+
+class _Told(ctypes.Structure):
+    _fields_ = [("room", ctypes.c_uint64), ("subchunk", ctypes.c_uint64)]
+
+
+def _loaded():
+    library = ctypes.CDLL(os.environ.get("ZARR_SHARDING", "libzarr_sharding.so"))
+    calls = {
+        "zs_index_range": [_pointer, ctypes.c_uint64, _pointer],
+        "zs_index_read": [_pointer, _pointer, _size, _pointer, _size, _pointer],
+        "zs_plan_subset": [_pointer, ctypes.c_uint64, _pointer, _size, _pointer, _pointer, _size, _pointer],
+        "zs_put": [_pointer, _pointer, _size, _pointer, _size, _pointer, _size, _pointer, _size],
+        "zs_put_fill": [_pointer, _size, _pointer, _size, _pointer, _size, _pointer, _size],
+    }
+    for name, types in calls.items():
+        call = getattr(library, name)
+        call.argtypes, call.restype = types, ctypes.c_uint32
+    library.zs_version.argtypes, library.zs_version.restype = [], ctypes.c_uint32
+    library.zs_error_name.argtypes, library.zs_error_name.restype = [ctypes.c_uint32, _pointer, _size], _size
+    if library.zs_version() != 1:
+        raise ImportError(f"libzarr_sharding has version {library.zs_version()}, this module is for version 1")
+    return library
+
+
+_library = _loaded()
+
+
+class Refused(Exception):
+    """A call was refused: `status` is the number of the refusal, `subchunk` the one that it names, or None."""
+
+    def __init__(self, status, subchunk=None):
+        name = ctypes.create_string_buffer(40)
+        _library.zs_error_name(status, name, len(name))
+        super().__init__(name.value.decode() + ("" if subchunk is None else f" {subchunk}"))
+        self.status, self.subchunk = status, subchunk
+
+
+def _checked(status, told=None):
+    if status:
+        raise Refused(status, told.subchunk if status == BAD_INDEX_ENTRY else None)
+
+
+def _numbers(values):
+    return (ctypes.c_uint64 * len(values))(*values)
+
+
+class _View:
+    """The address and the length in bytes of a contiguous buffer, held while the view lives; also of one that is read-only."""
+
+    class _Buffer(ctypes.Structure):
+        _fields_ = [
+            ("buf", _pointer), ("obj", ctypes.py_object), ("len", ctypes.c_ssize_t), ("itemsize", ctypes.c_ssize_t),
+            ("readonly", ctypes.c_int), ("ndim", ctypes.c_int), ("format", ctypes.c_char_p), ("shape", _pointer),
+            ("strides", _pointer), ("suboffsets", _pointer), ("internal", _pointer),
+        ]
+
+    def __init__(self, of, writable=False):
+        self._held = self._Buffer()
+        ctypes.pythonapi.PyObject_GetBuffer(ctypes.py_object(of), ctypes.byref(self._held), ctypes.c_int(int(writable)))
+        self.at, self.size = self._held.buf, self._held.len
+
+    def __enter__(self):
+        return self
+
+    def __exit__(self, *_):
+        ctypes.pythonapi.PyBuffer_Release(ctypes.byref(self._held))
+
+
+class Row:
+    """What a read takes from one subchunk: its number, and the offset and size of its slice, ABSENT where it is not stored."""
+
+    def __init__(self, numbers):
+        self.numbers = numbers
+        self.subchunk, self.offset, self.size = numbers[:3]
+
+    @property
+    def is_absent(self):
+        return self.offset == ABSENT and self.size == ABSENT
+
+
+class Layout:
+    """How a shard is laid out. Where its index stands and how its numbers are stored are told by name."""
+
+    def __init__(self, shape, subchunk_shape, element_size, *, at_start=False, big_endian=False, crc32c=False):
+        self.shape, self.subchunk_shape, self.element_size = tuple(shape), tuple(subchunk_shape), element_size
+        self._shape, self._subchunk_shape = _numbers(shape), _numbers(subchunk_shape)
+        self._held = _Layout(
+            self._shape, len(shape), self._subchunk_shape, len(subchunk_shape), element_size, at_start + 2 * big_endian + 4 * crc32c
+        )
+        self._at = ctypes.addressof(self._held)
+        self._lock = threading.Lock()
+
+    def answer_size(self, shape):
+        """How many bytes the elements of a shape have."""
+        size = self.element_size
+        for length in shape:
+            size *= length
+        return size
+
+    def index_range(self, object_size):
+        """The offset and the size of the index in an object."""
+        found = _Range()
+        _checked(_library.zs_index_range(self._at, object_size, ctypes.addressof(found)))
+        return found.offset, found.size
+
+    def index(self, data):
+        """The numbers of an index, to be kept for any number of plans; `data` is None for a shard without an object."""
+        told = _Told()
+        status = _library.zs_index_read(self._at, None, 0, None, 0, ctypes.addressof(told))
+        if status != ROOM_TOO_SMALL:
+            raise Refused(status)
+        numbers = (ctypes.c_uint64 * told.room)()
+        if data is None:
+            ctypes.memset(numbers, 255, ctypes.sizeof(numbers))
+            return numbers
+        with _View(data) as view:
+            _checked(_library.zs_index_read(self._at, view.at, view.size, numbers, len(numbers), ctypes.addressof(told)))
+        return numbers
+
+    def plan(self, object_size, index, start, shape):
+        """The rows of a read of a subset, ascending by their subchunks."""
+        start, shape, told, room = _numbers(start), _numbers(shape), _Told(), _numbers(())
+        subset = _Subset(start, len(start), shape, len(shape))
+
+        def call():
+            return _library.zs_plan_subset(
+                self._at, object_size, index, len(index), ctypes.addressof(subset), room, len(room), ctypes.addressof(told)
+            )
+
+        status = call()
+        if status == ROOM_TOO_SMALL:
+            room = (ctypes.c_uint64 * told.room)()
+            status = call()
+        _checked(status, told)
+        length = 3 + 3 * len(shape)
+        return [Row(room[length * i : length * (i + 1)]) for i in range(told.room)]
+
+    def put(self, row, decoded, answer, shape):
+        """Puts a row's part of a decoded subchunk into an answer of a shape. Threads may call it on one answer."""
+        row, axes = _numbers(row.numbers), _numbers(shape)
+        with self._lock, _View(decoded) as source, _View(answer, writable=True) as to:
+            _checked(
+                _library.zs_put(self._at, row, len(row), source.at, source.size, axes, len(axes), to.at, to.size)
+            )
+
+    def put_fill(self, row, fill_value, answer, shape):
+        """Fills a row's part of an answer with the fill value, the bytes of one element."""
+        row, axes = _numbers(row.numbers), _numbers(shape)
+        with self._lock, _View(fill_value) as source, _View(answer, writable=True) as to:
+            _checked(_library.zs_put_fill(row, len(row), source.at, source.size, axes, len(axes), to.at, to.size))
+
+    def read(self, fetch, object_size, start, shape, answer, decode, fill_value):
+        """Reads a subset into an answer, subchunk by subchunk. `object_size` is None for a shard without an object."""
+        index = self.index(None if object_size is None else fetch(*self.index_range(object_size)))
+        for row in self.plan(object_size or 0, index, start, shape):
+            if row.is_absent:
+                self.put_fill(row, fill_value, answer, shape)
+            else:
+                self.put(row, decode(fetch(row.offset, row.size)), answer, shape)

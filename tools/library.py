@@ -1,0 +1,289 @@
+#!/usr/bin/env python3
+"""The C library of `sharding_indexed`: made, installed, and tried from C and from Python.
+
+    python3 tools/library.py install DIR   DIR/include, DIR/lib (.a, .so, pkg-config) and DIR/python, after its proof
+    python3 tools/library.py               reads of shards that are written here, by a C program under address checks and by the module
+    python3 tools/library.py header        status 1 where include/zarr_sharding.h and the exports differ
+"""
+import ctypes
+import os
+import random
+import re
+import shutil
+import struct
+import subprocess
+import sys
+import tempfile
+
+TOP = os.path.dirname(os.path.dirname(os.path.abspath(__file__)))
+CRATE = f"{TOP}/crates/sharding_c"
+HEADER = f"{TOP}/include/zarr_sharding.h"
+STRUCTS = {"Layout": "zs_layout", "Subset": "zs_subset", "Range": "zs_range", "Told": "zs_told"}
+NUMBERS = {"u8": "uint8_t", "u32": "uint32_t", "u64": "uint64_t", "usize": "size_t"}
+PKG_CONFIG = """prefix={prefix}
+Name: zarr_sharding
+Description: Reads of the Zarr V3 codec sharding_indexed as ranges and copies
+Version: 1
+Cflags: -I${{prefix}}/include
+Libs: -L${{prefix}}/lib -lzarr_sharding
+"""
+
+
+def run(*words, **how):
+    subprocess.run(words, check=True, **how)
+
+
+# --- the header ---
+
+
+def c_types(kind):
+    """The C types, one or two, that stand for a Rattle type."""
+    kind = re.sub(r"'\w+ |<'\w+>", "", kind.strip())
+    if kind == "Global":
+        return []
+    lent = re.fullmatch(r"&(mut )?(\[?)(\w+)(\]?)", kind)
+    if not lent:
+        return [NUMBERS[kind]]
+    to = NUMBERS.get(lent[3]) or STRUCTS[lent[3]]
+    return [("" if lent[1] else "const ") + to + "*"] + (["size_t"] if lent[2] else [])
+
+
+def header_types(text):
+    kinds = []
+    for one in filter(None, (it.strip() for it in text.split(","))):
+        if one != "void":
+            found = re.fullmatch(r"(.*?[\s*])\w+", one, re.S)[1]
+            kinds.append(re.sub(r"\s*\*", "*", found).strip().replace("zs_status", "uint32_t"))
+    return kinds
+
+
+def header():
+    with open(HEADER, encoding="utf-8") as file:
+        text = re.sub(r"/\*.*?\*/", " ", file.read(), flags=re.S)
+    source = ""
+    for name in ("exports", "layout"):
+        with open(f"{CRATE}/src/{name}.rt", encoding="utf-8") as file:
+            source += re.sub(r"//.*", "", file.read())
+    prototypes = re.findall(r"^(zs_status|size_t|uint32_t) (zs_\w+)\(([^)]*)\);", text, re.M)
+    told = {name: (header_types(f"{result} x")[0], header_types(given)) for result, name, given in prototypes}
+    made = {}
+    for name, given, result in re.findall(r'pub extern "C" fn (\w+)\((.*?)\)\s*->\s*(\w+)', source, re.S):
+        parameters = [it.split(":", 1)[1] for it in given.split(",") if it.strip()]
+        made[name] = (NUMBERS[result], [kind for it in parameters for kind in c_types(it)])
+    for rattle, c in STRUCTS.items():
+        fields = re.search(rf"pub struct {rattle}\b[^{{]*\{{(.*?)\n\}}", source, re.S)[1]
+        made[c] = [kind for it in re.findall(r"pub \w+: ([^,]+),", fields) for kind in c_types(it)]
+        told[c] = header_types(re.search(rf"typedef struct {c} \{{(.*?)\}}", text, re.S)[1].replace(";", ","))
+    wrong = [it for it in sorted({*told, *made}) if told.get(it) != made.get(it)]
+    for name in wrong:
+        print(f"include/zarr_sharding.h: {name} is {told.get(name)} there, and {made.get(name)} in crates/sharding_c")
+    return 1 if wrong else 0
+
+
+# --- the library ---
+
+
+def kit():
+    return os.path.dirname(subprocess.run(["rt", "doc"], check=True, capture_output=True, text=True).stdout.strip().split("\n")[0])
+
+
+def uses(name):
+    """The crates that a crate uses, by crates.txt, those of the kit too."""
+    with open(f"{TOP}/crates.txt", encoding="utf-8") as file:
+        found = re.search(rf"(?m)^{name}\b[^:]*:(.*)$", file.read())
+    return found[1].split()
+
+
+def archive(to):
+    """Proves and compiles the crate of the calls: over the libraries that the merge gate proved, where it left them here, else with these."""
+    rlibs = {it: f"{TOP}/crates/{it}/out/rlib" for it in uses("sharding_c")}
+    if not all(os.path.isdir(f"{at}/{it}.rlib") for it, at in rlibs.items()):
+        run("rt", "lib", cwd=CRATE, stdout=subprocess.DEVNULL)
+        shutil.copy(f"{CRATE}/out/libsharding_c.a", to)
+        return
+    known = f"{kit()}/rlibs"
+    words = ["--crate-name", "sharding_c", "src/lib.rt", "--crate-type", "staticlib", "--extern", f"std={known}/std.rlib", "-L", f"dependency={known}"]
+    for name, at in rlibs.items():
+        words += ["--extern", f"{name}={at}/{name}.rlib"]
+    for name in sorted(os.listdir(f"{TOP}/crates")):
+        words += ["-L", f"dependency={TOP}/crates/{name}/out/rlib"]
+    logic = ["--antt-project", f"{kit()}/rattle/logic/antt-project.json", "--logic-built", f"{kit()}/logic_built"]
+    made = ["--links", "sharding_c=", "--toolchain", f"{kit()}/toolchain", "--backend", "llvm", "-o", to]
+    run(f"{kit()}/bin/rattle", "build", *words, *logic, *made, cwd=CRATE, stdout=subprocess.DEVNULL)
+
+
+def build(to):
+    """The archive, in which only the calls of the header are global, and the shared library."""
+    whole, made = f"{to}/zarr_sharding.o", f"{to}/libsharding_c.a"
+    archive(made)
+    run("ld", "-r", "-o", whole, "--whole-archive", made, "--no-whole-archive", f"{kit()}/c/liblibc_c.a")
+    run("objcopy", "--wildcard", "--keep-global-symbol=zs_*", whole)
+    if os.path.exists(f"{to}/libzarr_sharding.a"):
+        os.remove(f"{to}/libzarr_sharding.a")
+    run("ar", "rcs", f"{to}/libzarr_sharding.a", whole)
+    run("cc", "-shared", "-o", f"{to}/libzarr_sharding.so", whole, "-Wl,-z,text,--no-undefined,-soname,libzarr_sharding.so")
+    os.remove(whole)
+    os.remove(made)
+
+
+def install(prefix):
+    prefix = os.path.abspath(os.path.expanduser(prefix))
+    for part in ("include", "lib/pkgconfig", "python"):
+        os.makedirs(f"{prefix}/{part}", exist_ok=True)
+    build(f"{prefix}/lib")
+    shutil.copy(HEADER, f"{prefix}/include")
+    shutil.copy(f"{TOP}/python/zarr_sharding.py", f"{prefix}/python")
+    with open(f"{prefix}/lib/pkgconfig/zarr_sharding.pc", "w", encoding="utf-8") as file:
+        file.write(PKG_CONFIG.format(prefix=prefix))
+    print(f"installed zarr_sharding.h, libzarr_sharding.a and .so, and zarr_sharding.py in {prefix}")
+    return 0
+
+
+# --- trials ---
+
+
+def crc32c(data):
+    """CRC-32C, bit by bit."""
+    register = 0xFFFFFFFF
+    for byte in data:
+        register ^= byte
+        for _ in range(8):
+            register = register >> 1 ^ (0x82F63B78 if register & 1 else 0)
+    return register ^ 0xFFFFFFFF
+
+
+def product(numbers):
+    result = 1
+    for number in numbers:
+        result *= number
+    return result
+
+
+def points(shape):
+    """The coordinates of a shape, in row-major order."""
+    if not shape:
+        return [()]
+    return [(i, *rest) for i in range(shape[0]) for rest in points(shape[1:])]
+
+
+class Case:
+    """A shard with elements by chance, of which some subchunks are all fill value, written by the standard's words."""
+
+    def __init__(self, seed, shape, subchunk, size, flags):
+        self.chance = random.Random(seed)
+        self.shape, self.subchunk, self.size, self.flags = shape, subchunk, size, flags
+        self.fill = bytes(range(1, size + 1))
+        self.grid = [n // m for n, m in zip(shape, subchunk)]
+        present = {it for it in points(self.grid) if self.chance.random() < 0.7}
+        self.elements = {
+            it: self.chance.randbytes(size) if tuple(c // m for c, m in zip(it, subchunk)) in present else self.fill for it in points(shape)
+        }
+        self.object = self.written(present)
+
+    def written(self, present):
+        is_start, order, is_checked = self.flags & 1, "<>"[self.flags >> 1 & 1], self.flags & 4
+        index_size = 16 * product(self.grid) + (4 if is_checked else 0)
+        data, numbers = b"", []
+        for number, at in enumerate(points(self.grid)):
+            if at not in present:
+                numbers += [2**64 - 1] * 2
+                continue
+            data += b"\xee" * self.chance.randrange(5)
+            numbers += [len(data) + (index_size if is_start else 0), product(self.subchunk) * self.size]
+            data += b"".join(self.elements[tuple(c * m + p for c, m, p in zip(at, self.subchunk, it))] for it in points(self.subchunk))
+        index = struct.pack(f"{order}{len(numbers)}Q", *numbers)
+        index += struct.pack("<I", crc32c(index)) if is_checked else b""
+        return index + data if is_start else data + index
+
+    def subset(self):
+        start = [self.chance.randrange(n) for n in self.shape]
+        return start, [self.chance.randint(0 if self.chance.random() < 0.1 else 1, n - s) for n, s in zip(self.shape, start)]
+
+    def answer(self, start, lengths):
+        return b"".join(self.elements[tuple(s + p for s, p in zip(start, it))] for it in points(lengths))
+
+
+CASES = [
+    ((8, 8), (4, 4), 1, 0), ((6, 4), (2, 2), 2, 4), ((12,), (3,), 4, 1), ((4, 6, 4), (2, 3, 1), 8, 7), ((), (), 2, 5), ((9, 9), (3, 9), 3, 6),
+    ((5, 4, 3), (1, 2, 3), 2, 2), ((2, 4, 2, 4, 2, 2), (1, 2, 2, 2, 1, 2), 1, 3),
+]
+
+
+def words_of(numbers):
+    return ",".join(map(str, numbers)) or "-"
+
+
+def test():
+    with tempfile.TemporaryDirectory() as folder:
+        build(folder)
+        strict = ["-std=c99", "-D_POSIX_C_SOURCE=200809L", "-Wall", "-Wextra", "-Wpedantic", "-Werror", "-g", f"-I{TOP}/include"]
+        checks = ["-fsanitize=address,undefined", "-fno-sanitize-recover=all"]
+        run("gcc", *strict, *checks, "-o", f"{folder}/read_subset", f"{TOP}/tests/c/read_subset.c", f"{folder}/libzarr_sharding.a")
+        os.environ["ZARR_SHARDING"] = f"{folder}/libzarr_sharding.so"
+        sys.path.insert(0, f"{TOP}/python")
+        import zarr_sharding
+
+        reads = sum(try_case(zarr_sharding, folder, Case(seed, *it)) for seed, it in enumerate(CASES))
+        refused = try_refusals(zarr_sharding)
+    print(f"the C library: {reads} subsets read from C and from Python, {refused} refusals")
+    return 0
+
+
+def try_case(zarr_sharding, folder, case):
+    path = f"{folder}/shard"
+    with open(path, "wb") as file:
+        file.write(case.object)
+    at_start, big_endian, checked = (bool(case.flags & it) for it in (1, 2, 4))
+    layout = zarr_sharding.Layout(case.shape, case.subchunk, case.size, at_start=at_start, big_endian=big_endian, crc32c=checked)
+    for turn in range(25):
+        start, lengths = case.subset()
+        wanted = case.answer(start, lengths)
+        words = [words_of(case.shape), words_of(case.subchunk), str(case.size), str(case.flags), case.fill.hex(), words_of(start), words_of(lengths)]
+        said = subprocess.run([f"{folder}/read_subset", path, *words, *["last"] * (turn % 2)], capture_output=True, check=False)
+        if said.returncode or said.stdout != wanted:
+            sys.exit(f"read_subset {' '.join(words)}: {said.returncode} {said.stderr.decode()} {said.stdout.hex()}, not {wanted.hex()}")
+        answer = bytearray(len(wanted))
+        layout.read(lambda offset, size: case.object[offset : offset + size], len(case.object), start, lengths, answer, lambda it: it, case.fill)
+        if answer != wanted:
+            sys.exit(f"Python: {words}: {answer.hex()}, not {wanted.hex()}")
+    return 25
+
+
+def try_refusals(zarr_sharding):
+    layout = zarr_sharding.Layout((4, 4), (2, 2), 1, crc32c=True)
+    part, numbers = bytes(4), [2**64 - 1] * 8
+    index = struct.pack("<8Q", *numbers)
+    whole = index + struct.pack("<I", crc32c(index))
+    read = layout.index(whole)
+
+    def as_numbers(values):
+        return (ctypes.c_uint64 * len(values))(*values)
+
+    wanted = [
+        (7, None, lambda: layout.index_range(67)), (15, None, lambda: layout.index(whole[:-1])), (15, None, lambda: layout.index(whole[:-1] + b"\0")),
+        (3, None, lambda: layout.plan(68, read, (0,), (4,))), (4, None, lambda: layout.plan(68, read, (3, 3), (1, 2))),
+        (5, None, lambda: layout.plan(68, as_numbers(numbers[:-2]), (0, 0), (4, 4))),
+        (9, 2, lambda: layout.plan(68, as_numbers([*numbers[:4], 65, 4, 0, 4]), (0, 0), (4, 4))),
+        (15, None, lambda: layout.put(layout.plan(68, read, (0, 0), (4, 4))[0], part[1:], bytearray(16), (4, 4))),
+        (5, None, lambda: layout.put(layout.plan(68, read, (0, 0), (4, 4))[0], part, bytearray(15), (4, 4))),
+        (12, None, lambda: layout.put_fill(layout.plan(68, read, (0, 0), (4, 4))[0], b"", bytearray(16), (4, 4))),
+        (6, None, lambda: zarr_sharding.Layout((4, 4), (3, 2), 1).index_range(100)), (6, None, lambda: zarr_sharding.Layout((0,), (1,), 1).index_range(100)),
+        (3, None, lambda: zarr_sharding.Layout((4,), (2, 2), 1).index_range(100)), (2, None, lambda: zarr_sharding.Layout((2**63, 2), (1, 1), 1).index_range(100)),
+    ]
+    for status, subchunk, call in wanted:
+        try:
+            call()
+        except zarr_sharding.Refused as refused:
+            if (refused.status, refused.subchunk) != (status, subchunk):
+                sys.exit(f"refused as {refused.status} {refused}, not as {status}")
+        else:
+            sys.exit(f"accepted what is refused as {status}")
+    return len(wanted)
+
+
+if __name__ == "__main__":
+    if sys.argv[1:] in ([], ["header"]):
+        sys.exit(header() if sys.argv[1:] else test())
+    if sys.argv[1:2] == ["install"] and len(sys.argv) == 3:
+        sys.exit(install(sys.argv[2]))
+    sys.exit(__doc__)
