@@ -1,6 +1,6 @@
 -- Laws of the members of a gzip file.
-use Rattle.std.proofs.Common.{◌≡◌, ℕ, zero, suc, ◌+◌, ◌-◌, ◌<◌, ◌≤◌, ◌≢◌, ◌++◌, List, [], ◌∷◌, Option, Some, None, IfSome, length, get_or, drop, refl, sym, ap, subst, ◌∙◌, arith, length-append}
-use Rattle.codec_deflate.specs.Options.{◌>>=◌, guard}
+use Rattle.std.proofs.Common.{◌≡◌, ℕ, zero, suc, ◌+◌, ◌-◌, ◌<◌, ◌≤◌, ◌≢◌, ◌++◌, [], ◌∷◌, Option, Some, None, IfSome, length, get_or, drop, refl, sym, ap, subst, ◌∙◌, arith, length-append}
+use Rattle.codec_deflate.specs.Options.{◌>>=◌}
 use Rattle.codec_deflate.specs.Bits.{Bytes}
 use Rattle.codec_deflate.specs.Inflate.{inflated}
 use Rattle.codec_deflate.specs.Refusals.{content_of}

@@ -1,4 +1,4 @@
-use Rattle.std.proofs.Common.{◌≡◌, ◌+◌, Some, arith, refl, sym, ap, ◌∙◌}
+use Rattle.std.proofs.Common.{◌+◌, Some, arith, sym, ap, ◌∙◌}
 use Rattle.std.proofs.lemmas.List.{take_rest}
 use Rattle.codec_gzip.proofs.GzipLaws.{text_more, text_end, text_none}
 use Rattle.codec_gzip.proofs.header.after_zero.Goals as goal
