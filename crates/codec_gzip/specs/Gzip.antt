@@ -47,8 +47,7 @@ after_header header = do
 unfoldable pub after_trailer : Bytes → Bytes → Option Bytes
 after_trailer content bytes = do
   rest ← after 8 bytes
-  same ← guard (bytes_eq (take 8 bytes) (to_le_bytes w32 (crc32 content) ++ to_le_bytes w32 (length content % 2 ^ 32)))
-  Some rest
+  guard (bytes_eq (take 8 bytes) (to_le_bytes w32 (crc32 content) ++ to_le_bytes w32 (length content % 2 ^ 32))) >>= (λ same. Some rest)
 
 -- a member: its content, and the bytes after it
 unfoldable pub member_at : Bytes → Option (Bytes × Bytes)
