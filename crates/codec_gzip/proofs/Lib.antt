@@ -1,0 +1,4 @@
+pub mod ChecksumLaws
+pub mod EightLaws
+pub mod GzipLaws
+pub mod StoredLaws

@@ -1,0 +1,9 @@
+use Rattle.std.proofs.Common.{◌≡◌, ◌≤◌, ◌-◌, [], length, vec_len}
+use Rattle.codec_gzip.specs.Gzip.{members}
+use Rattle.codec_gzip.proofs.members.gunzip.Given as goal
+
+abbrev pub invariant-loop : goal.invariant-loop
+invariant-loop l = record {
+  within : vec_len l.out ≤ l.limit;
+  left : members (length l.bytes - l.counter) l.out.items l.left ≡ members (length l.bytes) [] l.bytes;
+}
