@@ -1,3 +1,5 @@
 pub mod Checksum
 pub mod Gzip
 pub mod Stored
+pub mod GzipCoding
+pub mod GzipLaws
