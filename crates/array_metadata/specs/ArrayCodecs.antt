@@ -1,23 +1,28 @@
 -- The codecs that the metadata of an array names.
-use Rattle.std.specs.Prelude.{Bool, true, false, Option, Ok, Err, Some, None, codes, bytes_eq}
+use Rattle.std.specs.Prelude.{ℕ, Bool, true, false, Option, Ok, Err, Some, None, codes, bytes_eq, nat_le, if◌then◌else◌, option_and_then, option_map, unwrap_or}
 use Rattle.parts_errors.specs.Words.{Bytes}
 use Rattle.serde_json.specs.Data.{Data, Items, no_items, item}
-use Rattle.codec_metadata.specs.CreateErrors.{Reading, and_then, unsupported_chain, bad_field}
-use Rattle.codec_metadata.specs.Metadata.{codec_of}
+use Rattle.serde_json.specs.Find.{get}
+use Rattle.codec_metadata.specs.CreateErrors.{Reading, and_then, or_refused, unsupported_chain, bad_field}
+use Rattle.codec_metadata.specs.Metadata.{codec_of, name_in}
 use Rattle.codec_metadata.specs.BytesMetadata.{bytes_configured}
 use Rattle.codec_bytes.specs.declared.bytes_codec.Endianness.{Endianness}
 use Rattle.codec_chains.specs.declared.bytes_chain.BytesChain.{BytesChain}
 use Rattle.codec_crc32c.specs.declared.codec.Crc32cCodec.{Crc32cCodec}
+use Rattle.codec_gzip.specs.declared.codec.GzipCodec.{GzipCodec}
+use Rattle.array_codecs.specs.declared.byte_codec.ByteCodec.{ByteCodec}
+use Rattle.array_codecs.specs.declared.byte_codec.ByteCodec.TheVariants.{Crc32c, Gzip}
 use Rattle.codec_chains.specs.declared.either_codec.EitherCodec.{EitherCodec}
 use Rattle.codec_chains.specs.declared.either_codec.EitherCodec.TheVariants.{First, Second}
 use Rattle.sharding_codec.specs.declared.codec.ShardingCodec.{ShardingCodec}
 use Rattle.sharding_codec.specs.ShardMetadata.{shard_configured}
-use Rattle.array_metadata.specs.declared.opaque_codec.OpaqueCodec.{OpaqueCodec}
+use Rattle.array_codecs.specs.declared.opaque_codec.OpaqueCodec.{OpaqueCodec}
+use Rattle.array_metadata.specs.MetadataFields.{whole_number_in}
 use Rattle.array_metadata.specs.UnreadCodecs.{sole_shards, innermost, unserved_in, have_names}
 
--- `bytes` by its byte order, or `bytes` and `crc32c` behind it
+-- `bytes` by its byte order, or `bytes` and `crc32c` or `gzip` behind it
 abbrev pub Elements : Type 0
-Elements = EitherCodec (Option Endianness) (BytesChain (Option Endianness) Crc32cCodec)
+Elements = EitherCodec (Option Endianness) (BytesChain (Option Endianness) ByteCodec)
 
 -- a codec of elements, or of shards once more
 abbrev pub Served : Type 0
@@ -35,12 +40,30 @@ bytes_in = codec_of (bytes_eq (codes "bytes")) (λ name. bytes_configured)
 abbrev pub crc32c_in : Data → Reading Crc32cCodec
 crc32c_in = codec_of (bytes_eq (codes "crc32c")) (λ name configuration. Ok (record {}))
 
+-- the level of a configuration: a whole number of at most 9
+abbrev pub level_in : Data → Option ℕ
+level_in d = option_and_then (λ level. if nat_le level 9 then Some level else None) (option_and_then whole_number_in (get (codes "level") d))
+
+-- the codec of the name `gzip`
+abbrev pub gzip_configured : Option Data → Reading GzipCodec
+gzip_configured d = or_refused (option_and_then level_in d) (bad_field (codes "level")) (λ level. Ok (record { level = level }))
+
+abbrev pub gzip_in : Data → Reading GzipCodec
+gzip_in = codec_of (bytes_eq (codes "gzip")) (λ name. gzip_configured)
+
+-- the codec from bytes to bytes of metadata, by its name
+abbrev pub byte_codec_in : Data → Reading ByteCodec
+byte_codec_in d =
+    if unwrap_or (option_map (bytes_eq (codes "gzip")) (name_in d)) false
+    then and_then (gzip_in d) (λ codec. Ok (Gzip codec))
+    else and_then (crc32c_in d) (λ codec. Ok (Crc32c codec))
+
 -- the codec of elements that a list names
 abbrev pub elements_in : Items → Reading Elements
 elements_in (item d no_items) = and_then (bytes_in d) (λ bytes. Ok (First bytes))
 elements_in (item d (item e no_items)) =
-    and_then (bytes_in d) (λ bytes. and_then (crc32c_in e) (λ checksum.
-    Ok (Second (record { array_to_bytes = bytes; bytes_to_bytes = checksum }))))
+    and_then (bytes_in d) (λ bytes. and_then (byte_codec_in e) (λ codec.
+    Ok (Second (record { array_to_bytes = bytes; bytes_to_bytes = codec }))))
 elements_in list = Err unsupported_chain
 
 -- the codec of the name `sharding_indexed`, by how the list of its subchunks' codecs is read

@@ -3,8 +3,6 @@ pub mod KeyEncodings
 pub mod ElementTypes
 pub mod Floats
 pub mod FillValues
-pub mod OpaqueCodec
-pub mod OpaqueLaws
 pub mod UnreadCodecs
 pub mod ArrayCodecs
 pub mod CodecNames

@@ -1,22 +1,23 @@
 // The codecs of an array on disk.
-ghost use Rattle.std.specs.Prelude.{◌≡◌, Some, Ok, IfOk, IfSome, length, option_map, option_and_then, codes};
+ghost use Rattle.std.specs.Prelude.{◌≡◌, IsTrue, Some, Ok, IfOk, IfSome, length, option_map, option_and_then, codes};
 ghost use Rattle.std.specs.List.{All};
 ghost use Rattle.serde_json.specs.Find.{get};
 ghost use Rattle.serde_json.specs.View.{view, items_view};
 ghost use Rattle.sharding_configuration.specs.Configuration.{configuration_in, shape_in};
 ghost use Rattle.sharding_configuration.specs.Configurations.{configuration_of};
 ghost use Rattle.array_metadata.specs.MetadataFields.{configured_in};
-ghost use Rattle.array_metadata.specs.ArrayCodecs.{bytes_in, crc32c_in, elements_in, shards_in, served_in, subchunks_in};
+ghost use Rattle.array_metadata.specs.ArrayCodecs.{byte_codec_in, bytes_in, crc32c_in, gzip_in, elements_in, shards_in, served_in, subchunks_in};
 ghost use Rattle.array_metadata.specs.UnreadCodecs.{sole_shards, chunks_in};
-ghost use Rattle.array_metadata.specs.CodecNames.{codec_name, Names, IsNamed, listed};
+ghost use Rattle.array_metadata.specs.CodecNames.{codec_name, IsByteCodec, IsNamed, Names, listed, metadata_of};
 
 use crate::error::MetadataError;
 use crate::fields::Placed;
-use crate::opaque_codec::OpaqueCodec;
 use crate::unread::{first_unserved, innermost, test_names};
+use array_codecs::{ByteCodec, OpaqueCodec};
 use codec_bytes::BytesCodec;
 use codec_chains::{BytesChain, EitherCodec};
 use codec_crc32c::Crc32cCodec;
+use codec_gzip::GzipCodec;
 use codec_metadata::{CodecTraitsV3, PluginCreateError};
 use parts_arrays::{DataType, DataTypeSize};
 use parts_subsets::ChunkShape;
@@ -25,8 +26,8 @@ use sharding_codec::ShardingCodec;
 use sharding_configuration::{ShardingCodecConfiguration, ShardingCodecConfigurationV1};
 use std::alloc::Global;
 
-/// `bytes`, or `bytes` and `crc32c` behind it.
-pub type ElementCodec = EitherCodec<BytesCodec, BytesChain<BytesCodec, Crc32cCodec>>;
+/// `bytes`, or `bytes` and `crc32c` or `gzip` behind it.
+pub type ElementCodec = EitherCodec<BytesCodec, BytesChain<BytesCodec, ByteCodec>>;
 
 /// The codec of a shard's index.
 pub type IndexCodec = ElementCodec;
@@ -45,6 +46,7 @@ pub type ArrayCodec = ShardingCodec<InnerCodec, IndexCodec>;
 enum CodecName {
     Bytes,
     Crc32c,
+    Gzip,
     ShardingIndexed,
 }
 
@@ -56,6 +58,7 @@ impl CodecName {
         match name {
             "bytes" => Some(CodecName::Bytes),
             "crc32c" => Some(CodecName::Crc32c),
+            "gzip" => Some(CodecName::Gzip),
             "sharding_indexed" => Some(CodecName::ShardingIndexed),
             _ => None,
         }
@@ -67,6 +70,15 @@ impl CodecName {
 struct NamedCodec<'a> {
     name: CodecName,
     metadata: Placed<'a>,
+}
+
+impl NamedCodec<'_> {
+    // Whether the codec is one from bytes to bytes.
+    fn is_byte_codec(&self) -> bool
+        ensures { IsTrue result → IsByteCodec self.now.name }
+    {
+        self.name == CodecName::Crc32c || self.name == CodecName::Gzip
+    }
 }
 
 // The metadata of codecs, in their order, and where it stands.
@@ -87,8 +99,8 @@ struct ShardParts {
 // Why a codec of another name is refused.
 pub fn unserved(name: &str) -> &'static str {
     match name {
-        "zstd" | "gzip" | "blosc" | "zlib" | "lz4" | "bz2" | "lzma" => {
-            "this program reads no compressed chunks"
+        "zstd" | "blosc" | "zlib" | "lz4" | "bz2" | "lzma" => {
+            "of the codecs that compress, this program reads gzip alone"
         }
         "transpose" => "this program reads no transposed chunks",
         _ => "this program does not know this codec",
@@ -179,15 +191,14 @@ impl<'a> CodecList<'a> {
             [first] if first.name == CodecName::Bytes => {
                 Ok(EitherCodec::First(bytes_codec(alloc, &first.metadata, data_type)?))
             }
-            [first, second] if first.name == CodecName::Bytes && second.name == CodecName::Crc32c =>
-                {
-                    let bytes = bytes_codec(alloc, &first.metadata, data_type)?;
-                    let checksum = crc32c_codec(alloc, &second.metadata)?;
-                    Ok(EitherCodec::Second(BytesChain::new(bytes, checksum)))
-                }
+            [first, second] if first.name == CodecName::Bytes && second.is_byte_codec() => {
+                let bytes = bytes_codec(alloc, &first.metadata, data_type)?;
+                let codec = byte_codec(alloc, second)?;
+                Ok(EitherCodec::Second(BytesChain::new(bytes, codec)))
+            }
             _ => Err(self.refused(
                 alloc,
-                "only bytes is served here, or bytes and crc32c behind it",
+                "only bytes is served here, or bytes and crc32c or gzip behind it",
             )),
         }
     }
@@ -227,6 +238,35 @@ fn crc32c_codec(alloc: Global, metadata: &Placed) -> Result<Crc32cCodec, Metadat
         configuration.only_members(alloc, &[])?;
     }
     Ok(Crc32cCodec)
+}
+
+// The codec `gzip`, by the level of its configuration. Refused as `MissingField` or `BadField`.
+fn gzip_codec(alloc: Global, metadata: &Placed) -> Result<GzipCodec, MetadataError>
+    requires named { Names (view metadata.now.value.now) (codes "gzip") }
+    ensures read { IfOk result (λ codec. gzip_in (view metadata.now.value.now) ≡ Ok codec) }
+{
+    let configuration = metadata.required(alloc, "configuration")?;
+    configuration.only_members(alloc, &["level"])?;
+    let level = configuration.required(alloc, "level")?;
+    match level.value.as_u64() {
+        Some(number) if number <= 9 => Ok(GzipCodec {
+            level: number as u8,
+        }),
+        _ => Err(level.bad(alloc, "a level is a whole number from 0 to 9")),
+    }
+}
+
+// The codec from bytes to bytes that metadata names. Refused as it is.
+fn byte_codec(alloc: Global, codec: &NamedCodec) -> Result<ByteCodec, MetadataError>
+    requires named { IsNamed codec.now }
+    requires served { IsByteCodec codec.now.name }
+    ensures read { IfOk result (λ found. byte_codec_in (metadata_of codec.now) ≡ Ok found) }
+{
+    if codec.name == CodecName::Gzip {
+        Ok(ByteCodec::Gzip(gzip_codec(alloc, &codec.metadata)?))
+    } else {
+        Ok(ByteCodec::Crc32c(crc32c_codec(alloc, &codec.metadata)?))
+    }
 }
 
 // The codec of elements that values name. Refused as the first that is refused, or as `UnsupportedChain`.

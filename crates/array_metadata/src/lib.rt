@@ -10,7 +10,6 @@ mod floats;
 mod json;
 mod keys;
 mod metadata;
-mod opaque_codec;
 mod unread;
 
 pub use codecs::{ArrayCodec, ElementCodec, IndexCodec, InnerCodec, ServedCodec};
@@ -19,4 +18,3 @@ pub use error::{LONGEST_TEXT, MetadataError};
 pub use floats::{FloatFormat, half_to_f32};
 pub use keys::{ChunkKeys, KeyEncoding};
 pub use metadata::{ArrayMetadata, MOST_AXES, TypeText};
-pub use opaque_codec::OpaqueCodec;

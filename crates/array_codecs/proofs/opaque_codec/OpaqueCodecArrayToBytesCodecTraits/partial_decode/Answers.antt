@@ -5,7 +5,7 @@ use Rattle.codec_traits.specs.RefusalLaws.{passed_on}
 use Rattle.codec_traits.specs.Reads.{MayRefuseRead, cells_at}
 use Rattle.codec_traits.specs.WholeArrays.{whole_cells}
 use Rattle.codec_traits.proofs.WholeArrayLaws.{whole_damaged, refused_interval}
-use Rattle.array_metadata.proofs.opaque_codec.OpaqueCodecArrayToBytesCodecTraits.partial_decode.Goals as goal
+use Rattle.array_codecs.proofs.opaque_codec.OpaqueCodecArrayToBytesCodecTraits.partial_decode.Goals as goal
 
 pub returns-in_err-check_interval-clause-lawful : goal.returns-in_err-check_interval-clause-lawful
 returns-in_err-check_interval-clause-lawful g c =

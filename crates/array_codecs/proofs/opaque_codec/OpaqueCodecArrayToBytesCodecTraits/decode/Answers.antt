@@ -2,7 +2,7 @@ use Rattle.std.proofs.Common.{None}
 use Rattle.parts_row_major.specs.Numbering.{count_of}
 use Rattle.parts_row_major.proofs.NumberingLaws.{count_positive}
 use Rattle.codec_traits.proofs.WholeArrayLaws.{whole_damaged}
-use Rattle.array_metadata.proofs.opaque_codec.OpaqueCodecArrayToBytesCodecTraits.decode.Goals as goal
+use Rattle.array_codecs.proofs.opaque_codec.OpaqueCodecArrayToBytesCodecTraits.decode.Goals as goal
 
 pub returns-clause-lawful : goal.returns-clause-lawful
 returns-clause-lawful c = λ s.

@@ -7,7 +7,7 @@ use Rattle.parts_arrays.specs.Types.{size_of, FitsKind}
 use Rattle.codec_traits.specs.Laws.{IsLawful}
 use Rattle.codec_traits.specs.RefusalLaws.{test_faultless}
 use Rattle.codec_traits.proofs.WholeArrayLaws.{length-whole_cells, whole_cells-each}
-use Rattle.array_metadata.specs.OpaqueCodec.{opaque_meaning}
+use Rattle.array_codecs.specs.OpaqueCodec.{opaque_meaning}
 
 pub opaque_lawful : (g : ArraySpec) → IsLawful g (opaque_meaning g)
 opaque_lawful g = record {

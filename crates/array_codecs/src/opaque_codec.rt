@@ -14,8 +14,8 @@ pub struct OpaqueCodec;
 impl ArrayToBytesCodecTraits for OpaqueCodec {
     ghost use Rattle.std.specs.Prelude.{⊤};
     ghost use Rattle.parts_errors.specs.Order.{done};
-    ghost use Rattle.array_metadata.specs.OpaqueCodec.{opaque_meaning};
-    ghost use Rattle.array_metadata.specs.OpaqueLaws.{opaque_lawful};
+    ghost use Rattle.array_codecs.specs.OpaqueCodec.{opaque_meaning};
+    ghost use Rattle.array_codecs.specs.OpaqueLaws.{opaque_lawful};
 
     ghost meaning = { λ _. opaque_meaning };
 

@@ -1,0 +1,3 @@
+pub mod OpaqueCodec
+pub mod OpaqueLaws
+pub mod ByteCodec

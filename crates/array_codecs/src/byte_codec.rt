@@ -1,0 +1,58 @@
+// The codecs from bytes to bytes that are served.
+use codec_chains::BytesToBytesCodecTraits;
+use codec_crc32c::Crc32cCodec;
+use codec_gzip::GzipCodec;
+use codec_traits::BytesRepresentation;
+use parts_errors::CodecError;
+use std::alloc::Global;
+use std::borrow::CowSlice;
+
+/// A codec from bytes to bytes that is served: in each call it is the codec that it holds.
+#[derive(Debug, Clone, Copy, PartialEq, Eq)]
+pub enum ByteCodec {
+    Crc32c(Crc32cCodec),
+    Gzip(GzipCodec),
+}
+
+impl BytesToBytesCodecTraits for ByteCodec {
+    ghost use Rattle.array_codecs.specs.ByteCodec.{byte_coding, byte_invertible, byte_bounded};
+
+    ghost coding = { byte_coding };
+
+    ghost invertible = { byte_invertible };
+
+    ghost bounded = { byte_bounded };
+
+    fn encode(&self, alloc: Global, bytes: &[u8]) -> Result<Vec<u8>, CodecError> {
+        match self {
+            ByteCodec::Crc32c(codec) => codec.encode(alloc, bytes),
+            ByteCodec::Gzip(codec) => codec.encode(alloc, bytes),
+        }
+    }
+
+    fn decode<'a>(&self, alloc: Global, bytes: &'a [u8]) -> Result<CowSlice<'a, u8>, CodecError> {
+        match self {
+            ByteCodec::Crc32c(codec) => codec.decode(alloc, bytes),
+            ByteCodec::Gzip(codec) => codec.decode(alloc, bytes),
+        }
+    }
+
+    fn decode_within<'a>(
+        &self,
+        alloc: Global,
+        bytes: &'a [u8],
+        limit: usize,
+    ) -> Result<CowSlice<'a, u8>, CodecError> {
+        match self {
+            ByteCodec::Crc32c(codec) => codec.decode_within(alloc, bytes, limit),
+            ByteCodec::Gzip(codec) => codec.decode_within(alloc, bytes, limit),
+        }
+    }
+
+    fn encoded_representation(&self, decoded: BytesRepresentation) -> BytesRepresentation {
+        match self {
+            ByteCodec::Crc32c(codec) => codec.encoded_representation(decoded),
+            ByteCodec::Gzip(codec) => codec.encoded_representation(decoded),
+        }
+    }
+}

@@ -1,0 +1,8 @@
+// Codecs of arrays on disk: one that is not looked into, and the codecs from bytes to bytes that are served.
+#![tactic(auto)]
+
+mod byte_codec;
+mod opaque_codec;
+
+pub use byte_codec::ByteCodec;
+pub use opaque_codec::OpaqueCodec;
