@@ -14,6 +14,8 @@ mod examples;
 #[cfg(test)]
 mod faults;
 #[cfg(test)]
+mod gzip;
+#[cfg(test)]
 mod handles;
 #[cfg(test)]
 mod inverted;

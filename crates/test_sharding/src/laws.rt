@@ -160,8 +160,9 @@ fn is_compacted_to<R: Abort>(
         data_type: bytes,
         fill_value: fill,
     };
-    let again =
-        compact_again(codec, alloc, shard, &compacted, &spec, &options).expect(rt, "refused");
+    let again = compact_again(codec, alloc, shard, &compacted, &spec, &options).expect(
+        rt, "refused",
+    );
     again.is_none() && compacted.len() == len
 }
 

@@ -58,5 +58,12 @@ pub fn decode_after_reshard<'a, C: ArrayToBytesCodecTraits, D: ArrayToBytesCodec
 {
     let (shape, data_type) = (spec.shape, spec.data_type);
     let options = CodecOptions::default();
-    to.decode(alloc, resharded, shape, data_type, spec.fill_value, &options)
+    to.decode(
+        alloc,
+        resharded,
+        shape,
+        data_type,
+        spec.fill_value,
+        &options,
+    )
 }
