@@ -42,7 +42,8 @@ crc32c_in = codec_of (bytes_eq (codes "crc32c")) (λ name configuration. Ok (rec
 
 -- the level of a configuration: a whole number of at most 9
 abbrev pub level_in : Data → Option ℕ
-level_in d = option_and_then (λ level. if nat_le level 9 then Some level else None) (option_and_then whole_number_in (get (codes "level") d))
+level_in d =
+    option_and_then (λ level. if nat_le level 9 then Some level else None) (option_and_then whole_number_in (get (codes "level") d))
 
 -- the codec of the name `gzip`
 abbrev pub gzip_configured : Option Data → Reading GzipCodec

@@ -10,7 +10,7 @@ use Rattle.codec_gzip.specs.Stored.{gzip_bound}
 abbrev pub bounded_by : ℕ → BytesRepresentation
 bounded_by n = if nat_lt n (2 ^ 64) then BoundedSize n else UnboundedSize
 
--- how long the files are for bytes that are as long as is told
+-- how long the files are for bytes of such a length
 abbrev pub gzip_representation : BytesRepresentation → BytesRepresentation
 gzip_representation (FixedSize n) = bounded_by (gzip_bound n)
 gzip_representation (BoundedSize n) = bounded_by (gzip_bound n)
