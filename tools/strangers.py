@@ -6,6 +6,7 @@ this status and sentence.
     python3 tools/strangers.py [PROGRAM]     the program that the merge gate built, if no other is named
 """
 import contextlib
+import gzip
 import json
 import os
 import random
@@ -26,12 +27,12 @@ GIB = 1 << 30
 bad = []
 
 
-def array(path, shape, chunk, subchunk):
+def array(path, shape, chunk, subchunk, *compression):
     """An array of bytes, whose chunks are files in its folder: `0`, `1`, .."""
     os.makedirs(path)
-    inner = {"name": "bytes"}
+    inner = [{"name": "bytes"}, *compression]
     index = {"name": "bytes", "configuration": {"endian": "little"}}
-    shards = {"chunk_shape": subchunk, "codecs": [inner], "index_codecs": [index]}
+    shards = {"chunk_shape": subchunk, "codecs": inner, "index_codecs": [index]}
     metadata = {
         "zarr_format": 3,
         "node_type": "array",
@@ -244,6 +245,17 @@ def indexed(program, top):
     expect([program, "read", path, last], 0, "15")
 
 
+def bombs(program, top):
+    """Gzip files of 100 MiB of zeros in place of subchunks of four bytes: each is damaged, and takes no more memory than another one."""
+    path, bomb = f"{top}/bombs", gzip.compress(bytes(100 * MIB), 9)
+    array(path, [8], [8], [4], {"name": "gzip", "configuration": {"level": 9}})
+    shard(f"{path}/0", [bomb, gzip.compress(b"abcd")], 0)
+    expect([program, "check", path], 1, "0: 15 Damaged: subchunk 0 (elements 0..4) does not decode")
+    expect_small([program, "check", path], 1, 24_000_000)
+    expect([program, "read", path, "4..8"], 0, "97 98 99 100")
+    expect_small([program, "read", path, "0..1"], 1, 24_000_000)
+
+
 def owners(program, top):
     """A compaction keeps owner, group and permissions where the system lets it, and else says so. Only the superuser can try it."""
     if os.geteuid():
@@ -292,7 +304,7 @@ if __name__ == "__main__":
     with tempfile.TemporaryDirectory(prefix="strangers-") as folder:
         shutil.copyfile(built, f"{folder}/zarr_shard")
         os.chmod(f"{folder}/zarr_shard", 0o755)
-        for case in (strangers, malformed, closed, killed, large, indexed, owners, limits):
+        for case in (strangers, malformed, closed, killed, large, indexed, bombs, owners, limits):
             case(f"{folder}/zarr_shard", folder)
     print("\n".join(bad) or "each command ended as it must")
     sys.exit(bool(bad))
