@@ -216,11 +216,11 @@ const INNER_CODECS: &[(&str, &str)] = &[
     ),
     (
         "[]",
-        "5 UnsupportedChain: in codecs[0].configuration.codecs: only bytes is served here, or bytes and crc32c behind it",
+        "5 UnsupportedChain: in codecs[0].configuration.codecs: only bytes is served here, or bytes and crc32c or gzip behind it",
     ),
     (
         r#"[{"name": "crc32c"}, {"name": "bytes"}]"#,
-        "5 UnsupportedChain: in codecs[0].configuration.codecs: only bytes is served here, or bytes and crc32c behind it",
+        "5 UnsupportedChain: in codecs[0].configuration.codecs: only bytes is served here, or bytes and crc32c or gzip behind it",
     ),
     (
         r#"[{"name": "bytes"}]"#,
@@ -235,6 +235,30 @@ const INNER_CODECS: &[(&str, &str)] = &[
         "4 BadField level: in codecs[0].configuration.codecs[1].configuration: the key is not known",
     ),
     (
+        r#"[{"name": "bytes", "configuration": {"endian": "little"}}, {"name": "gzip"}]"#,
+        "3 MissingField configuration: in codecs[0].configuration.codecs[1]: the key configuration is missing",
+    ),
+    (
+        r#"[{"name": "bytes", "configuration": {"endian": "little"}}, {"name": "gzip", "configuration": {}}]"#,
+        "3 MissingField level: in codecs[0].configuration.codecs[1].configuration: the key level is missing",
+    ),
+    (
+        r#"[{"name": "bytes", "configuration": {"endian": "little"}}, {"name": "gzip", "configuration": {"level": 10}}]"#,
+        "4 BadField level: in codecs[0].configuration.codecs[1].configuration.level: a level is a whole number from 0 to 9",
+    ),
+    (
+        r#"[{"name": "bytes", "configuration": {"endian": "little"}}, {"name": "gzip", "configuration": {"level": -1}}]"#,
+        "4 BadField level: in codecs[0].configuration.codecs[1].configuration.level: a level is a whole number from 0 to 9",
+    ),
+    (
+        r#"[{"name": "bytes", "configuration": {"endian": "little"}}, {"name": "gzip", "configuration": {"level": 1.0}}]"#,
+        "4 BadField level: in codecs[0].configuration.codecs[1].configuration.level: a level is a whole number from 0 to 9",
+    ),
+    (
+        r#"[{"name": "bytes", "configuration": {"endian": "little"}}, {"name": "gzip", "configuration": {"level": 1, "lvl": 2}}]"#,
+        "4 BadField lvl: in codecs[0].configuration.codecs[1].configuration: the key is not known",
+    ),
+    (
         r#"[{"name": "sharding_indexed", "configuration": {"chunk_shape": [2, 2],
             "codecs": [{"name": "bytes"}], "index_codecs": [{"name": "bytes", "configuration": {"endian": "little"}}]}}]"#,
         "3 MissingField endian: in codecs[0].configuration.codecs[0].configuration.codecs[0]: elements of more than one byte have no byte order",
@@ -246,8 +270,8 @@ const INNER_CODECS: &[(&str, &str)] = &[
     ),
     (
         r#"[{"name": "sharding_indexed", "configuration": {"chunk_shape": [2, 2],
-            "codecs": [{"name": "crc32c"}], "index_codecs": [{"name": "gzip"}]}}]"#,
-        "2 UnsupportedCodec gzip: in codecs[0].configuration.codecs[0].configuration.index_codecs[0]: this program reads no compressed chunks",
+            "codecs": [{"name": "crc32c"}], "index_codecs": [{"name": "zstd"}]}}]"#,
+        "2 UnsupportedCodec zstd: in codecs[0].configuration.codecs[0].configuration.index_codecs[0]: of the codecs that compress, this program reads gzip alone",
     ),
 ];
 
