@@ -14,6 +14,7 @@ use array_opening::{Array, Ending, Stop, metadata_of, written};
 use clap::ArgMatches;
 use codec_traits::ArrayToBytesCodecTraits;
 use parts_escaped_text::escaped;
+use parts_subsets::ArraySubset;
 use sharding_codec::ShardingCodec;
 use std::alloc::Global;
 use std::convert::AsStr;
@@ -36,7 +37,29 @@ fn write_cells<W: Write>(
     }
 }
 
-// Reads a subset, and writes its cells.
+// Reads the elements of a subset, and writes them.
+fn read_and_write<
+    R: Files + AllocGlobal,
+    I: ArrayToBytesCodecTraits,
+    X: ArrayToBytesCodecTraits,
+    W: Write,
+    M: Write,
+>(
+    array: &Array<'_, R, I, X>,
+    subset: &ArraySubset,
+    form: Form,
+    out: &mut W,
+    progress: &mut Progress<'_, M>,
+) -> Result<Ending, Stop> {
+    let cells = read_array(array, subset, progress)?;
+    progress.clear();
+    let element_type = array.metadata.element_type;
+    let wrote = write_cells(out, form, element_type, cells.bytes(), subset.shape());
+    written(wrote, Ending::Done)?;
+    Ok(Ending::Done)
+}
+
+// Reads the subset that a word names, and writes its elements.
 fn run_read<
     R: Files + AllocGlobal,
     I: ArrayToBytesCodecTraits,
@@ -52,12 +75,7 @@ fn run_read<
 ) -> Result<Ending, Stop> {
     array.test_read()?;
     let subset = subset_of(array.alloc(), requested, &array.metadata.shape)?.subset;
-    let cells = read_array(array, &subset, progress)?;
-    progress.clear();
-    let element_type = array.metadata.element_type;
-    let wrote = write_cells(out, form, element_type, cells.bytes(), subset.shape());
-    written(wrote, Ending::Done)?;
-    Ok(Ending::Done)
+    read_and_write(array, &subset, form, out, progress)
 }
 
 // Does a work, and writes its answer.

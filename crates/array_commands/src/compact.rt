@@ -1,7 +1,7 @@
 // The compaction of an array's shards.
 use crate::rewriting::{Planned, plan_of, replace};
 use array_cli::Progress;
-use array_folder::age_of;
+use array_folder::{ChunkFiles, age_of};
 use array_opening::{Array, Ending, Place, Refusal, Shard, ShardFile, Stop, written};
 use codec_traits::ArrayToBytesCodecTraits;
 use parts_escaped_text::escaped;
@@ -67,6 +67,33 @@ enum Outcome {
     Busy(String),
 }
 
+// The path of the new file of a shard.
+fn beside_of<R: Files + AllocGlobal, I, X>(
+    array: &Array<'_, R, I, X>,
+    shard: &Shard<'_>,
+) -> Result<String, Stop> {
+    let path = array.path_of(shard.key)?;
+    match path_beside(array.alloc(), array.rt, &path) {
+        Ok(beside) => Ok(beside),
+        Err(error) => Err(Stop::system(array.alloc(), &path, error)),
+    }
+}
+
+// Compacts a shard by a plan, if no new file stands at the path `beside`, and says so. Without a plan no file is written.
+fn put_beside<'a, R: Files + AllocGlobal, I, X, W: Write>(
+    array: &Array<'a, R, I, X>,
+    shard: &Shard<'_>,
+    file: &mut ShardFile<'a, R>,
+    beside: &str,
+    plan: Option<&CompactionPlan>,
+    out: &mut W,
+) -> Result<bool, Stop> {
+    match plan {
+        Some(plan) => replace(array, shard, file, beside, plan, out),
+        None => Ok(fs::symlink_metadata(array.rt, beside).is_err()),
+    }
+}
+
 // Compacts a shard by a plan to save these bytes, if no new file stands beside it. Without a plan no file is written.
 fn put<'a, R: Files + AllocGlobal, I, X, W: Write>(
     array: &Array<'a, R, I, X>,
@@ -76,15 +103,8 @@ fn put<'a, R: Files + AllocGlobal, I, X, W: Write>(
     plan: Option<&CompactionPlan>,
     out: &mut W,
 ) -> Result<Outcome, Stop> {
-    let path = array.path_of(shard.key)?;
-    let beside = match path_beside(array.alloc(), array.rt, &path) {
-        Ok(beside) => beside,
-        Err(error) => return Err(Stop::system(array.alloc(), &path, error)),
-    };
-    let is_free = match plan {
-        Some(plan) => replace(array, shard, file, &beside, plan, out)?,
-        None => fs::symlink_metadata(array.rt, &beside).is_err(),
-    };
+    let beside = beside_of(array, shard)?;
+    let is_free = put_beside(array, shard, file, &beside, plan, out)?;
     Ok(if is_free {
         Outcome::Saved(bytes)
     } else {
@@ -123,6 +143,21 @@ fn compact_file<
     }
 }
 
+// Writes that a shard is not compacted, since a new file stands at a path.
+fn write_busy<R: Files + AllocGlobal + Clock, W: Write>(
+    rt: &R,
+    out: &mut W,
+    key: &str,
+    path: &str,
+) -> io::Result<()> {
+    let age = age_of(rt, path);
+    let path = escaped(rt.alloc(), path)?;
+    writeln!(
+        out,
+        "{key}: not compacted: {path} stands there{age}: a compaction writes it, or was stopped and left it; if none runs, remove it"
+    )
+}
+
 // Writes what became of a shard, but of one that is compact.
 fn write_outcome<R: Files + AllocGlobal + Clock, W: Write>(
     rt: &R,
@@ -143,15 +178,24 @@ fn write_outcome<R: Files + AllocGlobal + Clock, W: Write>(
             let reason = refusal.reason();
             writeln!(out, "{key}: refused: {reason}")
         }
-        Outcome::Busy(path) => {
-            let age = age_of(rt, path);
-            let path = escaped(rt.alloc(), path)?;
-            writeln!(
-                out,
-                "{key}: not compacted: {path} stands there{age}: a compaction writes it, or was stopped and left it; if none runs, remove it"
-            )
-        }
+        Outcome::Busy(path) => write_busy(rt, out, key, path),
     }
+}
+
+// Compacts a shard, and says what became of it.
+fn outcome_of<
+    R: Files + AllocGlobal,
+    I: ArrayToBytesCodecTraits,
+    X: ArrayToBytesCodecTraits,
+    W: Write,
+>(
+    array: &Array<'_, R, I, X>,
+    shard: &Shard<'_>,
+    is_dry: bool,
+    out: &mut W,
+) -> Result<Outcome, Stop> {
+    let mut file = array.file(shard.key)?;
+    compact_file(array, shard, &mut file, is_dry, out)
 }
 
 // Compacts a shard, and writes a line where it is not compact.
@@ -169,8 +213,7 @@ fn compact_one<
     gained: &mut Gained,
     progress: &mut Progress<'_, M>,
 ) -> Result<(), Stop> {
-    let mut file = array.file(shard.key)?;
-    let outcome = compact_file(array, shard, &mut file, is_dry, out)?;
+    let outcome = outcome_of(array, shard, is_dry, out)?;
     match &outcome {
         Outcome::Saved(saved) => gained.add(*saved),
         Outcome::Refused(_) => gained.is_refused = true,
@@ -184,6 +227,34 @@ fn compact_one<
         write_outcome(array.rt, out, shard.key, &outcome),
         gained.ending(),
     )
+}
+
+// Compacts the shards in these files, and writes a line for each that is not compact.
+fn compact_all<
+    R: Files + AllocGlobal + Clock,
+    I: ArrayToBytesCodecTraits,
+    X: ArrayToBytesCodecTraits,
+    W: Write,
+    M: Write,
+>(
+    array: &Array<'_, R, I, X>,
+    files: &ChunkFiles,
+    is_dry: bool,
+    out: &mut W,
+    progress: &mut Progress<'_, M>,
+) -> Result<Gained, Stop> {
+    let all = files.chunks.len() as u64;
+    let mut gained = Gained::nothing();
+    for (number, file) in files.chunks.iter().enumerate() {
+        progress.step(number as u64, all);
+        let shard = Shard {
+            key: &file.key,
+            coordinates: &file.coordinates,
+        };
+        compact_one(array, &shard, is_dry, out, &mut gained, progress)?;
+    }
+    progress.clear();
+    Ok(gained)
 }
 
 /// Compacts each shard that is there, and writes a line for each that is not compact and how many bytes were saved in all. With
@@ -202,16 +273,7 @@ pub fn compact<
 ) -> Result<Ending, Stop> {
     let files = array.files()?;
     let all = files.chunks.len();
-    let mut gained = Gained::nothing();
-    for (number, file) in files.chunks.iter().enumerate() {
-        progress.step(number as u64, all as u64);
-        let shard = Shard {
-            key: &file.key,
-            coordinates: &file.coordinates,
-        };
-        compact_one(array, &shard, is_dry, out, &mut gained, progress)?;
-    }
-    progress.clear();
+    let gained = compact_all(array, &files, is_dry, out, progress)?;
     let Gained { bytes, shards, .. } = gained;
     let wrote = writeln!(out, "{bytes} bytes saved in {shards} of {all} shards");
     written(wrote, gained.ending())?;

@@ -7,7 +7,6 @@ use parts_escaped_text::escaped;
 use parts_row_major::unravel_index;
 use sharding_codec::ShardingPartialDecoder;
 use std::alloc::Global;
-use std::borrow::CowSlice;
 use std::io::Write;
 use std::rt::Files;
 use storage_handles::BytesPartialDecoderTraits;
@@ -34,8 +33,7 @@ fn stored_at<I: ArrayToBytesCodecTraits, X: ArrayToBytesCodecTraits, H: BytesPar
     subchunk: &[u64],
 ) -> Result<Option<Vec<u8>>, CodecError> {
     match decoder.retrieve_subchunk_encoded(alloc, subchunk)? {
-        Some(CowSlice::Owned(bytes)) => Ok(Some(bytes)),
-        Some(CowSlice::Borrowed(bytes)) => Ok(Some(Vec::from_slice(alloc, bytes)?)),
+        Some(bytes) => Ok(Some(bytes.into_owned(alloc)?)),
         None => Ok(None),
     }
 }

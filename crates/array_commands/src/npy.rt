@@ -3,7 +3,7 @@ use crate::read::read_array;
 use crate::rewriting::{begin, tell_owner};
 use array_cli::Progress;
 use array_folder::{npy_beside, npy_header, write_npy};
-use array_grid::subset_of;
+use array_grid::{Requested, subset_of};
 use array_opening::{Array, Ending, Stop};
 use codec_traits::ArrayToBytesCodecTraits;
 use parts_escaped_text::escaped;
@@ -40,6 +40,40 @@ fn save<R: Files + AllocGlobal, I, X, W: Write>(
     }
 }
 
+// The header of a file of NumPy's format, to be at a path, which has the elements that are requested.
+fn header_of<R: Files + AllocGlobal, I, X>(
+    array: &Array<'_, R, I, X>,
+    requested: &Requested,
+    path: &str,
+) -> Result<Vec<u8>, Stop> {
+    let alloc = array.alloc();
+    let shape = requested.kept_shape(alloc)?;
+    let name = array.metadata.element_type.name();
+    Ok(npy_header(alloc, path, name, &shape)?)
+}
+
+// Reads what is requested, and makes the file at a path of it.
+fn save_requested<
+    R: Files + AllocGlobal,
+    I: ArrayToBytesCodecTraits,
+    X: ArrayToBytesCodecTraits,
+    W: Write,
+    M: Write,
+>(
+    array: &Array<'_, R, I, X>,
+    requested: &Requested,
+    path: &str,
+    beside: &str,
+    out: &mut W,
+    progress: &mut Progress<'_, M>,
+) -> Result<Ending, Stop> {
+    let header = header_of(array, requested, path)?;
+    let cells = read_array(array, &requested.subset, progress)?;
+    progress.clear();
+    save(array, path, beside, &header, cells.bytes(), out)?;
+    Ok(Ending::Done)
+}
+
 /// Reads a subset, and makes a file of NumPy's format of it, which has no axis that is named by one coordinate. A file of that
 /// name is replaced once the new one is whole. Where the path is refused nothing is read.
 pub fn save_subset<
@@ -56,14 +90,7 @@ pub fn save_subset<
     progress: &mut Progress<'_, M>,
 ) -> Result<Ending, Stop> {
     array.test_read()?;
-    let alloc = array.alloc();
-    let requested = subset_of(alloc, requested, &array.metadata.shape)?;
+    let requested = subset_of(array.alloc(), requested, &array.metadata.shape)?;
     let beside = npy_beside(array.rt, path)?;
-    let shape = requested.kept_shape(alloc)?;
-    let name = array.metadata.element_type.name();
-    let header = npy_header(alloc, path, name, &shape)?;
-    let cells = read_array(array, &requested.subset, progress)?;
-    progress.clear();
-    save(array, path, &beside, &header, cells.bytes(), out)?;
-    Ok(Ending::Done)
+    save_requested(array, &requested, path, &beside, out, progress)
 }

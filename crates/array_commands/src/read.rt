@@ -1,6 +1,6 @@
 // The elements of a subset of an array.
 use array_cli::Progress;
-use array_grid::{ShardGrid, ShardPart, SubsetCells};
+use array_grid::{ShardGrid, ShardPart, ShardParts, SubsetCells};
 use array_opening::{Array, Decoder, Place, Shard, Stop, decode_subset, read_through};
 use codec_traits::ArrayToBytesCodecTraits;
 use parts_arrays::ArrayBytes;
@@ -162,6 +162,21 @@ fn read_opened<R: Files + AllocGlobal, I: ArrayToBytesCodecTraits, X: ArrayToByt
     }
 }
 
+// Reads a part of a subset, which lies in a shard.
+fn read_shard<R: Files + AllocGlobal, I: ArrayToBytesCodecTraits, X: ArrayToBytesCodecTraits>(
+    array: &Array<'_, R, I, X>,
+    requested: &ArraySubset,
+    part: &ShardPart,
+    shard: &Shard<'_>,
+    cells: &mut Option<SubsetCells>,
+) -> Result<(), Stop> {
+    let file = array.file(shard.key)?;
+    match array.decoder(shard, file)? {
+        Ok(decoder) => read_opened(array, requested, part, shard, decoder, cells),
+        Err(refusal) => Err(Stop::Refused(refusal)),
+    }
+}
+
 // Reads a part of a subset, which lies in a shard of a grid.
 fn read_part<R: Files + AllocGlobal, I: ArrayToBytesCodecTraits, X: ArrayToBytesCodecTraits>(
     array: &Array<'_, R, I, X>,
@@ -178,10 +193,7 @@ fn read_part<R: Files + AllocGlobal, I: ArrayToBytesCodecTraits, X: ArrayToBytes
         key: &key,
         coordinates: &coordinates,
     };
-    match array.decoder(&shard, array.file(&key)?)? {
-        Ok(decoder) => read_opened(array, requested, part, &shard, decoder, cells),
-        Err(refusal) => Err(Stop::Refused(refusal)),
-    }
+    read_shard(array, requested, part, &shard, cells)
 }
 
 // The shards of an array whose elements have numbers.
@@ -191,6 +203,58 @@ fn shards_of<R: Files + AllocGlobal, I, X>(array: &Array<'_, R, I, X>) -> Result
         Err(CodecError::TooLarge) => Err(Stop::TooManyElements),
         Err(error) => Err(error.into()),
     }
+}
+
+// Reads the part of a subset with this number.
+fn read_numbered<R: Files + AllocGlobal, I: ArrayToBytesCodecTraits, X: ArrayToBytesCodecTraits>(
+    array: &Array<'_, R, I, X>,
+    requested: &ArraySubset,
+    grid: &ShardGrid,
+    parts: &ShardParts,
+    number: u64,
+    cells: &mut Option<SubsetCells>,
+) -> Result<(), Stop> {
+    match parts.part(array.alloc(), number)? {
+        Some(part) => read_part(array, requested, &part, grid, cells),
+        None => Ok(()),
+    }
+}
+
+// The elements of the parts of a subset, and fill values of those that are in none.
+fn read_parts<
+    R: Files + AllocGlobal,
+    I: ArrayToBytesCodecTraits,
+    X: ArrayToBytesCodecTraits,
+    M: Write,
+>(
+    array: &Array<'_, R, I, X>,
+    requested: &ArraySubset,
+    grid: &ShardGrid,
+    parts: &ShardParts,
+    progress: &mut Progress<'_, M>,
+) -> Result<SubsetCells, Stop> {
+    let mut cells: Option<SubsetCells> = None;
+    for number in 0..parts.len() {
+        progress.step(number, parts.len());
+        read_numbered(array, requested, grid, parts, number, &mut cells)?;
+    }
+    Ok(held_cells(array, requested, cells)?)
+}
+
+// The elements of a subset, from each shard of a grid that it overlaps.
+fn read_grid<
+    R: Files + AllocGlobal,
+    I: ArrayToBytesCodecTraits,
+    X: ArrayToBytesCodecTraits,
+    M: Write,
+>(
+    array: &Array<'_, R, I, X>,
+    requested: &ArraySubset,
+    grid: &ShardGrid,
+    progress: &mut Progress<'_, M>,
+) -> Result<SubsetCells, Stop> {
+    let parts = grid.parts(array.alloc(), requested)?;
+    read_parts(array, requested, grid, &parts, progress)
 }
 
 /// The elements of a subset, from each shard that it overlaps, and fill values of those that are absent. Memory for them is
@@ -206,13 +270,5 @@ pub fn read_array<
     progress: &mut Progress<'_, M>,
 ) -> Result<SubsetCells, Stop> {
     let grid = shards_of(array)?;
-    let parts = grid.parts(array.alloc(), requested)?;
-    let mut cells: Option<SubsetCells> = None;
-    for place in 0..parts.len() {
-        progress.step(place, parts.len());
-        if let Some(part) = parts.part(array.alloc(), place)? {
-            read_part(array, requested, &part, &grid, &mut cells)?;
-        }
-    }
-    Ok(held_cells(array, requested, cells)?)
+    read_grid(array, requested, &grid, progress)
 }

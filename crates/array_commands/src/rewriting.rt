@@ -210,6 +210,16 @@ fn stop_of<'a, R: Files + AllocGlobal, I, X>(
     }
 }
 
+// The new file of a shard, or `None` where one stands there already.
+fn begin_shard<'a, R: Files + AllocGlobal, I, X>(
+    array: &Array<'a, R, I, X>,
+    shard: &Shard<'_>,
+    beside: &str,
+) -> Result<Option<Replacement<&'a R>>, Stop> {
+    let path = array.path_of(shard.key)?;
+    begin(array, &path, beside)
+}
+
 /// Puts what a plan says in the place of a shard's file, by a new file that stands at the path `beside` until it is whole; or
 /// says that a file stands there already.
 pub fn replace<'a, R: Files + AllocGlobal, I, X, W: Write>(
@@ -220,8 +230,7 @@ pub fn replace<'a, R: Files + AllocGlobal, I, X, W: Write>(
     plan: &CompactionPlan,
     out: &mut W,
 ) -> Result<bool, Stop> {
-    let path = array.path_of(shard.key)?;
-    let Some(new) = begin(array, &path, beside)? else {
+    let Some(new) = begin_shard(array, shard, beside)? else {
         return Ok(false);
     };
     // a line that nobody reads stops nothing
