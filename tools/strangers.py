@@ -10,6 +10,7 @@ import gzip
 import json
 import os
 import random
+import re
 import shutil
 import signal
 import socket
@@ -17,6 +18,7 @@ import struct
 import subprocess
 import sys
 import tempfile
+import zlib
 
 TOP = os.path.dirname(os.path.dirname(os.path.abspath(__file__)))
 BUILT = f"{TOP}/crates/zarr_shard/out/zarr_shard"
@@ -256,6 +258,48 @@ def bombs(program, top):
     expect_small([program, "read", path, "0..1"], 1, 24_000_000)
 
 
+def unpacked(file, size):
+    """The content of a gzip file by zlib, or nothing if it is damaged or of another size."""
+    content = b""
+    try:
+        while file or not content:
+            member = zlib.decompressobj(31)
+            content += member.decompress(file, size + 1)
+            if not member.eof:
+                return None
+            file = member.unused_data
+    except zlib.error:
+        return None
+    return content if len(content) == size else None
+
+
+def damaged_gzip(program, top):
+    """Gzip files with each of their bits flipped, cut after each of their bytes, and with bytes behind: `check` names those that zlib
+    refuses, and all others are read."""
+    size, files = 64, []
+    text = b"a subchunk of sixty-four bytes, of which some are written again."
+    for content in (text, bytes(size), bytes(range(size)), random.Random(1).randbytes(size)):
+        for level in (0, 1, 9):
+            file = gzip.compress(content, level, mtime=0)
+            number = int.from_bytes(file, "little")
+            files += [(number ^ 1 << bit).to_bytes(len(file), "little") for bit in range(8 * len(file))]
+            files += [file[:length] for length in range(len(file))]
+            files += [file + tail for tail in (b"", b"\0", b"\x1f", b"\x1f\x8b", bytes(8), file, gzip.compress(b""))]
+    contents = [unpacked(file, size) for file in files]
+    wanted = {number for number, content in enumerate(contents) if content is None}
+    codec = {"name": "gzip", "configuration": {"level": 9}}
+    for path, parts in (("damaged", files), ("whole", [files[i] for i in range(len(files)) if i not in wanted])):
+        array(f"{top}/{path}", [size * len(parts)], [size * len(parts)], [size], codec)
+        shard(f"{top}/{path}/0", parts, 0)
+    said = subprocess.run([program, "check", f"{top}/damaged"], capture_output=True, timeout=MOST, check=False).stdout.decode()
+    named = {int(number) for number in re.findall(r"15 Damaged: subchunk (\d+) ", said)}
+    if len(files) < 5000 or named != wanted:
+        bad.append(f"{len(files)} gzip files: check and zlib differ on {sorted(named ^ wanted)[:20]}")
+    read = subprocess.run([program, "read", "--raw", f"{top}/whole"], capture_output=True, timeout=MOST, check=False).stdout
+    if read != b"".join(content for content in contents if content is not None):
+        bad.append("gzip files that zlib reads are read otherwise")
+
+
 def owners(program, top):
     """A compaction keeps owner, group and permissions where the system lets it, and else says so. Only the superuser can try it."""
     if os.geteuid():
@@ -304,7 +348,7 @@ if __name__ == "__main__":
     with tempfile.TemporaryDirectory(prefix="strangers-") as folder:
         shutil.copyfile(built, f"{folder}/zarr_shard")
         os.chmod(f"{folder}/zarr_shard", 0o755)
-        for case in (strangers, malformed, closed, killed, large, indexed, bombs, owners, limits):
+        for case in (strangers, malformed, closed, killed, large, indexed, bombs, damaged_gzip, owners, limits):
             case(f"{folder}/zarr_shard", folder)
     print("\n".join(bad) or "each command ended as it must")
     sys.exit(bool(bad))
