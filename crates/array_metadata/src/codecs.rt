@@ -402,7 +402,6 @@ fn inner_codec(
 }
 
 // The codec of shards that metadata names.
-#[tactic(auto, using(crate::proofs::Lists::shape_said))]
 fn shards(
     alloc: Global,
     metadata: &Placed,
