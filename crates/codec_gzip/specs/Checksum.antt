@@ -1,7 +1,7 @@
 -- The checksum CRC-32 (RFC 1952, 2.3.1 and 8), bit by bit: the remainder of a division by a polynomial over bits. A register of 32 bits
 -- holds the remainder; its least significant bit is the highest power, and is the next to leave.
 use Rattle.std.specs.Prelude.{ℕ, zero, suc, ◌/◌, ◌%◌, ◌==◌, if◌then◌else◌, fold, bit_xor}
-use Rattle.codec_deflate.specs.Bits.{Bytes}
+use Rattle.codec_decompression.specs.Bits.{Bytes}
 
 -- the register after a bit more, by any polynomial: where the highest power leaves it, the polynomial is added
 abbrev pub with_bit : ℕ → ℕ → ℕ

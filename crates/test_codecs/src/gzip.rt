@@ -1,6 +1,7 @@
 // Gzip files that Python's zlib wrote, and some that were changed by hand.
 use crate::compared::same;
-use codec_deflate::{InflateError, inflate};
+use codec_decompression::DecompressError;
+use codec_deflate::inflate;
 use codec_gzip::{GzipCodec, gunzip, gzip_stored};
 use std::alloc::Global;
 use std::process::Abort;
@@ -17,10 +18,10 @@ const STORED: &[u8] =
     b"\x1f\x8b\x08\x00\x00\x00\x00\x00\x00\xff\x01\x02\x00\xfd\xffhi\xac*\x93\xd8\x02\x00\x00\x00";
 
 // The content as a slice, or why the file was refused.
-fn content(found: &Result<Vec<u8>, InflateError>) -> &[u8] {
+fn content(found: &Result<Vec<u8>, DecompressError>) -> &[u8] {
     match found {
         Ok(content) => content.as_slice(),
-        Err(InflateError::TooLong) => TOO_LONG,
+        Err(DecompressError::TooLong) => TOO_LONG,
         Err(_) => DAMAGED,
     }
 }

@@ -1,8 +1,8 @@
 use Rattle.std.proofs.Common.{◌≡◌, ◌≢◌, ◌-◌, ◌+◌, Some, length, arith, sym, ap, subst, ◌∙◌, length-append}
 use Rattle.std.proofs.lemmas.Bool.{eqb-true, eqb-false}
 use Rattle.std.proofs.lemmas.Result.{err_from_is_err_and}
-use Rattle.codec_deflate.specs.Bits.{Bytes}
-use Rattle.codec_deflate.proofs.Exits.{IsOver, refuses_whole}
+use Rattle.codec_decompression.specs.Bits.{Bytes}
+use Rattle.codec_decompression.proofs.Exits.{IsOver, refuses_whole}
 use Rattle.codec_gzip.specs.Gzip.{members}
 use Rattle.codec_gzip.proofs.GzipLaws.{members_none, members_last, members_more, members_end, members_over}
 use Rattle.codec_gzip.proofs.members.gunzip.Goals as goal
