@@ -64,6 +64,12 @@ def run(words, folder, log, tell=lambda line: None):
             child.wait()
 
 
+def processor_minutes():
+    """How long the processors worked for the commands that have ended."""
+    spent = os.times()
+    return (spent.children_user + spent.children_system) / 60
+
+
 def opened(name):
     os.makedirs(f"{TOP}/out", exist_ok=True)
     say(f"the prover's own lines go to out/{name}")
@@ -83,6 +89,7 @@ def test():
 
     with opened("test.log") as log:
         status, said = run(["rt", "ci"], TOP, log, tell)
+        say(f"rt ci took {processor_minutes():.0f} processor minutes")
         if status:
             print("".join(said[-400:]), end="", flush=True)
             return status

@@ -3,6 +3,7 @@ use codec_chains::BytesToBytesCodecTraits;
 use codec_crc32c::Crc32cCodec;
 use codec_gzip::GzipCodec;
 use codec_traits::BytesRepresentation;
+use codec_zstd::ZstdCodec;
 use parts_errors::CodecError;
 use std::alloc::Global;
 use std::borrow::CowSlice;
@@ -12,6 +13,7 @@ use std::borrow::CowSlice;
 pub enum ByteCodec {
     Crc32c(Crc32cCodec),
     Gzip(GzipCodec),
+    Zstd(ZstdCodec),
 }
 
 impl BytesToBytesCodecTraits for ByteCodec {
@@ -27,6 +29,7 @@ impl BytesToBytesCodecTraits for ByteCodec {
         match self {
             ByteCodec::Crc32c(codec) => codec.encode(alloc, bytes),
             ByteCodec::Gzip(codec) => codec.encode(alloc, bytes),
+            ByteCodec::Zstd(codec) => codec.encode(alloc, bytes),
         }
     }
 
@@ -34,6 +37,7 @@ impl BytesToBytesCodecTraits for ByteCodec {
         match self {
             ByteCodec::Crc32c(codec) => codec.decode(alloc, bytes),
             ByteCodec::Gzip(codec) => codec.decode(alloc, bytes),
+            ByteCodec::Zstd(codec) => codec.decode(alloc, bytes),
         }
     }
 
@@ -46,6 +50,7 @@ impl BytesToBytesCodecTraits for ByteCodec {
         match self {
             ByteCodec::Crc32c(codec) => codec.decode_within(alloc, bytes, limit),
             ByteCodec::Gzip(codec) => codec.decode_within(alloc, bytes, limit),
+            ByteCodec::Zstd(codec) => codec.decode_within(alloc, bytes, limit),
         }
     }
 
@@ -53,6 +58,7 @@ impl BytesToBytesCodecTraits for ByteCodec {
         match self {
             ByteCodec::Crc32c(codec) => codec.encoded_representation(decoded),
             ByteCodec::Gzip(codec) => codec.encoded_representation(decoded),
+            ByteCodec::Zstd(codec) => codec.encoded_representation(decoded),
         }
     }
 }

@@ -2,7 +2,9 @@
 #![tactic(auto)]
 
 mod byte_codec;
+mod byte_codecs;
 mod opaque_codec;
 
 pub use byte_codec::ByteCodec;
+pub use byte_codecs::ByteCodecs;
 pub use opaque_codec::OpaqueCodec;

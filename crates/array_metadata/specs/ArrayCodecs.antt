@@ -8,21 +8,18 @@ use Rattle.codec_metadata.specs.Metadata.{codec_of, name_in}
 use Rattle.codec_metadata.specs.BytesMetadata.{bytes_configured}
 use Rattle.codec_bytes.specs.declared.bytes_codec.Endianness.{Endianness}
 use Rattle.codec_chains.specs.declared.bytes_chain.BytesChain.{BytesChain}
-use Rattle.codec_crc32c.specs.declared.codec.Crc32cCodec.{Crc32cCodec}
-use Rattle.codec_gzip.specs.declared.codec.GzipCodec.{GzipCodec}
-use Rattle.array_codecs.specs.declared.byte_codec.ByteCodec.{ByteCodec}
-use Rattle.array_codecs.specs.declared.byte_codec.ByteCodec.TheVariants.{Crc32c, Gzip}
+use Rattle.array_codecs.specs.declared.byte_codecs.ByteCodecs.{ByteCodecs}
 use Rattle.codec_chains.specs.declared.either_codec.EitherCodec.{EitherCodec}
 use Rattle.codec_chains.specs.declared.either_codec.EitherCodec.TheVariants.{First, Second}
 use Rattle.sharding_codec.specs.declared.codec.ShardingCodec.{ShardingCodec}
 use Rattle.sharding_codec.specs.ShardMetadata.{shard_configured}
 use Rattle.array_codecs.specs.declared.opaque_codec.OpaqueCodec.{OpaqueCodec}
-use Rattle.array_metadata.specs.MetadataFields.{whole_number_in}
+use Rattle.array_metadata.specs.ByteCodecsMetadata.{byte_codecs_in}
 use Rattle.array_metadata.specs.UnreadCodecs.{sole_shards, innermost, unserved_in, have_names}
 
--- `bytes` by its byte order, or `bytes` and `crc32c` or `gzip` behind it
+-- `bytes` by its byte order, or `bytes` and codecs from bytes to bytes behind it
 abbrev pub Elements : Type 0
-Elements = EitherCodec (Option Endianness) (BytesChain (Option Endianness) ByteCodec)
+Elements = EitherCodec (Option Endianness) (BytesChain (Option Endianness) ByteCodecs)
 
 -- a codec of elements, or of shards once more
 abbrev pub Served : Type 0
@@ -36,36 +33,13 @@ Subchunks = EitherCodec Served OpaqueCodec
 abbrev pub bytes_in : Data → Reading (Option Endianness)
 bytes_in = codec_of (bytes_eq (codes "bytes")) (λ name. bytes_configured)
 
--- the codec of the name `crc32c`
-abbrev pub crc32c_in : Data → Reading Crc32cCodec
-crc32c_in = codec_of (bytes_eq (codes "crc32c")) (λ name configuration. Ok (record {}))
-
--- the level of a configuration: a whole number of at most 9
-abbrev pub level_in : Data → Option ℕ
-level_in d =
-    option_and_then (λ level. if nat_le level 9 then Some level else None) (option_and_then whole_number_in (get (codes "level") d))
-
--- the codec of the name `gzip`
-abbrev pub gzip_configured : Option Data → Reading GzipCodec
-gzip_configured d = or_refused (option_and_then level_in d) (bad_field (codes "level")) (λ level. Ok (record { level = level }))
-
-abbrev pub gzip_in : Data → Reading GzipCodec
-gzip_in = codec_of (bytes_eq (codes "gzip")) (λ name. gzip_configured)
-
--- the codec from bytes to bytes of metadata, by its name
-abbrev pub byte_codec_in : Data → Reading ByteCodec
-byte_codec_in d =
-    if unwrap_or (option_map (bytes_eq (codes "gzip")) (name_in d)) false
-    then and_then (gzip_in d) (λ codec. Ok (Gzip codec))
-    else and_then (crc32c_in d) (λ codec. Ok (Crc32c codec))
-
 -- the codec of elements that a list names
 abbrev pub elements_in : Items → Reading Elements
 elements_in (item d no_items) = and_then (bytes_in d) (λ bytes. Ok (First bytes))
-elements_in (item d (item e no_items)) =
-    and_then (bytes_in d) (λ bytes. and_then (byte_codec_in e) (λ codec.
-    Ok (Second (record { array_to_bytes = bytes; bytes_to_bytes = codec }))))
-elements_in list = Err unsupported_chain
+elements_in (item d (item e later)) =
+    and_then (bytes_in d) (λ bytes. and_then (byte_codecs_in (item e later)) (λ codecs.
+    Ok (Second (record { array_to_bytes = bytes; bytes_to_bytes = codecs }))))
+elements_in no_items = Err unsupported_chain
 
 -- the codec of the name `sharding_indexed`, by how the list of its subchunks' codecs is read
 abbrev pub shards_in : {I : Type 0} → (Items → Reading I) → Data → Reading (ShardingCodec I Elements)

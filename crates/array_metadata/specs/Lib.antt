@@ -4,6 +4,7 @@ pub mod ElementTypes
 pub mod Floats
 pub mod FillValues
 pub mod UnreadCodecs
+pub mod ByteCodecsMetadata
 pub mod ArrayCodecs
 pub mod CodecNames
 pub mod AcceptedMetadata

@@ -1,8 +1,8 @@
 -- What stands in the text of an array's metadata.
-use Rattle.std.specs.Prelude.{ℕ, Bool, true, not, ◌||◌, ◌&&◌, is_some, List, [], ◌∷◌, codes, bytes_eq, Option, Some, option_map, option_and_then, unwrap_or}
+use Rattle.std.specs.Prelude.{ℕ, ℤ, Bool, true, not, ◌||◌, ◌&&◌, is_some, List, [], ◌∷◌, codes, bytes_eq, Option, Some, option_map, option_and_then, unwrap_or}
 use Rattle.parts_errors.specs.Words.{Bytes}
 use Rattle.serde_json.specs.Data.{Data, Items, no_items, item}
-use Rattle.serde_json.specs.Find.{get, as_array, as_bool, as_null, as_number, as_u64}
+use Rattle.serde_json.specs.Find.{get, as_array, as_bool, as_null, as_number, as_i64, as_u64}
 use Rattle.serde_json.specs.Read.{read}
 
 -- what stands under a key of the object that a text is
@@ -12,6 +12,10 @@ member_in key text = option_and_then (get key) (read text)
 -- a whole number from 0 on
 abbrev pub whole_number_in : Data → Option ℕ
 whole_number_in d = option_and_then as_u64 (as_number d)
+
+-- a whole number of 64 bits, of either sign
+abbrev pub integer_in : Data → Option ℤ
+integer_in d = option_and_then as_i64 (as_number d)
 
 -- the whole numbers that a list has, where each member is one
 abbrev pub whole_numbers_of : Items → Option (List ℕ)

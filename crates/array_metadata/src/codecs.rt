@@ -6,18 +6,17 @@ ghost use Rattle.serde_json.specs.View.{view, items_view};
 ghost use Rattle.sharding_configuration.specs.Configuration.{configuration_in, shape_in};
 ghost use Rattle.sharding_configuration.specs.Configurations.{configuration_of};
 ghost use Rattle.array_metadata.specs.MetadataFields.{configured_in};
-ghost use Rattle.array_metadata.specs.ArrayCodecs.{byte_codec_in, bytes_in, crc32c_in, gzip_in, elements_in, shards_in, served_in, subchunks_in};
+ghost use Rattle.array_metadata.specs.ArrayCodecs.{bytes_in, elements_in, shards_in, served_in, subchunks_in};
 ghost use Rattle.array_metadata.specs.UnreadCodecs.{sole_shards, chunks_in};
 ghost use Rattle.array_metadata.specs.CodecNames.{codec_name, IsByteCodec, IsNamed, Names, listed, metadata_of};
 
+use crate::byte_codecs::{checked_codec, single_codec};
 use crate::error::MetadataError;
 use crate::fields::Placed;
 use crate::unread::{first_unserved, innermost, test_names};
-use array_codecs::{ByteCodec, OpaqueCodec};
+use array_codecs::{ByteCodec, ByteCodecs, OpaqueCodec};
 use codec_bytes::BytesCodec;
 use codec_chains::{BytesChain, EitherCodec};
-use codec_crc32c::Crc32cCodec;
-use codec_gzip::GzipCodec;
 use codec_metadata::{CodecTraitsV3, PluginCreateError};
 use parts_arrays::{DataType, DataTypeSize};
 use parts_subsets::ChunkShape;
@@ -26,8 +25,8 @@ use sharding_codec::ShardingCodec;
 use sharding_configuration::{ShardingCodecConfiguration, ShardingCodecConfigurationV1};
 use std::alloc::Global;
 
-/// `bytes`, or `bytes` and `crc32c` or `gzip` behind it.
-pub type ElementCodec = EitherCodec<BytesCodec, BytesChain<BytesCodec, ByteCodec>>;
+/// `bytes`, or `bytes` and codecs from bytes to bytes behind it.
+pub type ElementCodec = EitherCodec<BytesCodec, BytesChain<BytesCodec, ByteCodecs>>;
 
 /// The codec of a shard's index.
 pub type IndexCodec = ElementCodec;
@@ -43,10 +42,11 @@ pub type ArrayCodec = ShardingCodec<InnerCodec, IndexCodec>;
 
 // The codecs that are served.
 #[derive(Clone, Copy, PartialEq, Eq)]
-enum CodecName {
+pub enum CodecName {
     Bytes,
     Crc32c,
     Gzip,
+    Zstd,
     ShardingIndexed,
 }
 
@@ -59,6 +59,7 @@ impl CodecName {
             "bytes" => Some(CodecName::Bytes),
             "crc32c" => Some(CodecName::Crc32c),
             "gzip" => Some(CodecName::Gzip),
+            "zstd" => Some(CodecName::Zstd),
             "sharding_indexed" => Some(CodecName::ShardingIndexed),
             _ => None,
         }
@@ -67,9 +68,9 @@ impl CodecName {
 
 // A codec's metadata, and the codec that it names.
 #[derive(Drop)]
-struct NamedCodec<'a> {
-    name: CodecName,
-    metadata: Placed<'a>,
+pub struct NamedCodec<'a> {
+    pub name: CodecName,
+    pub metadata: Placed<'a>,
 }
 
 impl NamedCodec<'_> {
@@ -77,7 +78,10 @@ impl NamedCodec<'_> {
     fn is_byte_codec(&self) -> bool
         ensures { IsTrue result → IsByteCodec self.now.name }
     {
-        self.name == CodecName::Crc32c || self.name == CodecName::Gzip
+        match self.name {
+            CodecName::Crc32c | CodecName::Gzip | CodecName::Zstd => true,
+            CodecName::Bytes | CodecName::ShardingIndexed => false,
+        }
     }
 }
 
@@ -99,8 +103,8 @@ struct ShardParts {
 // Why a codec of another name is refused.
 pub fn unserved(name: &str) -> &'static str {
     match name {
-        "zstd" | "blosc" | "zlib" | "lz4" | "bz2" | "lzma" => {
-            "of the codecs that compress, this program reads gzip alone"
+        "blosc" | "zlib" | "lz4" | "bz2" | "lzma" => {
+            "of the codecs that compress, this program reads gzip and zstd alone"
         }
         "transpose" => "this program reads no transposed chunks",
         _ => "this program does not know this codec",
@@ -193,12 +197,21 @@ impl<'a> CodecList<'a> {
             }
             [first, second] if first.name == CodecName::Bytes && second.is_byte_codec() => {
                 let bytes = bytes_codec(alloc, &first.metadata, data_type)?;
-                let codec = byte_codec(alloc, second)?;
-                Ok(EitherCodec::Second(BytesChain::new(bytes, codec)))
+                let codecs = single_codec(alloc, second)?;
+                Ok(EitherCodec::Second(BytesChain::new(bytes, codecs)))
+            }
+            [first, second, third]
+                if first.name == CodecName::Bytes
+                    && second.is_byte_codec()
+                    && third.name == CodecName::Crc32c =>
+            {
+                let bytes = bytes_codec(alloc, &first.metadata, data_type)?;
+                let codecs = checked_codec(alloc, second, third)?;
+                Ok(EitherCodec::Second(BytesChain::new(bytes, codecs)))
             }
             _ => Err(self.refused(
                 alloc,
-                "only bytes is served here, or bytes and crc32c or gzip behind it",
+                "only bytes is served here, or bytes and one of crc32c, gzip and zstd behind it, which crc32c may follow",
             )),
         }
     }
@@ -229,57 +242,16 @@ fn bytes_codec(
     Ok(codec)
 }
 
-// The codec `crc32c`, which has no configuration. Refused as `BadField`.
-fn crc32c_codec(alloc: Global, metadata: &Placed) -> Result<Crc32cCodec, MetadataError>
-    requires named { Names (view metadata.now.value.now) (codes "crc32c") }
-    ensures read { IfOk result (λ codec. crc32c_in (view metadata.now.value.now) ≡ Ok codec) }
-{
-    if let Some(configuration) = metadata.member(alloc, "configuration")? {
-        configuration.only_members(alloc, &[])?;
-    }
-    Ok(Crc32cCodec)
-}
-
-// The codec `gzip`, by the level of its configuration. Refused as `MissingField` or `BadField`.
-fn gzip_codec(alloc: Global, metadata: &Placed) -> Result<GzipCodec, MetadataError>
-    requires named { Names (view metadata.now.value.now) (codes "gzip") }
-    ensures read { IfOk result (λ codec. gzip_in (view metadata.now.value.now) ≡ Ok codec) }
-{
-    let configuration = metadata.required(alloc, "configuration")?;
-    configuration.only_members(alloc, &["level"])?;
-    let level = configuration.required(alloc, "level")?;
-    match level.value.as_u64() {
-        Some(number) if number <= 9 => Ok(GzipCodec {
-            level: number as u8,
-        }),
-        _ => Err(level.bad(alloc, "a level is a whole number from 0 to 9")),
-    }
-}
-
-// The codec from bytes to bytes that metadata names. Refused as it is.
-fn byte_codec(alloc: Global, codec: &NamedCodec) -> Result<ByteCodec, MetadataError>
-    requires named { IsNamed codec.now }
-    requires served { IsByteCodec codec.now.name }
-    ensures read { IfOk result (λ found. byte_codec_in (metadata_of codec.now) ≡ Ok found) }
-{
-    if codec.name == CodecName::Gzip {
-        Ok(ByteCodec::Gzip(gzip_codec(alloc, &codec.metadata)?))
-    } else {
-        Ok(ByteCodec::Crc32c(crc32c_codec(alloc, &codec.metadata)?))
-    }
-}
-
 // The codec of elements that values name. Refused as the first that is refused, or as `UnsupportedChain`.
 fn listed_elements(
     alloc: Global,
     values: &[Value],
-    key: &'static str,
     place: String,
     data_type: DataType,
 ) -> Result<ElementCodec, MetadataError>
     ensures read { IfOk result (λ codec. elements_in (items_view values.now) ≡ Ok codec) }
 {
-    let list = CodecList::named(alloc, values, key, place)?;
+    let list = CodecList::named(alloc, values, "codecs", place)?;
     list.element_codec(alloc, data_type)
 }
 
@@ -307,6 +279,34 @@ fn parsed_configuration(
     Ok(parsed)
 }
 
+// Whether all indexes of as many subchunks have encodings of one length.
+fn is_of_fixed_size(codec: &IndexCodec) -> bool {
+    match codec {
+        EitherCodec::First(_) => true,
+        EitherCodec::Second(chain) => matches!(chain.bytes_to_bytes.codec, ByteCodec::Crc32c(_)),
+    }
+}
+
+// The codec of an index. Refused as the codec of elements is, or as `UnsupportedChain` where encodings of an index differ in length.
+fn index_codec_in(
+    alloc: Global,
+    values: &[Value],
+    place: String,
+) -> Result<IndexCodec, MetadataError>
+    ensures read { IfOk result (λ codec. elements_in (items_view values.now) ≡ Ok codec) }
+{
+    let list = CodecList::named(alloc, values, "index_codecs", place)?;
+    // The numbers of an index are of 64 bits.
+    let codec = list.element_codec(alloc, DataType::UInt64)?;
+    if is_of_fixed_size(&codec) {
+        return Ok(codec);
+    }
+    Err(list.refused(
+        alloc,
+        "the encoding of an index has a fixed length: bytes, or bytes and crc32c behind it",
+    ))
+}
+
 // What the configuration of a shard says. Refused as the configuration is, or as the codec of the index.
 fn shard_parts(alloc: Global, metadata: &Placed, axes: usize) -> Result<ShardParts, MetadataError>
     ensures axes { IfOk result (λ parts. length parts.configuration.chunk_shape ≡ axes) }
@@ -318,14 +318,7 @@ fn shard_parts(alloc: Global, metadata: &Placed, axes: usize) -> Result<ShardPar
     let outer = placed.place.as_str();
     let index_offset = format!(in alloc; "{outer}.index_codecs")?;
     let values = configuration.index_codecs.as_slice();
-    // The numbers of an index are of 64 bits.
-    let index_codec = listed_elements(
-        alloc,
-        values,
-        "index_codecs",
-        index_offset,
-        DataType::UInt64,
-    )?;
+    let index_codec = index_codec_in(alloc, values, index_offset)?;
     let place = format!(in alloc; "{outer}.codecs")?;
     Ok(ShardParts {
         configuration,
@@ -350,7 +343,7 @@ fn innermost_shards(
         index_codec,
     } = shard_parts(alloc, metadata, axes)?;
     let values = configuration.codecs.as_slice();
-    let inner = listed_elements(alloc, values, "codecs", place, data_type)?;
+    let inner = listed_elements(alloc, values, place, data_type)?;
     let ShardingCodecConfigurationV1 {
         chunk_shape,
         index_location,

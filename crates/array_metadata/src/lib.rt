@@ -1,6 +1,7 @@
 // The metadata of an array on disk: what its `zarr.json` says.
 #![tactic(auto)]
 
+mod byte_codecs;
 mod codecs;
 mod element_types;
 mod error;

@@ -51,7 +51,7 @@ pub fn innermost(values: &[Value]) -> &[Value]
 fn is_element_codec(name: &str) -> bool
     ensures { result ≡ is_element_codec name.now }
 {
-    matches!(name, "bytes" | "crc32c" | "gzip")
+    matches!(name, "bytes" | "crc32c" | "gzip" | "zstd")
 }
 
 // The name of the first codec that elements are not served with.

@@ -197,11 +197,11 @@ const MEMBERS: &[(&str, &str)] = &[
 // The codecs of subchunks.
 const INNER_CODECS: &[(&str, &str)] = &[
     (
-        r#"["zstd", {"configuration": {}}]"#,
+        r#"["blosc", {"configuration": {}}]"#,
         "4 BadField codecs: in codecs[0].configuration.codecs[1]: this is neither a name nor an object with a name",
     ),
     (
-        r#"[{"name": "bytes"}, {"name": "zstd", "level": 1}]"#,
+        r#"[{"name": "bytes"}, {"name": "blosc", "level": 1}]"#,
         "4 BadField level: in codecs[0].configuration.codecs[1]: the key is not known, or its value has another form",
     ),
     (
@@ -216,11 +216,11 @@ const INNER_CODECS: &[(&str, &str)] = &[
     ),
     (
         "[]",
-        "5 UnsupportedChain: in codecs[0].configuration.codecs: only bytes is served here, or bytes and crc32c or gzip behind it",
+        "5 UnsupportedChain: in codecs[0].configuration.codecs: only bytes is served here, or bytes and one of crc32c, gzip and zstd behind it, which crc32c may follow",
     ),
     (
         r#"[{"name": "crc32c"}, {"name": "bytes"}]"#,
-        "5 UnsupportedChain: in codecs[0].configuration.codecs: only bytes is served here, or bytes and crc32c or gzip behind it",
+        "5 UnsupportedChain: in codecs[0].configuration.codecs: only bytes is served here, or bytes and one of crc32c, gzip and zstd behind it, which crc32c may follow",
     ),
     (
         r#"[{"name": "bytes"}]"#,
@@ -259,6 +259,34 @@ const INNER_CODECS: &[(&str, &str)] = &[
         "4 BadField lvl: in codecs[0].configuration.codecs[1].configuration: the key is not known",
     ),
     (
+        r#"[{"name": "bytes", "configuration": {"endian": "little"}}, {"name": "zstd"}]"#,
+        "3 MissingField configuration: in codecs[0].configuration.codecs[1]: the key configuration is missing",
+    ),
+    (
+        r#"[{"name": "bytes", "configuration": {"endian": "little"}}, {"name": "zstd", "configuration": {"checksum": true}}]"#,
+        "3 MissingField level: in codecs[0].configuration.codecs[1].configuration: the key level is missing",
+    ),
+    (
+        r#"[{"name": "bytes", "configuration": {"endian": "little"}}, {"name": "zstd", "configuration": {"level": 23}}]"#,
+        "4 BadField level: in codecs[0].configuration.codecs[1].configuration.level: a level is a whole number from -131072 to 22",
+    ),
+    (
+        r#"[{"name": "bytes", "configuration": {"endian": "little"}}, {"name": "zstd", "configuration": {"level": -131073}}]"#,
+        "4 BadField level: in codecs[0].configuration.codecs[1].configuration.level: a level is a whole number from -131072 to 22",
+    ),
+    (
+        r#"[{"name": "bytes", "configuration": {"endian": "little"}}, {"name": "zstd", "configuration": {"level": 3, "checksum": 0}}]"#,
+        "4 BadField checksum: in codecs[0].configuration.codecs[1].configuration.checksum: a checksum is true or false",
+    ),
+    (
+        r#"[{"name": "bytes", "configuration": {"endian": "little"}}, {"name": "zstd", "configuration": {"level": 3, "window": 9}}]"#,
+        "4 BadField window: in codecs[0].configuration.codecs[1].configuration: the key is not known",
+    ),
+    (
+        r#"[{"name": "bytes", "configuration": {"endian": "little"}}, {"name": "crc32c"}, {"name": "zstd", "configuration": {"level": 3}}]"#,
+        "5 UnsupportedChain: in codecs[0].configuration.codecs: only bytes is served here, or bytes and one of crc32c, gzip and zstd behind it, which crc32c may follow",
+    ),
+    (
         r#"[{"name": "sharding_indexed", "configuration": {"chunk_shape": [2, 2],
             "codecs": [{"name": "bytes"}], "index_codecs": [{"name": "bytes", "configuration": {"endian": "little"}}]}}]"#,
         "3 MissingField endian: in codecs[0].configuration.codecs[0].configuration.codecs[0]: elements of more than one byte have no byte order",
@@ -270,8 +298,14 @@ const INNER_CODECS: &[(&str, &str)] = &[
     ),
     (
         r#"[{"name": "sharding_indexed", "configuration": {"chunk_shape": [2, 2],
-            "codecs": [{"name": "crc32c"}], "index_codecs": [{"name": "zstd"}]}}]"#,
-        "2 UnsupportedCodec zstd: in codecs[0].configuration.codecs[0].configuration.index_codecs[0]: of the codecs that compress, this program reads gzip alone",
+            "codecs": [{"name": "crc32c"}], "index_codecs": [{"name": "blosc"}]}}]"#,
+        "2 UnsupportedCodec blosc: in codecs[0].configuration.codecs[0].configuration.index_codecs[0]: of the codecs that compress, this program reads gzip and zstd alone",
+    ),
+    (
+        r#"[{"name": "sharding_indexed", "configuration": {"chunk_shape": [2, 2],
+            "codecs": [{"name": "bytes", "configuration": {"endian": "little"}}],
+            "index_codecs": [{"name": "bytes", "configuration": {"endian": "little"}}, {"name": "gzip", "configuration": {"level": 1}}]}}]"#,
+        "5 UnsupportedChain: in codecs[0].configuration.codecs[0].configuration.index_codecs: the encoding of an index has a fixed length: bytes, or bytes and crc32c behind it",
     ),
 ];
 

@@ -1,0 +1,71 @@
+-- Codecs from bytes to bytes that metadata names.
+use Rattle.std.specs.Prelude.{ℕ, ℤ, pos, neg_ℤ, int_le, Bool, true, false, ◌&&◌, Option, Ok, Err, Some, None, codes, bytes_eq, nat_le, if◌then◌else◌, option_and_then, option_map, unwrap_or}
+use Rattle.parts_errors.specs.Words.{Bytes}
+use Rattle.serde_json.specs.Data.{Data, Items, no_items, item}
+use Rattle.serde_json.specs.Find.{get, as_bool}
+use Rattle.codec_metadata.specs.CreateErrors.{Reading, and_then, or_refused, unsupported_chain, bad_field}
+use Rattle.codec_metadata.specs.Metadata.{codec_of, name_in}
+use Rattle.codec_crc32c.specs.declared.codec.Crc32cCodec.{Crc32cCodec}
+use Rattle.codec_gzip.specs.declared.codec.GzipCodec.{GzipCodec}
+use Rattle.codec_zstd.specs.declared.codec.ZstdCodec.{ZstdCodec}
+use Rattle.array_codecs.specs.declared.byte_codec.ByteCodec.{ByteCodec}
+use Rattle.array_codecs.specs.declared.byte_codec.ByteCodec.TheVariants.{Crc32c, Gzip, Zstd}
+use Rattle.array_codecs.specs.declared.byte_codecs.ByteCodecs.{ByteCodecs}
+use Rattle.array_metadata.specs.MetadataFields.{whole_number_in, integer_in}
+
+-- the codec of the name `crc32c`
+abbrev pub crc32c_in : Data → Reading Crc32cCodec
+crc32c_in = codec_of (bytes_eq (codes "crc32c")) (λ name configuration. Ok (record {}))
+
+-- the level of a configuration: a whole number of at most 9
+abbrev pub level_in : Data → Option ℕ
+level_in d =
+    option_and_then (λ level. if nat_le level 9 then Some level else None) (option_and_then whole_number_in (get (codes "level") d))
+
+-- the codec of the name `gzip`
+abbrev pub gzip_configured : Option Data → Reading GzipCodec
+gzip_configured d = or_refused (option_and_then level_in d) (bad_field (codes "level")) (λ level. Ok (record { level = level }))
+
+abbrev pub gzip_in : Data → Reading GzipCodec
+gzip_in = codec_of (bytes_eq (codes "gzip")) (λ name. gzip_configured)
+
+-- the level of a `zstd` configuration: a whole number from -131072 to 22
+abbrev pub is_zstd_level : ℤ → Bool
+is_zstd_level level = int_le (neg_ℤ (pos 131072)) level && int_le level (pos 22)
+
+abbrev pub zstd_level_of : Data → Option ℤ
+zstd_level_of d = option_and_then (λ level. if is_zstd_level level then Some level else None) (integer_in d)
+
+-- whether a `zstd` configuration asks for checksums; not where nothing is said
+abbrev pub checksum_in : Option Data → Option Bool
+checksum_in None = Some false
+checksum_in (Some d) = as_bool d
+
+-- the codec of the name `zstd`
+abbrev pub zstd_configured : Option Data → Reading ZstdCodec
+zstd_configured d =
+    or_refused (option_and_then zstd_level_of (option_and_then (get (codes "level")) d)) (bad_field (codes "level")) (λ level.
+    or_refused (checksum_in (option_and_then (get (codes "checksum")) d)) (bad_field (codes "checksum")) (λ checksum.
+    Ok (record { level = level; checksum = checksum })))
+
+abbrev pub zstd_in : Data → Reading ZstdCodec
+zstd_in = codec_of (bytes_eq (codes "zstd")) (λ name. zstd_configured)
+
+-- whether metadata has a name
+abbrev pub is_named : Bytes → Data → Bool
+is_named name d = unwrap_or (option_map (bytes_eq name) (name_in d)) false
+
+-- the codec from bytes to bytes of metadata, by its name
+abbrev pub byte_codec_in : Data → Reading ByteCodec
+byte_codec_in d =
+    if is_named (codes "zstd") d then and_then (zstd_in d) (λ codec. Ok (Zstd codec))
+    else if is_named (codes "gzip") d then and_then (gzip_in d) (λ codec. Ok (Gzip codec))
+    else and_then (crc32c_in d) (λ codec. Ok (Crc32c codec))
+
+-- a list of codecs from bytes to bytes: one, or one and `crc32c` behind it
+abbrev pub byte_codecs_in : Items → Reading ByteCodecs
+byte_codecs_in no_items = Err unsupported_chain
+byte_codecs_in (item d no_items) = and_then (byte_codec_in d) (λ codec. Ok (record { codec = codec; checked = false }))
+byte_codecs_in (item d (item e no_items)) =
+    and_then (byte_codec_in d) (λ codec. and_then (crc32c_in e) (λ checksum. Ok (record { codec = codec; checked = true })))
+byte_codecs_in (item d (item e (item f later))) = Err unsupported_chain

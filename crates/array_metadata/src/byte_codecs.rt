@@ -1,0 +1,123 @@
+// Codecs from bytes to bytes in the metadata of an array.
+ghost use Rattle.std.specs.Prelude.{◌≡◌, Some, Ok, IfOk, codes};
+ghost use Rattle.serde_json.specs.Data.{no_items, item};
+ghost use Rattle.serde_json.specs.Find.{get};
+ghost use Rattle.serde_json.specs.View.{view};
+ghost use Rattle.array_metadata.specs.ByteCodecsMetadata.{crc32c_in, gzip_in, zstd_in, zstd_level_of, checksum_in, byte_codec_in, byte_codecs_in};
+ghost use Rattle.array_metadata.specs.CodecNames.{IsByteCodec, IsNamed, Names, metadata_of};
+
+use crate::codecs::{CodecName, NamedCodec};
+use crate::error::MetadataError;
+use crate::fields::Placed;
+use array_codecs::{ByteCodec, ByteCodecs};
+use codec_crc32c::Crc32cCodec;
+use codec_gzip::GzipCodec;
+use codec_zstd::ZstdCodec;
+use std::alloc::Global;
+
+// The codec `crc32c`, which has no configuration. Refused as `BadField`.
+fn crc32c_codec(alloc: Global, metadata: &Placed) -> Result<Crc32cCodec, MetadataError>
+    requires named { Names (view metadata.now.value.now) (codes "crc32c") }
+    ensures read { IfOk result (λ codec. crc32c_in (view metadata.now.value.now) ≡ Ok codec) }
+{
+    if let Some(configuration) = metadata.member(alloc, "configuration")? {
+        configuration.only_members(alloc, &[])?;
+    }
+    Ok(Crc32cCodec)
+}
+
+// The codec `gzip`, by the level of its configuration. Refused as `MissingField` or `BadField`.
+fn gzip_codec(alloc: Global, metadata: &Placed) -> Result<GzipCodec, MetadataError>
+    requires named { Names (view metadata.now.value.now) (codes "gzip") }
+    ensures read { IfOk result (λ codec. gzip_in (view metadata.now.value.now) ≡ Ok codec) }
+{
+    let configuration = metadata.required(alloc, "configuration")?;
+    configuration.only_members(alloc, &["level"])?;
+    let level = configuration.required(alloc, "level")?;
+    match level.value.as_u64() {
+        Some(number) if number <= 9 => Ok(GzipCodec {
+            level: number as u8,
+        }),
+        _ => Err(level.bad(alloc, "a level is a whole number from 0 to 9")),
+    }
+}
+
+// The level of a configuration of `zstd`. Refused as `BadField`.
+fn zstd_level(alloc: Global, level: &Placed) -> Result<i32, MetadataError>
+    ensures read { IfOk result (λ number. zstd_level_of (view level.now.value.now) ≡ Some number) }
+{
+    match level.value.as_i64() {
+        Some(number) if number >= -131_072 && number <= 22 => Ok(number as i32),
+        _ => Err(level.bad(alloc, "a level is a whole number from -131072 to 22")),
+    }
+}
+
+// Whether a configuration of `zstd` asks for checksums; not where nothing is said. Refused as `BadField`.
+fn zstd_checksum(alloc: Global, configuration: &Placed) -> Result<bool, MetadataError>
+    ensures read { IfOk result (λ checksum. checksum_in (get (codes "checksum") (view configuration.now.value.now)) ≡ Some checksum) }
+{
+    let Some(checksum) = configuration.member(alloc, "checksum")? else {
+        return Ok(false);
+    };
+    match checksum.value.as_bool() {
+        Some(asked) => Ok(asked),
+        None => Err(checksum.bad(alloc, "a checksum is true or false")),
+    }
+}
+
+// The codec `zstd`, by its configuration. Refused as `MissingField` or `BadField`.
+fn zstd_codec(alloc: Global, metadata: &Placed) -> Result<ZstdCodec, MetadataError>
+    requires named { Names (view metadata.now.value.now) (codes "zstd") }
+    ensures read { IfOk result (λ codec. zstd_in (view metadata.now.value.now) ≡ Ok codec) }
+{
+    let configuration = metadata.required(alloc, "configuration")?;
+    configuration.only_members(alloc, &["level", "checksum"])?;
+    let level = zstd_level(alloc, &configuration.required(alloc, "level")?)?;
+    let checksum = zstd_checksum(alloc, &configuration)?;
+    Ok(ZstdCodec { level, checksum })
+}
+
+// The codec from bytes to bytes that metadata names. Refused as it is.
+fn byte_codec(alloc: Global, codec: &NamedCodec) -> Result<ByteCodec, MetadataError>
+    requires named { IsNamed codec.now }
+    requires served { IsByteCodec codec.now.name }
+    ensures read { IfOk result (λ found. byte_codec_in (metadata_of codec.now) ≡ Ok found) }
+{
+    match codec.name {
+        CodecName::Zstd => Ok(ByteCodec::Zstd(zstd_codec(alloc, &codec.metadata)?)),
+        CodecName::Gzip => Ok(ByteCodec::Gzip(gzip_codec(alloc, &codec.metadata)?)),
+        _ => Ok(ByteCodec::Crc32c(crc32c_codec(alloc, &codec.metadata)?)),
+    }
+}
+
+// The codec that metadata names, alone. Refused as it is.
+pub fn single_codec(alloc: Global, codec: &NamedCodec) -> Result<ByteCodecs, MetadataError>
+    requires named { IsNamed codec.now }
+    requires served { IsByteCodec codec.now.name }
+    ensures read { IfOk result (λ found. byte_codecs_in (item (metadata_of codec.now) no_items) ≡ Ok found) }
+{
+    let codec = byte_codec(alloc, codec)?;
+    Ok(ByteCodecs {
+        codec,
+        checked: false,
+    })
+}
+
+// The codec that metadata names, and `crc32c` behind it. Refused as the first that is refused.
+pub fn checked_codec(
+    alloc: Global,
+    codec: &NamedCodec,
+    checksum: &NamedCodec,
+) -> Result<ByteCodecs, MetadataError>
+    requires named { IsNamed codec.now }
+    requires served { IsByteCodec codec.now.name }
+    requires checksum { Names (metadata_of checksum.now) (codes "crc32c") }
+    ensures read { IfOk result (λ found. byte_codecs_in (item (metadata_of codec.now) (item (metadata_of checksum.now) no_items)) ≡ Ok found) }
+{
+    let codec = byte_codec(alloc, codec)?;
+    let _checksum = crc32c_codec(alloc, &checksum.metadata)?;
+    Ok(ByteCodecs {
+        codec,
+        checked: true,
+    })
+}
