@@ -1,0 +1,187 @@
+#!/usr/bin/env python3
+"""Runs `zarr_shard` on the arrays of tests/arrays, which are laid out as other writers do, and compares with what is expected of each:
+lengths, present, absent and dead bytes of each shard, which subchunks are damaged, each shard compacted, and the elements.
+
+    python3 tools/arrays.py [PROGRAM]     the program that the merge gate built, if no other is named
+"""
+import hashlib
+import json
+import os
+import re
+import shutil
+import struct
+import subprocess
+import sys
+import tempfile
+
+TOP = os.path.dirname(os.path.dirname(os.path.abspath(__file__)))
+BUILT = f"{TOP}/crates/zarr_shard/out/zarr_shard"
+ARRAYS = f"{TOP}/tests/arrays"
+MOST = 60  # seconds
+SERVED = [["bytes"], ["bytes", "crc32c"], ["bytes", "gzip"], ["bytes", "zstd"], ["bytes", "zstd", "crc32c"], ["sharding_indexed"]]
+FORMATS = {"bool": "B", "int8": "b", "uint8": "B", "int16": "h", "uint16": "H", "int32": "i", "uint32": "I", "int64": "q", "uint64": "Q",
+           "float32": "f", "float64": "d", "float16": "e", "bfloat16": "H", "numpy.datetime64": "q", "numpy.timedelta64": "q"}
+INDEXES = {"checksum": "15 Damaged", "short": "7 ShardTooShort"}
+bad = []
+
+
+def run(program, *words):
+    ran = subprocess.run([program, *words], capture_output=True, timeout=MOST, stdin=subprocess.DEVNULL)
+    return ran.returncode, ran.stdout, ran.stderr.decode(errors="replace")
+
+
+def compare(name, what, found, wanted):
+    if found != wanted:
+        bad.append(f"{name}: {what}: {str(found)[:300]}, and {str(wanted)[:300]} was expected")
+
+
+def refused(name, command, ran):
+    """A command that is refused: status 2, nothing on standard output, one sentence."""
+    status, out, told = ran
+    if status != 2 or out or told.count("\n") != 1:
+        bad.append(f"{name}: {command}: status {status}, {out[:200]!r}, {told[:300]!r}")
+
+
+def test_info(program, name, path, shards):
+    status, out, told = run(program, "info", path)
+    lines = dict(line.split(": ", 1) for line in out.decode().splitlines() if ": " in line)
+    there = {key: shard for key, shard in shards.items() if shard != "absent"}
+    refusals = any(shard["index"] != "ok" for shard in there.values())
+    compare(name, "status of info", (status, told), (1 if refusals else 0, ""))
+    for key, shard in shards.items():
+        if shard == "absent":
+            compare(name, f"info of {key}", lines.get(key), None)
+        elif shard["index"] == "ok":
+            said = "{length} bytes, {present} present, {absent} absent, {dead} dead bytes".format(**shard)
+            compare(name, f"info of {key}", lines.get(key), said)
+        elif not lines.get(key, "").startswith(f"{shard['length']} bytes, refused: {INDEXES.get(shard['index'], '9 BadIndexEntry')}: "):
+            bad.append(f"{name}: info of {key}: {lines.get(key)}")
+
+
+def test_check(program, name, path, expected, is_decoded):
+    status, out, told = run(program, "check", path)
+    found = set()
+    for line in out.decode().splitlines():
+        place = re.match(r"(\S+): \d+ \w+: (?:the index|the file|subchunk (\d+))", line)
+        if place:
+            found.add((place[1], int(place[2]) if place[2] else "index"))
+    wanted = {(key, number) for key, number, _ in expected["damaged"]}
+    if is_decoded:
+        compare(name, "refusals of check", found, wanted)
+        compare(name, "status of check", (status, told), (1 if wanted else 0, ""))
+    elif not any(number == "index" for _, number in wanted):
+        present = sum(shard["present"] for shard in expected["shards"].values() if shard != "absent")
+        said = f"{present} subchunk{'s' if present > 1 else ''} not looked into: the codec " in out.decode() + told
+        compare(name, "check of what is not looked into", (status, said), (2 if present else 0, bool(present)))
+
+
+def test_compact(program, name, path, shards):
+    were = {}
+    for key, shard in shards.items():
+        if shard != "absent":
+            with open(f"{path}/{key}", "rb") as file:
+                were[key] = file.read()
+    run(program, "compact", path)
+    for key, old in were.items():
+        with open(f"{path}/{key}", "rb") as file:
+            new = file.read()
+        wanted = shards[key]["compacted_sha256"] or hashlib.sha256(old).hexdigest()
+        compare(name, f"{key} compacted", hashlib.sha256(new).hexdigest(), wanted)
+
+
+def boxes(expected):
+    """The subchunks of an array, as subsets, each with its cells."""
+    shape, part = expected["shape"], expected["subchunk_shape"]
+    starts = [()]
+    for length, size in zip(shape, part):
+        starts = [(*start, place) for start in starts for place in range(0, length, size)]
+    for start in starts:
+        ends = [min(place + size, length) for place, size, length in zip(start, part, shape)]
+        cells = [expected["cells"][number] for number in numbers(shape, start, ends)]
+        yield ",".join(f"{a}..{b}" for a, b in zip(start, ends)), cells
+
+
+def numbers(shape, starts, ends):
+    found = [0]
+    for length, start, end in zip(shape, starts, ends):
+        found = [number * length + place for number in found for place in range(start, end)]
+    return found
+
+
+def bytes_of(cells, data_type):
+    form = FORMATS[data_type]
+    return b"".join(struct.pack("<" + form, cell if form not in "efd" else float(cell)) for cell in cells)
+
+
+def test_read(program, name, path, expected, is_read):
+    ran = run(program, "read", path, "--raw")
+    if not is_read:
+        refused(name, "read", ran)
+    elif not expected["damaged"]:
+        compare(name, "status of read", (ran[0], ran[2]), (0, ""))
+        compare(name, "bytes read", hashlib.sha256(ran[1]).hexdigest(), expected["raw_sha256"])
+    else:
+        compare(name, "status of read", (ran[0], ran[1]), (1, b""))
+        for subset, cells in boxes(expected):
+            status, out, _ = run(program, "read", path, subset, "--raw")
+            if None in cells:
+                compare(name, f"read of {subset}", (status, out), (1, b""))
+            else:
+                compare(name, f"read of {subset}", (status, out), (0, bytes_of(cells, expected["data_type"])))
+
+
+def test_json(program, name, path, expected):
+    status, out, _ = run(program, "read", path, "--json")
+    cells = json.loads(out)["cells"] if status == 0 else None
+    if expected["data_type"] in FORMATS and FORMATS[expected["data_type"]] in "fd":
+        both = [[str(float(cell)) for cell in part] for part in (cells or [], expected["cells"])]
+        compare(name, "elements in JSON", both[0], both[1])
+    elif expected["data_type"] in FORMATS and FORMATS[expected["data_type"]] in "bBhHiIqQ" and "float" not in expected["data_type"]:
+        wanted = [-(2**63) if cell == "NaT" else cell for cell in expected["cells"]]
+        compare(name, "elements in JSON", cells, wanted)
+
+
+def test_array(program, name, folder, expected):
+    path = f"{folder}/{name}"
+    os.makedirs(os.path.dirname(path), exist_ok=True)
+    shutil.copytree(f"{ARRAYS}/{name}", path)
+    if expected["zarr_format"] != 3 or not expected["subchunk_shape"] and expected["index_codecs"] is None or expected["before_sharding"]:
+        for command in ("info", "check", "read", "compact"):
+            refused(name, command, run(program, command, path))
+        return False
+    is_decoded = expected["inner_codecs"] in SERVED
+    is_read = is_decoded and expected["data_type"] in FORMATS
+    test_info(program, name, path, expected["shards"])
+    test_check(program, name, path, expected, is_decoded)
+    test_read(program, name, path, expected, is_read)
+    if is_read and not expected["damaged"]:
+        test_json(program, name, path, expected)
+    test_compact(program, name, path, expected["shards"])
+    if not expected["damaged"]:
+        test_read(program, name, path, expected, is_read)
+    return is_read
+
+
+def main(program):
+    arrays, read = 0, 0
+    with tempfile.TemporaryDirectory() as folder:
+        for file in sorted(os.listdir(ARRAYS)):
+            if not file.endswith(".expected.json"):
+                continue
+            name = file[: -len(".expected.json")]
+            with open(f"{ARRAYS}/{file}", encoding="utf-8") as text:
+                expected = json.load(text)
+            if expected.get("node_type") == "group":
+                refused(name, "info", run(program, "info", f"{ARRAYS}/{name}"))
+            members = expected["arrays"] if expected.get("node_type") == "group" else {"": expected}
+            for member, wanted in (members or {}).items():
+                arrays += 1
+                read += test_array(program, f"{name}/{member}".rstrip("/"), folder, wanted)
+    for line in bad:
+        print(line)
+    print(f"{arrays} arrays of other writers, of which {read} are read: {len(bad)} differences")
+    return 1 if bad else 0
+
+
+if __name__ == "__main__":
+    sys.exit(main(os.path.abspath(sys.argv[1]) if len(sys.argv) > 1 else BUILT))
