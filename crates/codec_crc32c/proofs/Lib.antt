@@ -1,2 +1,0 @@
-pub mod ChecksumLaws
-pub mod EightLaws

@@ -1,4 +1,2 @@
-pub mod ChecksumLaws
-pub mod EightLaws
 pub mod GzipLaws
 pub mod StoredLaws

@@ -1,6 +1,5 @@
 // What single bytes leave in the register of CRC-32.
-ghost use Rattle.std.specs.Prelude.{◌≡◌, ◌+◌, ◌*◌, ◌<◌};
-ghost use Rattle.codec_gzip.specs.Checksum.{with_bits, gzip_polynomial};
+use codec_checksums::Polynomial;
 
 // For each byte the register, once the byte's eight bits have left it; and then as many bits more: eight in the second table, 16 in the
 // third, up to 56 in the last.
@@ -319,10 +318,15 @@ const REMAINDERS: [[u32; 256]; 8] = [
     ],
 ];
 
-// The register, once the eight bits of a byte have left it, which were all that stood in it, and then those of as many bytes that are 0.
-pub(crate) fn remainder_after(byte: u8, zeros: usize) -> u32
-    requires { zeros < 8 }
-    ensures { result ≡ with_bits gzip_polynomial (8 * (1 + zeros)) byte }
-{
-    REMAINDERS[zeros][byte as usize]
+// The polynomial of CRC-32.
+pub(crate) struct GzipPolynomial;
+
+impl Polynomial for GzipPolynomial {
+    ghost use Rattle.codec_gzip.specs.Checksum.{gzip_polynomial};
+
+    ghost polynomial = { gzip_polynomial };
+
+    fn remainder_after(byte: u8, zeros: usize) -> u32 {
+        REMAINDERS[zeros][byte as usize]
+    }
 }

@@ -1,6 +1,0 @@
-use Rattle.std.proofs.Common.{◌∙◌}
-use Rattle.codec_crc32c.proofs.EightLaws.{with_eight}
-use Rattle.codec_crc32c.proofs.checksum.after_eight.Goals as goal
-
-pub returns : goal.returns
-returns c = c.after_bits.ensures ∙ with_eight c.args.bytes.now c.args.register c.from_le_bytes.result c.told-bytes c.fits-bytes c.from_le_bytes.ensures
