@@ -33,3 +33,5 @@ mod targets;
 mod variable;
 #[cfg(test)]
 mod writes;
+#[cfg(test)]
+mod zstd;
