@@ -1,6 +1,7 @@
 // The arrays below a group.
 use array_folder::list_members;
-use array_metadata::{ArrayMetadata, MetadataError};
+use array_fields::MetadataError;
+use array_metadata::ArrayMetadata;
 use array_opening::{Ending, Stop, metadata_of, written};
 use parts_escaped_text::escaped;
 use std::alloc::{AllocError, Global};

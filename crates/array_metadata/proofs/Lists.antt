@@ -7,7 +7,7 @@ use Rattle.codec_metadata.specs.CreateErrors.{Reading, Refusal, or_refused, and_
 use Rattle.codec_metadata.specs.Metadata.{first_refused, unless_refused}
 use Rattle.sharding_configuration.specs.Configuration.{Configuration, configuration_in, is_configuration_member, field, shape_in}
 use Rattle.array_metadata.specs.declared.codecs.NamedCodec.{NamedCodec}
-use Rattle.array_metadata.specs.MetadataFields.{configured_in}
+use Rattle.array_fields.specs.MetadataFields.{configured_in}
 use Rattle.array_metadata.specs.UnreadCodecs.{sole_shards}
 use Rattle.array_metadata.specs.CodecNames.{listed}
 

@@ -11,7 +11,7 @@ use Rattle.codec_zstd.specs.declared.codec.ZstdCodec.{ZstdCodec}
 use Rattle.array_codecs.specs.declared.byte_codec.ByteCodec.{ByteCodec}
 use Rattle.array_codecs.specs.declared.byte_codec.ByteCodec.TheVariants.{Crc32c, Gzip, Zstd}
 use Rattle.array_codecs.specs.declared.byte_codecs.ByteCodecs.{ByteCodecs}
-use Rattle.array_metadata.specs.MetadataFields.{whole_number_in, integer_in}
+use Rattle.array_fields.specs.MetadataFields.{whole_number_in, integer_in}
 
 -- the codec of the name `crc32c`
 abbrev pub crc32c_in : Data → Reading Crc32cCodec

@@ -4,7 +4,7 @@ use Rattle.parts_errors.specs.Words.{Bytes}
 use Rattle.serde_json.specs.Data.{Data, Items, no_items, item}
 use Rattle.serde_json.specs.Find.{as_array}
 use Rattle.codec_metadata.specs.Metadata.{name_in, is_metadata_member, first_refused, members_in}
-use Rattle.array_metadata.specs.MetadataFields.{configured_in}
+use Rattle.array_fields.specs.MetadataFields.{configured_in}
 
 -- the metadata of the only codec of a list, where its name is `sharding_indexed`
 abbrev pub sole_shards : Items → Option Data

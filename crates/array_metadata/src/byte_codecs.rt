@@ -7,9 +7,8 @@ ghost use Rattle.array_metadata.specs.ByteCodecsMetadata.{crc32c_in, gzip_in, zs
 ghost use Rattle.array_metadata.specs.CodecNames.{IsByteCodec, IsNamed, Names, metadata_of};
 
 use crate::codecs::{CodecName, NamedCodec};
-use crate::error::MetadataError;
-use crate::fields::Placed;
 use array_codecs::{ByteCodec, ByteCodecs};
+use array_fields::{MetadataError, Placed};
 use codec_crc32c::Crc32cCodec;
 use codec_gzip::GzipCodec;
 use codec_zstd::ZstdCodec;

@@ -5,16 +5,15 @@ ghost use Rattle.serde_json.specs.Find.{get};
 ghost use Rattle.serde_json.specs.View.{view, items_view};
 ghost use Rattle.sharding_configuration.specs.Configuration.{configuration_in, shape_in};
 ghost use Rattle.sharding_configuration.specs.Configurations.{configuration_of};
-ghost use Rattle.array_metadata.specs.MetadataFields.{configured_in};
+ghost use Rattle.array_fields.specs.MetadataFields.{configured_in};
 ghost use Rattle.array_metadata.specs.ArrayCodecs.{bytes_in, elements_in, shards_in, served_in, subchunks_in};
 ghost use Rattle.array_metadata.specs.UnreadCodecs.{sole_shards, chunks_in};
 ghost use Rattle.array_metadata.specs.CodecNames.{codec_name, IsByteCodec, IsNamed, Names, listed, metadata_of};
 
 use crate::byte_codecs::{checked_codec, single_codec};
-use crate::error::MetadataError;
-use crate::fields::Placed;
 use crate::unread::{first_unserved, innermost, test_names};
 use array_codecs::{ByteCodec, ByteCodecs, OpaqueCodec};
+use array_fields::{MetadataError, Placed};
 use codec_bytes::BytesCodec;
 use codec_chains::{BytesChain, EitherCodec};
 use codec_metadata::{CodecTraitsV3, PluginCreateError};

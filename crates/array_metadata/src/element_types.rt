@@ -5,9 +5,8 @@ ghost use Rattle.codec_metadata.specs.Metadata.{name_in};
 ghost use Rattle.parts_arrays.specs.Types.{type_name, HasElements};
 ghost use Rattle.array_metadata.specs.ElementTypes.{IsTypeIn, IsTypeOf, IsListedOr, IsUnnamed, IsRaw, IsNameOf, carrier, listed_type};
 
-use crate::error::MetadataError;
-use crate::fields::Placed;
 use crate::floats::FloatFormat;
+use array_fields::{MetadataError, Placed};
 use codec_metadata::PluginCreateError;
 use parts_arrays::DataType;
 use parts_escaped_text::escaped;

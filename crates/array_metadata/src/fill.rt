@@ -11,9 +11,8 @@ ghost use Rattle.array_metadata.specs.Floats.{sign_of};
 ghost use Rattle.array_metadata.specs.FillValues.{number_in, number_of, time_in, IsFloatIn, IsElementIn, IsFillIn};
 
 use crate::element_types::ElementType;
-use crate::error::MetadataError;
-use crate::fields::Placed;
 use crate::floats::FloatFormat;
+use array_fields::{MetadataError, Placed};
 use parts_arrays::{DataType, DataTypeSize, FillValue};
 use serde_json::Value;
 use std::alloc::{AllocError, Global};

@@ -3,11 +3,10 @@ ghost use Rattle.std.specs.Prelude.{◌≡◌, Some, IfOk, option_and_then, opti
 ghost use Rattle.serde_json.specs.Find.{as_str};
 ghost use Rattle.serde_json.specs.View.{view};
 ghost use Rattle.codec_metadata.specs.Metadata.{name_in};
-ghost use Rattle.array_metadata.specs.MetadataFields.{configured_in};
+ghost use Rattle.array_fields.specs.MetadataFields.{configured_in};
 ghost use Rattle.array_metadata.specs.KeyEncodings.{encoding_name, default_separator, separator_text};
 
-use crate::error::MetadataError;
-use crate::fields::Placed;
+use array_fields::{MetadataError, Placed};
 use parts_escaped_text::escaped;
 use std::alloc::{AllocError, Global};
 

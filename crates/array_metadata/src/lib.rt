@@ -4,18 +4,14 @@
 mod byte_codecs;
 mod codecs;
 mod element_types;
-mod error;
-mod fields;
 mod fill;
 mod floats;
-mod json;
 mod keys;
 mod metadata;
 mod unread;
 
 pub use codecs::{ArrayCodec, ElementCodec, IndexCodec, InnerCodec, ServedCodec};
 pub use element_types::ElementType;
-pub use error::{LONGEST_TEXT, MetadataError};
 pub use floats::{FloatFormat, half_to_f32};
 pub use keys::{ChunkKeys, KeyEncoding};
 pub use metadata::{ArrayMetadata, MOST_AXES, TypeText};

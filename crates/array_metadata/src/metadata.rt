@@ -5,7 +5,7 @@ ghost use Rattle.serde_json.specs.Find.{as_str, as_array, get};
 ghost use Rattle.serde_json.specs.View.{view, members_view};
 ghost use Rattle.codec_metadata.specs.Metadata.{name_in, first_refused, members_in};
 ghost use Rattle.array_metadata.specs.AcceptedMetadata.{IsServedText, IsReadAs, FitsTogether};
-ghost use Rattle.array_metadata.specs.MetadataFields.{configured_in, whole_number_in, whole_numbers_in, is_understood};
+ghost use Rattle.array_fields.specs.MetadataFields.{configured_in, whole_number_in, whole_numbers_in, is_understood};
 ghost use Rattle.array_metadata.specs.FillValues.{IsFillIn};
 ghost use Rattle.array_metadata.specs.ArrayCodecs.{shards_in, subchunks_in};
 ghost use Rattle.array_metadata.specs.UnreadCodecs.{chunks_in, unread_codec_in};
@@ -17,12 +17,10 @@ ghost use Rattle.parts_arrays.specs.declared.data_type.DataTypeSize.TheVariants.
 
 use crate::codecs::{ArrayCodec, InnerCodec, ServedCodec, array_codec, unserved};
 use crate::element_types::{ElementType, element_type_in, unread_type};
-use crate::error::MetadataError;
-use crate::fields::Placed;
 use crate::fill::fill_value_in;
-use crate::json::value_in;
 use crate::keys::{ChunkKeys, keys_in};
 use crate::unread::unread_codec;
+use array_fields::{MetadataError, Placed, value_in};
 use codec_metadata::PluginCreateError;
 use parts_arrays::{DataType, FillValue};
 use parts_escaped_text::{escaped, escaped_whole};

@@ -3,8 +3,7 @@ ghost use Rattle.std.specs.Prelude.{◌≡◌, true, OnOk, IfOk, option_map, str
 ghost use Rattle.serde_json.specs.View.{view, items_view};
 ghost use Rattle.array_metadata.specs.UnreadCodecs.{sole_shards, chunks_in, configured_codecs, innermost, is_element_codec, unserved_in, has_name, have_names, unread_codec_in};
 
-use crate::error::MetadataError;
-use crate::fields::Placed;
+use array_fields::{MetadataError, Placed};
 use codec_metadata::metadata_name;
 use serde_json::Value;
 use std::alloc::{AllocError, Global};

@@ -1,8 +1,9 @@
 // An array on disk that is open: its metadata, its shards, and their files.
 use crate::refusal::{Place, Refusal};
 use crate::stop::Stop;
+use array_fields::{LONGEST_TEXT, MetadataError};
 use array_folder::{ChunkFiles, ChunkGrid, KeyForm, document_length, list_chunks, read_document};
-use array_metadata::{ArrayMetadata, KeyEncoding, LONGEST_TEXT, MetadataError};
+use array_metadata::{ArrayMetadata, KeyEncoding};
 use codec_traits::ArrayToBytesCodecTraits;
 use parts_arrays::ArrayBytes;
 use parts_errors::{CodecError, CodecOptions};

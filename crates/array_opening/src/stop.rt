@@ -5,7 +5,7 @@ ghost use Rattle.array_opening.specs.Statuses.{status_of};
 use crate::refusal::Refusal;
 use array_folder::FolderError;
 use array_grid::SubsetError;
-use array_metadata::MetadataError;
+use array_fields::MetadataError;
 use parts_errors::CodecError;
 use std::alloc::{AllocError, AllocFailed, Global};
 use std::io;

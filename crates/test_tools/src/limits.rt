@@ -1,7 +1,7 @@
 // What is too much: brackets, axes and bytes of metadata.
 use crate::compared::{same, same_at};
 use crate::examples::{told, told_with};
-use array_metadata::MetadataError;
+use array_fields::MetadataError;
 use std::alloc::{AllocError, Global};
 
 // A text, repeated.

@@ -1,7 +1,7 @@
 use Rattle.std.proofs.Common.{◌≡◌}
 use Rattle.serde_json.specs.View.{members_view}
 use Rattle.codec_metadata.specs.Metadata.{first_refused}
-use Rattle.array_metadata.specs.MetadataFields.{is_understood}
+use Rattle.array_fields.specs.MetadataFields.{is_understood}
 use Rattle.array_metadata.proofs.metadata.first_unknown.Given as goal
 
 -- the members up to here are understood

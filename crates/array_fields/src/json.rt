@@ -111,7 +111,7 @@ fn sentence_of(alloc: Global, text: &str, error: &Error) -> Result<String, Alloc
     String::from_str(alloc, "the text is no JSON")
 }
 
-// The value that a text is. Refused as `BadField` where it is no JSON, nests too deep, or has a number past a float's range.
+/// The value that a text is. Refused as `BadField` where it is no JSON, nests too deep, or has a number past a float's range.
 pub fn value_in(alloc: Global, text: &str) -> Result<Value, MetadataError>
     ensures { IfOk result (λ value. read_text text.now ≡ Some (view value)) }
 {

@@ -1,7 +1,7 @@
 use Rattle.std.proofs.Common.{◌≡◌, ◌++◌, drop, option_map}
 use Rattle.serde_json.specs.View.{items_view}
-use Rattle.array_metadata.specs.MetadataFields.{whole_numbers_of}
-use Rattle.array_metadata.proofs.fields.whole_numbers.Given as goal
+use Rattle.array_fields.specs.MetadataFields.{whole_numbers_of}
+use Rattle.array_fields.proofs.fields.whole_numbers.Given as goal
 
 -- the numbers of the values up to here, and those of the rest
 abbrev pub invariant-loop-value : goal.invariant-loop-value

@@ -1,6 +1,6 @@
 // Why the metadata of an array is refused.
 ghost use Rattle.std.specs.Prelude.{◌≡◌, ◌≤◌, ◌<◌, IfErr, OnOk};
-ghost use Rattle.array_metadata.specs.declared.error.MetadataError.TheVariants.{TooLong};
+ghost use Rattle.array_fields.specs.declared.error.MetadataError.TheVariants.{TooLong};
 
 use codec_metadata::PluginCreateError;
 use parts_escaped_text::escaped;
@@ -92,7 +92,7 @@ impl MetadataError {
 
 impl From<AllocError> for MetadataError {
     ghost use Rattle.std.specs.Prelude.{◌≡◌};
-    ghost use Rattle.array_metadata.specs.declared.error.MetadataError.TheVariants.{OutOfMemory};
+    ghost use Rattle.array_fields.specs.declared.error.MetadataError.TheVariants.{OutOfMemory};
 
     ghost from_gives = { λ _ error. error ≡ OutOfMemory };
 
@@ -103,7 +103,7 @@ impl From<AllocError> for MetadataError {
 
 impl<T: Drop> From<AllocFailed<T>> for MetadataError {
     ghost use Rattle.std.specs.Prelude.{◌≡◌};
-    ghost use Rattle.array_metadata.specs.declared.error.MetadataError.TheVariants.{OutOfMemory};
+    ghost use Rattle.array_fields.specs.declared.error.MetadataError.TheVariants.{OutOfMemory};
 
     ghost from_gives = { λ _ error. error ≡ OutOfMemory };
 

@@ -3,7 +3,7 @@ ghost use Rattle.std.specs.Prelude.{◌≡◌, Some, None, IfOk, length, option_
 ghost use Rattle.serde_json.specs.Find.{get};
 ghost use Rattle.serde_json.specs.View.{view, items_view};
 ghost use Rattle.codec_metadata.specs.Metadata.{name_in, is_metadata_member, first_refused, members_in};
-ghost use Rattle.array_metadata.specs.MetadataFields.{whole_numbers_of, whole_numbers_in};
+ghost use Rattle.array_fields.specs.MetadataFields.{whole_numbers_of, whole_numbers_in};
 
 use crate::error::MetadataError;
 use codec_metadata::{MemberTest, PluginCreateError, metadata_name, test_members};
@@ -11,14 +11,14 @@ use parts_subsets::ChunkShape;
 use serde_json::Value;
 use std::alloc::{AllocError, Global};
 
-// A value of the metadata, and where it stands.
+/// A value of the metadata, and where it stands.
 #[derive(Drop)]
 pub struct Placed<'a> {
-    // The value.
+    /// The value.
     pub value: &'a Value,
-    // The key that it stands under, or that its list stands under.
+    /// The key that it stands under, or that its list stands under.
     pub key: &'static str,
-    // Where it stands, as `codecs[0].configuration`.
+    /// Where it stands, as `codecs[0].configuration`.
     pub place: String,
 }
 
@@ -55,7 +55,7 @@ fn whole_numbers(alloc: Global, values: &[Value]) -> Result<Option<Vec<u64>>, Al
 }
 
 impl<'a> Placed<'a> {
-    // The whole text's value.
+    /// The whole text's value.
     pub fn whole(alloc: Global, value: &'a Value) -> Result<Self, MetadataError>
         ensures { IfOk result (λ whole. view whole.value.now ≡ view value.now) }
     {
@@ -66,7 +66,7 @@ impl<'a> Placed<'a> {
         })
     }
 
-    // What stands under a key of an object, where anything does.
+    /// What stands under a key of an object, where anything does.
     pub fn member(
         &self,
         alloc: Global,
@@ -86,7 +86,7 @@ impl<'a> Placed<'a> {
         Ok(Some(Placed { value, key, place }))
     }
 
-    // What stands under a key of an object. Refused as `MissingField`.
+    /// What stands under a key of an object. Refused as `MissingField`.
     pub fn required(&self, alloc: Global, key: &'static str) -> Result<Placed<'a>, MetadataError>
         ensures { IfOk result (λ member. get key.now (view self.now.value.now) ≡ Some (view member.value.now)) }
     {
@@ -100,7 +100,7 @@ impl<'a> Placed<'a> {
         }
     }
 
-    // The refusal of this value.
+    /// The refusal of this value.
     pub fn refused(
         &self,
         alloc: Global,
@@ -110,7 +110,7 @@ impl<'a> Placed<'a> {
         MetadataError::refused(alloc, error, self.place.as_str(), sentence)
     }
 
-    // The refusal of this value as `BadField` with its key.
+    /// The refusal of this value as `BadField` with its key.
     pub fn bad(&self, alloc: Global, sentence: &str) -> MetadataError {
         self.refused(
             alloc,
@@ -119,7 +119,7 @@ impl<'a> Placed<'a> {
         )
     }
 
-    // The refusal of this value by a call that says no more than its number and the key.
+    /// The refusal of this value by a call that says no more than its number and the key.
     pub fn refused_by(&self, alloc: Global, error: PluginCreateError) -> MetadataError {
         let sentence = match &error {
             PluginCreateError::OutOfMemory => "memory ran out",
@@ -131,8 +131,8 @@ impl<'a> Placed<'a> {
         self.refused(alloc, error, sentence)
     }
 
-    // The name of an extension: the value itself where it is a string, or the string under "name". Refused as `BadField`, as is
-    // an object with unknown members.
+    /// The name of an extension: the value itself where it is a string, or the string under "name". Refused as `BadField`, as is
+    /// an object with unknown members.
     pub fn extension_name(&self, alloc: Global) -> Result<&'a str, MetadataError>
         ensures named { IfOk result (λ name. name_in (view self.now.value.now) ≡ Some name.now) }
         ensures tested { IfOk result (λ name. first_refused is_metadata_member (members_in (view self.now.value.now)) ≡ None) }
@@ -146,7 +146,7 @@ impl<'a> Placed<'a> {
         }
     }
 
-    // Refused as `BadField` with the first member of an object, in the order of keys, that has none of these keys.
+    /// Refused as `BadField` with the first member of an object, in the order of keys, that has none of these keys.
     pub fn only_members(&self, alloc: Global, keys: &[&str]) -> Result<(), MetadataError> {
         let Some(members) = self.value.as_object() else {
             return Err(self.bad(alloc, "this is no object"));
@@ -160,7 +160,7 @@ impl<'a> Placed<'a> {
         Ok(())
     }
 
-    // The whole numbers that a list holds. Refused as `BadField`.
+    /// The whole numbers that a list holds. Refused as `BadField`.
     pub fn numbers(&self, alloc: Global) -> Result<Vec<u64>, MetadataError>
         ensures { IfOk result (λ numbers. whole_numbers_in (view self.now.value.now) ≡ Some numbers.items) }
     {
@@ -173,7 +173,7 @@ impl<'a> Placed<'a> {
         }
     }
 
-    // The shape of a chunk of so many axes. Refused as `BadField`.
+    /// The shape of a chunk of so many axes. Refused as `BadField`.
     pub fn chunk_shape(&self, alloc: Global, axes: usize) -> Result<ChunkShape, MetadataError>
         ensures axes { IfOk result (λ shape. length shape ≡ axes) }
         ensures read { IfOk result (λ shape. whole_numbers_in (view self.now.value.now) ≡ Some shape) }
