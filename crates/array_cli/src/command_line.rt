@@ -174,7 +174,7 @@ fn list_command<'a>(alloc: Global) -> Result<Command<'a>, AllocError> {
 }
 
 // The version of the program, and the line of the kit that proves it.
-const VERSION: &str = "0.1.0 (rattle-kit-13f logic dac8208d650f15bf)";
+const VERSION: &str = "0.1.0 (rattle-kit-13b logic dac8208d650f15bf)";
 
 // The program without its commands.
 fn bare_program<'a>(alloc: Global) -> Command<'a> {
