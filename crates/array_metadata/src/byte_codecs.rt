@@ -59,7 +59,7 @@ fn zstd_checksum(alloc: Global, configuration: &Placed) -> Result<bool, Metadata
         return Ok(false);
     };
     match checksum.value.as_bool() {
-        Some(asked) => Ok(asked),
+        Some(has_checksum) => Ok(has_checksum),
         None => Err(checksum.bad(alloc, "a checksum is true or false")),
     }
 }
