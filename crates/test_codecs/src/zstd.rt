@@ -5,7 +5,7 @@ use codec_xxhash::xxh64;
 use codec_zstd::{ZstdCodec, unzstd, zstd_stored};
 use std::alloc::Global;
 use std::process::Abort;
-use zarr_codecs::BytesToBytesCodecTraits;
+use zarr_codecs::{BytesRepresentation, BytesToBytesCodecTraits};
 use zarr_parts::CodecError;
 
 // What stands in a table for a file that is refused.
@@ -13,8 +13,11 @@ const DAMAGED: &[u8] = b"damaged";
 
 const TOO_LONG: &[u8] = b"too long";
 
-// A file of one raw block, as zstd writes it of so short a content.
-const RAW: &[u8] = b"(\xb5/\xfd \x02\x11\x00\x00hi";
+// A file of one raw block by RFC 8878, 3.1.1: a content size of eight bytes, a window of 128 KiB, the header of a last raw block.
+const STORED: &[u8] = b"(\xb5/\xfd\xc08\x02\x00\x00\x00\x00\x00\x00\x00\x11\x00\x00hi";
+
+// A file of one block of one byte, and the checksum of its content, which the program xxhsum gives.
+const RUN: &[u8] = b"(\xb5/\xfd\xc48\x05\x00\x00\x00\x00\x00\x00\x00+\x00\x00ahAE\x13";
 
 // The content as a slice, or why the file was refused.
 fn content(found: &Result<Vec<u8>, DecompressError>) -> &[u8] {
@@ -111,7 +114,9 @@ fn zstd_files_are_read(rt: HostRuntime) {
 #[test]
 fn a_file_is_written_without_compression(rt: HostRuntime) {
     let found = zstd_stored(rt.alloc(), b"hi", false).expect(&rt, "refused");
-    same(&rt, found.as_slice(), RAW);
+    same(&rt, found.as_slice(), STORED);
+    let run = zstd_stored(rt.alloc(), b"aaaaa", true).expect(&rt, "refused");
+    same(&rt, run.as_slice(), RUN);
 }
 
 // The checksums of the program xxhsum 0.8, with the seed 0.
@@ -140,7 +145,7 @@ fn decoded_within<R: Abort>(rt: &R, alloc: Global, limit: usize) -> Result<Vec<u
         level: 3,
         checksum: false,
     };
-    let found = codec.decode_within(alloc, RAW, limit)?;
+    let found = codec.decode_within(alloc, STORED, limit)?;
     Ok(found.into_owned(alloc).expect(rt, "refused"))
 }
 
@@ -151,7 +156,7 @@ fn the_codec_reads_and_writes_files(rt: HostRuntime) {
         checksum: false,
     };
     let encoded = codec.encode(rt.alloc(), b"hi").expect(&rt, "refused");
-    same(&rt, encoded.as_slice(), RAW);
+    same(&rt, encoded.as_slice(), STORED);
     let decoded = codec.decode(rt.alloc(), &encoded).expect(&rt, "refused");
     same(&rt, decoded.as_slice(), b"hi".as_slice());
     let within = decoded_within(&rt, rt.alloc(), 2).expect(&rt, "refused");
@@ -161,4 +166,6 @@ fn the_codec_reads_and_writes_files(rt: HostRuntime) {
         decoded_within(&rt, rt.alloc(), 1),
         Err(CodecError::Damaged),
     );
+    let told = codec.encoded_representation(BytesRepresentation::FixedSize(2));
+    same(&rt, told, BytesRepresentation::BoundedSize(23));
 }
