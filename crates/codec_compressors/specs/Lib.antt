@@ -1,0 +1,2 @@
+pub mod Compressors
+pub mod CompressorLaws
