@@ -3,6 +3,7 @@ use Rattle.std.specs.Prelude.{ℕ, zero, suc, ◌-◌, ◌/◌, ◌%◌, ◌^◌
 use Rattle.std.specs.Int.{w16, w32, to_le_bytes, from_le_bytes}
 use Rattle.codec_decompression.specs.Options.{◌>>=◌, guard}
 use Rattle.codec_decompression.specs.Bits.{Bytes}
+use Rattle.codec_decompression.specs.Parts.{parts}
 use Rattle.codec_deflate.specs.Inflate.{inflated}
 use Rattle.codec_gzip.specs.Checksum.{crc32}
 
@@ -57,13 +58,6 @@ member_at bytes = do
   rest ← after_trailer content.0 content.1
   Some (content.0, rest)
 
--- at most `more` members up to the end, after the content `out` of others
-unfoldable pub members : ℕ → Bytes → Bytes → Option Bytes
-members zero out bytes = None
-members (suc more) out bytes = do
-  next ← member_at bytes
-  elim (next.1) [ [] ↦ Some (out ++ next.0) | byte ∷ rest ↦ members more (out ++ next.0) (byte ∷ rest) ]
-
 -- the content of a file: that of its members, one after the other
 abbrev pub gunzipped : Bytes → Option Bytes
-gunzipped bytes = members (length bytes) [] bytes
+gunzipped bytes = parts member_at (length bytes) [] bytes

@@ -3,8 +3,9 @@ use Rattle.std.proofs.lemmas.Bool.{eqb-true, eqb-false}
 use Rattle.std.proofs.lemmas.Result.{err_from_is_err_and}
 use Rattle.codec_decompression.specs.Bits.{Bytes}
 use Rattle.codec_decompression.proofs.Exits.{IsOver, refuses_whole}
-use Rattle.codec_gzip.specs.Gzip.{members}
-use Rattle.codec_gzip.proofs.GzipLaws.{members_none, members_last, members_more, members_end, members_over}
+use Rattle.codec_decompression.specs.Parts.{parts}
+use Rattle.codec_decompression.proofs.PartLaws.{parts_none, parts_last, parts_more, parts_end, parts_over}
+use Rattle.codec_gzip.specs.Gzip.{member_at}
 use Rattle.codec_gzip.proofs.members.gunzip.Goals as goal
 
 pub loop-preserved : goal.loop-preserved
@@ -22,8 +23,8 @@ loop-preserved c =
         c.loop.invariant.within,
       );
       left =
-          ap (λ (o : Bytes). members (length c.args.bytes.now - (c.loop.counter + 1)) o c.in_ok-content.rest.now) c.in_ok-append.ensures
-          ∙ (sym (members_more (length c.args.bytes.now) c.loop.counter c.loop.out.items c.loop.left.now c.in_ok-content.content.items c.in_ok-content.rest.now
+          ap (λ (o : Bytes). parts member_at (length c.args.bytes.now - (c.loop.counter + 1)) o c.in_ok-content.rest.now) c.in_ok-append.ensures
+          ∙ (sym (parts_more member_at (length c.args.bytes.now) c.loop.counter c.loop.out.items c.loop.left.now c.in_ok-content.content.items c.in_ok-content.rest.now
           c.loop-test.true c.in_ok-content.ensures.read some) ∙ c.loop.invariant.left);
     }
 
@@ -31,16 +32,16 @@ pub returns-in_err-content-clause-refused : goal.returns-in_err-content-clause-r
 returns-in_err-content-clause-refused c =
     let p = err_from_is_err_and c.from_residual.result c.from_residual.ensures.1 in
     rw (p.1, p.2) (refuses_whole (c.args.limit - c.len.result) c.args.limit _ _ _ c.in_err-content.ensures.read
-    (λ none. sym c.loop.invariant.left ∙ members_none (length c.args.bytes.now - c.loop.counter) c.loop.out.items c.loop.left.now none)
+    (λ none. sym c.loop.invariant.left ∙ parts_none member_at (length c.args.bytes.now - c.loop.counter) c.loop.out.items c.loop.left.now none)
     (λ past. subst (λ r. IsOver c.args.limit r) c.loop.invariant.left
-    (members_over c.args.limit (c.args.limit - c.len.result) (length c.args.bytes.now - c.loop.counter) c.loop.out.items c.loop.left.now
+    (parts_over member_at c.args.limit (c.args.limit - c.len.result) (length c.args.bytes.now - c.loop.counter) c.loop.out.items c.loop.left.now
     (omega (arith, c.len.ensures, c.loop.out.ok.0)) past)))
 
 pub returns-then-is_empty-clause-read : goal.returns-then-is_empty-clause-read
 returns-then-is_empty-clause-read c =
     let none : length c.in_ok-content.rest.now ≡ 0 = eqb-true _ _ (sym c.if-is_empty.ensures) in
     sym c.loop.invariant.left
-    ∙ (members_last (length c.args.bytes.now) c.loop.counter c.loop.out.items c.loop.left.now c.in_ok-content.content.items c.in_ok-content.rest.now
+    ∙ (parts_last member_at (length c.args.bytes.now) c.loop.counter c.loop.out.items c.loop.left.now c.in_ok-content.content.items c.in_ok-content.rest.now
     c.loop-test.true c.in_ok-content.ensures.read none
     ∙ ap Some (sym c.in_ok-append.ensures))
 
@@ -56,4 +57,4 @@ returns-then-is_empty-clause-within c = omega (
 )
 
 pub returns-clause-refused : goal.returns-clause-refused
-returns-clause-refused c = sym c.loop.invariant.left ∙ members_end (length c.args.bytes.now) c.loop.counter c.loop.out.items c.loop.left.now c.loop-test.false
+returns-clause-refused c = sym c.loop.invariant.left ∙ parts_end member_at (length c.args.bytes.now) c.loop.counter c.loop.out.items c.loop.left.now c.loop-test.false
