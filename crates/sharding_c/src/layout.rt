@@ -9,7 +9,7 @@ ghost use Rattle.sharding_c.specs.Layouts.{is_set, index_size, subchunks_of, IsL
 use crate::status::Refusal;
 use parts_errors::CodecError;
 use parts_subsets::{ArraySubset, Axes, ChunkShape};
-use sharding_plans::ShardGrid;
+use sharding_plans::PlannedShard;
 use std::alloc::Global;
 
 /// How a shard is laid out, as `zs_layout` of the header: its shape, that of a subchunk, the bytes of an element, and flags that tell of
@@ -74,7 +74,7 @@ fn size_of_index(flags: u32, subchunks: u64) -> Option<u64>
 // A shard's grid and the size of its index.
 #[derive(Drop)]
 pub(crate) struct Shard {
-    pub grid: ShardGrid,
+    pub grid: PlannedShard,
     pub subchunks: u64,
     pub index_size: u64,
 }
@@ -99,7 +99,7 @@ fn cut_shard(alloc: Global, layout: &Layout) -> Result<Shard, CodecError>
     let Some(subchunk_shape) = ChunkShape::new(alloc, layout.subchunk_shape)? else {
         return Err(CodecError::InvalidSubchunkShape);
     };
-    let grid = ShardGrid::new(alloc, shape, subchunk_shape)?;
+    let grid = PlannedShard::new(alloc, shape, subchunk_shape)?;
     let subchunks = grid.subchunks();
     match size_of_index(layout.index, subchunks) {
         Some(index_size) => Ok(Shard {

@@ -1,3 +1,4 @@
 mod PutLemmas
 mod PlanLemmas
 pub mod AxesLemmas
+mod FetchLemmas

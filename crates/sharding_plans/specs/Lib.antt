@@ -1,3 +1,4 @@
 pub mod ReadPlans
 pub mod Puts
 pub mod CutLaws
+pub mod Fetches

@@ -2,10 +2,12 @@
 // here: the caller fetches the bytes of each subchunk, decodes them, and puts their elements into an answer, in any order.
 #![tactic(auto)]
 
+mod fetches;
 mod grid;
 mod put;
 mod read_plan;
 
-pub use grid::{IndexNumbers, ShardGrid};
+pub use fetches::{fetch_of, plan_fetches};
+pub use grid::{IndexNumbers, PlannedShard};
 pub use put::{Part, fill_part, put_law, put_part};
 pub use read_plan::{ReadPart, ReadPlan};
