@@ -2,3 +2,4 @@ mod PutLemmas
 mod PlanLemmas
 pub mod AxesLemmas
 mod FetchLemmas
+mod PackLemmas

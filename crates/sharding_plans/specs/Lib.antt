@@ -2,3 +2,4 @@ pub mod ReadPlans
 pub mod Puts
 pub mod CutLaws
 pub mod Fetches
+pub mod PackedShards
