@@ -3,3 +3,4 @@ mod PlanLemmas
 pub mod AxesLemmas
 mod FetchLemmas
 mod PackLemmas
+mod WriteLemmas

@@ -1,23 +1,23 @@
 -- Slices that are packed, and the index that says where they stand.
-use Rattle.std.proofs.Common.{◌≡◌, ℕ, zero, suc, ◌+◌, ◌-◌, ◌*◌, ◌/◌, ◌^◌, ◌<◌, ◌≤◌, Bool, true, false, ◌==◌, if◌then◌else◌, List, [], ◌∷◌, ◌++◌, length, get_or, inl, inr, refl, sym, ap, ◌∙◌, subst, arith}
+use Rattle.std.proofs.Common.{◌≡◌, ℕ, ◌+◌, ◌-◌, ◌*◌, ◌/◌, ◌^◌, ◌<◌, ◌≤◌, if◌then◌else◌, List, length, get_or, inl, inr, refl, sym, ap, ◌∙◌, subst, arith}
 use Rattle.std.specs.List.{All, range_with_len}
 use Rattle.std.proofs.lemmas.List.{get_or_default}
 use Rattle.std.proofs.lemmas.Bool.{le-leb}
 use Rattle.std.proofs.lemmas.Bool.Decides.{eqb_tells}
-use Rattle.parts_errors.specs.Words.{Elements, Written}
+use Rattle.parts_errors.specs.Words.{Elements}
 use Rattle.parts_errors.specs.Order.{◌or◌then◌, Each, done, RefusedBy}
 use Rattle.parts_errors.specs.declared.error.CodecError.{CodecError}
 use Rattle.parts_errors.specs.declared.error.CodecError.TheVariants.{TooLarge, BadIndexEntry}
 use Rattle.parts_row_major.specs.Numbering.{count_of}
 use Rattle.parts_subsets.specs.Grid.{grid_of, subchunk}
 use Rattle.codec_traits.specs.Meanings.{Meaning}
-use Rattle.sharding_format.specs.Index.{absent_number, slot_of_entry, slot_at, slice_at, data_start, data_end}
+use Rattle.sharding_format.specs.Index.{absent_number, slot_of_entry, slot_at, data_start, data_end}
 use Rattle.sharding_format.specs.Cells.{Layout}
 use Rattle.sharding_format.specs.Encoding.{slot_size, stored_size, BeginsAt, AreApart, IsStoredAt, StandsAt, IsEncodingBy}
 use Rattle.sharding_format.specs.Laying.{offset_number, size_number, AreNumbersOf}
-use Rattle.sharding_format.specs.Compacting.{IsGood, IsMoved, IsCompact, IsCompaction, present_size, compact_size}
+use Rattle.sharding_format.specs.Compacting.{IsGood, IsMoved, present_size}
 use Rattle.sharding_format.specs.Packing.{slice_of, moved_slot}
-use Rattle.sharding_format.specs.WriteOrder.{numbers_in_order, numbers_before, is_ordered}
+use Rattle.sharding_format.specs.WriteOrder.{numbers_in_order, numbers_before}
 use Rattle.sharding_format.specs.WriteOrderLaws.{before_in_range}
 use Rattle.sharding_format.specs.declared.location.ShardingIndexLocation.{ShardingIndexLocation}
 use Rattle.sharding_format.specs.declared.location.ShardingIndexLocation.TheVariants.{Start, End}

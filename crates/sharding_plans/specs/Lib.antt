@@ -3,3 +3,4 @@ pub mod Puts
 pub mod CutLaws
 pub mod Fetches
 pub mod PackedShards
+pub mod WritePlans

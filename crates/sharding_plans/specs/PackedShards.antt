@@ -12,10 +12,9 @@ use Rattle.sharding_format.specs.Cells.{Layout}
 use Rattle.sharding_format.specs.Encoding.{IsStoredAt, IsEncodingBy}
 use Rattle.sharding_format.specs.Compacting.{IsGood, IsCompact, IsCompaction, present_size, compact_size}
 use Rattle.sharding_format.specs.Packing.{slice_of, moved_slot}
-use Rattle.sharding_format.specs.declared.location.ShardingIndexLocation.{ShardingIndexLocation}
 use Rattle.sharding_format.specs.declared.order.SubchunkWriteOrder.TheVariants.{C}
 use Rattle.sharding_format.specs.declared.slot.Slot.{Slot}
-use Rattle.sharding_format.specs.declared.slot.Slot.TheVariants.{Absent, InRange, Bad}
+use Rattle.sharding_format.specs.declared.slot.Slot.TheVariants.{Absent, InRange}
 use Rattle.sharding_plans.specs.declared.packed.IndexPlace.{IndexPlace}
 use Rattle.sharding_plans.specs.declared.packed.PackedShard.{PackedShard}
 use Rattle.sharding_plans.specs.ReadPlans.{HasEntries}

@@ -60,7 +60,7 @@ fn offset_of_size(size: u64) -> u64
 }
 
 // An index of slices of these sizes, wherever they stand.
-fn index_of_sizes(alloc: Global, sizes: &[u64]) -> Result<ShardIndex, AllocError>
+pub(crate) fn index_of_sizes(alloc: Global, sizes: &[u64]) -> Result<ShardIndex, AllocError>
     ensures counted { IfOk result (λ index. length index.numbers.items ≡ 2 * length sizes.now) }
     ensures slots { IfOk result (λ index. (k : ℕ) → k < length sizes.now → slot_at index.len index.numbers.items k ≡ slots_of_sizes sizes.now k) }
 {

@@ -1,6 +1,6 @@
 use Rattle.std.proofs.lemmas.List.Sorted.{All-permutation}
-use Rattle.std.proofs.Common.{sym, subst}
-use Rattle.sharding_plans.specs.Fetches.{Fits, AreFetches}
+use Rattle.std.proofs.Common.{sym}
+use Rattle.sharding_plans.specs.Fetches.{Fits}
 use Rattle.sharding_plans.proofs.FetchLemmas.{fetched_in_any_order}
 use Rattle.sharding_plans.proofs.fetches.plan_fetches.Goals as goal
 

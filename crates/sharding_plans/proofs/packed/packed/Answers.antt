@@ -1,4 +1,3 @@
-use Rattle.std.proofs.Common.{arith, sym}
 use Rattle.sharding_plans.proofs.PackLemmas.{packed_below, packed_stand}
 use Rattle.sharding_plans.proofs.packed.packed.Goals as goal
 

@@ -1,4 +1,4 @@
-use Rattle.std.proofs.Common.{refl, ◌∙◌, arith}
+use Rattle.std.proofs.Common.{refl, ◌∙◌}
 use Rattle.sharding_plans.proofs.AxesLemmas.{passed_on}
 use Rattle.sharding_plans.proofs.PackLemmas.{laid_of_sizes, lay_out_refused}
 use Rattle.sharding_plans.proofs.grid.PlannedShard.lay_out.Goals as goal
