@@ -2,3 +2,4 @@ pub mod Statuses
 pub mod Layouts
 pub mod Rows
 pub mod Exports
+pub mod Changes
