@@ -1,10 +1,14 @@
-/* zarr_sharding.h: reads of the Zarr V3 codec `sharding_indexed` as ranges and copies.
+/* zarr_sharding.h: reads and writes of the Zarr V3 codec `sharding_indexed` as ranges and copies.
  *
  * The caller fetches and decompresses; the library says which bytes to fetch and where each element goes. It opens nothing, starts nothing
  * and keeps nothing between calls.
  *
  * A read: zs_index_range -> fetch these bytes -> zs_index_read (once for a shard) -> zs_plan_subset -> for each row, in any order: fetch its
  * bytes, decode them by the inner codec, and zs_put; or zs_put_fill where the subchunk is absent.
+ *
+ * A write: zs_plan_subset tells what it touches. For each row: where its shape is the subchunk's, the update covers it; else fetch and decode the
+ * old subchunk, or fill it where it is absent; zs_put_update; encode. zs_write_plan takes the sizes of the encodings and gives the new index,
+ * which says where each goes; zs_index_write makes its bytes, and zs_index_range of the new length says where these go.
  *
  * WHAT THE CALLER OWES at every call, which no call can test:
  *   1. A pointer is valid for as many elements as the length after it says, and aligned for their type. Lengths count elements: of bytes for
@@ -87,6 +91,28 @@ typedef struct zs_range {
     uint64_t size;
 } zs_range;
 
+/* A stored shard: how long its object is, and the numbers of its index (zs_index_read). Without an object: 0, and ZS_ABSENT everywhere. */
+typedef struct zs_stored {
+    uint64_t object_size;
+    const uint64_t *numbers;
+    size_t numbers_count;
+} zs_stored;
+
+/* What becomes of an object, beside what zs_told says. Refused: only `room` (64) or `subchunk` (9) is written. */
+typedef struct zs_change {
+    uint64_t room;        /* how many numbers the index has, also where they need room */
+    uint64_t subchunk;    /* whose index entry is bad, the lowest one */
+    uint64_t object_size; /* how long the object is then */
+    uint32_t kind;        /* ZS_KEEP, ZS_ERASE, ZS_REPLACE or ZS_EXTEND */
+} zs_change;
+
+enum {
+    ZS_KEEP = 0,    /* the object stays as it is */
+    ZS_ERASE = 1,   /* there is to be no object */
+    ZS_REPLACE = 2, /* the slices and the index that were told are the object */
+    ZS_EXTEND = 3   /* the new slices and the index are written into the object, whose other bytes stay */
+};
+
 /* What a call tells beside its status. A call writes only the field that its description names. */
 typedef struct zs_told {
     uint64_t room;     /* Ok: how many were written. ZS_ROOM_TOO_SMALL: how many need room */
@@ -137,6 +163,36 @@ zs_status zs_put(const zs_layout *layout, const uint64_t *row, size_t row_number
  * this order, as 3; 4; 2; 12 for a fill value of no bytes; 5; or as 1. */
 zs_status zs_put_fill(const uint64_t *row, size_t row_numbers, const uint8_t *fill_value, size_t fill_size, const uint64_t *answer_shape,
                       size_t answer_axes, uint8_t *answer, size_t answer_size);
+
+/* The same of an update that is written: its part, by a row of a plan of the subset that it is written to, into the elements of a subchunk.
+ * `update` is an array of `update_shape`, and `decoded` has all elements of the subchunk. Refused, in this order, as 3; 4; 2; 5; 12; 15 where
+ * `update_size` is not that of the update; 5 where `decoded_size` is not that of a subchunk; or as 1. */
+zs_status zs_put_update(const zs_layout *layout, const uint64_t *row, size_t row_numbers, const uint8_t *update, size_t update_size,
+                        const uint64_t *update_shape, size_t update_axes, uint8_t *decoded, size_t decoded_size);
+
+/* The bytes of an index of these numbers, with its checksum if it has one. Ok and ZS_ROOM_TOO_SMALL: told->room is how many they are. Refused,
+ * in this order, as the layout is; as 5 for another count of numbers; as 64; or as 1. */
+zs_status zs_index_write(const zs_layout *layout, const uint64_t *numbers, size_t numbers_count, uint8_t *index, size_t index_room, zs_told *told);
+
+/* A whole shard of encoded subchunks of these sizes, one of each subchunk; ZS_ABSENT stands for one that is all fill value, and not stored.
+ * `numbers` get the index: the slices follow one another in row-major order. change->kind is ZS_REPLACE. Refused, in this order, as the
+ * layout is; as 64; as 5 for another count of sizes; as 2; or as 1. */
+zs_status zs_lay_out(const zs_layout *layout, const uint64_t *sizes, size_t sizes_count, uint64_t *numbers, size_t numbers_room, zs_change *change);
+
+/* The compaction of a shard. ZS_KEEP: index and slices have as many bytes as the object, and `numbers` were not written. ZS_REPLACE: `numbers`
+ * get the new index; each slice is copied from where the old index says to where the new one does, in any order, to another object. Slices that
+ * share bytes are copied once each. Refused, in this order, as the layout is; as 64; as 5 for another count of old numbers; as 7; as 9 for the
+ * lowest bad entry; as 2; or as 1. */
+zs_status zs_compact_plan(const zs_layout *layout, const zs_stored *stored, uint64_t *numbers, size_t numbers_room, zs_change *change);
+
+/* A write over a subset. `sizes` are those of the new encodings of the subchunks that it touches, in the order of zs_plan_subset's rows;
+ * ZS_ABSENT stands for one that became all fill value. `numbers` get the new index, which says where each goes. ZS_ERASE: no subchunk is stored
+ * any more. ZS_REPLACE: no other is stored; the new slices and the index are the object. ZS_EXTEND: they are written into the object: behind all
+ * old slices where the index is at the start, and from where the old index began where it is at the end; write the slices before the index.
+ * Refused, in this order, as the layout is; as 64; as 3 and 4 for the subset's start and shape; as 5 for another count of old numbers; as 7; as 9
+ * for the lowest entry that does not lie in the data part; as 3, 4; as 5 for another count of sizes; as 2; or as 1. */
+zs_status zs_write_plan(const zs_layout *layout, const zs_stored *stored, const zs_subset *subset, const uint64_t *sizes, size_t sizes_count,
+                        uint64_t *numbers, size_t numbers_room, zs_change *change);
 
 /* Writes the name of a status, ended by a zero, where there is room for both, and returns its length without the zero. */
 size_t zs_error_name(uint32_t status, uint8_t *name, size_t name_room);

@@ -1,4 +1,4 @@
-"""Reads of the Zarr V3 codec `sharding_indexed`, over the C library and ctypes alone.
+"""Reads and writes of the Zarr V3 codec `sharding_indexed`, over the C library and ctypes alone.
 
     layout = Layout((256, 256), (32, 32), element_size=2, crc32c=True)
     answer = bytearray(layout.answer_size((16, 16)))
@@ -13,6 +13,7 @@ import threading
 
 ABSENT = 2**64 - 1
 ROOM_TOO_SMALL, BAD_INDEX_ENTRY = 64, 9
+KEEP, ERASE, REPLACE, EXTEND = 0, 1, 2, 3
 
 _u64s, _size, _pointer = ctypes.POINTER(ctypes.c_uint64), ctypes.c_size_t, ctypes.c_void_p
 
@@ -32,6 +33,14 @@ class _Range(ctypes.Structure):
     _fields_ = [("offset", ctypes.c_uint64), ("size", ctypes.c_uint64)]
 
 
+class _Stored(ctypes.Structure):
+    _fields_ = [("object_size", ctypes.c_uint64), ("numbers", _u64s), ("numbers_count", _size)]
+
+
+class _Change(ctypes.Structure):
+    _fields_ = [("room", ctypes.c_uint64), ("subchunk", ctypes.c_uint64), ("object_size", ctypes.c_uint64), ("kind", ctypes.c_uint32)]
+
+
 class _Told(ctypes.Structure):
     _fields_ = [("room", ctypes.c_uint64), ("subchunk", ctypes.c_uint64)]
 
@@ -44,6 +53,11 @@ def _loaded():
         "zs_plan_subset": [_pointer, ctypes.c_uint64, _pointer, _size, _pointer, _pointer, _size, _pointer],
         "zs_put": [_pointer, _pointer, _size, _pointer, _size, _pointer, _size, _pointer, _size],
         "zs_put_fill": [_pointer, _size, _pointer, _size, _pointer, _size, _pointer, _size],
+        "zs_put_update": [_pointer, _pointer, _size, _pointer, _size, _pointer, _size, _pointer, _size],
+        "zs_index_write": [_pointer, _pointer, _size, _pointer, _size, _pointer],
+        "zs_lay_out": [_pointer, _pointer, _size, _pointer, _size, _pointer],
+        "zs_compact_plan": [_pointer, _pointer, _pointer, _size, _pointer],
+        "zs_write_plan": [_pointer, _pointer, _pointer, _pointer, _size, _pointer, _size, _pointer],
     }
     for name, types in calls.items():
         call = getattr(library, name)
@@ -109,6 +123,13 @@ class Row:
     @property
     def is_absent(self):
         return self.offset == ABSENT and self.size == ABSENT
+
+
+class Change:
+    """How an object is written: its kind, its length then, and the numbers of its index, which say where each slice goes."""
+
+    def __init__(self, told, numbers):
+        self.kind, self.object_size, self.numbers = told.kind, told.object_size, numbers
 
 
 class Layout:
@@ -181,6 +202,94 @@ class Layout:
         row, axes = _numbers(row.numbers), _numbers(shape)
         with self._lock, _View(fill_value) as source, _View(answer, writable=True) as to:
             _checked(_library.zs_put_fill(row, len(row), source.at, source.size, axes, len(axes), to.at, to.size))
+
+    def put_update(self, row, update, shape, decoded):
+        """Puts a row's part of an update, an array of a shape, into the elements of a subchunk."""
+        row, axes = _numbers(row.numbers), _numbers(shape)
+        with self._lock, _View(update) as source, _View(decoded, writable=True) as to:
+            _checked(_library.zs_put_update(self._at, row, len(row), source.at, source.size, axes, len(axes), to.at, to.size))
+
+    def covers(self, row):
+        """Whether a row's part is its whole subchunk."""
+        return tuple(row.numbers[3 + 2 * len(self.shape) :]) == self.subchunk_shape
+
+    def index_bytes(self, numbers):
+        """The bytes of an index of these numbers."""
+        told = _Told()
+        status = _library.zs_index_write(self._at, numbers, len(numbers), None, 0, ctypes.addressof(told))
+        if status != ROOM_TOO_SMALL:
+            _checked(status)
+        index = bytearray(told.room)
+        with _View(index, writable=True) as view:
+            _checked(_library.zs_index_write(self._at, numbers, len(numbers), view.at, view.size, ctypes.addressof(told)))
+        return bytes(index)
+
+    def _change(self, call):
+        told, room = _Change(), _numbers(())
+        status = call(room, told)
+        if status == ROOM_TOO_SMALL:
+            room = (ctypes.c_uint64 * told.room)()
+            status = call(room, told)
+        _checked(status, told)
+        return Change(told, room)
+
+    def lay_out(self, sizes):
+        """A whole shard of encoded subchunks of these sizes, None where one is all fill value."""
+        sizes = _numbers([ABSENT if size is None else size for size in sizes])
+
+        def call(room, told):
+            return _library.zs_lay_out(self._at, sizes, len(sizes), room, len(room), ctypes.addressof(told))
+
+        return self._change(call)
+
+    def compaction(self, object_size, index):
+        """The compaction of a shard, and the copies that it takes: from, to and length. Where its kind is KEEP the shard is compact."""
+        stored = _Stored(object_size, index, len(index))
+
+        def call(room, told):
+            return _library.zs_compact_plan(self._at, ctypes.addressof(stored), room, len(room), ctypes.addressof(told))
+
+        change = self._change(call)
+        new = change.numbers if change.kind == REPLACE else ()
+        copies = [(index[i], new[i], new[i + 1]) for i in range(0, len(new), 2) if new[i] != ABSENT]
+        return change, copies
+
+    def write_plan(self, object_size, index, start, shape, sizes):
+        """How an object is written where the subchunks that a subset touches, in the order of `plan`, have new encodings of these sizes, None
+        where one became all fill value. `object_size` is None for a shard without an object."""
+        start, shape = _numbers(start), _numbers(shape)
+        subset, stored = _Subset(start, len(start), shape, len(shape)), _Stored(object_size or 0, index, len(index))
+        sizes = _numbers([ABSENT if size is None else size for size in sizes])
+
+        def call(room, told):
+            return _library.zs_write_plan(
+                self._at, ctypes.addressof(stored), ctypes.addressof(subset), sizes, len(sizes), room, len(room), ctypes.addressof(told)
+            )
+
+        return self._change(call)
+
+    def write(self, fetch, object_size, start, shape, update, decode, encode, fill_value):
+        """Plans a write of an update over a subset: the change, and the pieces to be stored, each an offset and bytes, the index last. Only
+        subchunks that the subset does not cover are fetched."""
+        index = self.index(None if object_size is None else fetch(*self.index_range(object_size)))
+        empty, rows, slices = self._filled(fill_value), self.plan(object_size or 0, index, start, shape), []
+        for row in rows:
+            is_new = row.is_absent or self.covers(row)
+            decoded = bytearray(empty if is_new else decode(fetch(row.offset, row.size)))
+            self.put_update(row, update, shape, decoded)
+            slices.append(None if decoded == empty else encode(bytes(decoded)))
+        change = self.write_plan(object_size, index, start, shape, [None if it is None else len(it) for it in slices])
+        return change, self.pieces(change, [row.subchunk for row in rows], slices)
+
+    def pieces(self, change, subchunks, slices):
+        """What is to be stored of these subchunks' encodings by a change, each an offset and bytes, the index last."""
+        if change.kind in (KEEP, ERASE):
+            return []
+        stored = [(change.numbers[2 * k], it) for k, it in zip(subchunks, slices) if it is not None]
+        return [*stored, (self.index_range(change.object_size)[0], self.index_bytes(change.numbers))]
+
+    def _filled(self, fill_value):
+        return bytes(fill_value) * (self.answer_size(self.subchunk_shape) // self.element_size if self.element_size else 0)
 
     def read(self, fetch, object_size, start, shape, answer, decode, fill_value):
         """Reads a subset into an answer, subchunk by subchunk. `object_size` is None for a shard without an object."""

@@ -15,14 +15,16 @@ import subprocess
 import sys
 import tempfile
 
+import library_writes
+
 TOP = os.path.dirname(os.path.dirname(os.path.abspath(__file__)))
 CRATE = f"{TOP}/crates/sharding_c"
 HEADER = f"{TOP}/include/zarr_sharding.h"
-STRUCTS = {"Layout": "zs_layout", "Subset": "zs_subset", "Range": "zs_range", "Told": "zs_told"}
+STRUCTS = {"Layout": "zs_layout", "Subset": "zs_subset", "Range": "zs_range", "Told": "zs_told", "Stored": "zs_stored", "Change": "zs_change"}
 NUMBERS = {"u8": "uint8_t", "u32": "uint32_t", "u64": "uint64_t", "usize": "size_t"}
 PKG_CONFIG = """prefix={prefix}
 Name: zarr_sharding
-Description: Reads of the Zarr V3 codec sharding_indexed as ranges and copies
+Description: Reads and writes of the Zarr V3 codec sharding_indexed as ranges and copies
 Version: 1
 Cflags: -I${{prefix}}/include
 Libs: -L${{prefix}}/lib -lzarr_sharding
@@ -213,19 +215,27 @@ def words_of(numbers):
     return ",".join(map(str, numbers)) or "-"
 
 
+def words_of_case(case):
+    return [words_of(case.shape), words_of(case.subchunk), str(case.size), str(case.flags), case.fill.hex()]
+
+
 def test():
     with tempfile.TemporaryDirectory() as folder:
         build(folder)
         strict = ["-std=c99", "-D_POSIX_C_SOURCE=200809L", "-Wall", "-Wextra", "-Wpedantic", "-Werror", "-g", f"-I{TOP}/include"]
         checks = ["-fsanitize=address,undefined", "-fno-sanitize-recover=all"]
-        run("gcc", *strict, *checks, "-o", f"{folder}/read_subset", f"{TOP}/tests/c/read_subset.c", f"{folder}/libzarr_sharding.a")
+        for name in ("read_subset", "change_shard", "fuzz"):
+            run("gcc", *strict, *checks, "-o", f"{folder}/{name}", f"{TOP}/tests/c/{name}.c", f"{folder}/libzarr_sharding.a")
         os.environ["ZARR_SHARDING"] = f"{folder}/libzarr_sharding.so"
         sys.path.insert(0, f"{TOP}/python")
         import zarr_sharding
 
-        reads = sum(try_case(zarr_sharding, folder, Case(seed, *it)) for seed, it in enumerate(CASES))
-        refused = try_refusals(zarr_sharding)
-    print(f"the C library: {reads} subsets read from C and from Python, {refused} refusals")
+        cases, helpers = [Case(seed, *it) for seed, it in enumerate(CASES)], (points, product, crc32c)
+        reads = sum(try_case(zarr_sharding, folder, case) for case in cases)
+        changes = sum(library_writes.try_writes(zarr_sharding, folder, case, helpers, words_of_case(case)) for case in cases)
+        refused = try_refusals(zarr_sharding) + library_writes.try_hostile(zarr_sharding, TOP)
+        run(f"{folder}/fuzz", "1", "20000", stdout=subprocess.DEVNULL)
+    print(f"the C library: {reads} subsets read and {changes} objects changed from C and from Python, {refused} refusals, 20000 rounds by chance")
     return 0
 
 
@@ -238,7 +248,7 @@ def try_case(zarr_sharding, folder, case):
     for turn in range(25):
         start, lengths = case.subset()
         wanted = case.answer(start, lengths)
-        words = [words_of(case.shape), words_of(case.subchunk), str(case.size), str(case.flags), case.fill.hex(), words_of(start), words_of(lengths)]
+        words = [*words_of_case(case), words_of(start), words_of(lengths)]
         said = subprocess.run([f"{folder}/read_subset", path, *words, *["last"] * (turn % 2)], capture_output=True, check=False)
         if said.returncode or said.stdout != wanted:
             sys.exit(f"read_subset {' '.join(words)}: {said.returncode} {said.stderr.decode()} {said.stdout.hex()}, not {wanted.hex()}")

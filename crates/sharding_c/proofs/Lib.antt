@@ -1,3 +1,4 @@
 mod RowLemmas
 mod FrontLemmas
 mod PlanRowLemmas
+mod ChangeLemmas

@@ -1,5 +1,5 @@
 -- What a put by a row refuses, in the order of its tests.
-use Rattle.std.proofs.Common.{◌≡◌, ◌<◌, ◌+◌, ◌^◌, ℕ, List, Result, Ok, Err, IfErr, IsErrAnd, length, inr, subst, sym}
+use Rattle.std.proofs.Common.{◌≡◌, ◌<◌, ◌+◌, ◌^◌, ℕ, List, Result, Ok, Err, IfErr, IsErrAnd, length, inl, inr, subst, sym}
 use Rattle.std.proofs.lemmas.List.Elements.{length_all_zip}
 use Rattle.parts_errors.specs.Words.{Refusals}
 use Rattle.parts_errors.specs.Order.{RefusedBy}
@@ -11,7 +11,7 @@ use Rattle.sharding_c.specs.declared.status.Refusal.{Refusal}
 use Rattle.sharding_c.specs.declared.status.Refusal.TheVariants.{Codec}
 use Rattle.sharding_c.specs.Layouts.{StartRefusals}
 use Rattle.sharding_c.specs.Rows.{row_length, in_subchunk, in_answer}
-use Rattle.sharding_c.specs.Exports.{RowPutRefusals, RowFillRefusals}
+use Rattle.sharding_c.specs.Exports.{RowPutRefusals, RowFillRefusals, RowUpdateRefusals}
 
 -- a refusal that another one is
 pub refused_as : {T : Type 0} (P Q : Refusals) (r : Result T CodecError) → IfErr r P → ((e : CodecError) → P e → Q e) → IfErr r Q
@@ -44,3 +44,20 @@ module _ (row : List ℕ) (shape : List ℕ) (answer : ℕ) (axes : length row �
         started_then (in_subchunk (length shape) row) (StartRefusals (in_answer (length shape) row).start (in_answer (length shape) row).shape rest) e from
             (started_then (in_answer (length shape) row) rest e well h),
       ))
+
+-- the same of an update that is put into a subchunk
+pub row_update_refused : (row shape : List ℕ) (layout : Layout) (update decoded : ℕ) (e : CodecError) → length row ≡ row_length (length shape)
+    → IsSubset (in_answer (length shape) row).start (in_answer (length shape) row).shape
+    → IsSubset (in_subchunk (length shape) row).start (in_subchunk (length shape) row).shape
+    → RefusedBy (PutRefusals layout.element_size (in_answer (length shape) row) shape (in_subchunk (length shape) row) layout.subchunk_shape.now update decoded) e
+    → RefusedBy (RowUpdateRefusals layout row update shape decoded) e
+row_update_refused row shape layout update decoded e axes from into h =
+    let rest : Refusals = PutRefusals layout.element_size (in_answer (length shape) row) shape (in_subchunk (length shape) row) layout.subchunk_shape.now update decoded in
+    elim h [
+      | inl memory ↦ inl memory
+      | inr refused ↦ inr (inr (
+        axes,
+        started_then (in_answer (length shape) row) (StartRefusals (in_subchunk (length shape) row).start (in_subchunk (length shape) row).shape rest) e from
+            (started_then (in_subchunk (length shape) row) rest e into refused),
+      ))
+    ]

@@ -1,9 +1,9 @@
 -- What the calls of the C library leave, and their tests in their order.
-use Rattle.std.specs.Prelude.{◌≡◌, ◌<◌, ◌≤◌, ◌*◌, ◌^◌, ◌++◌, ℕ, List, Option, length, drop}
+use Rattle.std.specs.Prelude.{◌≡◌, ◌⊎◌, ◌<◌, ◌≤◌, ◌*◌, ◌^◌, ◌++◌, ℕ, List, Option, length, drop}
 use Rattle.parts_errors.specs.Words.{Bytes, Refusals}
 use Rattle.parts_errors.specs.Order.{◌or◌then◌, done, RefusedBy}
 use Rattle.parts_errors.specs.declared.error.CodecError.{CodecError}
-use Rattle.parts_errors.specs.declared.error.CodecError.TheVariants.{TooLarge, IncompatibleDimensionality, InvalidNumberOfElements, ShardTooShort, Damaged}
+use Rattle.parts_errors.specs.declared.error.CodecError.TheVariants.{OutOfMemory, TooLarge, IncompatibleDimensionality, InvalidNumberOfElements, ShardTooShort, Damaged}
 use Rattle.parts_row_major.specs.Subsets.{IsSubset}
 use Rattle.parts_row_major.specs.Subsets as subsets
 use Rattle.sharding_plans.specs.declared.read_plan.ReadPlan.{ReadPlan}
@@ -15,7 +15,7 @@ use Rattle.sharding_c.specs.declared.layout.Subset.{Subset}
 use Rattle.sharding_c.specs.declared.status.Refusal.{Refusal}
 use Rattle.sharding_c.specs.declared.status.Refusal.TheVariants.{Codec, RoomTooSmall, BadFlags}
 use Rattle.sharding_c.specs.Statuses.{◌or_refused◌then◌, ◌or_refused_by◌then◌, passed}
-use Rattle.sharding_c.specs.Layouts.{IsLaidOut, IsIndex, LayoutRefusals, StartRefusals, subchunks_of, index_size}
+use Rattle.sharding_c.specs.Layouts.{IsLaidOut, IsIndex, LayoutRefusals, StartRefusals, subchunks_of, index_size, index_bytes}
 use Rattle.sharding_c.specs.Rows.{rows_of, row_length, in_subchunk, in_answer}
 
 -- the tests of a layout's flags, and those of the layout
@@ -39,6 +39,15 @@ IndexReadTests layout index room =
     2 * subchunks_of layout ≤ room or_refused RoomTooSmall (2 * subchunks_of layout) then
     IsIndex layout.index (subchunks_of layout) index or_refused Codec Damaged then
     passed)
+
+-- the tests of writing an index into a room, by how many bytes it holds
+abbrev pub IndexWriteTests : Layout → List ℕ → ℕ → Refusal → Type 0
+IndexWriteTests layout numbers room =
+    LaidTests layout (
+    length numbers ≡ 2 * subchunks_of layout or_refused Codec InvalidNumberOfElements then
+    (λ refusal. (refusal ≡ Codec OutOfMemory) ⊎ (
+    length (index_bytes layout.index numbers) ≤ room or_refused RoomTooSmall (length (index_bytes layout.index numbers)) then
+    passed) refusal))
 
 -- the subset that C tells
 abbrev pub told_subset : Subset → subsets.Subset
@@ -95,11 +104,24 @@ RowPutRefusals layout row decoded shape answer =
     PutRefusals layout.element_size (in_subchunk (length shape) row) layout.subchunk_shape.now (in_answer (length shape) row) shape
     decoded answer))
 
+-- the same of a part of an update that is put into a subchunk
+abbrev pub RowUpdateRefusals : Layout → List ℕ → ℕ → List ℕ → ℕ → Refusals
+RowUpdateRefusals layout row update shape decoded =
+    length row ≡ row_length (length shape) or IncompatibleDimensionality then
+    StartRefusals (in_answer (length shape) row).start (in_answer (length shape) row).shape (
+    StartRefusals (in_subchunk (length shape) row).start (in_subchunk (length shape) row).shape (
+    PutRefusals layout.element_size (in_answer (length shape) row) shape (in_subchunk (length shape) row) layout.subchunk_shape.now
+    update decoded))
+
 abbrev pub RowFillRefusals : List ℕ → ℕ → List ℕ → ℕ → Refusals
 RowFillRefusals row element shape answer =
     length row ≡ row_length (length shape) or IncompatibleDimensionality then
     StartRefusals (in_answer (length shape) row).start (in_answer (length shape) row).shape (
     FillRefusals element (in_answer (length shape) row) shape answer)
+
+abbrev pub UpdateTests : Layout → List ℕ → ℕ → List ℕ → ℕ → Refusal → Type 0
+UpdateTests layout row update shape decoded refusal =
+    (error : CodecError) × (refusal ≡ Codec error) × RefusedBy (RowUpdateRefusals layout row update shape decoded) error
 
 -- the tests of a put and of filling a part, by the row of the part
 abbrev pub PutTests : Layout → List ℕ → ℕ → List ℕ → ℕ → Refusal → Type 0

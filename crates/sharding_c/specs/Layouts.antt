@@ -1,6 +1,6 @@
 -- How C tells the layout of a shard (Zarr V3 codec `sharding_indexed`).
-use Rattle.std.specs.Prelude.{◌≡◌, ◌<◌, ◌≤◌, ◌+◌, ◌-◌, ◌*◌, ◌/◌, ◌%◌, ◌^◌, ◌==◌, ℕ, Bool, true, List, if◌then◌else◌, length, take, drop, slice_index}
-use Rattle.std.specs.Int.{from_le_bytes, from_be_bytes, to_le_bytes, w32, w64}
+use Rattle.std.specs.Prelude.{◌≡◌, ◌<◌, ◌≤◌, ◌+◌, ◌-◌, ◌*◌, ◌/◌, ◌%◌, ◌^◌, ◌==◌, ℕ, Bool, true, List, if◌then◌else◌, length, take, drop, slice_index, ◌++◌, flat_map}
+use Rattle.std.specs.Int.{from_le_bytes, from_be_bytes, to_le_bytes, to_be_bytes, w32, w64}
 use Rattle.parts_errors.specs.Words.{Bytes, Refusals}
 use Rattle.parts_errors.specs.Order.{◌or◌then◌}
 use Rattle.parts_errors.specs.declared.error.CodecError.TheVariants.{TooLarge, IncompatibleDimensionality, OutOfBounds, InvalidSubchunkShape}
@@ -8,6 +8,8 @@ use Rattle.parts_row_major.specs.Numbering.{count_of, AllPositive}
 use Rattle.parts_row_major.specs.Subsets.{IsSubset}
 use Rattle.parts_subsets.specs.Grid.{Divides, grid_of}
 use Rattle.codec_crc32c.specs.Checksum.{checksum}
+use Rattle.sharding_format.specs.declared.location.ShardingIndexLocation.TheVariants.{Start, End}
+use Rattle.sharding_plans.specs.declared.packed.IndexPlace.{IndexPlace}
 use Rattle.sharding_c.specs.declared.layout.Layout.{Layout}
 use Rattle.sharding_c.specs.declared.layout.Range.{Range}
 
@@ -22,6 +24,22 @@ subchunks_of layout = count_of (grid_of layout.shape.now layout.subchunk_shape.n
 -- the bytes of an index: two numbers of eight bytes for each subchunk, and the four bytes of a checksum, if it has one
 abbrev pub index_size : ℕ → ℕ → ℕ
 index_size flags subchunks = 16 * subchunks + (if is_set flags 4 then 4 else 0)
+
+-- where the index stands, and how many bytes it has
+abbrev pub index_place : Layout → IndexPlace
+index_place layout = record {
+  location = if is_set layout.index 1 then Start else End;
+  size = index_size layout.index (subchunks_of layout);
+}
+
+-- the bytes of a number, and those of an index of some numbers, with its checksum if it has one
+abbrev pub number_bytes : Bool → ℕ → Bytes
+number_bytes is_big n = if is_big then to_be_bytes w64 n else to_le_bytes w64 n
+
+abbrev pub index_bytes : ℕ → List ℕ → Bytes
+index_bytes flags numbers =
+    let bytes = flat_map (number_bytes (is_set flags 2)) numbers in
+    if is_set flags 4 then bytes ++ to_le_bytes w32 (checksum bytes) else bytes
 
 -- a layout has a grid of subchunks and an index
 pub record IsLaidOut (layout : Layout) : Type 0 where

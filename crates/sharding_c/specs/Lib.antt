@@ -2,4 +2,5 @@ pub mod Statuses
 pub mod Layouts
 pub mod Rows
 pub mod Exports
+pub mod Changes
 pub mod Decodings

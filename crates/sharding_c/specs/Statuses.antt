@@ -4,6 +4,8 @@ use Rattle.parts_errors.specs.Words.{Bytes, Refusals}
 use Rattle.parts_errors.specs.Order.{RefusedBy}
 use Rattle.parts_errors.specs.Errors.{error_number}
 use Rattle.parts_errors.specs.declared.error.CodecError.{CodecError}
+use Rattle.parts_errors.specs.declared.error.CodecError.TheVariants.{BadIndexEntry}
+use Rattle.sharding_c.specs.declared.layout.Change.{Change}
 use Rattle.sharding_c.specs.declared.layout.Told.{Told}
 use Rattle.sharding_c.specs.declared.status.Refusal.{Refusal}
 use Rattle.sharding_c.specs.declared.status.Refusal.TheVariants.{Codec, RoomTooSmall, BadFlags}
@@ -31,6 +33,20 @@ pub record IsRefusedTelling (tests : Refusal → Type 0) (status : ℕ) (old new
   pub tested : tests refusal
   pub numbered : status ≡ status_of refusal
   pub told : new ≡ told_after refusal old
+
+-- what a refused change tells: how much room it needs, or the subchunk whose index entry is bad, and nothing else
+abbrev pub changed_after : Refusal → Change → Change
+changed_after (Codec (BadIndexEntry number)) change = record change { subchunk = number }
+changed_after (Codec error) change = change
+changed_after (RoomTooSmall room) change = record change { room = room }
+changed_after BadFlags change = change
+
+-- a change is refused with a status, by its tests, and tells why
+pub record IsRefusedChanging (tests : Refusal → Type 0) (status : ℕ) (old new : Change) : Type 0 where
+  pub refusal : Refusal
+  pub tested : tests refusal
+  pub numbered : status ≡ status_of refusal
+  pub told : new ≡ changed_after refusal old
 
 -- where P fails the refusal is r, and where it holds it comes from the later tests
 infixr 1 ◌or_refused◌then◌

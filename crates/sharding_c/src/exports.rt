@@ -1,15 +1,20 @@
 // The calls of the C library. Each is one of this crate's own, whose refusal a status says; `zarr_sharding.h` says them in C's words.
 ghost use Rattle.std.specs.Prelude.{◌≡◌, ◌≢◌, ◌<◌, ◌≤◌, ◌+◌, ◌*◌, ◌++◌, ◌∷◌, Some, None, length, drop};
-ghost use Rattle.sharding_c.specs.Statuses.{IsRefused, IsRefusedTelling, status_name};
-ghost use Rattle.sharding_c.specs.Layouts.{AreIndexNumbers, IsIndex, IsIndexRange, IsLaidOut, subchunks_of};
+ghost use Rattle.sharding_format.specs.Index.{slot_at};
+ghost use Rattle.sharding_format.specs.Compacting.{present_size};
+ghost use Rattle.sharding_c.specs.Statuses.{IsRefused, IsRefusedChanging, IsRefusedTelling, status_name};
+ghost use Rattle.sharding_c.specs.Changes.{CompactionTests, IsPackedWritten, IsWriteWritten, LayOutTests, WriteTests};
+ghost use Rattle.sharding_plans.specs.PackedShards.{slots_of_sizes};
+ghost use Rattle.sharding_c.specs.Layouts.{AreIndexNumbers, IsIndex, IsIndexRange, IsLaidOut, index_bytes, index_size, subchunks_of};
 ghost use Rattle.sharding_c.specs.Rows.{in_answer, in_subchunk};
-ghost use Rattle.sharding_c.specs.Exports.{FillTests, IndexRangeTests, IndexReadTests, IsPlanWritten, PlanTests, PutTests};
+ghost use Rattle.sharding_c.specs.Exports.{FillTests, IndexRangeTests, IndexReadTests, IndexWriteTests, IsPlanWritten, PlanTests, PutTests, UpdateTests};
 ghost use Rattle.sharding_plans.specs.Puts.{IsFilled, IsPut};
 
-use crate::index::{index_range, read_index};
-use crate::layout::{Layout, Range, Subset, Told};
+use crate::change::{compact, lay_out, write};
+use crate::index::{index_range, read_index, write_index};
+use crate::layout::{Change, Layout, Range, Stored, Subset, Told};
 use crate::plan::plan_subset;
-use crate::put::{fill_row, put_row};
+use crate::put::{fill_row, put_row, update_row};
 use crate::status::name_of;
 use std::alloc::Global;
 
@@ -154,6 +159,154 @@ pub extern "C" fn zs_put_fill(
     match fill_row(alloc, row, fill_value, answer_shape, answer) {
         Ok(()) => 0,
         Err(error) => error.number() as u32,
+    }
+}
+
+/// Puts a row's part of an update, an array of `update_shape`, into a decoded subchunk. Refused, in this order, as
+/// `IncompatibleDimensionality`, `OutOfBounds`, `TooLarge`, `InvalidNumberOfElements`, `WrongElementKind`, `Damaged` where the update has
+/// another length, and `InvalidNumberOfElements` where `decoded` is no subchunk; or as `OutOfMemory`.
+#[unsafe(no_mangle)]
+pub extern "C" fn zs_put_update(
+    alloc: Global,
+    layout: &Layout,
+    row: &[u64],
+    update: &[u8],
+    update_shape: &[u64],
+    decoded: &mut [u8],
+) -> u32
+    ensures put { let axes = length update_shape.now in
+        result ≡ 0 → IsPut layout.now.element_size (in_answer axes row.now) update_shape.now (in_subchunk axes row.now) layout.now.subchunk_shape.now update.now decoded.old decoded.new }
+    ensures length { length decoded.new ≡ length decoded.old }
+    ensures kept { result ≢ 0 → decoded.new ≡ decoded.old }
+    ensures refused { result ≢ 0 → IsRefused (UpdateTests layout.now row.now (length update.now) update_shape.now (length decoded.old)) result }
+{
+    match update_row(alloc, layout, row, update, update_shape, decoded) {
+        Ok(()) => 0,
+        Err(error) => error.number() as u32,
+    }
+}
+
+/// Writes the bytes of an index of these numbers, with its checksum if it has one, to the front of a room; `told.room` is how many they are,
+/// also where the room is too small. Refused, in this order, as the layout is, as `InvalidNumberOfElements`, and `RoomTooSmall`; or as
+/// `OutOfMemory`.
+#[unsafe(no_mangle)]
+pub extern "C" fn zs_index_write(
+    alloc: Global,
+    layout: &Layout,
+    numbers: &[u64],
+    index: &mut [u8],
+    told: &mut Told,
+) -> u32
+    ensures written { result ≡ 0 → index.new ≡ index_bytes layout.now.index numbers.now ++ drop (length (index_bytes layout.now.index numbers.now)) index.old }
+    ensures counted { result ≡ 0 → length numbers.now ≡ 2 * subchunks_of layout.now }
+    ensures told { result ≡ 0 → told.new ≡ record { room = length (index_bytes layout.now.index numbers.now); subchunk = told.old.subchunk } }
+    ensures length { length index.new ≡ length index.old }
+    ensures kept { result ≢ 0 → index.new ≡ index.old }
+    ensures refused { result ≢ 0 → IsRefusedTelling (IndexWriteTests layout.now numbers.now (length index.old)) result told.old told.new }
+{
+    match write_index(alloc, layout, numbers, index) {
+        Ok(size) => {
+            told.room = size;
+            0
+        }
+        Err(refusal) => {
+            refusal.tell(told);
+            refusal.status()
+        }
+    }
+}
+
+/// Lays out a shard of encoded subchunks of these sizes, of which 2^64 - 1 stands for one that is not stored: writes the numbers of its index,
+/// which say where each goes. `change.object_size` is how long the object is, `change.kind` 2. Refused, in this order, as the layout is, as
+/// `RoomTooSmall`, `InvalidNumberOfElements`, and `TooLarge`; or as `OutOfMemory`.
+#[unsafe(no_mangle)]
+pub extern "C" fn zs_lay_out(
+    alloc: Global,
+    layout: &Layout,
+    sizes: &[u64],
+    numbers: &mut [u64],
+    change: &mut Change,
+) -> u32
+    ensures laid { result ≡ 0 → IsPackedWritten layout.now (slots_of_sizes sizes.now) numbers.old numbers.new change.new.object_size }
+    ensures told { result ≡ 0 → change.new ≡ record { room = 2 * subchunks_of layout.now; subchunk = change.old.subchunk; object_size = change.new.object_size; kind = 2 } }
+    ensures length { length numbers.new ≡ length numbers.old }
+    ensures kept { result ≢ 0 → numbers.new ≡ numbers.old }
+    ensures refused { result ≢ 0 → IsRefusedChanging (LayOutTests layout.now sizes.now (length numbers.old)) result change.old change.new }
+{
+    match lay_out(alloc, layout, sizes, numbers) {
+        Ok(planned) => {
+            planned.tell(change);
+            0
+        }
+        Err(refusal) => {
+            refusal.tell_change(change);
+            refusal.status()
+        }
+    }
+}
+
+/// Plans a compaction: writes the numbers of the new index, and `change.kind` is 2; or nothing where the shard is compact, and it is 0. Each
+/// present slice is to be copied from where the old index says to where the new one does. Refused, in this order, as the layout is, as
+/// `RoomTooSmall`, `InvalidNumberOfElements`, `ShardTooShort`, `BadIndexEntry` for the lowest bad entry, and `TooLarge`; or as `OutOfMemory`.
+#[unsafe(no_mangle)]
+pub extern "C" fn zs_compact_plan(
+    alloc: Global,
+    layout: &Layout,
+    stored: &Stored,
+    numbers: &mut [u64],
+    change: &mut Change,
+) -> u32
+    ensures planned { result ≡ 0 → change.new.kind ≡ 2 → IsPackedWritten layout.now (slot_at stored.now.object_size stored.now.numbers.now) numbers.old numbers.new change.new.object_size
+        × (change.new.object_size ≢ stored.now.object_size) }
+    ensures compact { result ≡ 0 → change.new.kind ≢ 2 → (change.new.kind ≡ 0) × (numbers.new ≡ numbers.old) × (change.new.object_size ≡ stored.now.object_size)
+        × (index_size layout.now.index (subchunks_of layout.now) + present_size (slot_at stored.now.object_size stored.now.numbers.now) (subchunks_of layout.now) ≡ stored.now.object_size) }
+    ensures told { result ≡ 0 → (change.new.room ≡ 2 * subchunks_of layout.now) × (change.new.subchunk ≡ change.old.subchunk) }
+    ensures length { length numbers.new ≡ length numbers.old }
+    ensures kept { result ≢ 0 → numbers.new ≡ numbers.old }
+    ensures refused { result ≢ 0 → IsRefusedChanging (CompactionTests layout.now stored.now (length numbers.old)) result change.old change.new }
+{
+    match compact(alloc, layout, stored, numbers) {
+        Ok(planned) => {
+            planned.tell(change);
+            0
+        }
+        Err(refusal) => {
+            refusal.tell_change(change);
+            refusal.status()
+        }
+    }
+}
+
+/// Plans a write over a subset, by the sizes of the new encodings of the subchunks that it touches, ascending: writes the numbers of the new
+/// index, which say where each new slice goes. `change.kind` is 1 where the object is to be erased, 2 where the new slices and the index are
+/// the object, and 3 where they are written into it. Refused, in this order, as the layout is, as `RoomTooSmall`, `IncompatibleDimensionality`,
+/// `OutOfBounds`, `InvalidNumberOfElements` for the index, `ShardTooShort`, `BadIndexEntry` for the lowest entry that does not lie in the data
+/// part, as the subset is, as `InvalidNumberOfElements` for the sizes, and `TooLarge`; or as `OutOfMemory`.
+#[unsafe(no_mangle)]
+pub extern "C" fn zs_write_plan(
+    alloc: Global,
+    layout: &Layout,
+    stored: &Stored,
+    subset: &Subset,
+    sizes: &[u64],
+    numbers: &mut [u64],
+    change: &mut Change,
+) -> u32
+    ensures planned { result ≡ 0 → IsWriteWritten layout.now stored.now subset.now sizes.now numbers.old numbers.new change.new.object_size change.new.kind }
+    ensures told { result ≡ 0 → (change.new.room ≡ 2 * subchunks_of layout.now) × (change.new.subchunk ≡ change.old.subchunk) }
+    ensures length { length numbers.new ≡ length numbers.old }
+    ensures kept { result ≢ 0 → numbers.new ≡ numbers.old }
+    ensures refused { result ≢ 0 → IsRefusedChanging (WriteTests layout.now stored.now subset.now sizes.now (length numbers.old)) result change.old change.new }
+{
+    match write(alloc, layout, stored, subset, sizes, numbers) {
+        Ok(planned) => {
+            planned.tell(change);
+            0
+        }
+        Err(refusal) => {
+            refusal.tell_change(change);
+            refusal.status()
+        }
     }
 }
 

@@ -1,15 +1,16 @@
 // The index of a shard: where it stands, and its numbers.
-ghost use Rattle.std.specs.Prelude.{◌≡◌, ◌↔◌, ◌<◌, ◌≤◌, ◌+◌, ◌*◌, ℕ, IsTrue, IfOk, IfErr, OnOk, OnErr, length, slice_index};
+ghost use Rattle.std.specs.Prelude.{◌≡◌, ◌↔◌, ◌<◌, ◌≤◌, ◌+◌, ◌*◌, ◌++◌, ℕ, IsTrue, IfOk, IfErr, OnOk, OnErr, length, slice_index, drop, flat_map};
 ghost use Rattle.std.specs.Int.{to_le_bytes, w32};
+ghost use Rattle.parts_errors.specs.declared.error.CodecError.TheVariants.{OutOfMemory};
 ghost use Rattle.codec_crc32c.specs.Checksum.{checksum};
-ghost use Rattle.sharding_c.specs.Layouts.{index_size, subchunks_of, IsLaidOut, IsIndexRange, IsIndex, AreIndexNumbers, number_as, number_at};
-ghost use Rattle.sharding_c.specs.Exports.{IndexRangeTests, IndexReadTests};
+ghost use Rattle.sharding_c.specs.Layouts.{index_size, subchunks_of, IsLaidOut, IsIndexRange, IsIndex, AreIndexNumbers, number_as, number_at, number_bytes, index_bytes};
+ghost use Rattle.sharding_c.specs.Exports.{IndexRangeTests, IndexReadTests, IndexWriteTests};
 
 use crate::layout::{AT_START, BIG_ENDIAN, CRC32C, Layout, Range, has, shard_of};
 use crate::status::Refusal;
 use codec_crc32c::crc32c;
 use parts_errors::CodecError;
-use std::alloc::Global;
+use std::alloc::{AllocError, Global};
 
 /// The range of the index in an object of `len` bytes. Refused, in this order, as the layout is, and as `ShardTooShort` where the object
 /// is shorter than its index.
@@ -106,4 +107,62 @@ pub(crate) fn read_index(
     }
     read_numbers(layout.index, bytes, &mut room[..many as usize]);
     Ok(many)
+}
+
+// The bytes of these numbers, one after the other.
+fn bytes_of_numbers(alloc: Global, is_big: bool, numbers: &[u64]) -> Result<Vec<u8>, AllocError>
+    ensures { IfOk result (λ bytes. bytes.items ≡ flat_map (number_bytes is_big) numbers.now) }
+{
+    let mut bytes = Vec::new(alloc);
+    for number in numbers {
+        let number = *number;
+        let part = if is_big {
+            number.to_be_bytes()
+        } else {
+            number.to_le_bytes()
+        };
+        bytes.extend_from_slice(part.as_slice())?;
+    }
+    Ok(bytes)
+}
+
+// The bytes of an index of these numbers.
+fn index_of_numbers(alloc: Global, flags: u32, numbers: &[u64]) -> Result<Vec<u8>, CodecError>
+    ensures bytes { IfOk result (λ bytes. bytes.items ≡ index_bytes flags numbers.now) }
+    ensures refused { IfErr result (λ e. e ≡ OutOfMemory) }
+{
+    let mut bytes = bytes_of_numbers(alloc, has(flags, BIG_ENDIAN), numbers)?;
+    if has(flags, CRC32C) {
+        let checksum = crc32c(&bytes).to_le_bytes();
+        bytes.extend_from_slice(checksum.as_slice())?;
+    }
+    Ok(bytes)
+}
+
+/// Writes the bytes of an index of these numbers to the front of a room, and returns how many they are. Refused, in this order, as the layout
+/// is, `InvalidNumberOfElements` where there are other than two numbers for each subchunk, and as `RoomTooSmall`; nothing is written then.
+pub(crate) fn write_index(
+    alloc: Global,
+    layout: &Layout,
+    numbers: &[u64],
+    room: &mut [u8],
+) -> Result<u64, Refusal>
+    ensures size { IfOk result (λ size. size ≡ length (index_bytes layout.now.index numbers.now)) }
+    ensures counted { OnOk result (length numbers.now ≡ 2 * subchunks_of layout.now) }
+    ensures written { OnOk result (room.new ≡ index_bytes layout.now.index numbers.now ++ drop (length (index_bytes layout.now.index numbers.now)) room.old) }
+    ensures length { length room.new ≡ length room.old }
+    ensures kept { OnErr result (room.new ≡ room.old) }
+    ensures refused { IfErr result (IndexWriteTests layout.now numbers.now (length room.old)) }
+{
+    let shard = shard_of(alloc, layout)?;
+    if numbers.len() as u64 != 2 * shard.subchunks {
+        return Err(Refusal::Codec(CodecError::InvalidNumberOfElements));
+    }
+    let bytes = index_of_numbers(alloc, layout.index, numbers)?;
+    let size = bytes.len();
+    if size > room.len() {
+        return Err(Refusal::RoomTooSmall { room: size as u64 });
+    }
+    room[..size].copy_from_slice(&bytes);
+    Ok(size as u64)
 }

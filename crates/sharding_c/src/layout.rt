@@ -4,12 +4,13 @@ ghost use Rattle.parts_errors.specs.Order.{done, RefusedBy};
 ghost use Rattle.parts_row_major.specs.Subsets.{IsSubset};
 ghost use Rattle.sharding_c.specs.Statuses.{passed};
 ghost use Rattle.sharding_c.specs.Exports.{LaidTests};
-ghost use Rattle.sharding_c.specs.Layouts.{is_set, index_size, subchunks_of, IsLaidOut, LayoutRefusals, StartRefusals};
+ghost use Rattle.sharding_c.specs.Layouts.{is_set, index_place, index_size, subchunks_of, IsLaidOut, LayoutRefusals, StartRefusals};
 
 use crate::status::Refusal;
 use parts_errors::CodecError;
 use parts_subsets::{ArraySubset, Axes, ChunkShape};
-use sharding_plans::ShardGrid;
+use sharding_format::ShardingIndexLocation;
+use sharding_plans::{IndexPlace, PlannedShard};
 use std::alloc::Global;
 
 /// How a shard is laid out, as `zs_layout` of the header: its shape, that of a subchunk, the bytes of an element, and flags that tell of
@@ -48,6 +49,25 @@ pub struct Told {
     pub subchunk: u64,
 }
 
+/// A stored shard, as `zs_stored` of the header: how many bytes its object has, and the numbers of its index. Without an object it has no
+/// bytes, and each number is 2^64 - 1.
+#[repr(C)]
+#[derive(Drop)]
+pub struct Stored<'a> {
+    pub object_size: u64,
+    pub numbers: &'a [u64],
+}
+
+/// What becomes of an object, as `zs_change` of the header: beside what `Told` says, how many bytes it has then, and how it is written.
+#[repr(C)]
+#[derive(Clone, Copy)]
+pub struct Change {
+    pub room: u64,
+    pub subchunk: u64,
+    pub object_size: u64,
+    pub kind: u32,
+}
+
 /// The flag of an index that stands at the start of its shard, of one whose numbers are big endian, and of one with a checksum.
 pub(crate) const AT_START: u32 = 1;
 
@@ -74,7 +94,7 @@ fn size_of_index(flags: u32, subchunks: u64) -> Option<u64>
 // A shard's grid and the size of its index.
 #[derive(Drop)]
 pub(crate) struct Shard {
-    pub grid: ShardGrid,
+    pub grid: PlannedShard,
     pub subchunks: u64,
     pub index_size: u64,
 }
@@ -99,7 +119,7 @@ fn cut_shard(alloc: Global, layout: &Layout) -> Result<Shard, CodecError>
     let Some(subchunk_shape) = ChunkShape::new(alloc, layout.subchunk_shape)? else {
         return Err(CodecError::InvalidSubchunkShape);
     };
-    let grid = ShardGrid::new(alloc, shape, subchunk_shape)?;
+    let grid = PlannedShard::new(alloc, shape, subchunk_shape)?;
     let subchunks = grid.subchunks();
     match size_of_index(layout.index, subchunks) {
         Some(index_size) => Ok(Shard {
@@ -108,6 +128,22 @@ fn cut_shard(alloc: Global, layout: &Layout) -> Result<Shard, CodecError>
             index_size,
         }),
         None => Err(CodecError::TooLarge),
+    }
+}
+
+/// Where the index of a layout stands, and how many bytes it has.
+pub(crate) fn place_of(layout: &Layout, index_bytes: u64) -> IndexPlace
+    requires { index_bytes ≡ index_size layout.now.index (subchunks_of layout.now) }
+    ensures { result ≡ index_place layout.now }
+{
+    let location = if has(layout.index, AT_START) {
+        ShardingIndexLocation::Start
+    } else {
+        ShardingIndexLocation::End
+    };
+    IndexPlace {
+        location,
+        size: index_bytes,
     }
 }
 

@@ -2,6 +2,7 @@
 // kept between calls. `zarr_sharding.h` says each call in C's words.
 #![tactic(auto)]
 
+mod change;
 mod decode;
 mod exports;
 mod index;

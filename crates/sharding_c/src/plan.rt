@@ -27,7 +27,7 @@ fn numbers_of_rows(rows: usize, axes: usize) -> Option<u64>
 }
 
 // Writes numbers to the front of a room.
-fn write_front(numbers: &[u64], room: &mut [u64])
+pub(crate) fn write_front(numbers: &[u64], room: &mut [u64])
     requires { length numbers.now ≤ length room.old }
     ensures { room.new ≡ numbers.now ++ drop (length numbers.now) room.old }
 {

@@ -4,7 +4,7 @@ ghost use Rattle.parts_errors.specs.Order.{RefusedBy, done};
 ghost use Rattle.parts_row_major.specs.Subsets.{IsSubset};
 ghost use Rattle.sharding_c.specs.Layouts.{StartRefusals};
 ghost use Rattle.sharding_c.specs.Rows.{row_length, in_subchunk, in_answer};
-ghost use Rattle.sharding_c.specs.Exports.{RowPutRefusals, RowFillRefusals};
+ghost use Rattle.sharding_c.specs.Exports.{RowPutRefusals, RowFillRefusals, RowUpdateRefusals};
 ghost use Rattle.sharding_plans.specs.Puts.{IsPut, IsFilled};
 
 use crate::layout::{Layout, subset_of};
@@ -95,4 +95,38 @@ pub(crate) fn fill_row(
         subset: &into,
     };
     fill_part(answer, &into, element)
+}
+
+/// Puts a row's part of an update, an array of `update_shape`, into a decoded subchunk. Refused, in this order, as `IncompatibleDimensionality`
+/// where the row or the layout's subchunk shape has other axes than the update's shape, `OutOfBounds` where a part ends past 2^64, and as
+/// `put_part` refuses; or as `OutOfMemory`.
+pub(crate) fn update_row(
+    alloc: Global,
+    layout: &Layout,
+    row: &[u64],
+    update: &[u8],
+    update_shape: &[u64],
+    decoded: &mut [u8],
+) -> Result<(), CodecError>
+    ensures put { let axes = length update_shape.now in
+        OnOk result (IsPut layout.now.element_size (in_answer axes row.now) update_shape.now (in_subchunk axes row.now) layout.now.subchunk_shape.now update.now decoded.old decoded.new) }
+    ensures length { length decoded.new ≡ length decoded.old }
+    ensures kept { OnErr result (decoded.new ≡ decoded.old) }
+    ensures refused { IfErr result (RefusedBy (RowUpdateRefusals layout.now row.now (length update.now) update_shape.now (length decoded.old))) }
+{
+    let axes = update_shape.len();
+    if !has_axes(row, axes) {
+        return Err(CodecError::IncompatibleDimensionality);
+    }
+    let from = part_at(alloc, row, 3 + axes, axes)?;
+    let into = part_at(alloc, row, 3, axes)?;
+    let from = Part {
+        shape: update_shape,
+        subset: &from,
+    };
+    let into = Part {
+        shape: layout.subchunk_shape,
+        subset: &into,
+    };
+    put_part(decoded, &into, update, &from, layout.element_size as usize)
 }

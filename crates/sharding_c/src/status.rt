@@ -1,8 +1,8 @@
 // The statuses that calls answer.
 ghost use Rattle.std.specs.Prelude.{◌≡◌};
-ghost use Rattle.sharding_c.specs.Statuses.{status_of, status_name, told_after};
+ghost use Rattle.sharding_c.specs.Statuses.{status_of, status_name, told_after, changed_after};
 
-use crate::layout::Told;
+use crate::layout::{Change, Told};
 use parts_errors::CodecError;
 
 /// Why a call was refused: as the codec refuses, or as this library alone does.
@@ -33,6 +33,19 @@ impl Refusal {
     {
         match self {
             Refusal::RoomTooSmall { room } => told.room = *room,
+            _ => {}
+        }
+    }
+}
+
+impl Refusal {
+    /// Tells what a refused change needs, or the subchunk whose index entry is bad.
+    pub(crate) fn tell_change(&self, change: &mut Change)
+        ensures { change.new ≡ changed_after self.now change.old }
+    {
+        match self {
+            Refusal::RoomTooSmall { room } => change.room = *room,
+            Refusal::Codec(CodecError::BadIndexEntry { number }) => change.subchunk = *number,
             _ => {}
         }
     }

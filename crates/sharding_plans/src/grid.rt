@@ -12,10 +12,10 @@ use parts_subsets::ChunkShape;
 use sharding_format::{Slot, calculate_chunks_per_shard, slot_of};
 use std::alloc::Global;
 
-/// A shard that is cut into subchunks: its shape, that of a subchunk, and the grid of the subchunks (Zarr V3 `sharding_indexed`,
+/// A shard whose reads and writes are planned: its shape, that of a subchunk, and the grid of the subchunks (Zarr V3 `sharding_indexed`,
 /// "chunk_shape").
 #[derive(Drop)]
-pub struct ShardGrid {
+pub struct PlannedShard {
     pub(crate) shape: ChunkShape,
     pub(crate) subchunk_shape: ChunkShape,
     pub(crate) grid: ChunkShape,
@@ -50,7 +50,7 @@ impl IndexNumbers<'_> {
     }
 }
 
-impl ShardGrid {
+impl PlannedShard {
     /// The subchunks of a shard. Refused, in this order, as `IncompatibleDimensionality` where the numbers of axes differ,
     /// `InvalidSubchunkShape` where an axis is not divided evenly, `TooLarge` where the shard has 2^64 elements or more, or the numbers of
     /// its index 2^64 bytes or more; or as `OutOfMemory`.
@@ -58,7 +58,7 @@ impl ShardGrid {
         alloc: Global,
         shape: ChunkShape,
         subchunk_shape: ChunkShape,
-    ) -> Result<ShardGrid, CodecError>
+    ) -> Result<PlannedShard, CodecError>
         ensures shape { IfOk result (λ made. made.shape ≡ shape) }
         ensures subchunk_shape { IfOk result (λ made. made.subchunk_shape ≡ subchunk_shape) }
         ensures served { OnOk result (IsCutEvenly shape subchunk_shape) }
@@ -74,7 +74,7 @@ impl ShardGrid {
         let Some(_) = subchunks.checked_mul(16) else {
             return Err(CodecError::TooLarge);
         };
-        Ok(ShardGrid {
+        Ok(PlannedShard {
             shape,
             subchunk_shape,
             grid,

@@ -11,7 +11,7 @@ ghost use Rattle.sharding_format.specs.Index.{slot_at};
 ghost use Rattle.sharding_format.specs.declared.slot.Slot.TheVariants.{Bad};
 ghost use Rattle.sharding_plans.specs.ReadPlans.{HasEntries, IsPlanOf, IsReadPart, IsReadPlan, IsWithin, PlanRefusals, WithinRefusals};
 
-use crate::grid::{IndexNumbers, ShardGrid};
+use crate::grid::{IndexNumbers, PlannedShard};
 use parts_errors::CodecError;
 use parts_subsets::{ArraySubset, check_subset};
 use sharding_format::Slot;
@@ -35,7 +35,7 @@ pub struct ReadPlan {
     pub bad: Option<u64>,
 }
 
-impl ShardGrid {
+impl PlannedShard {
     // What a read takes from a subchunk that its subset touches; `None` where the subchunk's index entry is bad.
     fn read_part(
         &self,

@@ -1,6 +1,6 @@
 use Rattle.std.proofs.Common.{arith}
 use Rattle.sharding_plans.proofs.PlanLemmas.{planned_more}
-use Rattle.sharding_plans.proofs.grid.ShardGrid.read_parts.Goals as goal
+use Rattle.sharding_plans.proofs.grid.PlannedShard.read_parts.Goals as goal
 
 pub loop-j-preserved : goal.loop-j-preserved
 loop-j-preserved c =
