@@ -53,7 +53,7 @@ enum {
     ZS_BAD_INDEX_ENTRY = 9,             /* an index entry that is half empty or ends after the object: told->subchunk is its number */
     ZS_WRONG_ELEMENT_KIND = 12,         /* an element of no bytes */
     ZS_DAMAGED = 15,                    /* an index or a subchunk of the wrong length, or a wrong checksum of the index */
-    ZS_ROOM_TOO_SMALL = 64,             /* told->room is the room that is needed; nothing was written */
+    ZS_ROOM_TOO_SMALL = 64,             /* told->room is the room that is needed, but of zs_.._decode; nothing was written */
     ZS_BAD_FLAGS = 65                   /* index flags that have no meaning */
 };
 
@@ -193,6 +193,12 @@ zs_status zs_compact_plan(const zs_layout *layout, const zs_stored *stored, uint
  * for the lowest entry that does not lie in the data part; as 3, 4; as 5 for another count of sizes; as 2; or as 1. */
 zs_status zs_write_plan(const zs_layout *layout, const zs_stored *stored, const zs_subset *subset, const uint64_t *sizes, size_t sizes_count,
                         uint64_t *numbers, size_t numbers_room, zs_change *change);
+
+/* Writes the content of a gzip file (RFC 1952), or of a zstd file (RFC 8878), to the front of content; told->room is its length. Refused as 15
+ * where the bytes are no such file, as 64 where their content is longer than the room, by any length, and as either where they are damaged
+ * after as much content; or as 1. */
+zs_status zs_gzip_decode(const uint8_t *encoded, size_t encoded_size, uint8_t *content, size_t content_size, zs_told *told);
+zs_status zs_zstd_decode(const uint8_t *encoded, size_t encoded_size, uint8_t *content, size_t content_size, zs_told *told);
 
 /* Writes the name of a status, ended by a zero, where there is room for both, and returns its length without the zero. */
 size_t zs_error_name(uint32_t status, uint8_t *name, size_t name_room);

@@ -58,6 +58,8 @@ def _loaded():
         "zs_lay_out": [_pointer, _pointer, _size, _pointer, _size, _pointer],
         "zs_compact_plan": [_pointer, _pointer, _pointer, _size, _pointer],
         "zs_write_plan": [_pointer, _pointer, _pointer, _pointer, _size, _pointer, _size, _pointer],
+        "zs_gzip_decode": [_pointer, _size, _pointer, _size, _pointer],
+        "zs_zstd_decode": [_pointer, _size, _pointer, _size, _pointer],
     }
     for name, types in calls.items():
         call = getattr(library, name)
@@ -111,6 +113,23 @@ class _View:
 
     def __exit__(self, *_):
         ctypes.pythonapi.PyBuffer_Release(ctypes.byref(self._held))
+
+
+def _decoded(call, encoded, size):
+    content, told = bytearray(size), _Told()
+    with _View(encoded) as data, _View(content, writable=True) as room:
+        _checked(call(data.at, data.size, room.at, room.size, ctypes.byref(told)))
+    return memoryview(content)[: told.room]
+
+
+def gzip_decode(encoded, size):
+    """The content of a gzip file (RFC 1952), of at most `size` bytes."""
+    return _decoded(_library.zs_gzip_decode, encoded, size)
+
+
+def zstd_decode(encoded, size):
+    """The content of a zstd file (RFC 8878), of at most `size` bytes."""
+    return _decoded(_library.zs_zstd_decode, encoded, size)
 
 
 class Row:

@@ -15,6 +15,7 @@ import subprocess
 import sys
 import tempfile
 
+import library_decodes
 import library_writes
 
 TOP = os.path.dirname(os.path.dirname(os.path.abspath(__file__)))
@@ -63,7 +64,7 @@ def header():
     with open(HEADER, encoding="utf-8") as file:
         text = re.sub(r"/\*.*?\*/", " ", file.read(), flags=re.S)
     source = ""
-    for name in ("exports", "layout"):
+    for name in ("exports", "decode", "layout"):
         with open(f"{CRATE}/src/{name}.rt", encoding="utf-8") as file:
             source += re.sub(r"//.*", "", file.read())
     prototypes = re.findall(r"^(zs_status|size_t|uint32_t) (zs_\w+)\(([^)]*)\);", text, re.M)
@@ -234,8 +235,9 @@ def test():
         reads = sum(try_case(zarr_sharding, folder, case) for case in cases)
         changes = sum(library_writes.try_writes(zarr_sharding, folder, case, helpers, words_of_case(case)) for case in cases)
         refused = try_refusals(zarr_sharding) + library_writes.try_hostile(zarr_sharding, TOP)
+        decoded = library_decodes.try_decodes(zarr_sharding, TOP)
         run(f"{folder}/fuzz", "1", "20000", stdout=subprocess.DEVNULL)
-    print(f"the C library: {reads} subsets read and {changes} objects changed from C and from Python, {refused} refusals, 20000 rounds by chance")
+    print(f"the C library: {reads} subsets read and {changes} objects changed from C and from Python, {refused} refusals, {decoded} decodings, 20000 rounds by chance")
     return 0
 
 
