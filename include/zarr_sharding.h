@@ -164,7 +164,15 @@ zs_status zs_put(const zs_layout *layout, const uint64_t *row, size_t row_number
 zs_status zs_put_fill(const uint64_t *row, size_t row_numbers, const uint8_t *fill_value, size_t fill_size, const uint64_t *answer_shape,
                       size_t answer_axes, uint8_t *answer, size_t answer_size);
 
-/* The same of an update that is written: its part, by a row of a plan of the subset that it is written to, into the elements of a subchunk.
+/* The ranges of an object in which slices are fetched: those that overlap or lie within `gap` bytes of one another are in one range, so that of
+ * other bytes only such gaps are fetched. `fetches` ascend, and are more than `gap` bytes apart; fetch_of[i] is the number of the one in which
+ * slice i lies, or ZS_ABSENT where the slice is (ZS_ABSENT twice, as in a row). Ok and ZS_ROOM_TOO_SMALL: told->room is how many ranges they are,
+ * at most as many as slices. Refused, in this order, as 9 where a slice ends past 2^64; as 5 where there are other than as many numbers as slices;
+ * as 64; or as 1. */
+zs_status zs_fetch_plan(const zs_range *slices, size_t slices_count, uint64_t gap, zs_range *fetches, size_t fetches_room,
+                        uint64_t *fetch_of, size_t fetch_of_count, zs_told *told);
+
+/* As zs_put of an update that is written: its part, by a row of a plan of the subset that it is written to, into the elements of a subchunk.
  * `update` is an array of `update_shape`, and `decoded` has all elements of the subchunk. Refused, in this order, as 3; 4; 2; 5; 12; 15 where
  * `update_size` is not that of the update; 5 where `decoded_size` is not that of a subchunk; or as 1. */
 zs_status zs_put_update(const zs_layout *layout, const uint64_t *row, size_t row_numbers, const uint8_t *update, size_t update_size,

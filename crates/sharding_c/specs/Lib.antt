@@ -3,3 +3,4 @@ pub mod Layouts
 pub mod Rows
 pub mod Exports
 pub mod Changes
+pub mod Fetching

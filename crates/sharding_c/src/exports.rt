@@ -8,9 +8,11 @@ ghost use Rattle.sharding_plans.specs.PackedShards.{slots_of_sizes};
 ghost use Rattle.sharding_c.specs.Layouts.{AreIndexNumbers, IsIndex, IsIndexRange, IsLaidOut, index_bytes, index_size, subchunks_of};
 ghost use Rattle.sharding_c.specs.Rows.{in_answer, in_subchunk};
 ghost use Rattle.sharding_c.specs.Exports.{FillTests, IndexRangeTests, IndexReadTests, IndexWriteTests, IsPlanWritten, PlanTests, PutTests, UpdateTests};
+ghost use Rattle.sharding_c.specs.Fetching.{AreFetchesWritten, FetchTests};
 ghost use Rattle.sharding_plans.specs.Puts.{IsFilled, IsPut};
 
 use crate::change::{compact, lay_out, write};
+use crate::fetch::fetch_slices;
 use crate::index::{index_range, read_index, write_index};
 use crate::layout::{Change, Layout, Range, Stored, Subset, Told};
 use crate::plan::plan_subset;
@@ -159,6 +161,37 @@ pub extern "C" fn zs_put_fill(
     match fill_row(alloc, row, fill_value, answer_shape, answer) {
         Ok(()) => 0,
         Err(error) => error.number() as u32,
+    }
+}
+
+/// The ranges of an object in which slices are fetched: slices within `gap` bytes of one another are in one. They stand in front of a room,
+/// ascending, and `told.room` is how many they are, also where the room is too small; and for each slice the number of its range, 2^64 - 1
+/// where it is absent. Refused, in this order, as `BadIndexEntry` where a slice ends past 2^64, `InvalidNumberOfElements` where there is room
+/// for the numbers of other than each slice, and `RoomTooSmall`; or as `OutOfMemory`.
+#[unsafe(no_mangle)]
+pub extern "C" fn zs_fetch_plan(
+    alloc: Global,
+    slices: &[Range],
+    gap: u64,
+    fetches: &mut [Range],
+    fetch_of: &mut [u64],
+    told: &mut Told,
+) -> u32
+    ensures fetches { result ≡ 0 → AreFetchesWritten gap slices.now fetches.old fetches.new fetch_of.new told.new.room }
+    ensures told { result ≡ 0 → told.new.subchunk ≡ told.old.subchunk }
+    ensures length { (length fetches.new ≡ length fetches.old) × (length fetch_of.new ≡ length fetch_of.old) }
+    ensures kept { result ≢ 0 → (fetches.new ≡ fetches.old) × (fetch_of.new ≡ fetch_of.old) }
+    ensures refused { result ≢ 0 → IsRefusedTelling (FetchTests gap slices.now (length fetch_of.old) (length fetches.old)) result told.old told.new }
+{
+    match fetch_slices(alloc, slices, gap, fetches, fetch_of) {
+        Ok(count) => {
+            told.room = count;
+            0
+        }
+        Err(refusal) => {
+            refusal.tell(told);
+            refusal.status()
+        }
     }
 }
 

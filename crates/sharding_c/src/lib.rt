@@ -4,6 +4,7 @@
 
 mod change;
 mod exports;
+mod fetch;
 mod index;
 mod layout;
 mod plan;
