@@ -130,6 +130,18 @@ zs_status zs_index_range(const zs_layout *layout, uint64_t object_size, zs_range
  * layout is (65, 3, 6, 2), as 64, and as 15 for another length than zs_index_range's, or another checksum; or as 1. */
 zs_status zs_index_read(const zs_layout *layout, const uint8_t *index, size_t index_size, uint64_t *numbers, size_t numbers_room, zs_told *told);
 
+/* What an entry of an index says. */
+enum {
+    ZS_ENTRY_ABSENT = 0,      /* the subchunk is not stored */
+    ZS_ENTRY_STORED = 1,      /* its slice lies in the data part: behind an index at the start, or before one at the end */
+    ZS_ENTRY_HALF_ABSENT = 2, /* one of its numbers alone is ZS_ABSENT */
+    ZS_ENTRY_OUTSIDE = 3      /* its slice does not lie in the data part; reads serve those that lie in the object, writes refuse them */
+};
+
+/* What each entry of an index says, for each subchunk in row-major order: ZS_ENTRY_... Ok and ZS_ROOM_TOO_SMALL: told->room is how many they
+ * are. Refused, in this order, as the layout is; as 5 for another count of numbers; as 64; or as 1. */
+zs_status zs_check(const zs_layout *layout, const zs_stored *stored, uint8_t *kinds, size_t kinds_room, zs_told *told);
+
 /* The numbers of a row of a plan, of so many axes. */
 #define ZS_ROW(axes) (3 + 3 * (size_t)(axes))
 /* The parts of a row: where the subchunk is stored (ZS_ABSENT twice: nowhere), and for each axis the first element of its part within the

@@ -56,6 +56,7 @@ def _loaded():
         "zs_fetch_plan": [_pointer, _size, ctypes.c_uint64, _pointer, _size, _pointer, _size, _pointer],
         "zs_put_update": [_pointer, _pointer, _size, _pointer, _size, _pointer, _size, _pointer, _size],
         "zs_index_write": [_pointer, _pointer, _size, _pointer, _size, _pointer],
+        "zs_check": [_pointer, _pointer, _pointer, _size, _pointer],
         "zs_lay_out": [_pointer, _pointer, _size, _pointer, _size, _pointer],
         "zs_compact_plan": [_pointer, _pointer, _pointer, _size, _pointer],
         "zs_write_plan": [_pointer, _pointer, _pointer, _pointer, _size, _pointer, _size, _pointer],
@@ -171,6 +172,13 @@ class Layout:
         with _View(data) as view:
             _checked(_library.zs_index_read(self._at, view.at, view.size, numbers, len(numbers), ctypes.addressof(told)))
         return numbers
+
+    def check(self, object_size, index):
+        """What each entry of an index says: 0 absent, 1 a slice in the data part, 2 half absent, 3 a slice outside of the data part."""
+        stored, told, kinds = _Stored(object_size, index, len(index)), _Told(), bytearray(len(index) // 2)
+        with _View(kinds, writable=True) as view:
+            _checked(_library.zs_check(self._at, ctypes.addressof(stored), view.at, view.size, ctypes.addressof(told)))
+        return bytes(kinds)
 
     def plan(self, object_size, index, start, shape):
         """The rows of a read of a subset, ascending by their subchunks."""

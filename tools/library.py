@@ -302,6 +302,9 @@ def try_refusals(zarr_sharding):
         (6, None, lambda: zarr_sharding.Layout((4, 4), (3, 2), 1).index_range(100)), (6, None, lambda: zarr_sharding.Layout((0,), (1,), 1).index_range(100)),
         (3, None, lambda: zarr_sharding.Layout((4,), (2, 2), 1).index_range(100)), (2, None, lambda: zarr_sharding.Layout((2**63, 2), (1, 1), 1).index_range(100)),
     ]
+    entries = as_numbers([*numbers[:2], 0, 4, numbers[0], 5, 65, 4])
+    if layout.check(72, entries) != bytes([0, 1, 2, 3]):
+        sys.exit(f"check: {layout.check(72, entries)}")
     for status, subchunk, call in wanted:
         try:
             call()

@@ -91,6 +91,10 @@ static void changes_of(const zs_layout *layout, const zs_stored *stored, const z
     zs_change change = {0, 0, 0, 0};
     for (size_t i = 0; i < (count > rows ? count : rows); i++)
         sizes[i] = below(3) ? below(50) : below(9) ? ZS_ABSENT : odd();
+    uint8_t *kinds = malloc(count);
+    zs_told checked;
+    note(zs_check(layout, stored, kinds, count - (count && below(9) == 0), &checked));
+    free(kinds);
     note(zs_compact_plan(layout, stored, numbers, room, &change));
     note(zs_lay_out(layout, sizes, count, numbers, room, &change));
     if (note(zs_write_plan(layout, stored, subset, sizes, rows, numbers, room, &change)) == 0 && change.kind != ZS_ERASE) {

@@ -4,3 +4,4 @@ pub mod Rows
 pub mod Exports
 pub mod Changes
 pub mod Fetching
+pub mod Checks

@@ -8,10 +8,12 @@ ghost use Rattle.sharding_plans.specs.PackedShards.{slots_of_sizes};
 ghost use Rattle.sharding_c.specs.Layouts.{AreIndexNumbers, IsIndex, IsIndexRange, IsLaidOut, index_bytes, index_size, subchunks_of};
 ghost use Rattle.sharding_c.specs.Rows.{in_answer, in_subchunk};
 ghost use Rattle.sharding_c.specs.Exports.{FillTests, IndexRangeTests, IndexReadTests, IndexWriteTests, IsPlanWritten, PlanTests, PutTests, UpdateTests};
+ghost use Rattle.sharding_c.specs.Checks.{CheckTests, IsChecked};
 ghost use Rattle.sharding_c.specs.Fetching.{AreFetchesWritten, FetchTests};
 ghost use Rattle.sharding_plans.specs.Puts.{IsFilled, IsPut};
 
 use crate::change::{compact, lay_out, write};
+use crate::check::check_index;
 use crate::fetch::fetch_slices;
 use crate::index::{index_range, read_index, write_index};
 use crate::layout::{Change, Layout, Range, Stored, Subset, Told};
@@ -48,6 +50,35 @@ pub extern "C" fn zs_index_range(
             0
         }
         Err(refusal) => refusal.status(),
+    }
+}
+
+/// What each entry of an index says: 0 where the subchunk is absent, 1 where its slice lies in the data part, 2 where one of its numbers alone
+/// is 2^64 - 1, and 3 where its slice does not lie in the data part. `told.room` is how many they are, also where the room is too small.
+/// Refused, in this order, as the layout is, as `InvalidNumberOfElements`, and `RoomTooSmall`; or as `OutOfMemory`.
+#[unsafe(no_mangle)]
+pub extern "C" fn zs_check(
+    alloc: Global,
+    layout: &Layout,
+    stored: &Stored,
+    kinds: &mut [u8],
+    told: &mut Told,
+) -> u32
+    ensures checked { result ≡ 0 → IsChecked layout.now stored.now kinds.old kinds.new }
+    ensures told { result ≡ 0 → told.new ≡ record { room = subchunks_of layout.now; subchunk = told.old.subchunk } }
+    ensures length { length kinds.new ≡ length kinds.old }
+    ensures kept { result ≢ 0 → kinds.new ≡ kinds.old }
+    ensures refused { result ≢ 0 → IsRefusedTelling (CheckTests layout.now stored.now (length kinds.old)) result told.old told.new }
+{
+    match check_index(alloc, layout, stored, kinds) {
+        Ok(count) => {
+            told.room = count;
+            0
+        }
+        Err(refusal) => {
+            refusal.tell(told);
+            refusal.status()
+        }
     }
 }
 

@@ -3,6 +3,7 @@
 #![tactic(auto)]
 
 mod change;
+mod check;
 mod exports;
 mod fetch;
 mod index;
