@@ -130,6 +130,18 @@ zs_status zs_index_range(const zs_layout *layout, uint64_t object_size, zs_range
  * layout is (65, 3, 6, 2), as 64, and as 15 for another length than zs_index_range's, or another checksum; or as 1. */
 zs_status zs_index_read(const zs_layout *layout, const uint8_t *index, size_t index_size, uint64_t *numbers, size_t numbers_room, zs_told *told);
 
+/* What an entry of an index says. */
+enum {
+    ZS_ENTRY_ABSENT = 0,      /* the subchunk is not stored */
+    ZS_ENTRY_STORED = 1,      /* its slice lies in the data part: behind an index at the start, or before one at the end */
+    ZS_ENTRY_HALF_ABSENT = 2, /* one of its numbers alone is ZS_ABSENT */
+    ZS_ENTRY_OUTSIDE = 3      /* its slice does not lie in the data part; reads serve those that lie in the object, writes refuse them */
+};
+
+/* What each entry of an index says, for each subchunk in row-major order: ZS_ENTRY_... Ok and ZS_ROOM_TOO_SMALL: told->room is how many they
+ * are. Refused, in this order, as the layout is; as 5 for another count of numbers; as 64; or as 1. */
+zs_status zs_check(const zs_layout *layout, const zs_stored *stored, uint8_t *kinds, size_t kinds_room, zs_told *told);
+
 /* The numbers of a row of a plan, of so many axes. */
 #define ZS_ROW(axes) (3 + 3 * (size_t)(axes))
 /* The parts of a row: where the subchunk is stored (ZS_ABSENT twice: nowhere), and for each axis the first element of its part within the
@@ -164,7 +176,15 @@ zs_status zs_put(const zs_layout *layout, const uint64_t *row, size_t row_number
 zs_status zs_put_fill(const uint64_t *row, size_t row_numbers, const uint8_t *fill_value, size_t fill_size, const uint64_t *answer_shape,
                       size_t answer_axes, uint8_t *answer, size_t answer_size);
 
-/* The same of an update that is written: its part, by a row of a plan of the subset that it is written to, into the elements of a subchunk.
+/* The ranges of an object in which slices are fetched: those that overlap or lie within `gap` bytes of one another are in one range, so that of
+ * other bytes only such gaps are fetched. `fetches` ascend, and are more than `gap` bytes apart; fetch_of[i] is the number of the one in which
+ * slice i lies, or ZS_ABSENT where the slice is (ZS_ABSENT twice, as in a row). Ok and ZS_ROOM_TOO_SMALL: told->room is how many ranges they are,
+ * at most as many as slices. Refused, in this order, as 9 where a slice ends past 2^64; as 5 where there are other than as many numbers as slices;
+ * as 64; or as 1. */
+zs_status zs_fetch_plan(const zs_range *slices, size_t slices_count, uint64_t gap, zs_range *fetches, size_t fetches_room,
+                        uint64_t *fetch_of, size_t fetch_of_count, zs_told *told);
+
+/* As zs_put of an update that is written: its part, by a row of a plan of the subset that it is written to, into the elements of a subchunk.
  * `update` is an array of `update_shape`, and `decoded` has all elements of the subchunk. Refused, in this order, as 3; 4; 2; 5; 12; 15 where
  * `update_size` is not that of the update; 5 where `decoded_size` is not that of a subchunk; or as 1. */
 zs_status zs_put_update(const zs_layout *layout, const uint64_t *row, size_t row_numbers, const uint8_t *update, size_t update_size,

@@ -53,8 +53,10 @@ def _loaded():
         "zs_plan_subset": [_pointer, ctypes.c_uint64, _pointer, _size, _pointer, _pointer, _size, _pointer],
         "zs_put": [_pointer, _pointer, _size, _pointer, _size, _pointer, _size, _pointer, _size],
         "zs_put_fill": [_pointer, _size, _pointer, _size, _pointer, _size, _pointer, _size],
+        "zs_fetch_plan": [_pointer, _size, ctypes.c_uint64, _pointer, _size, _pointer, _size, _pointer],
         "zs_put_update": [_pointer, _pointer, _size, _pointer, _size, _pointer, _size, _pointer, _size],
         "zs_index_write": [_pointer, _pointer, _size, _pointer, _size, _pointer],
+        "zs_check": [_pointer, _pointer, _pointer, _size, _pointer],
         "zs_lay_out": [_pointer, _pointer, _size, _pointer, _size, _pointer],
         "zs_compact_plan": [_pointer, _pointer, _pointer, _size, _pointer],
         "zs_write_plan": [_pointer, _pointer, _pointer, _pointer, _size, _pointer, _size, _pointer],
@@ -190,6 +192,13 @@ class Layout:
             _checked(_library.zs_index_read(self._at, view.at, view.size, numbers, len(numbers), ctypes.addressof(told)))
         return numbers
 
+    def check(self, object_size, index):
+        """What each entry of an index says: 0 absent, 1 a slice in the data part, 2 half absent, 3 a slice outside of the data part."""
+        stored, told, kinds = _Stored(object_size, index, len(index)), _Told(), bytearray(len(index) // 2)
+        with _View(kinds, writable=True) as view:
+            _checked(_library.zs_check(self._at, ctypes.addressof(stored), view.at, view.size, ctypes.addressof(told)))
+        return bytes(kinds)
+
     def plan(self, object_size, index, start, shape):
         """The rows of a read of a subset, ascending by their subchunks."""
         start, shape, told, room = _numbers(start), _numbers(shape), _Told(), _numbers(())
@@ -221,6 +230,14 @@ class Layout:
         row, axes = _numbers(row.numbers), _numbers(shape)
         with self._lock, _View(fill_value) as source, _View(answer, writable=True) as to:
             _checked(_library.zs_put_fill(row, len(row), source.at, source.size, axes, len(axes), to.at, to.size))
+
+    def fetches(self, rows, gap):
+        """The ranges, ascending, in which the slices of rows are fetched, those within `gap` bytes of one another together, as offsets and sizes;
+        and for each row the number of its range, ABSENT where it is not stored."""
+        slices, told, held = (_Range * len(rows))(*((it.offset, it.size) for it in rows)), _Told(), (ctypes.c_uint64 * len(rows))()
+        ranges = (_Range * len(rows))()
+        _checked(_library.zs_fetch_plan(slices, len(rows), gap, ranges, len(rows), held, len(rows), ctypes.addressof(told)))
+        return [(it.offset, it.size) for it in ranges[: told.room]], list(held)
 
     def put_update(self, row, update, shape, decoded):
         """Puts a row's part of an update, an array of a shape, into the elements of a subchunk."""
@@ -310,11 +327,21 @@ class Layout:
     def _filled(self, fill_value):
         return bytes(fill_value) * (self.answer_size(self.subchunk_shape) // self.element_size if self.element_size else 0)
 
-    def read(self, fetch, object_size, start, shape, answer, decode, fill_value):
-        """Reads a subset into an answer, subchunk by subchunk. `object_size` is None for a shard without an object."""
+    def read(self, fetch, object_size, start, shape, answer, decode, fill_value, gap=None):
+        """Reads a subset into an answer, subchunk by subchunk; with a gap, slices within so many bytes of one another are fetched together.
+        `object_size` is None for a shard without an object."""
         index = self.index(None if object_size is None else fetch(*self.index_range(object_size)))
-        for row in self.plan(object_size or 0, index, start, shape):
+        rows = self.plan(object_size or 0, index, start, shape)
+        if gap is not None:
+            ranges, held = self.fetches(rows, gap)
+            fetched = [memoryview(fetch(*it)) if it[1] else b"" for it in ranges]
+        for number, row in enumerate(rows):
             if row.is_absent:
                 self.put_fill(row, fill_value, answer, shape)
+                continue
+            if gap is None:
+                data = fetch(row.offset, row.size)
             else:
-                self.put(row, decode(fetch(row.offset, row.size)), answer, shape)
+                first = row.offset - ranges[held[number]][0]
+                data = fetched[held[number]][first : first + row.size]
+            self.put(row, decode(data), answer, shape)

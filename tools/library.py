@@ -258,7 +258,29 @@ def try_case(zarr_sharding, folder, case):
         layout.read(lambda offset, size: case.object[offset : offset + size], len(case.object), start, lengths, answer, lambda it: it, case.fill)
         if answer != wanted:
             sys.exit(f"Python: {words}: {answer.hex()}, not {wanted.hex()}")
+        try_fetches(layout, case, start, lengths, wanted, gap=case.chance.choice((0, 0, 1, 3, 20, 2**64 - 1)))
     return 25
+
+
+def try_fetches(layout, case, start, lengths, wanted, gap):
+    """The same read by ranges that are merged: just the bytes that the slices and the gaps between them have."""
+    fetched, answer = [], bytearray(len(wanted))
+
+    def fetch(offset, size):
+        fetched.append((offset, size))
+        return case.object[offset : offset + size]
+
+    layout.read(fetch, len(case.object), start, lengths, answer, bytes, case.fill, gap=gap)
+    index, ranges = layout.index(case.object[slice(fetched[0][0], sum(fetched[0]))]), fetched[1:]
+    slices = sorted((row.offset, row.size) for row in layout.plan(len(case.object), index, start, lengths) if not row.is_absent)
+    merged = []
+    for offset, size in slices:
+        if merged and offset - sum(merged[-1]) <= gap:
+            merged[-1] = (merged[-1][0], max(sum(merged[-1]), offset + size) - merged[-1][0])
+        else:
+            merged.append((offset, size))
+    if answer != wanted or ranges != merged:
+        sys.exit(f"fetches with gap {gap}: {ranges}, not {merged}")
 
 
 def try_refusals(zarr_sharding):
@@ -282,6 +304,9 @@ def try_refusals(zarr_sharding):
         (6, None, lambda: zarr_sharding.Layout((4, 4), (3, 2), 1).index_range(100)), (6, None, lambda: zarr_sharding.Layout((0,), (1,), 1).index_range(100)),
         (3, None, lambda: zarr_sharding.Layout((4,), (2, 2), 1).index_range(100)), (2, None, lambda: zarr_sharding.Layout((2**63, 2), (1, 1), 1).index_range(100)),
     ]
+    entries = as_numbers([*numbers[:2], 0, 4, numbers[0], 5, 65, 4])
+    if layout.check(72, entries) != bytes([0, 1, 2, 3]):
+        sys.exit(f"check: {layout.check(72, entries)}")
     for status, subchunk, call in wanted:
         try:
             call()

@@ -69,6 +69,21 @@ static void puts_of(const zs_layout *layout, const uint64_t *plan, uint64_t rows
     free(answer), free(decoded), free(fill);
 }
 
+static void fetches_of(const uint64_t *numbers, size_t count)
+{
+    size_t slices = count / 2, room = slices - (slices && below(9) == 0);
+    zs_range *ranges = malloc(slices * sizeof *ranges), *fetches = malloc(room * sizeof *fetches);
+    uint64_t *fetch_of = malloc(8 * slices);
+    zs_told told = {0, 0};
+    for (size_t i = 0; i < slices; i++)
+        ranges[i] = (zs_range){numbers[2 * i], numbers[2 * i + 1]};
+    if (note(zs_fetch_plan(ranges, slices, odd(), fetches, room, fetch_of, slices, &told)) == 0)
+        for (size_t i = 0; i < slices; i++)
+            if (fetch_of[i] != ZS_ABSENT && (fetches[fetch_of[i]].offset > ranges[i].offset || ranges[i].offset - fetches[fetch_of[i]].offset + ranges[i].size > fetches[fetch_of[i]].size))
+                exit(4);
+    free(ranges), free(fetches), free(fetch_of);
+}
+
 static void changes_of(const zs_layout *layout, const zs_stored *stored, const zs_subset *subset, uint64_t rows)
 {
     size_t room = stored->numbers_count - (stored->numbers_count && below(20) == 0), count = stored->numbers_count / 2;
@@ -76,6 +91,10 @@ static void changes_of(const zs_layout *layout, const zs_stored *stored, const z
     zs_change change = {0, 0, 0, 0};
     for (size_t i = 0; i < (count > rows ? count : rows); i++)
         sizes[i] = below(3) ? below(50) : below(9) ? ZS_ABSENT : odd();
+    uint8_t *kinds = malloc(count);
+    zs_told checked;
+    note(zs_check(layout, stored, kinds, count - (count && below(9) == 0), &checked));
+    free(kinds);
     note(zs_compact_plan(layout, stored, numbers, room, &change));
     note(zs_lay_out(layout, sizes, count, numbers, room, &change));
     if (note(zs_write_plan(layout, stored, subset, sizes, rows, numbers, room, &change)) == 0 && change.kind != ZS_ERASE) {
@@ -134,6 +153,7 @@ int main(int argc, char **argv)
                     puts_of(&layout, plan, rows, lengths);
                 free(plan);
             }
+            fetches_of(numbers, count);
             changes_of(&layout, &stored, &subset, rows);
             free(numbers), free(index);
         }

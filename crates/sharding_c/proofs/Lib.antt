@@ -2,3 +2,4 @@ mod RowLemmas
 mod FrontLemmas
 mod PlanRowLemmas
 mod ChangeLemmas
+mod FetchLemmas

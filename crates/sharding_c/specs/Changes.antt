@@ -39,7 +39,8 @@ kind_of Append = 3
 -- the index of a planned write stands in front of a room
 pub record IsWriteWritten (layout : Layout) (stored : Stored) (subset : Subset) (sizes old new : List ℕ) (len kind : ℕ) : Type 0 where
   pub plan : WritePlan
-  pub planned : IsWritePlanOf layout.shape.now layout.subchunk_shape.now (index_place layout) stored.object_size stored.numbers.now (told_subset subset) sizes plan
+  pub planned : IsWritePlanOf layout.shape.now layout.subchunk_shape.now (index_place layout) stored.object_size stored.numbers.now
+      (told_subset subset) sizes plan
   pub written : AreInFront plan.numbers.items old new
   pub long : len ≡ plan.len
   pub kind_is : kind ≡ kind_of plan.outcome

@@ -8,9 +8,13 @@ ghost use Rattle.sharding_plans.specs.PackedShards.{slots_of_sizes};
 ghost use Rattle.sharding_c.specs.Layouts.{AreIndexNumbers, IsIndex, IsIndexRange, IsLaidOut, index_bytes, index_size, subchunks_of};
 ghost use Rattle.sharding_c.specs.Rows.{in_answer, in_subchunk};
 ghost use Rattle.sharding_c.specs.Exports.{FillTests, IndexRangeTests, IndexReadTests, IndexWriteTests, IsPlanWritten, PlanTests, PutTests, UpdateTests};
+ghost use Rattle.sharding_c.specs.Checks.{CheckTests, IsChecked};
+ghost use Rattle.sharding_c.specs.Fetching.{AreFetchesWritten, FetchTests};
 ghost use Rattle.sharding_plans.specs.Puts.{IsFilled, IsPut};
 
 use crate::change::{compact, lay_out, write};
+use crate::check::check_index;
+use crate::fetch::fetch_slices;
 use crate::index::{index_range, read_index, write_index};
 use crate::layout::{Change, Layout, Range, Stored, Subset, Told};
 use crate::plan::plan_subset;
@@ -46,6 +50,35 @@ pub extern "C" fn zs_index_range(
             0
         }
         Err(refusal) => refusal.status(),
+    }
+}
+
+/// What each entry of an index says: 0 where the subchunk is absent, 1 where its slice lies in the data part, 2 where one of its numbers alone
+/// is 2^64 - 1, and 3 where its slice does not lie in the data part. `told.room` is how many they are, also where the room is too small.
+/// Refused, in this order, as the layout is, as `InvalidNumberOfElements`, and `RoomTooSmall`; or as `OutOfMemory`.
+#[unsafe(no_mangle)]
+pub extern "C" fn zs_check(
+    alloc: Global,
+    layout: &Layout,
+    stored: &Stored,
+    kinds: &mut [u8],
+    told: &mut Told,
+) -> u32
+    ensures checked { result ≡ 0 → IsChecked layout.now stored.now kinds.old kinds.new }
+    ensures told { result ≡ 0 → told.new ≡ record { room = subchunks_of layout.now; subchunk = told.old.subchunk } }
+    ensures length { length kinds.new ≡ length kinds.old }
+    ensures kept { result ≢ 0 → kinds.new ≡ kinds.old }
+    ensures refused { result ≢ 0 → IsRefusedTelling (CheckTests layout.now stored.now (length kinds.old)) result told.old told.new }
+{
+    match check_index(alloc, layout, stored, kinds) {
+        Ok(count) => {
+            told.room = count;
+            0
+        }
+        Err(refusal) => {
+            refusal.tell(told);
+            refusal.status()
+        }
     }
 }
 
@@ -159,6 +192,37 @@ pub extern "C" fn zs_put_fill(
     match fill_row(alloc, row, fill_value, answer_shape, answer) {
         Ok(()) => 0,
         Err(error) => error.number() as u32,
+    }
+}
+
+/// The ranges of an object in which slices are fetched: slices within `gap` bytes of one another are in one. They stand in front of a room,
+/// ascending, and `told.room` is how many they are, also where the room is too small; and for each slice the number of its range, 2^64 - 1
+/// where it is absent. Refused, in this order, as `BadIndexEntry` where a slice ends past 2^64, `InvalidNumberOfElements` where there is room
+/// for the numbers of other than each slice, and `RoomTooSmall`; or as `OutOfMemory`.
+#[unsafe(no_mangle)]
+pub extern "C" fn zs_fetch_plan(
+    alloc: Global,
+    slices: &[Range],
+    gap: u64,
+    fetches: &mut [Range],
+    fetch_of: &mut [u64],
+    told: &mut Told,
+) -> u32
+    ensures fetches { result ≡ 0 → AreFetchesWritten gap slices.now fetches.old fetches.new fetch_of.new told.new.room }
+    ensures told { result ≡ 0 → told.new.subchunk ≡ told.old.subchunk }
+    ensures length { (length fetches.new ≡ length fetches.old) × (length fetch_of.new ≡ length fetch_of.old) }
+    ensures kept { result ≢ 0 → (fetches.new ≡ fetches.old) × (fetch_of.new ≡ fetch_of.old) }
+    ensures refused { result ≢ 0 → IsRefusedTelling (FetchTests gap slices.now (length fetch_of.old) (length fetches.old)) result told.old told.new }
+{
+    match fetch_slices(alloc, slices, gap, fetches, fetch_of) {
+        Ok(count) => {
+            told.room = count;
+            0
+        }
+        Err(refusal) => {
+            refusal.tell(told);
+            refusal.status()
+        }
     }
 }
 

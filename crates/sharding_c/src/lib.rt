@@ -3,8 +3,10 @@
 #![tactic(auto)]
 
 mod change;
+mod check;
 mod decode;
 mod exports;
+mod fetch;
 mod index;
 mod layout;
 mod plan;

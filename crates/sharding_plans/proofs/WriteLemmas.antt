@@ -192,7 +192,7 @@ total_within : (location : ShardingIndexLocation) (len write_offset total : ℕ)
 total_within Start len write_offset total = omega arith
 total_within End len write_offset total = omega arith
 
--- slices of so many bytes, which no number says, give no length
+-- slices whose bytes no number counts give no length
 pub no_length_of : (place : IndexPlace) (len total : ℕ) (touched numbers : List ℕ) → ¬ (total + 1 < 2 ^ 64) → ¬ (HasLength place len touched numbers total)
 no_length_of place len total touched numbers large has =
     elim has [

@@ -28,7 +28,7 @@ pub record IsPackedShard (place : IndexPlace) (count : ℕ) (slots : ℕ → Slo
   pub stand : (k : ℕ) → k < count → slot_at shard.len shard.numbers.items k
       ≡ moved_slot (slots k) (data_start place.location place.size + present_size slots k)
 
--- the slot of a slice of so many bytes, wherever it stands; none where the subchunk is not stored
+-- the slot of a slice of this size, wherever it stands; none where the subchunk is not stored
 abbrev pub slot_of_size : ℕ → Slot
 slot_of_size size = if size == absent_number then Absent else InRange 0 size
 
@@ -64,8 +64,8 @@ pub record IsWrittenAs (index_written : Written) (l : Layout) (shard : PackedSha
   pub long : length object ≡ shard.len
   pub index : index_written (map element_of_number shard.numbers.items) (index_part l.location l.index_size object)
 
--- Whoever copies the slices of a shard to where a plan says, and writes the index, has compacted it; and where there is no plan the shard is
--- compact.
+-- Whoever copies the slices of a shard to where a plan says, and writes the index, has compacted it; and where there is no plan the
+-- shard is compact.
 pub record CompactionLaw (index : Meaning) : Type 0 where
   pub copied : (l : Layout) (old old_numbers new : List ℕ) (shard : PackedShard)
       → AreGood (count_of (grid_of l.shape l.sub)) (slot_at (length old) old_numbers)
@@ -84,5 +84,6 @@ pub record LayOutLaw (inner index : Meaning) : Type 0 where
       → IsPackedShard (place_of l) (count_of (grid_of l.shape l.sub)) (slots_of_sizes sizes) shard
       → IsWrittenAs index.written l shard object
       → ((k : ℕ) → k < count_of (grid_of l.shape l.sub)
-      → IsStoredAt inner.written l.fill (λ offset size. Unit {0}) (subchunk l.shape l.sub array k) object (slot_at shard.len shard.numbers.items k))
+      → IsStoredAt inner.written l.fill (λ offset size. Unit {0}) (subchunk l.shape l.sub array k) object
+      (slot_at shard.len shard.numbers.items k))
       → IsEncodingBy inner.written index.written l array object shard.numbers.items

@@ -114,7 +114,8 @@ abbrev pub OpenRefusals : (shape sub : List ℕ) → IndexPlace → ℕ → List
 OpenRefusals shape sub place len numbers later =
     HasEntries shape sub numbers or InvalidNumberOfElements then
     HasRoom place len numbers or ShardTooShort then
-    Each (count_of (grid_of shape sub)) (λ k. IsInDataPart place.location place.size len (slot_at len numbers k)) (λ k. BadIndexEntry k) later
+    Each (count_of (grid_of shape sub)) (λ k. IsInDataPart place.location place.size len (slot_at len numbers k)) (λ k. BadIndexEntry k)
+    later
 
 -- the tests of a plan of a write
 abbrev pub WriteRefusals : (shape sub : List ℕ) → IndexPlace → ℕ → (numbers : List ℕ) → Subset → (sizes : List ℕ) → Refusals

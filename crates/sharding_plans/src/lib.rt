@@ -1,5 +1,6 @@
-// Reads of a shard as plans: which stored subchunks a subset takes, and where each of their elements goes. Nothing is read or decoded
-// here: the caller fetches the bytes of each subchunk, decodes them, and puts their elements into an answer, in any order.
+// Reads and writes of a shard as plans: which stored subchunks a subset takes, and where each of their elements goes; which slices are fetched
+// together; and where slices go in a write, in a compaction and in a whole shard. Nothing is read, decoded or stored here: the caller fetches
+// and decodes, in any order, encodes, and stores.
 #![tactic(auto)]
 
 mod fetches;

@@ -76,7 +76,7 @@ fn bytes_of_size(size: u64) -> u64
     if size == u64::MAX { 0 } else { size }
 }
 
-// The offset of a slice of this size, with so many bytes between it and where the new slices begin.
+// The offset of a slice of this size, with this number of bytes between it and where the new slices begin.
 fn offset_of(size: u64, write_offset: u64, before: u64) -> u64
     requires { write_offset + before < 2 ^ 64 }
     ensures offset { result ≡ offset_number write_offset (moved_slot (slot_of_size size) before) }
