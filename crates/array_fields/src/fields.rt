@@ -173,7 +173,7 @@ impl<'a> Placed<'a> {
         }
     }
 
-    /// The shape of a chunk of so many axes. Refused as `BadField`.
+    /// The shape of a chunk with this number of axes. Refused as `BadField`.
     pub fn chunk_shape(&self, alloc: Global, axes: usize) -> Result<ChunkShape, MetadataError>
         ensures axes { IfOk result (λ shape. length shape ≡ axes) }
         ensures read { IfOk result (λ shape. whole_numbers_in (view self.now.value.now) ≡ Some shape) }
