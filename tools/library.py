@@ -172,6 +172,8 @@ def points(shape):
 class Case:
     """A shard with elements by chance, of which some subchunks are all fill value, written by the standard's words."""
 
+    decode = bytes
+
     def __init__(self, seed, shape, subchunk, size, flags):
         self.chance = random.Random(seed)
         self.shape, self.subchunk, self.size, self.flags = shape, subchunk, size, flags
@@ -231,14 +233,24 @@ def test():
         sys.path.insert(0, f"{TOP}/python")
         import zarr_sharding
 
-        cases, helpers = [Case(seed, *it) for seed, it in enumerate(CASES)], (points, product, crc32c)
+        helpers = (points, product, crc32c)
+        stored = list(library_writes.stored_cases(f"{TOP}/crates/test_worked_arrays/data", empty_case, helpers))
+        cases = [Case(seed, *it) for seed, it in enumerate(CASES)] + stored
         reads = sum(try_case(zarr_sharding, folder, case) for case in cases)
-        changes = sum(library_writes.try_writes(zarr_sharding, folder, case, helpers, words_of_case(case)) for case in cases)
+        plain = [case for case in cases if case.decode is bytes]
+        changes = sum(library_writes.try_writes(zarr_sharding, folder, case, helpers, words_of_case(case)) for case in plain)
         refused = try_refusals(zarr_sharding) + library_writes.try_hostile(zarr_sharding, TOP)
         decoded = library_decodes.try_decodes(zarr_sharding, TOP)
         run(f"{folder}/fuzz", "1", "20000", stdout=subprocess.DEVNULL)
     print(f"the C library: {reads} subsets read and {changes} objects changed from C and from Python, {refused} refusals, {decoded} decodings, 20000 rounds by chance")
     return 0
+
+
+def empty_case(path):
+    """A case whose elements and object are still to be told, with chances of its own."""
+    case = Case.__new__(Case)
+    case.chance = random.Random(os.path.relpath(path, TOP))
+    return case
 
 
 def try_case(zarr_sharding, folder, case):
@@ -252,10 +264,10 @@ def try_case(zarr_sharding, folder, case):
         wanted = case.answer(start, lengths)
         words = [*words_of_case(case), words_of(start), words_of(lengths)]
         said = subprocess.run([f"{folder}/read_subset", path, *words, *["last"] * (turn % 2)], capture_output=True, check=False)
-        if said.returncode or said.stdout != wanted:
+        if case.decode is bytes and (said.returncode or said.stdout != wanted):
             sys.exit(f"read_subset {' '.join(words)}: {said.returncode} {said.stderr.decode()} {said.stdout.hex()}, not {wanted.hex()}")
         answer = bytearray(len(wanted))
-        layout.read(lambda offset, size: case.object[offset : offset + size], len(case.object), start, lengths, answer, lambda it: it, case.fill)
+        layout.read(lambda offset, size: case.object[offset : offset + size], len(case.object), start, lengths, answer, case.decode, case.fill)
         if answer != wanted:
             sys.exit(f"Python: {words}: {answer.hex()}, not {wanted.hex()}")
         try_fetches(layout, case, start, lengths, wanted, gap=case.chance.choice((0, 0, 1, 3, 20, 2**64 - 1)))
@@ -270,7 +282,7 @@ def try_fetches(layout, case, start, lengths, wanted, gap):
         fetched.append((offset, size))
         return case.object[offset : offset + size]
 
-    layout.read(fetch, len(case.object), start, lengths, answer, bytes, case.fill, gap=gap)
+    layout.read(fetch, len(case.object), start, lengths, answer, case.decode, case.fill, gap=gap)
     index, ranges = layout.index(case.object[slice(fetched[0][0], sum(fetched[0]))]), fetched[1:]
     slices = sorted((row.offset, row.size) for row in layout.plan(len(case.object), index, start, lengths) if not row.is_absent)
     merged = []

@@ -1,12 +1,16 @@
 """Writes and compactions by the C library, from C and from Python, against a shard that is written here by the words of the standard and of
 docs/FORMAT.md; and the objects that nobody wrote as a shard."""
+import json
+import os
 import re
 import struct
 import subprocess
 import sys
+import zlib
 
 ABSENT = 2**64 - 1
 KEEP, ERASE, REPLACE, EXTEND = range(4)
+ARRAYS = {"edges": 1, "gaps": 2, "missing": 4, "plain": 2, "shuffled": 1, "gzip_numbers": 2}  # and the bytes of an element
 REFUSALS = {"Damaged": (15, None), "BAD_0": (9, 0), "BAD_1": (9, 1)}
 
 
@@ -87,6 +91,29 @@ class Reference:
         else:
             out[place:] = index
         return bytes(out)
+
+
+def stored_cases(top, made, helpers):
+    """The shards of arrays that other programs wrote, those whose subchunks are stored as their elements and those that gzip compressed, each
+    with its elements, which are read here by the words of the standard. `made` gives an empty case."""
+    for name, size in ARRAYS.items():
+        with open(f"{top}/{name}/zarr.json", encoding="utf-8") as file:
+            metadata = json.load(file)
+        shape, settings = metadata["chunk_grid"]["configuration"]["chunk_shape"], metadata["codecs"][0]["configuration"]
+        for folder, _, names in os.walk(f"{top}/{name}/c"):
+            for path in sorted(f"{folder}/{it}" for it in names):
+                case = made(path)
+                case.shape, case.subchunk, case.size, case.flags = tuple(shape), tuple(settings["chunk_shape"]), size, 4
+                case.fill, case.object = metadata["fill_value"].to_bytes(size, "little"), of_file(path)
+                case.grid = [n // m for n, m in zip(case.shape, case.subchunk)]
+                case.decode = (lambda it: zlib.decompress(it, 31)) if len(settings["codecs"]) > 1 else bytes
+                reference, case.elements = Reference(case, *helpers), {}
+                for at, it in zip(reference.grid, reference.slices(case.object)):
+                    decoded = reference.empty if it is None else case.decode(it)
+                    for k, place in enumerate(reference.points(case.subchunk)):
+                        point = tuple(c * m + p for c, m, p in zip(at, case.subchunk, place))
+                        case.elements[point] = decoded[k * size : (k + 1) * size]
+                yield case
 
 
 def applied(data, change, pieces):
