@@ -74,7 +74,7 @@ impl MetadataError {
     }
 
     /// The refusal of these parts, or `OutOfMemory`. The error and the place are escaped, the sentence is not.
-    pub(crate) fn refused(
+    pub fn refused(
         alloc: Global,
         error: PluginCreateError,
         place: &str,
