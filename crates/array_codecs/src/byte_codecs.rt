@@ -65,7 +65,8 @@ impl BytesToBytesCodecTraits for ByteCodecs {
         limit: usize,
     ) -> Result<CowSlice<'a, u8>, CodecError> {
         if self.checked {
-            self.codec.decode_within(alloc, before_checksum(alloc, bytes)?, limit)
+            self.codec
+                .decode_within(alloc, before_checksum(alloc, bytes)?, limit)
         } else {
             self.codec.decode_within(alloc, bytes, limit)
         }

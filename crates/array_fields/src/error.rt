@@ -74,12 +74,7 @@ impl MetadataError {
     }
 
     /// The refusal of these parts, or `OutOfMemory`. The error and the place are escaped, the sentence is not.
-    pub fn refused(
-        alloc: Global,
-        error: PluginCreateError,
-        place: &str,
-        sentence: &str,
-    ) -> Self {
+    pub fn refused(alloc: Global, error: PluginCreateError, place: &str, sentence: &str) -> Self {
         if error == PluginCreateError::OutOfMemory {
             return MetadataError::OutOfMemory;
         }

@@ -1,6 +1,6 @@
 // The arrays below a group.
-use array_folder::list_members;
 use array_fields::MetadataError;
+use array_folder::list_members;
 use array_metadata::ArrayMetadata;
 use array_opening::{Ending, Stop, metadata_of, written};
 use parts_escaped_text::escaped;

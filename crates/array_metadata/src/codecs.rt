@@ -202,8 +202,7 @@ impl<'a> CodecList<'a> {
             [first, second, third]
                 if first.name == CodecName::Bytes
                     && second.is_byte_codec()
-                    && third.name == CodecName::Crc32c =>
-            {
+                    && third.name == CodecName::Crc32c => {
                 let bytes = bytes_codec(alloc, &first.metadata, data_type)?;
                 let codecs = checked_codec(alloc, second, third)?;
                 Ok(EitherCodec::Second(BytesChain::new(bytes, codecs)))

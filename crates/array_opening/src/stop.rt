@@ -3,9 +3,9 @@ ghost use Rattle.std.specs.Prelude.{◌≡◌, ◌≤◌};
 ghost use Rattle.array_opening.specs.Statuses.{status_of};
 
 use crate::refusal::Refusal;
+use array_fields::MetadataError;
 use array_folder::FolderError;
 use array_grid::SubsetError;
-use array_fields::MetadataError;
 use parts_errors::CodecError;
 use std::alloc::{AllocError, AllocFailed, Global};
 use std::io;

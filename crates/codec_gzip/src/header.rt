@@ -122,7 +122,10 @@ pub(crate) fn after_header(header: &[u8]) -> Result<&[u8], DecompressError>
 
 // The trailer: CRC32 and ISIZE of the content.
 #[tactic(auto, unfolding(crate::specs::Gzip::after_trailer))]
-pub(crate) fn after_trailer<'a>(content: &[u8], bytes: &'a [u8]) -> Result<&'a [u8], DecompressError>
+pub(crate) fn after_trailer<'a>(
+    content: &[u8],
+    bytes: &'a [u8],
+) -> Result<&'a [u8], DecompressError>
     ensures { Gives (λ rest. rest.now) result (after_trailer content.now bytes.now) }
 {
     let rest = after(bytes, 8)?;
