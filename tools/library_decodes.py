@@ -44,7 +44,7 @@ def try_array(zarr_sharding, folder, form):
             if number is None:
                 continue
             cell = expected["cells"][number]
-            wanted = float(cell) if form in "fd" else int(cell)
+            wanted = struct.unpack("<" + form, struct.pack("<" + form, float(cell) if form in "fd" else int(cell)))[0]
             found = struct.unpack_from("<" + form, answer, position * size)[0]
             if found != wanted and not (found != found and wanted != wanted):
                 sys.exit(f"{name}: element {number} is {found}, not {wanted}")

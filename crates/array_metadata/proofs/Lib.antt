@@ -3,3 +3,4 @@ pub mod Elements
 pub mod SaidFloats
 pub mod Types
 pub mod Lists
+pub mod ShardCodecs

@@ -20,7 +20,7 @@ not_sole (codec ∷ next ∷ later) other = refl
 ok_same : {A : Type 0} (a b : A) → let first : Reading A = Ok a in first ≡ Ok b → a ≡ b
 ok_same a b e = cc
 
-some_same : {A : Type 0} (a b : A) → Some a ≡ Some b → a ≡ b
+pub some_same : {A : Type 0} (a b : A) → Some a ≡ Some b → a ≡ b
 some_same a b e = cc
 
 -- what is read of an optional value is read of a value
