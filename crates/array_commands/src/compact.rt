@@ -1,14 +1,13 @@
 // The compaction of an array's shards.
 use crate::rewriting::{Planned, plan_of, replace};
-use array_cli::Progress;
+use array_cli::{Array, Ending, Place, Progress, Refusal, Shard, ShardFile, Stop, written};
 use array_fields::escaped;
 use array_folder::{ChunkFiles, age_of};
-use array_opening::{Array, Ending, Place, Refusal, Shard, ShardFile, Stop, written};
 use codec_traits::ArrayToBytesCodecTraits;
 use sharding_layout::CompactionPlan;
-use std::{fs, io};
 use std::io::Write;
 use std::rt::{Clock, Files};
+use std::{fs, io};
 use storage_files::path_beside;
 
 /// What was gained, and what was not done.
