@@ -1,7 +1,7 @@
 // Sharding codecs that are put together part by part.
 use crate::compared::same;
 use crate::examples::shape_of;
-use codec_crc32c::Crc32cCodec;
+use codec_checksums::Crc32cCodec;
 use std::alloc::Global;
 use std::borrow::CowSlice;
 use std::process::Abort;

@@ -3,7 +3,7 @@ use Rattle.std.specs.Int.{w32, to_le_bytes}
 use Rattle.parts_errors.specs.Words.{Bytes}
 use Rattle.codec_chains.specs.Codings.{Coding}
 use Rattle.codec_chains.specs.Trailers.{trailer_coding}
-use Rattle.codec_crc32c.specs.Checksum.{checksum}
+use Rattle.codec_checksums.specs.Castagnoli.{checksum}
 
 -- the bytes of the checksum, the least significant first
 abbrev pub checksum_bytes : Bytes → Bytes

@@ -1,8 +1,8 @@
 use Rattle.std.proofs.Common.{◌∙◌, ap, refl}
 use Rattle.std.specs.Int.{w32, to_le_bytes}
 use Rattle.codec_chains.proofs.TrailerSteps.{refused_short, refused_other, decoded}
-use Rattle.codec_crc32c.specs.Crc32c.{checksum_bytes}
-use Rattle.codec_crc32c.proofs.codec.Crc32cCodecBytesToBytesCodecTraits.decode.Goals as goal
+use Rattle.codec_checksums.specs.Crc32c.{checksum_bytes}
+use Rattle.codec_checksums.proofs.crc32c_codec.Crc32cCodecBytesToBytesCodecTraits.decode.Goals as goal
 
 pub returns-then-bytes-lt4-clause-refused : goal.returns-then-bytes-lt4-clause-refused
 returns-then-bytes-lt4-clause-refused c = refused_short 4 checksum_bytes (λ _. refl) c.args.bytes.now c.if-bytes-lt4.true

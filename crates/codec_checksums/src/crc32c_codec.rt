@@ -1,6 +1,6 @@
 // The codec `crc32c`.
 
-use crate::checksum::crc32c;
+use crate::crc32c_checksum::crc32c;
 use codec_chains::{BytesToBytesCodecTraits, FunctionalBytesCodec};
 use codec_traits::BytesRepresentation;
 use parts_errors::CodecError;
@@ -15,7 +15,7 @@ pub struct Crc32cCodec;
 impl BytesToBytesCodecTraits for Crc32cCodec {
     ghost use Rattle.std.proofs.Common.{refl};
     ghost use Rattle.codec_chains.specs.TrailerLaws.{trailer_invertible, trailer_bounded};
-    ghost use Rattle.codec_crc32c.specs.Crc32c.{checksum_bytes, crc32c_coding};
+    ghost use Rattle.codec_checksums.specs.Crc32c.{checksum_bytes, crc32c_coding};
 
     ghost coding = { λ _. crc32c_coding };
 
@@ -69,7 +69,7 @@ impl BytesToBytesCodecTraits for Crc32cCodec {
 impl FunctionalBytesCodec for Crc32cCodec {
     ghost use Rattle.std.specs.Prelude.{true};
     ghost use Rattle.codec_chains.specs.Trailers.{with_trailer};
-    ghost use Rattle.codec_crc32c.specs.Crc32c.{checksum_bytes};
+    ghost use Rattle.codec_checksums.specs.Crc32c.{checksum_bytes};
 
     ghost functional = { λ _. true };
 

@@ -1,9 +1,9 @@
 // The checksum CRC-32C.
 ghost use Rattle.std.specs.Prelude.{◌≡◌};
-ghost use Rattle.codec_crc32c.specs.Checksum.{checksum};
+ghost use Rattle.codec_checksums.specs.Castagnoli.{checksum};
 
-use crate::table::Castagnoli;
-use codec_checksums::checksum;
+use crate::castagnoli_table::Castagnoli;
+use crate::register::checksum;
 
 /// The checksum CRC-32C of bytes: the remainder of a division by the polynomial of Castagnoli, the least significant bit of
 /// each byte first, where all bits of the register are set at first and inverted at the end.

@@ -1,6 +1,6 @@
 // The checksum XXH64 with seed 0, by the steps of its specification.
 ghost use Rattle.std.specs.Prelude.{◌≡◌, ◌+◌, ◌≤◌, ◌<◌, fold, length};
-ghost use Rattle.codec_xxhash.specs.XxHash.{round, first_accumulators, lane, after_stripe, merge_accumulator, converged, after_eight, after_four, after_one, after_last, after_rest, avalanche, xxh64};
+ghost use Rattle.codec_checksums.specs.XxHash.{round, first_accumulators, lane, after_stripe, merge_accumulator, converged, after_eight, after_four, after_one, after_last, after_rest, avalanche, xxh64};
 
 const PRIME1: u64 = 0x9E37_79B1_85EB_CA87;
 

@@ -1,5 +1,5 @@
 // What single bytes leave in the register of CRC-32C.
-use codec_checksums::Polynomial;
+use crate::register::Polynomial;
 
 // For each byte the register, once the byte's eight bits have left it; and then as many bits more: eight in the second table, 16 in the
 // third, up to 56 in the last.
@@ -322,7 +322,7 @@ const REMAINDERS: [[u32; 256]; 8] = [
 pub(crate) struct Castagnoli;
 
 impl Polynomial for Castagnoli {
-    ghost use Rattle.codec_crc32c.specs.Checksum.{castagnoli};
+    ghost use Rattle.codec_checksums.specs.Castagnoli.{castagnoli};
 
     ghost polynomial = { castagnoli };
 
