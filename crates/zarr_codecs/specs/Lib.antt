@@ -31,6 +31,6 @@ pub use Rattle.codec_vlen.specs.VlenMetadata
 pub use Rattle.codec_default.specs.DefaultCodec
 pub use Rattle.codec_default.specs.declared.default_codec.DefaultArrayToBytesCodec
 pub use Rattle.codec_default.specs.DefaultMetadata
-pub use Rattle.codec_array_chains.specs.ArrayCodings
-pub use Rattle.codec_array_chains.specs.ArrayChains
-pub use Rattle.codec_array_chains.specs.ArrayChainLaws
+pub use Rattle.codec_chains.specs.ArrayCodings
+pub use Rattle.codec_chains.specs.ArrayChains
+pub use Rattle.codec_chains.specs.ArrayChainLaws

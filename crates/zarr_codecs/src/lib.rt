@@ -1,9 +1,10 @@
 // The laws of codecs from arrays to bytes, and the small codecs that keep them.
 #![tactic(auto)]
 
-pub use codec_array_chains::{ArrayChain, ArrayToArrayCodecTraits};
 pub use codec_bytes::{BytesCodec, Endianness};
-pub use codec_chains::{BytesChain, BytesToBytesCodecTraits, FunctionalBytesCodec};
+pub use codec_chains::{
+    ArrayChain, ArrayToArrayCodecTraits, BytesChain, BytesToBytesCodecTraits, FunctionalBytesCodec,
+};
 pub use codec_default::{DefaultArrayToBytesCodec, default_array_to_bytes_codec};
 pub use codec_metadata::{
     CodecTraitsV3, MemberTest, PluginCreateError, create_after_metadata, metadata_name,

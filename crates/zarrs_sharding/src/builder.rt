@@ -6,9 +6,8 @@ ghost use Rattle.codec_bytes.specs.declared.bytes_codec.Endianness.TheVariants.{
 ghost use Rattle.sharding_format.specs.declared.location.ShardingIndexLocation.TheVariants.{End};
 ghost use Rattle.sharding_format.specs.declared.order.SubchunkWriteOrder.TheVariants.{Unordered};
 
-use codec_array_chains::ArrayChain;
 use codec_bytes::BytesCodec;
-use codec_chains::BytesChain;
+use codec_chains::{ArrayChain, BytesChain};
 use codec_default::{DefaultArrayToBytesCodec, default_array_to_bytes_codec};
 use parts_arrays::DataType;
 use parts_subsets::ChunkShape;

@@ -1,6 +1,6 @@
 use Rattle.parts_arrays.specs.ArraySpec.{array_spec}
-use Rattle.codec_array_chains.proofs.ArrayChainSteps.{chain_cells-found}
-use Rattle.codec_array_chains.proofs.array_chain.ArrayChainArrayToBytesCodecTraits.decode.Goals as goal
+use Rattle.codec_chains.proofs.ArrayChainSteps.{chain_cells-found}
+use Rattle.codec_chains.proofs.array_chain.ArrayChainArrayToBytesCodecTraits.decode.Goals as goal
 
 pub returns-clause-cells : goal.returns-clause-cells
 returns-clause-cells g c =

@@ -3,11 +3,11 @@ use Rattle.parts_arrays.specs.ArraySpec.{array_spec, IsArrayOf}
 use Rattle.parts_row_major.specs.Numbering.{count_of}
 use Rattle.parts_row_major.proofs.NumberingLaws.{count_positive}
 use Rattle.codec_traits.specs.RefusalLaws.{passed_on}
-use Rattle.codec_array_chains.specs.ArrayChains.{chain_elements}
-use Rattle.codec_array_chains.specs.ArrayChainLaws.{same_array_of, if_there}
-use Rattle.codec_array_chains.specs.ArrayCodings.{SameLengths}
-use Rattle.codec_array_chains.proofs.ArrayChainSteps.{refused_second, refused_first, refused_in_order, chain_elements-found}
-use Rattle.codec_array_chains.proofs.array_chain.decode_both.Goals as goal
+use Rattle.codec_chains.specs.ArrayChains.{chain_elements}
+use Rattle.codec_chains.specs.ArrayChainLaws.{same_array_of, if_there}
+use Rattle.codec_chains.specs.ArrayCodings.{SameLengths}
+use Rattle.codec_chains.proofs.ArrayChainSteps.{refused_second, refused_first, refused_in_order, chain_elements-found}
+use Rattle.codec_chains.proofs.array_chain.decode_both.Goals as goal
 
 pub returns-in_err-encoded-clause-lawful : goal.returns-in_err-encoded-clause-lawful
 returns-in_err-encoded-clause-lawful g c =

@@ -2,7 +2,7 @@
 ghost use Rattle.std.specs.Prelude.{◌≡◌, Some, IfOk, IfErr, IsSome};
 ghost use Rattle.parts_errors.specs.Order.{◌or◌then◌, done, RefusedBy};
 ghost use Rattle.parts_errors.specs.declared.error.CodecError.TheVariants.{OutOfMemory, Damaged};
-ghost use Rattle.codec_array_chains.specs.ArrayCodings.{ArrayCoding, IsInvertible, KeepsLengths, encoded_array};
+ghost use Rattle.codec_chains.specs.ArrayCodings.{ArrayCoding, IsInvertible, KeepsLengths, encoded_array};
 
 use parts_arrays::ArrayBytes;
 use parts_errors::CodecError;

@@ -16,9 +16,9 @@ use Rattle.codec_traits.specs.Refusals.{AreTooLong, AreDamaged, MayRefuseDecode,
 use Rattle.codec_traits.specs.Reads.{MayRefuseRead}
 use Rattle.codec_traits.specs.WholeArrays.{whole_cells, WholeRefusals}
 use Rattle.codec_traits.proofs.WholeArrayLaws.{whole_damaged, refused_whole}
-use Rattle.codec_array_chains.specs.ArrayCodings.{ArrayCoding, SameLengths, KeepsLengths}
-use Rattle.codec_array_chains.specs.ArrayChains.{chain_elements, array_chain_cells, ArrayChainDecodeRefusals, array_chain_meaning}
-use Rattle.codec_array_chains.specs.ArrayChainLaws.{there, same_count}
+use Rattle.codec_chains.specs.ArrayCodings.{ArrayCoding, SameLengths, KeepsLengths}
+use Rattle.codec_chains.specs.ArrayChains.{chain_elements, array_chain_cells, ArrayChainDecodeRefusals, array_chain_meaning}
+use Rattle.codec_chains.specs.ArrayChainLaws.{there, same_count}
 
 none_found : IsSome {T = Elements} None → ⊥
 none_found h = cc

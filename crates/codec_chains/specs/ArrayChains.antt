@@ -12,7 +12,7 @@ use Rattle.parts_arrays.specs.declared.data_type.DataTypeSize.{DataTypeSize}
 use Rattle.codec_traits.specs.Cells.{all_there}
 use Rattle.codec_traits.specs.Meanings.{Meaning}
 use Rattle.codec_traits.specs.WholeArrays.{whole_cells, WholeRefusals}
-use Rattle.codec_array_chains.specs.ArrayCodings.{ArrayCoding, encoded_array}
+use Rattle.codec_chains.specs.ArrayCodings.{ArrayCoding, encoded_array}
 
 -- the elements of the bytes: the inverse of the array that they are for the second codec
 unfoldable pub chain_elements : ArrayCoding → Meaning → Bytes → Option Elements

@@ -3,9 +3,9 @@ use Rattle.parts_arrays.specs.ArraySpec.{array_spec, IsArrayOf}
 use Rattle.parts_arrays.specs.Arrays.{Array}
 use Rattle.codec_traits.specs.RefusalLaws.{passed_on}
 use Rattle.codec_traits.specs.Refusals.{MayRefuseEncode}
-use Rattle.codec_array_chains.specs.ArrayChainLaws.{same_array_of}
-use Rattle.codec_array_chains.proofs.ArrayChainSteps.{refused_encoding}
-use Rattle.codec_array_chains.proofs.array_chain.ArrayChainArrayToBytesCodecTraits.encode.Goals as goal
+use Rattle.codec_chains.specs.ArrayChainLaws.{same_array_of}
+use Rattle.codec_chains.proofs.ArrayChainSteps.{refused_encoding}
+use Rattle.codec_chains.proofs.array_chain.ArrayChainArrayToBytesCodecTraits.encode.Goals as goal
 
 pub returns-in_err-encoded-clause-lawful : goal.returns-in_err-encoded-clause-lawful
 returns-in_err-encoded-clause-lawful g c =

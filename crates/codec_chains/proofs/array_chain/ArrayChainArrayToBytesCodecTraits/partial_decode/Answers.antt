@@ -7,9 +7,9 @@ use Rattle.codec_traits.proofs.ReadLemmas.{requested_answer, interval_read}
 use Rattle.codec_traits.specs.RefusalLaws.{passed_on}
 use Rattle.codec_traits.specs.Reads.{cells_at}
 use Rattle.codec_traits.proofs.WholeArrayLaws.{whole_read}
-use Rattle.codec_array_chains.specs.ArrayChains.{chain_elements, array_chain_cells}
-use Rattle.codec_array_chains.proofs.ArrayChainSteps.{refused_as_decode}
-use Rattle.codec_array_chains.proofs.array_chain.ArrayChainArrayToBytesCodecTraits.partial_decode.Goals as goal
+use Rattle.codec_chains.specs.ArrayChains.{chain_elements, array_chain_cells}
+use Rattle.codec_chains.proofs.ArrayChainSteps.{refused_as_decode}
+use Rattle.codec_chains.proofs.array_chain.ArrayChainArrayToBytesCodecTraits.partial_decode.Goals as goal
 
 pub returns-in_err-array-clause-lawful : goal.returns-in_err-array-clause-lawful
 returns-in_err-array-clause-lawful g c =

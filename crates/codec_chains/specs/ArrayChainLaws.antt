@@ -17,8 +17,8 @@ use Rattle.codec_traits.specs.Laws.{IsLawful}
 use Rattle.codec_traits.specs.RefusalLaws.{test_faultless}
 use Rattle.codec_traits.specs.WholeArrays.{whole_cells}
 use Rattle.codec_traits.proofs.WholeArrayLaws.{length-whole_cells, whole_cells-each}
-use Rattle.codec_array_chains.specs.ArrayCodings.{ArrayCoding, IsInvertible, SameLengths, KeepsLengths}
-use Rattle.codec_array_chains.specs.ArrayChains.{chain_elements, array_chain_cells, array_chain_meaning}
+use Rattle.codec_chains.specs.ArrayCodings.{ArrayCoding, IsInvertible, SameLengths, KeepsLengths}
+use Rattle.codec_chains.specs.ArrayChains.{chain_elements, array_chain_cells, array_chain_meaning}
 
 -- what is known of what is there
 pub if_there : {A : Type 0} (P : A → Type 0) (o : Option A) (x : A) → o ≡ Some x → IfSome o P → P x

@@ -6,7 +6,7 @@ ghost use Rattle.parts_arrays.specs.ArraySpec.{array_spec, IsArrayOf};
 ghost use Rattle.parts_arrays.specs.Types.{size_of};
 ghost use Rattle.parts_arrays.specs.Refusals.{IsValid};
 ghost use Rattle.codec_traits.specs.Refusals.{MayRefuseDecode};
-ghost use Rattle.codec_array_chains.specs.ArrayChains.{chain_elements, array_chain_cells, ArrayElementRefusals, ArrayChainDecodeRefusals};
+ghost use Rattle.codec_chains.specs.ArrayChains.{chain_elements, array_chain_cells, ArrayElementRefusals, ArrayChainDecodeRefusals};
 
 use crate::array_to_array::ArrayToArrayCodecTraits;
 use codec_traits::{
@@ -93,8 +93,8 @@ fn decode_both<A: ArrayToArrayCodecTraits, C: ArrayToBytesCodecTraits>(
 
 impl<A: ArrayToArrayCodecTraits, C: ArrayToBytesCodecTraits> ArrayToBytesCodecTraits
     for ArrayChain<A, C> {
-    ghost use Rattle.codec_array_chains.specs.ArrayChains.{array_chain_meaning};
-    ghost use Rattle.codec_array_chains.specs.ArrayChainLaws.{array_chain_lawful};
+    ghost use Rattle.codec_chains.specs.ArrayChains.{array_chain_meaning};
+    ghost use Rattle.codec_chains.specs.ArrayChainLaws.{array_chain_lawful};
 
     ghost meaning = { λ s g. array_chain_meaning (A.coding s.array_to_array) (C.meaning s.array_to_bytes g) g };
 
@@ -208,7 +208,7 @@ impl<A: ArrayToArrayCodecTraits, C: ArrayToBytesCodecTraits> ArrayToBytesCodecTr
 }
 
 impl<A: ArrayToArrayCodecTraits, C: FunctionalCodec> FunctionalCodec for ArrayChain<A, C> {
-    ghost use Rattle.codec_array_chains.specs.ArrayChainLaws.{same_array_of};
+    ghost use Rattle.codec_chains.specs.ArrayChainLaws.{same_array_of};
 
     ghost functional = { λ s. C.functional s.array_to_bytes };
 
