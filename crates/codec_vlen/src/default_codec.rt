@@ -1,13 +1,13 @@
 // The codec that an array has where none is asked for: by the type of its elements.
 ghost use Rattle.std.specs.Prelude.{◌≡◌};
-ghost use Rattle.codec_default.specs.DefaultCodec.{default_codec_of};
+ghost use Rattle.codec_vlen.specs.DefaultCodec.{default_codec_of};
 
+use crate::vlen_codec::VlenCodec;
 use codec_bytes::BytesCodec;
 use codec_traits::{
     ArrayToBytesCodecTraits, BytesRepresentation, FunctionalCodec, RecommendedConcurrency,
     StoredArray,
 };
-use codec_vlen::VlenCodec;
 use parts_arrays::{ArrayBytes, DataType, DataTypeSize, FillValue, FixedTarget};
 use parts_errors::{CodecError, CodecOptions};
 use parts_subsets::{ChunkShape, Indexer};
@@ -35,7 +35,7 @@ pub fn default_array_to_bytes_codec(data_type: &DataType) -> DefaultArrayToBytes
 impl ArrayToBytesCodecTraits for DefaultArrayToBytesCodec {
     ghost use Rattle.std.specs.Prelude.{⊤};
     ghost use Rattle.parts_errors.specs.Order.{done};
-    ghost use Rattle.codec_default.specs.DefaultCodec.{default_meaning, default_lawful};
+    ghost use Rattle.codec_vlen.specs.DefaultCodec.{default_meaning, default_lawful};
 
     ghost meaning = { default_meaning };
 
@@ -231,7 +231,7 @@ impl ArrayToBytesCodecTraits for DefaultArrayToBytesCodec {
 
 impl FunctionalCodec for DefaultArrayToBytesCodec {
     ghost use Rattle.std.specs.Prelude.{true};
-    ghost use Rattle.codec_default.specs.DefaultCodec.{default_encoding, default_one_encoding};
+    ghost use Rattle.codec_vlen.specs.DefaultCodec.{default_encoding, default_one_encoding};
 
     ghost functional = { λ _. true };
 

@@ -13,8 +13,8 @@ use Rattle.codec_vlen.specs.Text.{vlen_text}
 use Rattle.codec_vlen.specs.VlenCodec.{vlen_meaning}
 use Rattle.codec_vlen.specs.VlenLaws.{vlen_lawful}
 use Rattle.codec_vlen.specs.declared.vlen_codec.VlenCodec.{VlenCodec}
-use Rattle.codec_default.specs.declared.default_codec.DefaultArrayToBytesCodec.{DefaultArrayToBytesCodec}
-use Rattle.codec_default.specs.declared.default_codec.DefaultArrayToBytesCodec.TheVariants.{Bytes, Vlen}
+use Rattle.codec_vlen.specs.declared.default_codec.DefaultArrayToBytesCodec.{DefaultArrayToBytesCodec}
+use Rattle.codec_vlen.specs.declared.default_codec.DefaultArrayToBytesCodec.TheVariants.{Bytes, Vlen}
 
 -- the codec of a type
 abbrev pub default_codec_of : DataType → DefaultArrayToBytesCodec

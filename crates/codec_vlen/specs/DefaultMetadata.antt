@@ -5,8 +5,8 @@ use Rattle.serde_json.specs.Data.{Data, Members}
 use Rattle.codec_metadata.specs.CreateErrors.{Reading, and_then}
 use Rattle.codec_metadata.specs.BytesMetadata.{is_bytes_name, bytes_configured, bytes_written}
 use Rattle.codec_vlen.specs.VlenMetadata.{is_vlen_name, vlen_configured}
-use Rattle.codec_default.specs.declared.default_codec.DefaultArrayToBytesCodec.{DefaultArrayToBytesCodec}
-use Rattle.codec_default.specs.declared.default_codec.DefaultArrayToBytesCodec.TheVariants.{Bytes, Vlen}
+use Rattle.codec_vlen.specs.declared.default_codec.DefaultArrayToBytesCodec.{DefaultArrayToBytesCodec}
+use Rattle.codec_vlen.specs.declared.default_codec.DefaultArrayToBytesCodec.TheVariants.{Bytes, Vlen}
 
 -- the names that are read: those of either codec
 abbrev pub is_default_name : Text → Bool

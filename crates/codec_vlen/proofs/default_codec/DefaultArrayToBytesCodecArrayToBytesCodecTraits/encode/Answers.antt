@@ -1,4 +1,4 @@
-use Rattle.codec_default.proofs.default_codec.DefaultArrayToBytesCodecArrayToBytesCodecTraits.encode.Goals as goal
+use Rattle.codec_vlen.proofs.default_codec.DefaultArrayToBytesCodecArrayToBytesCodecTraits.encode.Goals as goal
 
 pub returns-in-Vlen-clause-written : goal.returns-in-Vlen-clause-written
 returns-in-Vlen-clause-written c = rw c.in-Vlen.is c.encode-in-Vlen.ensures.written

@@ -1,4 +1,4 @@
-use Rattle.codec_default.proofs.default_codec.DefaultArrayToBytesCodecArrayToBytesCodecTraits.partial_decode_into_fresh.Goals as goal
+use Rattle.codec_vlen.proofs.default_codec.DefaultArrayToBytesCodecArrayToBytesCodecTraits.partial_decode_into_fresh.Goals as goal
 
 pub returns-in-Bytes-clause-lawful : goal.returns-in-Bytes-clause-lawful
 returns-in-Bytes-clause-lawful g c = rw c.in-Bytes.is c.partial_decode_into_fresh.ensures.lawful

@@ -1,4 +1,4 @@
-// The metadata of the codec: its name alone.
+// The metadata of `VlenCodec`: its name alone.
 ghost use Rattle.std.specs.Prelude.{◌≡◌};
 
 use crate::vlen_codec::VlenCodec;

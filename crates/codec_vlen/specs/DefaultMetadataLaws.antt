@@ -2,9 +2,9 @@
 use Rattle.std.specs.Prelude.{◌≡◌, true, Some, None, Ok, option_map, refl}
 use Rattle.serde_json.specs.Data.{object}
 use Rattle.codec_bytes.specs.declared.bytes_codec.Endianness.TheVariants.{Little, Big}
-use Rattle.codec_default.specs.declared.default_codec.DefaultArrayToBytesCodec.{DefaultArrayToBytesCodec}
-use Rattle.codec_default.specs.declared.default_codec.DefaultArrayToBytesCodec.TheVariants.{Bytes, Vlen}
-use Rattle.codec_default.specs.DefaultMetadata.{is_default_name, default_name, default_configured, default_written}
+use Rattle.codec_vlen.specs.declared.default_codec.DefaultArrayToBytesCodec.{DefaultArrayToBytesCodec}
+use Rattle.codec_vlen.specs.declared.default_codec.DefaultArrayToBytesCodec.TheVariants.{Bytes, Vlen}
+use Rattle.codec_vlen.specs.DefaultMetadata.{is_default_name, default_name, default_configured, default_written}
 
 pub default_remembers : (codec : DefaultArrayToBytesCodec)
     → default_configured (default_name codec) (option_map object (default_written codec)) ≡ Ok codec

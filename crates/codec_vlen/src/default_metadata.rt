@@ -1,16 +1,16 @@
-// The metadata of the codec: that of the codec that it holds.
+// The metadata of the default codec: that of the codec that it holds.
 
 use crate::default_codec::DefaultArrayToBytesCodec;
+use crate::vlen_codec::VlenCodec;
 use codec_bytes::BytesCodec;
 use codec_metadata::{CodecTraitsV3, PluginCreateError};
-use codec_vlen::VlenCodec;
 use serde_json::{Map, Value};
 use std::alloc::{AllocError, Global};
 
 impl CodecTraitsV3 for DefaultArrayToBytesCodec {
     ghost use Rattle.std.specs.Prelude.{⊤, refl};
-    ghost use Rattle.codec_default.specs.DefaultMetadata.{is_default_name, default_name, default_configured, default_written};
-    ghost use Rattle.codec_default.specs.DefaultMetadataLaws.{default_remembers, default_names_itself};
+    ghost use Rattle.codec_vlen.specs.DefaultMetadata.{is_default_name, default_name, default_configured, default_written};
+    ghost use Rattle.codec_vlen.specs.DefaultMetadataLaws.{default_remembers, default_names_itself};
 
     ghost named = { is_default_name };
 
