@@ -15,7 +15,7 @@ use Rattle.sharding_write.specs.Writing.{HoldsNumbers, IsCachedIndex, IsWriteOf,
 use Rattle.sharding_codec.specs.Meanings.{layout_in}
 use Rattle.sharding_codec.specs.Decoders.{object_cells}
 use Rattle.sharding_codec.specs.declared.codec.ShardingCodec.{ShardingCodec}
-use Rattle.session_model.specs.Maps.{CellMap, elements_of}
+use Rattle.session_runs.specs.Maps.{CellMap, elements_of}
 
 -- the shards of a sharding codec for the arrays of a shape, a type and a fill value: what its inner codec and its index codec mean, and
 -- how its shards are laid out

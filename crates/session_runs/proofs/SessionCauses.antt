@@ -22,14 +22,14 @@ use Rattle.sharding_codec.specs.Decoders.{ObjectCellsRefusals}
 use Rattle.sharding_codec.specs.Sessions.{Session, IsInStep, IsLeftOrFailed, index_size_of, subchunks_of}
 use Rattle.sharding_codec.specs.SessionWrites.{WrittenRefusals}
 use Rattle.sharding_codec.specs.declared.codec.ShardingCodec.{ShardingCodec}
-use Rattle.session_model.specs.Maps.{CellMap}
-use Rattle.session_model.specs.Objects.{Shards, shards_of, index_numbers, Shows}
-use Rattle.session_model.specs.Causes.{ReadSizes, ReadCauses, WriteSizes, WriteCauses}
-use Rattle.session_model.specs.steps.Serving.{ReadObjectRefusals}
-use Rattle.session_model.specs.declared.command.Reply.{Reply}
-use Rattle.session_model.specs.declared.command.Reply.TheVariants.{Refused}
-use Rattle.session_model.proofs.CauseLemmas.{write_cause, read_cause, update_first, selection_first, session_first, object_first}
-use Rattle.session_model.proofs.OpeningLemmas.{meant}
+use Rattle.session_runs.specs.Maps.{CellMap}
+use Rattle.session_runs.specs.Objects.{Shards, shards_of, index_numbers, Shows}
+use Rattle.session_runs.specs.Causes.{ReadSizes, ReadCauses, WriteSizes, WriteCauses}
+use Rattle.session_runs.specs.steps.Serving.{ReadObjectRefusals}
+use Rattle.session_runs.specs.declared.command.Reply.{Reply}
+use Rattle.session_runs.specs.declared.command.Reply.TheVariants.{Refused}
+use Rattle.session_runs.proofs.CauseLemmas.{write_cause, read_cause, update_first, selection_first, session_first, object_first}
+use Rattle.session_runs.proofs.OpeningLemmas.{meant}
 
 -- a refusal that is no fault is a reply
 pub of_refused : (error : CodecError) (r : Result Reply CodecError) (P : Reply → Type 0)

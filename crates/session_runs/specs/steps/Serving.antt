@@ -10,9 +10,9 @@ use Rattle.sharding_format.specs.Compacting.{CompactRefusals}
 use Rattle.sharding_format.specs.DecodeRefusals.{RefusesLengths}
 use Rattle.sharding_format.specs.ReadRefusals.{AnswerRefusals, CellsRefusals}
 use Rattle.sharding_codec.specs.Decoders.{object_cells}
-use Rattle.session_model.specs.Maps.{CellMap}
-use Rattle.session_model.specs.Objects.{Shards, index_numbers, Shows, IsSound}
-use Rattle.session_model.specs.Ended.{IsShort}
+use Rattle.session_runs.specs.Maps.{CellMap}
+use Rattle.session_runs.specs.Objects.{Shards, index_numbers, Shows, IsSound}
+use Rattle.session_runs.specs.Ended.{IsShort}
 
 -- a step leads from each map that the old object shows to one that the new object shows
 abbrev pub Leads : Shards → (CellMap → CellMap → Type 0) → (old new : Option Bytes) → Type 0

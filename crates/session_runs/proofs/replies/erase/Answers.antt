@@ -1,8 +1,8 @@
 use Rattle.parts_subsets.specs.Grid.{grid_of}
 use Rattle.sharding_format.specs.Index.{index_spec}
 use Rattle.sharding_format.specs.Serves.{subchunk_spec}
-use Rattle.session_model.proofs.StepLemmas.{erase_leads}
-use Rattle.session_model.proofs.session.erase.Goals as goal
+use Rattle.session_runs.proofs.StepLemmas.{erase_leads}
+use Rattle.session_runs.proofs.replies.erase.Goals as goal
 
 pub returns-in-Ok-clause-leads : goal.returns-in-Ok-clause-leads
 returns-in-Ok-clause-leads g c =

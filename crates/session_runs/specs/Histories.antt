@@ -8,10 +8,10 @@ use Rattle.codec_traits.specs.Reads.{IsAnswer}
 use Rattle.sharding_gather.specs.Updates.{IsUpdateOf}
 use Rattle.sharding_format.specs.Cells.{shard_cells}
 use Rattle.sharding_open.specs.Cached.{object_cells}
-use Rattle.session_model.specs.Maps.{CellMap, filled, IsOverridden, elements_at, elements_of}
-use Rattle.session_model.specs.Objects.{Shards, Shows}
-use Rattle.session_model.specs.declared.event.Event.{Event}
-use Rattle.session_model.specs.declared.event.Event.TheVariants.{Write, Read, Erase}
+use Rattle.session_runs.specs.Maps.{CellMap, filled, IsOverridden, elements_at, elements_of}
+use Rattle.session_runs.specs.Objects.{Shards, Shows}
+use Rattle.session_runs.specs.declared.event.Event.{Event}
+use Rattle.session_runs.specs.declared.event.Event.TheVariants.{Write, Read, Erase}
 
 -- what an event does to a map: a write puts its elements, one for each cell of its subset, into these; a read has the elements of the map
 -- at

@@ -2,13 +2,13 @@ use Rattle.std.proofs.Common.{◌≡◌, refl}
 use Rattle.parts_subsets.specs.Grid.{grid_of}
 use Rattle.sharding_format.specs.Index.{index_spec}
 use Rattle.sharding_format.specs.Serves.{subchunk_spec}
-use Rattle.session_model.specs.Objects.{shards_of}
-use Rattle.session_model.specs.Runs.{ReadStep}
-use Rattle.session_model.specs.steps.Serving.{Leads}
-use Rattle.session_model.specs.declared.command.Reply.TheVariants.{Refused}
-use Rattle.session_model.proofs.StepLemmas.{read_leads, refused_leads}
-use Rattle.session_model.proofs.SessionCauses.{of_refused, read_refused}
-use Rattle.session_model.proofs.session.read.Goals as goal
+use Rattle.session_runs.specs.Objects.{shards_of}
+use Rattle.session_runs.specs.Runs.{ReadStep}
+use Rattle.session_runs.specs.steps.Serving.{Leads}
+use Rattle.session_runs.specs.declared.command.Reply.TheVariants.{Refused}
+use Rattle.session_runs.proofs.StepLemmas.{read_leads, refused_leads}
+use Rattle.session_runs.proofs.SessionCauses.{of_refused, read_refused}
+use Rattle.session_runs.proofs.replies.read.Goals as goal
 
 pub returns-in-Ok-clause-leads : goal.returns-in-Ok-clause-leads
 returns-in-Ok-clause-leads g c =

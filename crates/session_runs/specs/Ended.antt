@@ -5,12 +5,12 @@ use Rattle.parts_errors.specs.Order.{RefusedBy}
 use Rattle.parts_errors.specs.declared.error.CodecError.{CodecError}
 use Rattle.parts_errors.specs.declared.error.CodecError.TheVariants.{OutOfMemory}
 use Rattle.storage_handles.specs.Handles.{HandleState, IsRead, MayFault}
-use Rattle.session_model.specs.Maps.{CellMap}
-use Rattle.session_model.specs.Objects.{Shards, Shows, IsSound}
-use Rattle.session_model.specs.Runs.{Run}
-use Rattle.session_model.specs.declared.command.Command.{Command}
-use Rattle.session_model.specs.declared.command.Command.TheVariants.{Compact}
-use Rattle.session_model.specs.declared.command.Reply.{Reply}
+use Rattle.session_runs.specs.Maps.{CellMap}
+use Rattle.session_runs.specs.Objects.{Shards, Shows, IsSound}
+use Rattle.session_runs.specs.Runs.{Run}
+use Rattle.session_runs.specs.declared.command.Command.{Command}
+use Rattle.session_runs.specs.declared.command.Command.TheVariants.{Compact}
+use Rattle.session_runs.specs.declared.command.Reply.{Reply}
 
 -- an object is short enough to be held: below 2^64 - 1 bytes
 abbrev pub IsShort : Option Bytes → Type 0

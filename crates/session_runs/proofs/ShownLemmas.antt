@@ -18,10 +18,10 @@ use Rattle.sharding_format.specs.declared.slot.Slot.{Slot}
 use Rattle.sharding_format.specs.declared.slot.Slot.TheVariants.{Absent, InRange}
 use Rattle.sharding_write.specs.Writing.{HoldsNumbers, IsCachedIndex, cells_in}
 use Rattle.sharding_open.proofs.PreparedLemmas.{object_cell}
-use Rattle.session_model.specs.Maps.{CellMap, elements_of}
-use Rattle.session_model.specs.Objects.{Shards, subchunks_in, index_numbers, Shows}
-use Rattle.session_model.specs.steps.Serving.{IsUsable}
-use Rattle.session_model.specs.Causes.{subchunk_elements}
+use Rattle.session_runs.specs.Maps.{CellMap, elements_of}
+use Rattle.session_runs.specs.Objects.{Shards, subchunks_in, index_numbers, Shows}
+use Rattle.session_runs.specs.steps.Serving.{IsUsable}
+use Rattle.session_runs.specs.Causes.{subchunk_elements}
 
 -- the elements of a map, by number
 pub length-elements_of : (g : ArraySpec) (m : CellMap) → length (elements_of g m) ≡ count_of g.shape

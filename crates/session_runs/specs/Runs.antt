@@ -7,13 +7,13 @@ use Rattle.parts_arrays.specs.Arrays.{Array}
 use Rattle.parts_subsets.specs.Selections.{Selection, subset_selection, listed_selection}
 use Rattle.codec_traits.specs.Reads.{IsAnswer}
 use Rattle.sharding_gather.specs.Updates.{IsUpdateOf}
-use Rattle.session_model.specs.Maps.{CellMap, filled, IsOverridden, elements_at}
-use Rattle.session_model.specs.Objects.{Shards, IsObjectWritten, IsMinimal, IsRewritten}
-use Rattle.session_model.specs.Causes.{ReadCauses, WriteCauses, CompactCauses}
-use Rattle.session_model.specs.declared.command.Command.{Command}
-use Rattle.session_model.specs.declared.command.Command.TheVariants as command
-use Rattle.session_model.specs.declared.command.Reply.{Reply}
-use Rattle.session_model.specs.declared.command.Reply.TheVariants.{Done, Cells, Compacted, Refused}
+use Rattle.session_runs.specs.Maps.{CellMap, filled, IsOverridden, elements_at}
+use Rattle.session_runs.specs.Objects.{Shards, IsObjectWritten, IsMinimal, IsRewritten}
+use Rattle.session_runs.specs.Causes.{ReadCauses, WriteCauses, CompactCauses}
+use Rattle.session_runs.specs.declared.command.Command.{Command}
+use Rattle.session_runs.specs.declared.command.Command.TheVariants as command
+use Rattle.session_runs.specs.declared.command.Reply.{Reply}
+use Rattle.session_runs.specs.declared.command.Reply.TheVariants.{Done, Cells, Compacted, Refused}
 
 -- map and object are left as they were
 abbrev pub AreLeft : CellMap → Option Bytes → CellMap → Option Bytes → Type 0

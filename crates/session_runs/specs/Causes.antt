@@ -19,8 +19,8 @@ use Rattle.sharding_format.specs.ReadRefusals.{numbers_of, positions_in, cells_o
 use Rattle.sharding_gather.specs.Updates.{UpdateRefusals}
 use Rattle.sharding_write.specs.Writing.{AreNewCells, HoldsNumbers}
 use Rattle.sharding_write.specs.WriteRefusals.{SomeLength}
-use Rattle.session_model.specs.Maps.{CellMap, elements_at, elements_of}
-use Rattle.session_model.specs.Objects.{Shards, subchunks_in, index_numbers, written_layout}
+use Rattle.session_runs.specs.Maps.{CellMap, elements_at, elements_of}
+use Rattle.session_runs.specs.Objects.{Shards, subchunks_in, index_numbers, written_layout}
 
 -- the elements of a map in subchunk k
 abbrev pub subchunk_elements : Shards → CellMap → (k : ℕ) → Elements

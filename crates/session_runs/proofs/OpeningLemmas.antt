@@ -16,10 +16,10 @@ use Rattle.sharding_format.proofs.RefusalLemmas.{passed_refusal, long_enough, da
 use Rattle.sharding_codec.specs.Meanings.{shard_meaning}
 use Rattle.sharding_codec.specs.Sessions.{Session, IsInStep, SessionRefusals}
 use Rattle.sharding_codec.specs.declared.codec.ShardingCodec.{ShardingCodec}
-use Rattle.session_model.specs.Objects.{shards_of}
-use Rattle.session_model.specs.Ended.{StopsBy}
-use Rattle.session_model.specs.steps.Serving.{IsUsable}
-use Rattle.session_model.proofs.ShownLemmas.{usable_cached}
+use Rattle.session_runs.specs.Objects.{shards_of}
+use Rattle.session_runs.specs.Ended.{StopsBy}
+use Rattle.session_runs.specs.steps.Serving.{IsUsable}
+use Rattle.session_runs.proofs.ShownLemmas.{usable_cached}
 
 -- the cells of an index are never too long
 pub index_never_long : (inner index : Meaning) (sub : List ℕ) (g : ArraySpec) → IsLawful (index_spec (grid_of g.shape sub)) index → ShardServes inner index sub g → (x : Bytes) → ¬ (AreTooLong (index.cells x))

@@ -31,14 +31,14 @@ use Rattle.sharding_write.specs.Writing.{AreOverlaid}
 use Rattle.sharding_write.proofs.AnewLemmas.{in_list}
 use Rattle.sharding_codec.specs.Decoders.{object_cells}
 use Rattle.sharding_open.proofs.PreparedLemmas.{length-object_cells}
-use Rattle.session_model.specs.Maps.{CellMap, filled, IsOverridden, elements_at}
-use Rattle.session_model.specs.Objects.{Shards, Shows, HasSoundIndex, IsObjectWritten, IsMinimal, IsRewritten}
-use Rattle.session_model.specs.Causes.{IsLongCompacted}
-use Rattle.session_model.specs.Runs.{WriteStep, ReadStep, EraseStep, CompactStep}
-use Rattle.session_model.specs.steps.Serving.{Leads}
-use Rattle.session_model.specs.declared.command.Reply.TheVariants.{Done, Cells, Compacted}
-use Rattle.session_model.proofs.ShownLemmas.{shards, get_or-shown, shown_by_each}
-use Rattle.session_model.proofs.CauseLemmas.{cells_shown}
+use Rattle.session_runs.specs.Maps.{CellMap, filled, IsOverridden, elements_at}
+use Rattle.session_runs.specs.Objects.{Shards, Shows, HasSoundIndex, IsObjectWritten, IsMinimal, IsRewritten}
+use Rattle.session_runs.specs.Causes.{IsLongCompacted}
+use Rattle.session_runs.specs.Runs.{WriteStep, ReadStep, EraseStep, CompactStep}
+use Rattle.session_runs.specs.steps.Serving.{Leads}
+use Rattle.session_runs.specs.declared.command.Reply.TheVariants.{Done, Cells, Compacted}
+use Rattle.session_runs.proofs.ShownLemmas.{shards, get_or-shown, shown_by_each}
+use Rattle.session_runs.proofs.CauseLemmas.{cells_shown}
 
 -- a cell's element, or another where it isn't there
 element_or : Bytes → Option Bytes → Bytes

@@ -2,10 +2,10 @@
 ghost use Rattle.std.specs.Prelude.{◌≡◌, ◌≢◌, false, IsTrue, IfOk, IfErr, OnOk, MatchResult};
 ghost use Rattle.parts_errors.specs.declared.error.CodecError.TheVariants.{Fault};
 ghost use Rattle.sharding_codec.specs.Sessions.{IsInStep, IsLeft, IsDone};
-ghost use Rattle.session_model.specs.Objects.{shards_of};
-ghost use Rattle.session_model.specs.Runs.{WriteStep, ReadStep, EraseStep};
-ghost use Rattle.session_model.specs.steps.Serving.{Leads, HasFaulted};
-ghost use Rattle.session_model.specs.declared.command.Reply.TheVariants.{Refused};
+ghost use Rattle.session_runs.specs.Objects.{shards_of};
+ghost use Rattle.session_runs.specs.Runs.{WriteStep, ReadStep, EraseStep};
+ghost use Rattle.session_runs.specs.steps.Serving.{Leads, HasFaulted};
+ghost use Rattle.session_runs.specs.declared.command.Reply.TheVariants.{Refused};
 
 use crate::command::Reply;
 use codec_traits::ArrayToBytesCodecTraits;

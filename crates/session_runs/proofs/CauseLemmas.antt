@@ -42,12 +42,12 @@ use Rattle.sharding_write.specs.Writing.{HoldsNumbers, IsCachedIndex}
 use Rattle.parts_subsets.specs.Touched.{Touches}
 use Rattle.sharding_write.proofs.CachedLemmas.{told_len}
 use Rattle.sharding_write.specs.WriteRefusals.{Straddles, RefusesOld, SomeNewCells, WriteRefusals}
-use Rattle.session_model.specs.Maps.{CellMap, elements_at, elements_of}
-use Rattle.session_model.specs.Objects.{Shards, index_numbers, Shows, IsSound, written_layout}
-use Rattle.session_model.specs.Causes.{subchunk_elements, requested_positions, ReadSizes, IsLongTouched, IsUnstorable, WriteSizes, CompactCauses}
-use Rattle.session_model.specs.Ended.{IsShort}
-use Rattle.session_model.specs.steps.Serving.{ObjectCompactRefusals, ReadObjectRefusals}
-use Rattle.session_model.proofs.ShownLemmas.{shards, get_or-shown, shown_slice, shown_position, shown_absent}
+use Rattle.session_runs.specs.Maps.{CellMap, elements_at, elements_of}
+use Rattle.session_runs.specs.Objects.{Shards, index_numbers, Shows, IsSound, written_layout}
+use Rattle.session_runs.specs.Causes.{subchunk_elements, requested_positions, ReadSizes, IsLongTouched, IsUnstorable, WriteSizes, CompactCauses}
+use Rattle.session_runs.specs.Ended.{IsShort}
+use Rattle.session_runs.specs.steps.Serving.{ObjectCompactRefusals, ReadObjectRefusals}
+use Rattle.session_runs.proofs.ShownLemmas.{shards, get_or-shown, shown_slice, shown_position, shown_absent}
 
 -- the cells that are read of an object that shows a map are the map's elements
 pub cells_shown : (g : ArraySpec) (m : CellMap) (cells : List (Option Bytes)) (points : List (List ℕ)) → cells ≡ map Some (elements_of g m) → All (λ point. IsInside point g.shape) points

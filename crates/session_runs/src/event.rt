@@ -1,6 +1,6 @@
 // What was done, and what is told of it.
 ghost use Rattle.std.specs.Prelude.{◌≡◌, ◌↔◌, IfOk, IsTrue};
-ghost use Rattle.session_model.specs.declared.event.Event.TheVariants.{Write, Read};
+ghost use Rattle.session_runs.specs.declared.event.Event.TheVariants.{Write, Read};
 
 use parts_arrays::ArrayBytes;
 use parts_subsets::ArraySubset;

@@ -2,13 +2,13 @@ use Rattle.std.proofs.Common.{◌≡◌, IsTrue, refl}
 use Rattle.parts_subsets.specs.Grid.{grid_of}
 use Rattle.sharding_format.specs.Index.{index_spec}
 use Rattle.sharding_format.specs.Serves.{subchunk_spec}
-use Rattle.session_model.specs.Objects.{shards_of}
-use Rattle.session_model.specs.Runs.{WriteStep}
-use Rattle.session_model.specs.steps.Serving.{Leads}
-use Rattle.session_model.specs.declared.command.Reply.TheVariants.{Refused}
-use Rattle.session_model.proofs.StepLemmas.{write_leads, refused_leads}
-use Rattle.session_model.proofs.SessionCauses.{of_refused, left_object, cached_in_step, numbers_in_step, write_refused}
-use Rattle.session_model.proofs.session.write.Goals as goal
+use Rattle.session_runs.specs.Objects.{shards_of}
+use Rattle.session_runs.specs.Runs.{WriteStep}
+use Rattle.session_runs.specs.steps.Serving.{Leads}
+use Rattle.session_runs.specs.declared.command.Reply.TheVariants.{Refused}
+use Rattle.session_runs.proofs.StepLemmas.{write_leads, refused_leads}
+use Rattle.session_runs.proofs.SessionCauses.{of_refused, left_object, cached_in_step, numbers_in_step, write_refused}
+use Rattle.session_runs.proofs.replies.write.Goals as goal
 
 pub returns-in-Ok-clause-leads : goal.returns-in-Ok-clause-leads
 returns-in-Ok-clause-leads g c =
