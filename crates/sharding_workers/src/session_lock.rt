@@ -16,7 +16,7 @@ pub struct SessionLock<S> {
 }
 
 impl<S> Model for SessionLock<S> {
-    ghost use Rattle.sharding_lock.specs.Told.{Told};
+    ghost use Rattle.sharding_workers.specs.Told.{Told};
 
     // what is told without the lock
     ghost Value = { Told };

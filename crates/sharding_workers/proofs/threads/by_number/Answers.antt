@@ -3,7 +3,7 @@ use Rattle.std.specs.List.{AllZip, range_with_len}
 use Rattle.rayon.specs.Numbers.{nat_range}
 use Rattle.rayon.proofs.ListFacts.{IfOk-then}
 use Rattle.rayon.proofs.ToStd.{nat_range-All}
-use Rattle.sharding_lock.proofs.numbered.by_number.Goals as goal
+use Rattle.sharding_workers.proofs.threads.by_number.Goals as goal
 
 -- results of the numbers of a range are those of the numbers below its end
 below_end : {T : Type 0} (Q : ℕ → T → Type 0) (a b n : ℕ) (xs : List ℕ) (ys zs : List T)
