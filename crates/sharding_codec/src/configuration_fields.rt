@@ -6,7 +6,7 @@ ghost use Rattle.parts_row_major.specs.Numbering.{AllPositive};
 ghost use Rattle.sharding_format.specs.declared.location.ShardingIndexLocation.TheVariants.{End};
 ghost use Rattle.codec_metadata.specs.CreateErrors.{RefusedAs, refusal_of, missing_field};
 ghost use Rattle.codec_metadata.specs.declared.error.PluginCreateError.TheVariants.{OutOfMemory};
-ghost use Rattle.sharding_configuration.specs.Configuration.{field, field_or, axes_in, shape_in, location_in, axis_in};
+ghost use Rattle.sharding_codec.specs.Configuration.{field, field_or, axes_in, shape_in, location_in, axis_in};
 
 use codec_metadata::PluginCreateError;
 use parts_subsets::{Axes, ChunkShape};

@@ -1,7 +1,7 @@
 use Rattle.std.proofs.Common.{◌≡◌, map, take}
 use Rattle.serde_json.specs.Data.{unsigned, number}
 use Rattle.serde_json.specs.View.{view}
-use Rattle.sharding_configuration.proofs.writing.number_list.Given as goal
+use Rattle.sharding_codec.proofs.configuration_members.number_list.Given as goal
 
 -- the numbers up to here are written
 abbrev pub invariant-loop-number : goal.invariant-loop-number

@@ -5,7 +5,7 @@ use Rattle.parts_row_major.specs.Numbering.{AllPositive}
 use Rattle.serde_json.specs.Data.{object}
 use Rattle.sharding_format.specs.declared.location.ShardingIndexLocation.{ShardingIndexLocation}
 use Rattle.sharding_format.specs.declared.location.ShardingIndexLocation.TheVariants.{Start, End}
-use Rattle.sharding_configuration.specs.Configuration.{Configuration, axes_in, axes_written, positive, configuration_in, configuration_written, location_named, location_word}
+use Rattle.sharding_codec.specs.Configuration.{Configuration, axes_in, axes_written, positive, configuration_in, configuration_written, location_named, location_word}
 
 positive-above : (n : ℕ) → 0 < n → positive n ≡ Some n
 positive-above n above = rw (lt-ltb 0 n above) refl

@@ -3,7 +3,7 @@ ghost use Rattle.std.specs.Prelude.{◌≡◌, ◌⊎◌, Some, None, Ok, IfOk, 
 ghost use Rattle.serde_json.specs.View.{items_view};
 ghost use Rattle.codec_metadata.specs.CreateErrors.{RefusedAs, refusal_of};
 ghost use Rattle.codec_metadata.specs.declared.error.PluginCreateError.TheVariants.{OutOfMemory};
-ghost use Rattle.sharding_configuration.specs.CodecLists.{first_unnamed, codec_in_list};
+ghost use Rattle.sharding_codec.specs.CodecLists.{first_unnamed, codec_in_list};
 
 use codec_metadata::{CodecTraitsV3, PluginCreateError, metadata_name};
 use serde_json::Value;
@@ -29,11 +29,11 @@ fn test_names<C: CodecTraitsV3>(
     Ok(())
 }
 
-/// The codec that is the one member of a list, which stands under a key. Refused, in this order, for the first member that is
-/// neither a string nor an object with a string under "name", as `BadField` with the key, or that has another name than the
-/// codec's, as `UnsupportedCodec` with that name; as `UnsupportedChain` where the list has other than one member; and as the
-/// codec's `create` refuses the member; or as `OutOfMemory`.
-pub fn sole_codec<C: CodecTraitsV3>(
+// The codec that is the one member of a list, which stands under a key. Refused, in this order, for the first member that is
+// neither a string nor an object with a string under "name", as `BadField` with the key, or that has another name than the
+// codec's, as `UnsupportedCodec` with that name; as `UnsupportedChain` where the list has other than one member; and as the
+// codec's `create` refuses the member; or as `OutOfMemory`.
+pub(crate) fn sole_codec<C: CodecTraitsV3>(
     alloc: Global,
     codecs: &[Value],
     key: &str,

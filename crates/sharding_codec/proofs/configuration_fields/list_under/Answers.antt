@@ -1,6 +1,6 @@
 use Rattle.std.proofs.Common.{refl}
-use Rattle.sharding_configuration.proofs.ValueLists.{items_view-clones}
-use Rattle.sharding_configuration.proofs.fields.list_under.Goals as goal
+use Rattle.sharding_codec.proofs.ValueLists.{items_view-clones}
+use Rattle.sharding_codec.proofs.configuration_fields.list_under.Goals as goal
 
 pub returns-in_ok-clone-in-Some-clause-read : goal.returns-in_ok-clone-in-Some-clause-read
 returns-in_ok-clone-in-Some-clause-read c =

@@ -1,8 +1,8 @@
 -- What a value of the type of configurations says.
 use Rattle.serde_json.specs.View.{items_view}
-use Rattle.sharding_configuration.specs.declared.configuration.ShardingCodecConfiguration.{ShardingCodecConfiguration}
-use Rattle.sharding_configuration.specs.declared.configuration.ShardingCodecConfiguration.TheVariants.{V1}
-use Rattle.sharding_configuration.specs.Configuration.{Configuration}
+use Rattle.sharding_codec.specs.declared.configuration.ShardingCodecConfiguration.{ShardingCodecConfiguration}
+use Rattle.sharding_codec.specs.declared.configuration.ShardingCodecConfiguration.TheVariants.{V1}
+use Rattle.sharding_codec.specs.Configuration.{Configuration}
 
 abbrev pub configuration_of : ShardingCodecConfiguration → Configuration
 configuration_of (V1 c) = record {

@@ -5,7 +5,7 @@ use Rattle.serde_json.specs.Data.{Data, item}
 use Rattle.serde_json.specs.View.{view, items_view}
 use Rattle.serde_json.specs.declared.value.Value.{Value}
 use Rattle.codec_metadata.specs.CreateErrors.{Reading, unsupported_chain}
-use Rattle.sharding_configuration.specs.CodecLists.{sole_of}
+use Rattle.sharding_codec.specs.CodecLists.{sole_of}
 
 -- copies stand for the same items
 pub items_view-clones : (vs ws : List Value) → AllZip (λ v w. view w ≡ view v) vs ws → items_view ws ≡ items_view vs

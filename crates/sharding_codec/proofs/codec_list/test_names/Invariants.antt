@@ -1,7 +1,7 @@
 use Rattle.std.proofs.Common.{◌≡◌, drop}
 use Rattle.serde_json.specs.View.{items_view}
-use Rattle.sharding_configuration.specs.CodecLists.{first_unnamed}
-use Rattle.sharding_configuration.proofs.codec_list.test_names.Given as goal
+use Rattle.sharding_codec.specs.CodecLists.{first_unnamed}
+use Rattle.sharding_codec.proofs.codec_list.test_names.Given as goal
 
 -- of the members up to here none is refused
 abbrev pub invariant-loop-codec : goal.invariant-loop-codec

@@ -1,8 +1,8 @@
 use Rattle.std.proofs.Common.{◌≡◌, ◌++◌, drop, option_map}
 use Rattle.serde_json.specs.View.{items_view}
 use Rattle.parts_row_major.specs.Numbering.{AllPositive}
-use Rattle.sharding_configuration.specs.Configuration.{axes_in}
-use Rattle.sharding_configuration.proofs.fields.axes.Given as goal
+use Rattle.sharding_codec.specs.Configuration.{axes_in}
+use Rattle.sharding_codec.proofs.configuration_fields.axes.Given as goal
 
 -- the axes of the members up to here, and those of the rest
 abbrev pub invariant-loop-value : goal.invariant-loop-value

@@ -2,7 +2,7 @@
 ghost use Rattle.std.specs.Prelude.{◌≡◌, IfOk};
 ghost use Rattle.serde_json.specs.Data.{array, item, no_items};
 ghost use Rattle.serde_json.specs.View.{view, items_view, members_view};
-ghost use Rattle.sharding_configuration.specs.Configuration.{axes_written, configuration_written, location_word};
+ghost use Rattle.sharding_codec.specs.Configuration.{axes_written, configuration_written, location_word};
 
 use parts_subsets::ChunkShape;
 use serde_json::{Map, Value, push, put};
@@ -30,8 +30,8 @@ fn location_text(location: ShardingIndexLocation) -> &'static str
     }
 }
 
-/// A list of one codec's metadata. Refused only as out of memory.
-pub fn codec_list_of(alloc: Global, metadata: Value) -> Result<Vec<Value>, AllocError>
+// A list of one codec's metadata. Refused only as out of memory.
+pub(crate) fn codec_list_of(alloc: Global, metadata: Value) -> Result<Vec<Value>, AllocError>
     ensures { IfOk result (λ list. items_view list.items ≡ item (view metadata) no_items) }
 {
     let mut list = Vec::new(alloc);
@@ -39,8 +39,8 @@ pub fn codec_list_of(alloc: Global, metadata: Value) -> Result<Vec<Value>, Alloc
     Ok(list)
 }
 
-/// The members of a configuration, all four. Refused only as out of memory.
-pub fn written_members(
+// The members of a configuration, all four. Refused only as out of memory.
+pub(crate) fn written_members(
     alloc: Global,
     chunk_shape: &ChunkShape,
     codecs: Vec<Value>,

@@ -4,7 +4,7 @@ use Rattle.parts_errors.specs.Words.{Bytes}
 use Rattle.serde_json.specs.Data.{Data, Members, object, item, no_items}
 use Rattle.codec_metadata.specs.CreateErrors.{Reading}
 use Rattle.codec_metadata.specs.Metadata.{metadata_of}
-use Rattle.sharding_configuration.specs.CodecLists.{codec_in_list}
+use Rattle.sharding_codec.specs.CodecLists.{codec_in_list}
 
 pub codec_in_list-written : {Codec : Type 0} (key : Bytes) (named : Bytes → Bool) (configured : Bytes → Option Data → Reading Codec) (name : Bytes) (written : Option Members) (codec : Codec)
     → named name ≡ true → configured name (option_map object written) ≡ Ok codec
