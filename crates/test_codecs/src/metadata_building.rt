@@ -1,6 +1,6 @@
 // Sharding codecs that are put together part by part.
 use crate::compared::same;
-use crate::examples::shape_of;
+use crate::metadata_examples::shape_of;
 use codec_checksums::Crc32cCodec;
 use std::alloc::Global;
 use std::borrow::CowSlice;

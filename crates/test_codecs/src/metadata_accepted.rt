@@ -1,6 +1,6 @@
 // Metadata and configurations that are accepted, and what is written of the codec.
 use crate::compared::{same, same_at};
-use crate::examples::{Shards, ShardsOfShards, codec_of, configured, created, shape_of};
+use crate::metadata_examples::{Shards, ShardsOfShards, codec_of, configured, created, shape_of};
 use serde_json::Value;
 use std::alloc::Global;
 use std::process::Abort;

@@ -1,6 +1,6 @@
 // Metadata and configurations that are refused, and as what: the first test that fails.
 use crate::compared::same_at;
-use crate::examples::{ShardsOfShards, configured, created};
+use crate::metadata_examples::{ShardsOfShards, configured, created};
 use std::test::Fail;
 use zarr_codecs::{BytesCodec, VlenCodec};
 

@@ -1,6 +1,6 @@
 // What is written is read as the codec: the laws as calls.
 use crate::compared::{same, same_at};
-use crate::examples::{Shards, shape_of};
+use crate::metadata_examples::{Shards, shape_of};
 use std::alloc::Global;
 use std::process::Abort;
 use zarr_codecs::{

@@ -1,6 +1,6 @@
 // The numbers and names of refusals.
 use crate::compared::{same, same_at};
-use crate::examples::codec_of;
+use crate::metadata_examples::codec_of;
 use serde_json::Value;
 use std::alloc::Global;
 use std::process::Abort;
