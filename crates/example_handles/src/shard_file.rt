@@ -1,7 +1,4 @@
 // A shard that is a file: written, read in part, written in part, compacted and erased; and files that no handle reads.
-#![tactic(auto)]
-
-mod shards;
 
 use crate::shards::{File, Session, Shards, length_of, read, write};
 use std::alloc::{AllocError, Global};
@@ -121,7 +118,8 @@ fn run_all(rt: &HostRuntime, shards: &Shards) -> anyhow::Result<()> {
     Ok(())
 }
 
-fn main(rt: HostRuntime) -> anyhow::Result<()> {
+// Prints what becomes of the shard, and of files that no handle reads.
+pub fn print_steps(rt: &HostRuntime) -> anyhow::Result<()> {
     let shards = Shards::new(rt.alloc())?;
-    run_all(&rt, &shards)
+    run_all(rt, &shards)
 }

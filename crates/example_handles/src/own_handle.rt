@@ -1,7 +1,4 @@
 // A handle of your own, through which three elements of a shard in a shard are read.
-#![tactic(auto)]
-
-mod counted;
 
 use crate::counted::Counted;
 use std::alloc::Global;
@@ -89,7 +86,8 @@ fn read_three(alloc: Global) -> Result<Found, CodecError> {
     read_stored(alloc, &codec(alloc)?)
 }
 
-fn main(rt: HostRuntime) -> anyhow::Result<()> {
+// Prints the three elements, and how many byte ranges were read for them.
+pub fn print_three(rt: &HostRuntime) -> anyhow::Result<()> {
     let (cells, reads) = read_three(rt.alloc())?;
     for place in 0..cells.len() {
         println!(rt; "{:?}", cells.element(place))?;
