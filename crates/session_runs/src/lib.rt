@@ -17,7 +17,6 @@ pub use command::{Command, Reply};
 pub use event::{Event, Receipt, same_elements, same_event};
 pub use history::History;
 pub use laws::read_back;
-pub use replies::{erase, read, refused, write};
 pub use run::{CommandRun, run_commands};
 pub use served::Served;
 pub use session::serve;

@@ -16,8 +16,8 @@ use sharding_codec::{ShardState, ShardingCodec};
 use std::alloc::Global;
 use storage_handles::BytesPartialEncoderTraits;
 
-/// A refusal is a reply; a fault is none.
-pub fn refused(error: CodecError) -> Result<Reply, CodecError>
+// A refusal is a reply; a fault is none.
+pub(crate) fn refused(error: CodecError) -> Result<Reply, CodecError>
     ensures { MatchResult result (λ reply. (reply ≡ Refused error) × (error ≢ Fault)) (λ e. (e ≡ Fault) × (error ≡ Fault)) }
 {
     match error {
@@ -26,8 +26,12 @@ pub fn refused(error: CodecError) -> Result<Reply, CodecError>
     }
 }
 
-/// Writes elements over the cells of a subset. A refusal is a reply; an error is a fault.
-pub fn write<I: ArrayToBytesCodecTraits, X: ArrayToBytesCodecTraits, H: BytesPartialEncoderTraits>(
+// Writes elements over the cells of a subset. A refusal is a reply; an error is a fault.
+pub(crate) fn write<
+    I: ArrayToBytesCodecTraits,
+    X: ArrayToBytesCodecTraits,
+    H: BytesPartialEncoderTraits,
+>(
     alloc: Global,
     state: &mut ShardState<'_, I, X, H>,
     subset: &ArraySubset,
@@ -48,8 +52,8 @@ pub fn write<I: ArrayToBytesCodecTraits, X: ArrayToBytesCodecTraits, H: BytesPar
     }
 }
 
-/// Reads the cells that an indexer requests. A refusal is a reply; an error is a fault.
-pub fn read<
+// Reads the cells that an indexer requests. A refusal is a reply; an error is a fault.
+pub(crate) fn read<
     I: ArrayToBytesCodecTraits,
     X: ArrayToBytesCodecTraits,
     H: BytesPartialEncoderTraits,
@@ -70,10 +74,12 @@ pub fn read<
     }
 }
 
-/// Lets the object go. A refusal is a reply; an error is a fault.
-pub fn erase<I: ArrayToBytesCodecTraits, X: ArrayToBytesCodecTraits, H: BytesPartialEncoderTraits>(
-    state: &mut ShardState<'_, I, X, H>,
-) -> Result<Reply, CodecError>
+// Lets the object go. A refusal is a reply; an error is a fault.
+pub(crate) fn erase<
+    I: ArrayToBytesCodecTraits,
+    X: ArrayToBytesCodecTraits,
+    H: BytesPartialEncoderTraits,
+>(state: &mut ShardState<'_, I, X, H>) -> Result<Reply, CodecError>
     requires usable { state.old.failed ≡ false }
     requires in_step { IsInStep ⟦<ShardingCodec<I, X> as ArrayToBytesCodecTraits>⟧.meaning X.meaning H.state state.old }
     ensures done { OnOk result (IsDone H.state state.old state.new) }

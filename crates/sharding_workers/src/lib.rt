@@ -13,5 +13,4 @@ mod whole;
 pub use gate::{Gate, NoGate};
 pub use numbered::in_order;
 pub use session_lock::SessionLock;
-pub use threads::by_number;
 pub use whole::{decode_by_workers, encode_by_workers};

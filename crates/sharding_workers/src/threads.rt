@@ -6,8 +6,8 @@ use rayon::prelude::*;
 use std::alloc::{AllocError, Global};
 use std::thread::Threads;
 
-/// What `work` gives for each number below `count`, in the order of the numbers, by as many threads as there are processors.
-pub fn by_number<R: Threads + Sync, T: Send + Drop, F: Fn(u64) -> T + Copy + Send + Sync>(
+// What `work` gives for each number below `count`, in the order of the numbers, by as many threads as there are processors.
+pub(crate) fn by_number<R: Threads + Sync, T: Send + Drop, F: Fn(u64) -> T + Copy + Send + Sync>(
     rt: &R,
     alloc: Global,
     count: u64,
