@@ -17,12 +17,7 @@ fn extra_flags(level: u8) -> u8 {
 }
 
 // A file of a stream and its content: a header with no flags, no time and an unknown system, and the trailer.
-fn framed(
-    alloc: Global,
-    xfl: u8,
-    stream: &[u8],
-    content: &[u8],
-) -> Result<Vec<u8>, AllocError>
+fn framed(alloc: Global, xfl: u8, stream: &[u8], content: &[u8]) -> Result<Vec<u8>, AllocError>
     ensures { IfOk result (λ file. file.items ≡ plain_file xfl stream.now content.now) }
 {
     let checksum = crc32(content).to_le_bytes();

@@ -16,5 +16,5 @@ returns-clause-bound c =
       arith,
       ap (λ (xs : Bytes). length xs) c.in_ok-file.ensures,
       length-file c.extra_flags.result c.deref.result.now c.args.bytes.now
-        (omega (arith, ap (λ (xs : Bytes). length xs) c.deref.ensures.value, c.in_ok-stream.ensures.bound)),
+          (omega (arith, ap (λ (xs : Bytes). length xs) c.deref.ensures.value, c.in_ok-stream.ensures.bound)),
     )
