@@ -10,7 +10,8 @@ plain_header xfl = 31 ∷ 139 ∷ 8 ∷ 0 ∷ 0 ∷ 0 ∷ 0 ∷ 0 ∷ xfl ∷ 25
 
 -- a file of a stream with this content
 abbrev pub plain_file : ℕ → Bytes → Bytes → Bytes
-plain_file xfl stream content = plain_header xfl ++ (stream ++ (to_le_bytes w32 (crc32 content) ++ to_le_bytes w32 (length content % 2 ^ 32)))
+plain_file xfl stream content = plain_header xfl
+    ++ (stream ++ (to_le_bytes w32 (crc32 content) ++ to_le_bytes w32 (length content % 2 ^ 32)))
 
 -- the greatest length of a file for n bytes
 abbrev pub gzip_bound : ℕ → ℕ
