@@ -2,3 +2,5 @@ pub mod ByteCodec
 pub mod ByteCodecs
 pub mod OpaqueCodec
 pub mod OpaqueLaws
+pub mod AxisOrders
+pub mod AxisOrderLaws
