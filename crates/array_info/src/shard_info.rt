@@ -2,11 +2,11 @@
 use crate::folder::shard_of;
 use crate::index_info::{index_size, whole_index};
 use crate::info::{ShardInfo, write_shard};
+use array_cli::{Array, Ending, Place, Stop, written};
+use array_fields::escaped;
 use array_folder::{DeadBytes, IndexInfo, index_interval, info_of, slice_of};
-use array_opening::{Array, Ending, Place, Stop, written};
 use codec_traits::ArrayToBytesCodecTraits;
 use parts_errors::CodecError;
-use parts_escaped_text::escaped;
 use parts_row_major::unravel_index;
 use parts_subsets::ChunkShape;
 use sharding_codec::ShardingCodec;
