@@ -1,5 +1,5 @@
 -- Orders of axes, and what they and their inverses do to coordinates and cells.
-use Rattle.std.proofs.Common.{◌≡◌, ℕ, ◌^◌, ◌<◌, ◌≤◌, ◌&&◌, true, false, Bool, List, [], Option, Some, None, length, map, get_or, refl, sym, ap, ◌∙◌, eqb, eq-eqb, arith}
+use Rattle.std.proofs.Common.{◌≡◌, ℕ, ◌^◌, ◌<◌, ◌≤◌, ◌&&◌, true, false, Bool, List, [], Option, Some, None, length, map, get_or, refl, sym, ap, ◌∙◌, eqb, eq-eqb, zero-add, subst, arith}
 use Rattle.std.specs.List.{list_all, range_with_len}
 use Rattle.std.proofs.lemmas.Bool.{ltb-true, eqb-true}
 use Rattle.std.proofs.lemmas.List.{length-map, get_or-map, get_or_default, ext_get_or}
@@ -19,6 +19,12 @@ pub record IsUndone (order inverse : List ℕ) : Type 0 where
   pub within : (i : ℕ) → i < length order → get_or order i 0 < length order
   pub back : (i : ℕ) → i < length order → get_or inverse (get_or order i 0) 0 ≡ i
 
+-- an order that some other one undoes, and which undoes this
+pub record IsPermutation (order : List ℕ) : Type 0 where
+  pub inverse : List ℕ
+  pub undone : IsUndone order inverse
+  pub undoes : IsUndone inverse order
+
 both_left : (a b : Bool) → (a && b) ≡ true → a ≡ true
 both_left true b h = refl
 both_left false b h = cc
@@ -35,7 +41,9 @@ each_place : (order : List ℕ) (i : ℕ) → is_order order ≡ true → i < le
 each_place order i h lt =
     let places = range_with_len 0 (length order) in
     let each = AllPass-from_list_all (λ place. is_undone order (inverse_of order) place && is_undone (inverse_of order) order place) places h in
-    rw (get_or-range_with_len 0 (length order) i 0 lt) at (each i 0 (omega (arith, length-range_with_len 0 (length order))))
+    let here : get_or places i 0 ≡ i = get_or-range_with_len 0 (length order) i 0 lt ∙ zero-add i in
+    subst (λ (place : ℕ). (is_undone order (inverse_of order) place && is_undone (inverse_of order) order place) ≡ true) here
+    (each i 0 (omega (arith, length-range_with_len 0 (length order))))
 
 undone_from : (order inverse : List ℕ) → length inverse ≡ length order → ((i : ℕ) → i < length order → is_undone order inverse i ≡ true) → IsUndone order inverse
 undone_from order inverse alike each = record {
@@ -51,6 +59,12 @@ order_undone order h = undone_from order (inverse_of order) (length-inverse_of o
 pub inverse_undone : (order : List ℕ) → is_order order ≡ true → IsUndone (inverse_of order) order
 inverse_undone order h =
     undone_from (inverse_of order) order (sym (length-inverse_of order)) (λ i lt. both_right _ _ (each_place order i h (omega (arith, length-inverse_of order))))
+
+pub order_permutation : (order : List ℕ) → is_order order ≡ true → IsPermutation order
+order_permutation order h = record { inverse = inverse_of order; undone = order_undone order h; undoes = inverse_undone order h }
+
+pub inverse_permutation : (order : List ℕ) → is_order order ≡ true → IsPermutation (inverse_of order)
+inverse_permutation order h = record { inverse = order; undone = inverse_undone order h; undoes = order_undone order h }
 
 pub permuted_at : (order numbers : List ℕ) (i : ℕ) → i < length order → get_or (permuted order numbers) i 0 ≡ get_or numbers (get_or order i 0) 0
 permuted_at order numbers i lt = get_or-map (λ axis. get_or numbers axis 0) order i 0 0 lt
@@ -117,7 +131,9 @@ pub moved_from_below : (order inverse shape : List ℕ) (j : ℕ) → IsUndone o
 moved_from_below order inverse shape j undone undoes axes lt =
     let other = permuted order shape in
     let long : length other ≡ length inverse = length-permuted order shape ∙ undoes.alike in
-    rw (permuted_back order inverse shape undoes axes) at (moved_below inverse order other j undoes long lt)
+    let below : number_moved inverse other j < count_of (permuted inverse other) = moved_below inverse order other j undoes long lt in
+    let same : count_of (permuted inverse other) ≡ count_of shape = ap count_of (permuted_back order inverse shape undoes axes) in
+    omega (arith, below, same)
 
 -- a transposed array has as many elements
 count_at_least : (order inverse shape : List ℕ) → IsUndone order inverse → IsUndone inverse order → length shape ≡ length order → count_of (permuted order shape) ≤ count_of shape
@@ -136,8 +152,9 @@ count_permuted order inverse shape undone undoes axes =
     let other = permuted order shape in
     let long : length other ≡ length inverse = length-permuted order shape ∙ undoes.alike in
     let less : count_of other ≤ count_of shape = count_at_least order inverse shape undone undoes axes in
-    let more : count_of shape ≤ count_of other = rw (permuted_back order inverse shape undoes axes) at (count_at_least inverse order other undoes undone long) in
-    omega (arith, less, more)
+    let most : count_of (permuted inverse other) ≤ count_of other = count_at_least inverse order other undoes undone long in
+    let same : count_of (permuted inverse other) ≡ count_of shape = ap count_of (permuted_back order inverse shape undoes axes) in
+    omega (arith, less, most, same)
 
 -- ---- cells in the order of a transposed array
 pub length-transposed : {X : Type 0} (order shape : List ℕ) (absent : X) (cells : List X) → length (transposed order shape absent cells) ≡ count_of shape

@@ -4,3 +4,7 @@ pub mod OpaqueCodec
 pub mod OpaqueLaws
 pub mod AxisOrders
 pub mod AxisOrderLaws
+pub mod MovedPoints
+pub mod TransposeCodec
+pub mod TransposeLaws
+pub mod ReversedParts

@@ -103,7 +103,7 @@ impl AxisOrder {
         shape: &ChunkShape,
     ) -> Result<ChunkShape, AllocError>
         requires { length shape.now ≡ length self.now }
-        ensures shape { IfOk result (λ transposed. transposed ≡ permuted self.now shape.now) }
+        ensures shape { IfOk result (λ inner. inner ≡ permuted self.now shape.now) }
     {
         let axes = permuted_axes(alloc, self.as_slice(), shape.as_slice())?;
         Ok(ChunkShape::from_positive(axes))
