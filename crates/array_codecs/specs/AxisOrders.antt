@@ -1,11 +1,11 @@
 -- Orders of the axes of an array (Zarr V3, codec `transpose`), and arrays whose axes are in another order.
-use Rattle.std.specs.Prelude.{ℕ, Bool, ◌==◌, ◌&&◌, nat_lt, List, length, map, slice_index, slice_index_or}
-use Rattle.std.specs.List.{list_all, position_or_len, range_with_len}
+use Rattle.std.specs.Prelude.{ℕ, Bool, ◌==◌, ◌&&◌, nat_lt, List, length, map, position, slice_index, slice_index_or, unwrap_or}
+use Rattle.std.specs.List.{list_all, range_with_len}
 use Rattle.parts_row_major.specs.Numbering.{count_of, number_of, point_of}
 
--- where an axis stands in an order
+-- where an axis stands in an order, or how long the order is
 abbrev pub place_of : List ℕ → ℕ → ℕ
-place_of order axis = position_or_len (λ other. other == axis) order
+place_of order axis = unwrap_or (position (λ other. other == axis) order) (length order)
 
 -- where each axis stands in an order: the order that undoes it
 abbrev pub inverse_of : List ℕ → List ℕ

@@ -34,10 +34,9 @@ module _ (order : List ℕ) (m : Meaning) (g : ArraySpec) where
   pub encoded_array : (elements : Elements) → is_order order ≡ true → length g.shape ≡ length order → IsArrayOf g elements
       → IsArrayOf (transposed_spec order g) (encoded_elements order g elements)
   encoded_array elements permutation axes array =
-      let inverse = inverse_permutation order permutation in
       let long : length (permuted order g.shape) ≡ length (inverse_of order) = length-permuted order g.shape ∙ sym (length-inverse_of order) in
-      let again : permuted (inverse_of order) (permuted order g.shape) ≡ g.shape = permuted_back order (inverse_of order) g.shape inverse.undone axes in
-      transposed_array (inverse_of order) (permuted order g.shape) g (transposed_spec order g) elements inverse long (sym again) refl refl array
+      let again : permuted (inverse_of order) (permuted order g.shape) ≡ g.shape = permuted_back order (inverse_of order) g.shape (inverse_undone order permutation) axes in
+      transposed_array (inverse_of order) (permuted order g.shape) g (transposed_spec order g) elements (inverse_permutation order permutation) long (sym again) refl refl array
 
   module _ (law : IsLawful (transposed_spec order g) m) where
     cell_fitting : (b : Bytes) (i : ℕ) → TransposeServes order m g → i < count_of g.shape

@@ -62,9 +62,12 @@ fn is_order(order: &[u64], inverse: &[u64]) -> bool
     requires { inverse.now ≡ inverse_of order.now }
     ensures { result ≡ is_order order.now }
 {
-    (0..order.len()).all(|place| {
-        is_undone(order, inverse, place) && is_undone(inverse, order, place)
-    })
+    for place in 0..order.len() {
+        if !is_undone(order, inverse, place) || !is_undone(inverse, order, place) {
+            return false;
+        }
+    }
+    true
 }
 
 impl AxisOrder {

@@ -74,14 +74,7 @@ fn moved_elements(
         order,
         count,
     };
-    requested_elements(
-        alloc,
-        inner,
-        &points,
-        count,
-        inner_shape,
-        data_type,
-    )
+    requested_elements(alloc, inner, &points, count, inner_shape, data_type)
 }
 
 impl<C: ArrayToBytesCodecTraits> TransposeCodec<C> {

@@ -1,6 +1,6 @@
 -- What values say of complex numbers and of raw bits.
 use Rattle.std.proofs.Common.{◌≡◌, ◌*◌, ℕ, Option, None, Some, ◌++◌, length, take, drop, refl, sym, ap, subst, ◌∙◌, arith}
-use Rattle.std.proofs.lemmas.List.{take-append-le, drop-append}
+use Rattle.std.proofs.Math.Seq.{take-append_seam, drop-append_seam}
 use Rattle.serde_json.specs.Data.{Data, Items, null, boolean, number, string, array, object, no_items, item}
 use Rattle.serde_json.specs.Find.{as_str, as_array}
 use Rattle.parts_errors.specs.Words.{Bytes as Text}
@@ -29,7 +29,13 @@ some_same a b e = cc
 pub complex_said : (format : FloatFormat) (real imaginary : Data) (o : Option Items) (a b : Text) → o ≡ Some (item real (item imaginary no_items))
     → length a ≡ float_size format → IsElementIn (of.Float format) real (number_of (float_carrier format) a)
     → IsElementIn (of.Float format) imaginary (number_of (float_carrier format) b) → IsComplexIn format o (a ++ b)
-complex_said format real imaginary o a b is long first second = ?
+complex_said format real imaginary o a b is long first second =
+    let front : take (float_size format) (a ++ b) ≡ a = ap (λ n. take n (a ++ b)) (sym long) ∙ take-append_seam a b in
+    let back : drop (float_size format) (a ++ b) ≡ b = ap (λ n. drop n (a ++ b)) (sym long) ∙ drop-append_seam a b in
+    rw is (record {
+      real_part = subst (λ (part : Text). IsElementIn (of.Float format) real (number_of (float_carrier format) part)) (sym front) first;
+      imaginary_part = subst (λ (part : Text). IsElementIn (of.Float format) imaginary (number_of (float_carrier format) part)) (sym back) second;
+    })
 
 -- a text says the bytes that it is the base64 of
 pub raw_text : (d : Data) (text element : Text) → as_str d ≡ Some text → base64_in text ≡ Some element → IsRawIn d element
