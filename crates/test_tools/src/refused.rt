@@ -125,6 +125,14 @@ const MEMBERS: &[(&str, &str)] = &[
         "4 BadField fill_value: in fill_value: this is no element of uint16",
     ),
     (
+        r#""data_type": "complex64", "fill_value": [1]"#,
+        "4 BadField fill_value: in fill_value: this is no element of complex64",
+    ),
+    (
+        r#""data_type": "r16", "fill_value": [1, 256]"#,
+        "4 BadField fill_value: in fill_value: this is no list of 2 bytes, and no base64 of as many",
+    ),
+    (
         r#""data_type": "int8", "fill_value": 128"#,
         "4 BadField fill_value: in fill_value: this is no element of int8",
     ),
