@@ -23,3 +23,5 @@ mod refused;
 mod shards;
 #[cfg(test)]
 mod subsets;
+#[cfg(test)]
+mod transposes;
