@@ -2,6 +2,8 @@
 #![tactic(auto)]
 
 #[cfg(test)]
+mod byte_parts;
+#[cfg(test)]
 mod compared;
 #[cfg(test)]
 mod escapes;
@@ -23,5 +25,3 @@ mod refused;
 mod shards;
 #[cfg(test)]
 mod subsets;
-#[cfg(test)]
-mod transposes;
