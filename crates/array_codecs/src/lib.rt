@@ -1,4 +1,4 @@
-// Codecs of arrays on disk: one that is not looked into, and the codecs from bytes to bytes that are served; elements in the other byte order.
+// Codecs of arrays on disk: one that is not looked into, and the codecs from bytes to bytes that are served; bytes of elements turned.
 #![tactic(auto)]
 
 mod byte_codec;
