@@ -16,4 +16,4 @@ pub use command_line::{Form, Work, program, work_of};
 pub use progress::Progress;
 pub use refusal::{Place, Refusal};
 pub use stop::{Ending, Stop, written};
-pub use text::{write_json, write_numbers, write_rows};
+pub use text::{full_name, write_json, write_numbers, write_rows};

@@ -2,6 +2,8 @@
 #![tactic(auto)]
 
 #[cfg(test)]
+mod byte_parts;
+#[cfg(test)]
 mod compared;
 #[cfg(test)]
 mod escapes;

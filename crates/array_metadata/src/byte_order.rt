@@ -1,0 +1,58 @@
+// The byte order of complex numbers.
+ghost use Rattle.std.specs.Prelude.{◌≡◌};
+ghost use Rattle.array_metadata.specs.ByteOrders.{order_of, subchunks_order, size_if_big, reversed_size};
+
+use crate::codecs::{ElementCodec, InnerCodec, ServedCodec};
+use crate::element_types::ElementType;
+use codec_bytes::Endianness;
+use codec_chains::EitherCodec;
+
+// The byte order of the codec of elements.
+fn order_of(codec: &ElementCodec) -> Option<Endianness>
+    ensures { result ≡ order_of codec.now }
+{
+    match codec {
+        EitherCodec::First(bytes) => bytes.endianness(),
+        EitherCodec::Second(chain) => chain.array_to_bytes.endianness(),
+    }
+}
+
+// The byte order of the codec of subchunks, where they are looked into.
+fn subchunks_order(codec: &InnerCodec) -> Option<Endianness>
+    ensures { result ≡ subchunks_order codec.now }
+{
+    match codec {
+        EitherCodec::First(ServedCodec::First(elements)) => order_of(elements),
+        EitherCodec::First(ServedCodec::Second(shards)) => order_of(&shards.inner),
+        EitherCodec::Second(_) => None,
+    }
+}
+
+// A size, where the order is most significant byte first.
+fn size_if_big(size: usize, order: Option<Endianness>) -> Option<usize>
+    ensures { result ≡ size_if_big size order }
+{
+    match order {
+        Some(Endianness::Big) => Some(size),
+        Some(Endianness::Little) | None => None,
+    }
+}
+
+// How many bytes each part has of elements whose parts are stored most significant byte first, by the order of the codec.
+fn size_of_parts(element_type: ElementType, order: Option<Endianness>) -> Option<usize>
+    ensures { result ≡ reversed_size element_type order }
+{
+    match element_type {
+        ElementType::Complex(format) => size_if_big(format.size(), order),
+        ElementType::Number(_) | ElementType::Float(_) | ElementType::RawBits(_) => None,
+        ElementType::DateTime64 | ElementType::TimeDelta64 | ElementType::Unread(_) => None,
+    }
+}
+
+/// How many bytes each part has of elements whose parts the codecs give most significant byte first: of complex numbers that are stored
+/// so. `None` where elements come least significant byte first.
+pub fn reversed_size(element_type: ElementType, codec: &InnerCodec) -> Option<usize>
+    ensures { result ≡ reversed_size element_type (subchunks_order codec.now) }
+{
+    size_of_parts(element_type, subchunks_order(codec))
+}
