@@ -10,15 +10,28 @@ pub enum Form {
     Raw,
 }
 
+/// Over which shards a command goes, and how it tells of them.
+#[derive(Debug, Clone, Copy, PartialEq, Eq)]
+pub struct Scope<'a> {
+    /// A part of the list of shards, as `2/8`; all of them where it is `None`.
+    pub part: Option<&'a str>,
+    /// Whether it writes lines of JSON.
+    pub is_json: bool,
+}
+
 /// What is done with an array.
 #[derive(Debug, Clone, Copy, PartialEq, Eq)]
 pub enum Work<'a> {
-    Info,
+    Info {
+        scope: Scope<'a>,
+    },
     InfoOfShard {
         key: &'a str,
+        is_json: bool,
     },
     Check {
         is_index_alone: bool,
+        scope: Scope<'a>,
     },
     Extract {
         key: &'a str,
@@ -34,6 +47,7 @@ pub enum Work<'a> {
     },
     Compact {
         is_dry: bool,
+        scope: Scope<'a>,
     },
 }
 
@@ -47,6 +61,21 @@ fn key_argument<'a>(alloc: Global) -> Arg<'a> {
     Arg::new(alloc, "KEY").help("The key of the shard, as c/0/3")
 }
 
+// Of a command that tells of shards.
+fn lines_flag<'a>(alloc: Global) -> Arg<'a> {
+    Arg::new(alloc, "json")
+        .long("json")
+        .action(ArgAction::SetTrue)
+        .help("Lines of JSON: an object for each shard, with its kind")
+}
+
+fn part_option<'a>(alloc: Global) -> Arg<'a> {
+    Arg::new(alloc, "part")
+        .long("part")
+        .value_name("K/N")
+        .help("Only the K-th of N parts of the shards, which are dealt out in turn")
+}
+
 fn info_command<'a>(alloc: Global) -> Result<Command<'a>, AllocError> {
     Command::new(alloc, "info")
         .about(
@@ -56,7 +85,9 @@ fn info_command<'a>(alloc: Global) -> Result<Command<'a>, AllocError> {
             "Example: zarr_shard info weather/temperature\nWith KEY only of this shard, and where in its file each subchunk lies.",
         )
         .arg(path_argument(alloc))?
-        .arg(key_argument(alloc))
+        .arg(key_argument(alloc))?
+        .arg(lines_flag(alloc))?
+        .arg(part_option(alloc).conflicts_with("KEY")?)
 }
 
 fn index_flag<'a>(alloc: Global) -> Arg<'a> {
@@ -75,7 +106,9 @@ fn check_command<'a>(alloc: Global) -> Result<Command<'a>, AllocError> {
             "Example: zarr_shard check weather/temperature\nA line has the shard's key, the number and name of the refusal, and where and why.",
         )
         .arg(path_argument(alloc))?
-        .arg(index_flag(alloc))
+        .arg(index_flag(alloc))?
+        .arg(lines_flag(alloc))?
+        .arg(part_option(alloc))
 }
 
 fn number_argument<'a>(alloc: Global) -> Arg<'a> {
@@ -157,7 +190,9 @@ fn compact_command<'a>(alloc: Global) -> Result<Command<'a>, AllocError> {
         .about("Puts a compact shard in the place of each that has dead bytes")
         .after_help("Example: zarr_shard compact --dry-run weather/temperature")
         .arg(path_argument(alloc))?
-        .arg(dry_flag(alloc))
+        .arg(dry_flag(alloc))?
+        .arg(lines_flag(alloc))?
+        .arg(part_option(alloc))
 }
 
 fn list_command<'a>(alloc: Global) -> Result<Command<'a>, AllocError> {
@@ -217,11 +252,23 @@ fn form_of(matches: &ArgMatches<'_>) -> Form {
     }
 }
 
+// Over which shards a command goes, and how it tells of them.
+fn scope_of<'a>(matches: &ArgMatches<'a>) -> Scope<'a> {
+    Scope {
+        part: matches.get_str("part"),
+        is_json: matches.get_flag("json"),
+    }
+}
+
 // What the command `info` does.
 fn telling<'a>(matches: &ArgMatches<'a>) -> Work<'a> {
+    let scope = scope_of(matches);
     match matches.get_str("KEY") {
-        Some(key) => Work::InfoOfShard { key },
-        None => Work::Info,
+        Some(key) => Work::InfoOfShard {
+            key,
+            is_json: scope.is_json,
+        },
+        None => Work::Info { scope },
     }
 }
 
@@ -242,6 +289,7 @@ pub fn work_of<'a>(name: &str, matches: &ArgMatches<'a>) -> Work<'a> {
     match name {
         "check" => Work::Check {
             is_index_alone: matches.get_flag("index"),
+            scope: scope_of(matches),
         },
         "extract" => Work::Extract {
             key: matches.get_str("KEY").unwrap_or(""),
@@ -250,6 +298,7 @@ pub fn work_of<'a>(name: &str, matches: &ArgMatches<'a>) -> Work<'a> {
         "read" => reading(matches),
         "compact" => Work::Compact {
             is_dry: matches.get_flag("dry-run"),
+            scope: scope_of(matches),
         },
         _ => telling(matches),
     }

@@ -2,9 +2,11 @@
 #![tactic(auto)]
 
 mod command_line;
+mod json_line;
 mod progress;
 mod text;
 
-pub use command_line::{Form, Work, program, work_of};
+pub use command_line::{Form, Scope, Work, program, work_of};
+pub use json_line::{JsonLine, write_json_text};
 pub use progress::Progress;
-pub use text::{write_json, write_numbers, write_rows};
+pub use text::{write_json, write_json_cell, write_numbers, write_rows};

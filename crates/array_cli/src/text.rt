@@ -1,6 +1,7 @@
 // Cells as text and as JSON.
 ghost use Rattle.std.specs.Prelude.{◌<◌};
 
+use crate::json_line::write_json_numbers;
 use array_metadata::{ElementType, FloatFormat, half_to_f32};
 use parts_arrays::{DataType, DataTypeSize};
 use std::io;
@@ -157,6 +158,15 @@ pub fn write_rows<W: Write>(
     Ok(())
 }
 
+/// Writes a cell as JSON does.
+pub fn write_json_cell<W: Write>(
+    out: &mut W,
+    element_type: ElementType,
+    element: &[u8],
+) -> io::Result<()> {
+    Cell::of(element_type, element).write_json(out)
+}
+
 // Writes cells as a list of JSON.
 fn write_json_cells<W: Write>(
     out: &mut W,
@@ -168,18 +178,7 @@ fn write_json_cells<W: Write>(
         if number > 0 {
             out.write_all(b",")?;
         }
-        Cell::of(element_type, element).write_json(out)?;
-    }
-    out.write_all(b"]")
-}
-
-// Writes numbers as a list of JSON.
-fn write_json_numbers<W: Write>(out: &mut W, numbers: &[u64]) -> io::Result<()> {
-    out.write_all(b"[")?;
-    let mut before = "";
-    for number in numbers {
-        write!(out, "{before}{number}")?;
-        before = ",";
+        write_json_cell(out, element_type, element)?;
     }
     out.write_all(b"]")
 }

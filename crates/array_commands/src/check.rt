@@ -1,7 +1,7 @@
 // Whether the shards of an array are sound.
-use array_cli::Progress;
+use array_cli::{JsonLine, Progress};
 use array_folder::{ChunkFiles, Counted};
-use array_info::write_folder;
+use array_info::{Listing, put_refusal, write_folder, write_folder_lines};
 use array_opening::{
     Array, Decoder, Ending, Place, Refusal, Shard, ShardFile, Stop, is_present, read_through,
     written,
@@ -29,24 +29,82 @@ pub struct Checked {
     pub is_index_alone: bool,
 }
 
+// What was found of a shard: how many subchunks are present, and whether it is refused.
+#[derive(Debug, Clone, Copy, PartialEq, Eq)]
+struct Found {
+    present: u64,
+    is_refused: bool,
+}
+
+impl Checked {
+    // Adds a shard.
+    fn add(&mut self, shard: &Found) {
+        self.shards = self.shards.saturating_add(1);
+        self.subchunks = self.subchunks.saturating_add(shard.present);
+        self.refused = self.refused.saturating_add(shard.is_refused as u64);
+    }
+
+    // How a check ends that came to this. What is asked is not done where there are subchunks that should have been looked into.
+    fn ending(&self, is_index_asked: bool) -> Ending {
+        if self.refused > 0 {
+            Ending::Refused
+        } else if self.is_index_alone && !is_index_asked && self.subchunks > 0 {
+            Ending::Undone
+        } else {
+            Ending::Done
+        }
+    }
+}
+
 // Where a check shows how far it is, and what is refused.
 #[derive(Drop)]
 struct Told<'t, 'm, W, M> {
     out: &'t mut W,
     progress: &'t mut Progress<'m, M>,
+    is_json: bool,
+}
+
+// Writes a line of JSON for a refusal.
+fn write_refusal_line<W: Write>(out: &mut W, refusal: &Refusal) -> io::Result<()> {
+    let mut line = JsonLine::new(out, "refusal")?;
+    line.text("key", &refusal.key)?;
+    put_refusal(&mut line, refusal)?;
+    line.end()
 }
 
 // Writes a line for a refusal, which is seen at once.
-fn write_refusal<W: Write>(out: &mut W, refusal: &Refusal) -> io::Result<()> {
-    writeln!(out, "{refusal}")?;
+fn write_refusal<W: Write>(out: &mut W, refusal: &Refusal, is_json: bool) -> io::Result<()> {
+    if is_json {
+        write_refusal_line(out, refusal)?;
+    } else {
+        writeln!(out, "{refusal}")?;
+    }
     out.flush()
+}
+
+// Writes a line of JSON for a shard that was checked.
+fn write_shard_line<W: Write>(out: &mut W, key: &str, shard: &Found) -> io::Result<()> {
+    let mut line = JsonLine::new(out, "shard")?;
+    line.text("key", key)?;
+    line.number("present", shard.present)?;
+    line.flag("refused", shard.is_refused)?;
+    line.end()
 }
 
 impl<W: Write, M: Write> Told<'_, '_, W, M> {
     // Tells a refusal.
     fn tell(&mut self, refusal: &Refusal) -> Result<(), Stop> {
         self.progress.clear();
-        written(write_refusal(self.out, refusal), Ending::Refused)
+        written(write_refusal(self.out, refusal, self.is_json), Ending::Refused)
+    }
+
+    // Tells, in JSON, that a shard was checked, of a check that ends so, as far as it has come.
+    fn tell_shard(&mut self, key: &str, shard: &Found, ending: Ending) -> Result<(), Stop> {
+        if !self.is_json {
+            return Ok(());
+        }
+        self.progress.clear();
+        written(write_shard_line(self.out, key, shard), ending)
     }
 }
 
@@ -183,18 +241,19 @@ fn check_opened<
 >(
     array: &Array<'_, R, I, X>,
     shard: &Shard<'_>,
-    checked: &mut Checked,
+    checked: &Checked,
     mut decoder: Decoder<'_, R, I, X>,
     told: &mut Told<'_, '_, W, M>,
-) -> Result<(), Stop> {
+) -> Result<Found, Stop> {
     let read = check_each(array, shard, checked, &mut decoder, told);
     let file = decoder.close();
     let read = read?;
     tell_bad(array, shard, &read, told)?;
     tell_last(array, shard, &file, read.last, told)?;
-    checked.subchunks = checked.subchunks.saturating_add(read.present);
-    checked.refused = checked.refused.saturating_add(read.is_refused as u64);
-    Ok(())
+    Ok(Found {
+        present: read.present,
+        is_refused: read.is_refused,
+    })
 }
 
 // Opens the shard that a file holds, which is there, and reads each subchunk.
@@ -212,15 +271,18 @@ fn check_file<
     checked: &mut Checked,
     told: &mut Told<'_, '_, W, M>,
 ) -> Result<(), Stop> {
-    match array.decoder(shard, file)? {
+    let found = match array.decoder(shard, file)? {
         Ok(decoder) => check_opened(array, shard, checked, decoder, told)?,
         Err(refusal) => {
             told.tell(&refusal)?;
-            checked.refused = checked.refused.saturating_add(1);
+            Found {
+                present: 0,
+                is_refused: true,
+            }
         }
-    }
-    checked.shards = checked.shards.saturating_add(1);
-    Ok(())
+    };
+    checked.add(&found);
+    told.tell_shard(shard.key, &found, checked.ending(true))
 }
 
 // Opens a shard and reads each subchunk. Where its file is gone, nothing is to be checked.
@@ -299,18 +361,43 @@ fn write_checked<W: Write>(out: &mut W, checked: &Checked) -> io::Result<()> {
     }
 }
 
-// How a check ends of which this came. What is asked is not done where there are subchunks that should have been looked into.
-fn ending_of(checked: &Checked, is_index_asked: bool) -> Ending {
-    if checked.refused > 0 {
-        Ending::Refused
-    } else if checked.is_index_alone && !is_index_asked && checked.subchunks > 0 {
-        Ending::Undone
-    } else {
-        Ending::Done
+// Writes what else stands in the folder, how many subchunks were not looked into, and what was checked.
+fn write_end<R: Files + AllocGlobal + Clock, I, X, W: Write>(
+    array: &Array<'_, R, I, X>,
+    out: &mut W,
+    files: &ChunkFiles,
+    checked: &Checked,
+    unread: Option<&str>,
+) -> io::Result<()> {
+    write_folder(array, out, files)?;
+    if checked.is_index_alone && checked.subchunks > 0 {
+        write_unread(out, checked, unread)?;
     }
+    write_checked(out, checked)
 }
 
-/// Decodes each index of the shards that are there, and each subchunk if its codec is served and the indexes are not all that is
+// Writes the same as lines of JSON.
+fn write_end_lines<W: Write>(
+    out: &mut W,
+    files: &ChunkFiles,
+    checked: &Checked,
+    unread: Option<&str>,
+) -> io::Result<()> {
+    write_folder_lines(out, files)?;
+    let mut line = JsonLine::new(out, "sum")?;
+    line.each(&[
+        ("shards", checked.shards),
+        ("present", checked.subchunks),
+        ("refused", checked.refused),
+    ])?;
+    line.flag("index_alone", checked.is_index_alone)?;
+    if let Some(name) = unread {
+        line.text("unread_codec", name)?;
+    }
+    line.end()
+}
+
+/// Decodes each index of the shards that a part has, and each subchunk if its codec is served and the indexes are not all that is
 /// asked; writes a line for each that is refused as it comes, what else stands in the folder, how many subchunks were not looked
 /// into, and what was checked.
 pub fn check<
@@ -322,20 +409,27 @@ pub fn check<
 >(
     array: &Array<'_, R, I, X>,
     is_index_asked: bool,
+    listing: &Listing,
     out: &mut W,
     progress: &mut Progress<'_, M>,
 ) -> Result<Ending, Stop> {
-    let files = array.files()?;
+    let files = array.files_in(&listing.part)?;
     let unread = array.unread()?;
-    let mut told = Told { out, progress };
+    let unread = unread.as_ref().map(String::as_str);
+    let is_json = listing.is_json;
+    let mut told = Told {
+        out,
+        progress,
+        is_json,
+    };
     let is_index_alone = is_index_asked || unread.is_some();
     let checked = check_all(array, &files, is_index_alone, &mut told)?;
-    let ending = ending_of(&checked, is_index_asked);
-    written(write_folder(array, told.out, &files), ending)?;
-    if is_index_alone && checked.subchunks > 0 {
-        let unread = unread.as_ref().map(String::as_str);
-        written(write_unread(told.out, &checked, unread), ending)?;
-    }
-    written(write_checked(told.out, &checked), ending)?;
+    let ending = checked.ending(is_index_asked);
+    let wrote = if is_json {
+        write_end_lines(told.out, &files, &checked, unread)
+    } else {
+        write_end(array, told.out, &files, &checked, unread)
+    };
+    written(wrote, ending)?;
     Ok(ending)
 }

@@ -6,9 +6,9 @@ use crate::compact::compact;
 use crate::extract::extract;
 use crate::npy::save_subset;
 use crate::read::read_array;
-use array_cli::{Form, Progress, Work, program, work_of, write_json, write_rows};
-use array_grid::subset_of;
-use array_info::{info_of_array, info_of_shard, list_nodes};
+use array_cli::{Form, Progress, Scope, Work, program, work_of, write_json, write_rows};
+use array_grid::{ListPart, subset_of};
+use array_info::{Listing, info_of_array, info_of_shard, list_nodes};
 use array_metadata::{ArrayMetadata, ElementType};
 use array_opening::{Array, Ending, Stop, metadata_of, written};
 use clap::ArgMatches;
@@ -78,6 +78,19 @@ fn run_read<
     read_and_write(array, &subset, form, out, progress)
 }
 
+// Which shards a command goes over, and how it tells of them. Refused as `Stop::NoPart` where a word names no part.
+fn listing_of(alloc: Global, scope: Scope<'_>) -> Result<Listing, Stop> {
+    let is_json = scope.is_json;
+    let Some(word) = scope.part else {
+        let part = ListPart::whole();
+        return Ok(Listing { part, is_json });
+    };
+    match ListPart::named(word) {
+        Some(part) => Ok(Listing { part, is_json }),
+        None => Err(Stop::NoPart(escaped(alloc, word)?)),
+    }
+}
+
 // Does a work, and writes its answer.
 fn run_work<
     R: Files + AllocGlobal + Clock,
@@ -91,14 +104,20 @@ fn run_work<
     out: &mut W,
     progress: &mut Progress<'_, M>,
 ) -> Result<Ending, Stop> {
+    let alloc = array.alloc();
     match work {
-        Work::Info => info_of_array(array, out, progress),
-        Work::InfoOfShard { key } => info_of_shard(array, key, out),
-        Work::Check { is_index_alone } => check(array, is_index_alone, out, progress),
+        Work::Info { scope } => info_of_array(array, &listing_of(alloc, scope)?, out, progress),
+        Work::InfoOfShard { key, is_json } => info_of_shard(array, key, is_json, out),
+        Work::Check {
+            is_index_alone,
+            scope,
+        } => check(array, is_index_alone, &listing_of(alloc, scope)?, out, progress),
         Work::Extract { key, number } => extract(array, key, number, out),
         Work::Read { requested, form } => run_read(array, requested, form, out, progress),
         Work::Save { requested, path } => save_subset(array, requested, path, out, progress),
-        Work::Compact { is_dry } => compact(array, is_dry, out, progress),
+        Work::Compact { is_dry, scope } => {
+            compact(array, is_dry, &listing_of(alloc, scope)?, out, progress)
+        }
     }
 }
 

@@ -1,7 +1,8 @@
 // The compaction of an array's shards.
 use crate::rewriting::{Planned, plan_of, replace};
-use array_cli::Progress;
+use array_cli::{JsonLine, Progress};
 use array_folder::{ChunkFiles, age_of};
+use array_info::{Listing, put_refusal};
 use array_opening::{Array, Ending, Place, Refusal, Shard, ShardFile, Stop, written};
 use codec_traits::ArrayToBytesCodecTraits;
 use parts_escaped_text::escaped;
@@ -10,6 +11,15 @@ use std::io::Write;
 use std::rt::{Clock, Files};
 use std::{fs, io};
 use storage_files::path_beside;
+
+// How shards are compacted.
+#[derive(Debug, Clone, Copy)]
+struct Rule {
+    // whether no file is written
+    is_dry: bool,
+    // whether a line of JSON is written for each shard
+    is_json: bool,
+}
 
 /// What was gained, and what was not done.
 #[derive(Debug, Clone, Copy, PartialEq, Eq)]
@@ -182,6 +192,31 @@ fn write_outcome<R: Files + AllocGlobal + Clock, W: Write>(
     }
 }
 
+// Writes a line of JSON for a shard of which this became.
+fn write_outcome_line<W: Write>(out: &mut W, key: &str, outcome: &Outcome) -> io::Result<()> {
+    let mut line = JsonLine::new(out, "shard")?;
+    line.text("key", key)?;
+    match outcome {
+        Outcome::Compact => line.number("saved", 0)?,
+        Outcome::Saved(saved) => line.number("saved", *saved)?,
+        Outcome::Longer(longer) => line.number("longer", *longer)?,
+        Outcome::Refused(refusal) => put_refusal(&mut line, refusal)?,
+        Outcome::Busy(path) => line.text("new_file", path)?,
+    }
+    line.end()
+}
+
+// Writes a line of JSON for what was gained, of so many shards.
+fn write_sum_line<W: Write>(out: &mut W, gained: &Gained, all: u64) -> io::Result<()> {
+    let mut line = JsonLine::new(out, "sum")?;
+    line.each(&[
+        ("saved", gained.bytes),
+        ("compacted", gained.shards),
+        ("shards", all),
+    ])?;
+    line.end()
+}
+
 // Compacts a shard, and says what became of it.
 fn outcome_of<
     R: Files + AllocGlobal,
@@ -208,25 +243,27 @@ fn compact_one<
 >(
     array: &Array<'_, R, I, X>,
     shard: &Shard<'_>,
-    is_dry: bool,
+    rule: &Rule,
     out: &mut W,
     gained: &mut Gained,
     progress: &mut Progress<'_, M>,
 ) -> Result<(), Stop> {
-    let outcome = outcome_of(array, shard, is_dry, out)?;
+    let outcome = outcome_of(array, shard, rule.is_dry, out)?;
     match &outcome {
         Outcome::Saved(saved) => gained.add(*saved),
         Outcome::Refused(_) => gained.is_refused = true,
         Outcome::Busy(_) => gained.is_undone = true,
         Outcome::Compact | Outcome::Longer(_) => {}
     }
-    if !matches!(outcome, Outcome::Compact) {
+    if rule.is_json || !matches!(outcome, Outcome::Compact) {
         progress.clear();
     }
-    written(
-        write_outcome(array.rt, out, shard.key, &outcome),
-        gained.ending(),
-    )
+    let wrote = if rule.is_json {
+        write_outcome_line(out, shard.key, &outcome)
+    } else {
+        write_outcome(array.rt, out, shard.key, &outcome)
+    };
+    written(wrote, gained.ending())
 }
 
 // Compacts the shards in these files, and writes a line for each that is not compact.
@@ -239,7 +276,7 @@ fn compact_all<
 >(
     array: &Array<'_, R, I, X>,
     files: &ChunkFiles,
-    is_dry: bool,
+    rule: &Rule,
     out: &mut W,
     progress: &mut Progress<'_, M>,
 ) -> Result<Gained, Stop> {
@@ -251,13 +288,13 @@ fn compact_all<
             key: &file.key,
             coordinates: &file.coordinates,
         };
-        compact_one(array, &shard, is_dry, out, &mut gained, progress)?;
+        compact_one(array, &shard, rule, out, &mut gained, progress)?;
     }
     progress.clear();
     Ok(gained)
 }
 
-/// Compacts each shard that is there, and writes a line for each that is not compact and how many bytes were saved in all. With
+/// Compacts each shard that a part has, and writes a line for each that is not compact and how many bytes were saved in all. With
 /// `is_dry` no file is written.
 pub fn compact<
     R: Files + AllocGlobal + Clock,
@@ -268,14 +305,23 @@ pub fn compact<
 >(
     array: &Array<'_, R, I, X>,
     is_dry: bool,
+    listing: &Listing,
     out: &mut W,
     progress: &mut Progress<'_, M>,
 ) -> Result<Ending, Stop> {
-    let files = array.files()?;
+    let files = array.files_in(&listing.part)?;
     let all = files.chunks.len();
-    let gained = compact_all(array, &files, is_dry, out, progress)?;
+    let rule = Rule {
+        is_dry,
+        is_json: listing.is_json,
+    };
+    let gained = compact_all(array, &files, &rule, out, progress)?;
     let Gained { bytes, shards, .. } = gained;
-    let wrote = writeln!(out, "{bytes} bytes saved in {shards} of {all} shards");
+    let wrote = if rule.is_json {
+        write_sum_line(out, &gained, all as u64)
+    } else {
+        writeln!(out, "{bytes} bytes saved in {shards} of {all} shards")
+    };
     written(wrote, gained.ending())?;
     Ok(gained.ending())
 }

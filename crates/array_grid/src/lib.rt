@@ -3,6 +3,7 @@
 
 mod cells;
 mod grid;
+mod list_part;
 mod parsing;
 mod parts;
 mod picking;
@@ -12,6 +13,7 @@ mod words;
 
 pub use cells::SubsetCells;
 pub use grid::ShardGrid;
+pub use list_part::{ListPart, dealt};
 pub use parsing::parse;
 pub use parts::{ShardPart, ShardParts};
 pub use picking::{Requested, resolve};

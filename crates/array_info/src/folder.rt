@@ -1,10 +1,18 @@
 // What stands in an array's folder: the shard that has a key, and what is no shard.
 use array_folder::{ChunkFiles, age_of};
+use array_grid::ListPart;
 use array_opening::{Array, Shard, Stop};
 use parts_escaped_text::escaped;
 use std::io;
 use std::io::Write;
 use std::rt::{Clock, Files};
+
+/// Which shards of an array a command goes over, and whether it tells of them in lines of JSON.
+#[derive(Drop)]
+pub struct Listing {
+    pub part: ListPart,
+    pub is_json: bool,
+}
 
 /// The shard of an array that has a key, among the files of its chunks. Refused as `Stop::NoShard` where none has it.
 pub fn shard_of<'s, R: Files + AllocGlobal, I, X>(

@@ -1,5 +1,6 @@
 // What an array on disk holds, and its shards.
-use crate::folder::write_folder;
+use crate::folder::{Listing, write_folder};
+use crate::json;
 use crate::index_info::{index_info, index_range, index_size, whole_index};
 use array_cli::{Progress, write_numbers, write_rows};
 use array_folder::{ChunkFile, ChunkFiles, Counted, FolderFiles, IndexInfo, info_of};
@@ -23,15 +24,15 @@ pub struct ShardInfo {
     pub index: Result<IndexInfo, Refusal>,
 }
 
-// What is known of all shards.
+/// What is known of all shards.
 #[derive(Debug, Clone, Copy, PartialEq, Eq)]
-struct Sums {
-    shards: u64,
-    bytes: u64,
-    present: u64,
-    absent: u64,
-    dead: u64,
-    refused: u64,
+pub struct Sums {
+    pub shards: u64,
+    pub bytes: u64,
+    pub present: u64,
+    pub absent: u64,
+    pub dead: u64,
+    pub refused: u64,
 }
 
 // The longest index, in bytes, that is read at once.
@@ -290,6 +291,37 @@ fn write_info<R: Files + AllocGlobal + Clock, I, X, W: Write>(
     write_sums(out, sums)
 }
 
+// Writes a line of JSON for each shard.
+fn write_shard_lines<W: Write>(
+    out: &mut W,
+    files: &ChunkFiles,
+    shards: &[Option<ShardInfo>],
+) -> io::Result<()> {
+    for (file, shard) in files.chunks.iter().zip(shards) {
+        if let Some(shard) = shard {
+            json::write_shard(out, &file.key, shard)?;
+        }
+    }
+    Ok(())
+}
+
+// Writes the same as lines of JSON.
+fn write_info_lines<R: Files + AllocGlobal, I, X, W: Write>(
+    out: &mut W,
+    array: &Array<'_, R, I, X>,
+    files: &ChunkFiles,
+    shards: &[Option<ShardInfo>],
+    sums: &Sums,
+) -> io::Result<()> {
+    let unread = array.unread()?;
+    let possible = array.grid.count(array.alloc())?;
+    let unread = unread.as_ref().map(String::as_str);
+    json::write_array(out, array.metadata, &possible, unread)?;
+    write_shard_lines(out, files, shards)?;
+    json::write_folder_lines(out, files)?;
+    json::write_sums(out, sums)
+}
+
 /// Writes what the metadata says, and what is known of the shards that are there. Of each only the index is read; a shard that is
 /// refused has a line that says why. Refused, in this order, as `Stop::Codec` where the index has no fixed size, as `Stop::System`
 /// where the folder or a file is not read, and as `Stop::Output` or `Stop::Closed` where the answer is not taken.
@@ -299,9 +331,14 @@ pub fn info_of_array<
     X: ArrayToBytesCodecTraits,
     W: Write,
     M: Write,
->(array: &Array<'_, R, I, X>, out: &mut W, progress: &mut Progress<'_, M>) -> Result<Ending, Stop> {
+>(
+    array: &Array<'_, R, I, X>,
+    listing: &Listing,
+    out: &mut W,
+    progress: &mut Progress<'_, M>,
+) -> Result<Ending, Stop> {
     let size = index_size(array.alloc(), &array.codec.index_codec, &array.subchunks)?;
-    let files = array.files()?;
+    let files = array.files_in(&listing.part)?;
     let shards = listed(array, &files.chunks, size, progress)?;
     progress.clear();
     let sums = Sums::of(&shards);
@@ -310,6 +347,11 @@ pub fn info_of_array<
     } else {
         Ending::Refused
     };
-    written(write_info(out, array, &files, &shards, &sums), ending)?;
+    let wrote = if listing.is_json {
+        write_info_lines(out, array, &files, &shards, &sums)
+    } else {
+        write_info(out, array, &files, &shards, &sums)
+    };
+    written(wrote, ending)?;
     Ok(ending)
 }

@@ -5,11 +5,13 @@
 mod folder;
 mod index_info;
 mod info;
+mod json;
 mod list;
 mod shard_info;
 
-pub use folder::{shard_of, write_folder};
+pub use folder::{Listing, shard_of, write_folder};
 pub use index_info::whole_index;
 pub use info::info_of_array;
+pub use json::{put_refusal, write_folder_lines};
 pub use list::list_nodes;
 pub use shard_info::info_of_shard;

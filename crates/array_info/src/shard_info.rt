@@ -2,6 +2,8 @@
 use crate::folder::shard_of;
 use crate::index_info::{index_size, whole_index};
 use crate::info::{ShardInfo, write_shard};
+use crate::json;
+use array_cli::JsonLine;
 use array_folder::{DeadBytes, IndexInfo, index_interval, info_of, slice_of};
 use array_opening::{Array, Ending, Place, Stop, written};
 use codec_traits::ArrayToBytesCodecTraits;
@@ -47,6 +49,19 @@ impl Layout {
             index: index_interval(location, size, length),
             length,
         })
+    }
+
+    // What is known of the shard.
+    fn known(&self) -> ShardInfo {
+        ShardInfo {
+            length: self.length,
+            index: Ok(self.info),
+        }
+    }
+
+    // The bytes of the file, of which the dead ones are asked for.
+    fn dead_bytes(&self) -> DeadBytes<'_> {
+        DeadBytes::new(&self.sorted, self.info.present, self.index, self.length)
     }
 }
 
@@ -123,6 +138,52 @@ fn write_dead<W: Write>(out: &mut W, mut bytes: DeadBytes<'_>) -> io::Result<()>
     Ok(())
 }
 
+// Writes a line of JSON for a range of bytes, which has a number if it is a subchunk.
+fn write_range_line<W: Write>(
+    out: &mut W,
+    kind: &str,
+    (start, end): (u64, u64),
+    number: Option<u64>,
+) -> io::Result<()> {
+    let mut line = JsonLine::new(out, kind)?;
+    if let Some(number) = number {
+        line.number("number", number)?;
+    }
+    line.each(&[("offset", start), ("size", end.saturating_sub(start))])?;
+    line.end()
+}
+
+// Writes a line of JSON for each subchunk that is present.
+fn write_subchunk_lines<W: Write>(out: &mut W, layout: &Layout) -> io::Result<()> {
+    for (number, entry) in layout.numbers.chunks(2).enumerate() {
+        if let [offset, size] = entry
+            && let Some(bytes) = slice_of(*offset, *size, layout.length)
+        {
+            write_range_line(out, "subchunk", bytes, Some(number as u64))?;
+        }
+    }
+    Ok(())
+}
+
+// Writes a line of JSON for each range of dead bytes.
+fn write_dead_lines<W: Write>(out: &mut W, mut bytes: DeadBytes<'_>) -> io::Result<()> {
+    for _ in 0..bytes.steps() {
+        let (start, end) = bytes.pass();
+        if start < end {
+            write_range_line(out, "dead", (start, end), None)?;
+        }
+    }
+    Ok(())
+}
+
+// Writes what the index of a shard says, as lines of JSON.
+fn write_layout_lines<W: Write>(out: &mut W, key: &str, layout: &Layout) -> io::Result<()> {
+    json::write_shard(out, key, &layout.known())?;
+    write_subchunk_lines(out, layout)?;
+    write_range_line(out, "index", layout.index, None)?;
+    write_dead_lines(out, layout.dead_bytes())
+}
+
 // Writes what the index of a shard says, as a table.
 fn write_layout<W: Write>(
     out: &mut W,
@@ -131,20 +192,12 @@ fn write_layout<W: Write>(
     layout: &Layout,
     subchunks: &[u64],
 ) -> io::Result<()> {
-    let known = ShardInfo {
-        length: layout.length,
-        index: Ok(layout.info),
-    };
-    write_shard(out, key, &known)?;
+    write_shard(out, key, &layout.known())?;
     out.write_all(b"subchunk          offset            size             end  coordinates\n")?;
     write_subchunks(out, alloc, layout, subchunks)?;
     write_bytes(out, "index", layout.index)?;
     out.write_all(b"\n")?;
-    let (present, index) = (layout.info.present, layout.index);
-    write_dead(
-        out,
-        DeadBytes::new(&layout.sorted, present, index, layout.length),
-    )
+    write_dead(out, layout.dead_bytes())
 }
 
 /// Writes which bytes of a shard, by its key, each subchunk that is present takes, which ones its index, and which are dead. Only the
@@ -154,6 +207,7 @@ fn write_layout<W: Write>(
 pub fn info_of_shard<R: Files + AllocGlobal, I, X: ArrayToBytesCodecTraits, W: Write>(
     array: &Array<'_, R, I, X>,
     key: &str,
+    is_json: bool,
     out: &mut W,
 ) -> Result<Ending, Stop> {
     let alloc = array.alloc();
@@ -171,9 +225,11 @@ pub fn info_of_shard<R: Files + AllocGlobal, I, X: ArrayToBytesCodecTraits, W: W
         }
     };
     let subchunks = array.subchunks.as_slice();
-    written(
-        write_layout(out, alloc, shard.key, &layout, subchunks),
-        Ending::Done,
-    )?;
+    let wrote = if is_json {
+        write_layout_lines(out, shard.key, &layout)
+    } else {
+        write_layout(out, alloc, shard.key, &layout, subchunks)
+    };
+    written(wrote, Ending::Done)?;
     Ok(Ending::Done)
 }

@@ -3,6 +3,7 @@ use crate::refusal::{Place, Refusal};
 use crate::stop::Stop;
 use array_fields::{LONGEST_TEXT, MetadataError};
 use array_folder::{ChunkFiles, ChunkGrid, KeyForm, document_length, list_chunks, read_document};
+use array_grid::{ListPart, dealt};
 use array_metadata::{ArrayMetadata, KeyEncoding};
 use codec_traits::ArrayToBytesCodecTraits;
 use parts_arrays::ArrayBytes;
@@ -213,6 +214,28 @@ impl<'a, R: Files + AllocGlobal, I, X> Array<'a, R, I, X> {
             slashes: self.metadata.keys.slashes,
         };
         Ok(list_chunks(self.rt, self.path, form, &self.grid)?)
+    }
+
+    /// The files of the array's chunks that a part has of their list. What else stands in the folder goes with the first part.
+    pub fn files_in(&self, part: &ListPart) -> Result<ChunkFiles, Stop> {
+        let ChunkFiles {
+            chunks,
+            others,
+            replacing,
+        } = self.files()?;
+        let chunks = dealt(self.alloc(), chunks, part)?;
+        if part.is_first() {
+            return Ok(ChunkFiles {
+                chunks,
+                others,
+                replacing,
+            });
+        }
+        Ok(ChunkFiles {
+            chunks,
+            others: 0,
+            replacing: Vec::new(self.alloc()),
+        })
     }
 
     /// The path of the file with this key.

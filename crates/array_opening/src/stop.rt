@@ -76,6 +76,9 @@ pub enum Stop {
     /// A key that no shard has.
     #[error("no shard of this array has the key {0}")]
     NoShard(String),
+    /// What names no part of the shards.
+    #[error("{0} is no part of the shards, as 2/8 is the second of eight")]
+    NoPart(String),
     /// What is no number of a subchunk.
     #[error("{number} is no number of a subchunk, which are 0 to {last}")]
     NoSubchunk { number: String, last: u64 },
