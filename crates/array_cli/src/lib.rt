@@ -1,12 +1,21 @@
-// What stands on a command line over an array on disk, and how its cells and the progress of a command are written.
+// What the commands over an array on disk share: what stands on a command line, how cells and the progress of a command are
+// written; an array that is open, why a shard of it is refused, and why a command stops.
 #![tactic(auto)]
 
+mod arrays;
 mod command_line;
 mod json_line;
 mod progress;
+mod refusal;
+mod stop;
 mod text;
 
+pub use arrays::{
+    Array, Decoder, Shard, ShardFile, decode_subset, is_present, metadata_of, read_through,
+};
 pub use command_line::{Form, Scope, Work, program, work_of};
 pub use json_line::{JsonLine, write_json_text};
 pub use progress::Progress;
+pub use refusal::{Place, Refusal};
+pub use stop::{Ending, Stop, written};
 pub use text::{write_json, write_json_cell, write_numbers, write_rows};

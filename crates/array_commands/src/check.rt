@@ -1,11 +1,10 @@
 // Whether the shards of an array are sound.
-use array_cli::{JsonLine, Progress};
+use array_cli::{
+    Array, Decoder, Ending, JsonLine, Place, Progress, Refusal, Shard, ShardFile, Stop, is_present,
+    read_through, written,
+};
 use array_folder::{ChunkFiles, Counted};
 use array_info::{Listing, put_refusal, write_folder, write_folder_lines};
-use array_opening::{
-    Array, Decoder, Ending, Place, Refusal, Shard, ShardFile, Stop, is_present, read_through,
-    written,
-};
 use codec_traits::ArrayToBytesCodecTraits;
 use parts_errors::CodecError;
 use parts_row_major::unravel_index;

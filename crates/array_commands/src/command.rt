@@ -6,14 +6,16 @@ use crate::compact::compact;
 use crate::extract::extract;
 use crate::npy::save_subset;
 use crate::read::read_array;
-use array_cli::{Form, Progress, Scope, Work, program, work_of, write_json, write_rows};
+use array_cli::{
+    Array, Ending, Form, Progress, Scope, Stop, Work, metadata_of, program, work_of, write_json,
+    write_rows, written,
+};
+use array_fields::escaped;
 use array_grid::{ListPart, subset_of};
 use array_info::{Listing, info_of_array, info_of_shard, list_nodes};
 use array_metadata::{ArrayMetadata, ElementType};
-use array_opening::{Array, Ending, Stop, metadata_of, written};
 use clap::ArgMatches;
 use codec_traits::ArrayToBytesCodecTraits;
-use parts_escaped_text::escaped;
 use parts_subsets::ArraySubset;
 use sharding_codec::ShardingCodec;
 use std::alloc::Global;

@@ -1,11 +1,12 @@
 // The compaction of an array's shards.
 use crate::rewriting::{Planned, plan_of, replace};
-use array_cli::{JsonLine, Progress};
+use array_cli::{
+    Array, Ending, JsonLine, Place, Progress, Refusal, Shard, ShardFile, Stop, written,
+};
+use array_fields::escaped;
 use array_folder::{ChunkFiles, age_of};
 use array_info::{Listing, put_refusal};
-use array_opening::{Array, Ending, Place, Refusal, Shard, ShardFile, Stop, written};
 use codec_traits::ArrayToBytesCodecTraits;
-use parts_escaped_text::escaped;
 use sharding_layout::CompactionPlan;
 use std::io::Write;
 use std::rt::{Clock, Files};

@@ -1,9 +1,9 @@
 // The bytes of a subchunk as they are stored.
+use array_cli::{Array, Decoder, Ending, Place, Shard, Stop, written};
+use array_fields::escaped;
 use array_info::shard_of;
-use array_opening::{Array, Decoder, Ending, Place, Shard, Stop, written};
 use codec_traits::ArrayToBytesCodecTraits;
 use parts_errors::CodecError;
-use parts_escaped_text::escaped;
 use parts_row_major::unravel_index;
 use sharding_codec::ShardingPartialDecoder;
 use std::alloc::Global;

@@ -1,12 +1,11 @@
 // A subset of an array as a file of NumPy's format.
 use crate::read::read_array;
 use crate::rewriting::{begin, tell_owner};
-use array_cli::Progress;
+use array_cli::{Array, Ending, Progress, Stop};
+use array_fields::escaped;
 use array_folder::{npy_beside, npy_header, write_npy};
 use array_grid::{Requested, subset_of};
-use array_opening::{Array, Ending, Stop};
 use codec_traits::ArrayToBytesCodecTraits;
-use parts_escaped_text::escaped;
 use std::io;
 use std::io::{ErrorKind, Write};
 use std::rt::Files;

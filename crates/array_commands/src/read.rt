@@ -1,7 +1,6 @@
 // The elements of a subset of an array.
-use array_cli::Progress;
+use array_cli::{Array, Decoder, Place, Progress, Shard, Stop, decode_subset, read_through};
 use array_grid::{ShardGrid, ShardPart, ShardParts, SubsetCells};
-use array_opening::{Array, Decoder, Place, Shard, Stop, decode_subset, read_through};
 use codec_traits::ArrayToBytesCodecTraits;
 use parts_arrays::ArrayBytes;
 use parts_errors::CodecError;

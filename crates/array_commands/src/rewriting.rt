@@ -1,6 +1,6 @@
 // A compact shard that is written in the place of a shard's file.
+use array_cli::{Array, Place, Shard, ShardFile, Stop};
 use array_info::whole_index;
-use array_opening::{Array, Place, Shard, ShardFile, Stop};
 use codec_traits::ArrayToBytesCodecTraits;
 use parts_errors::{CodecError, CodecOptions};
 use parts_subsets::ChunkShape;

@@ -2,8 +2,8 @@
 ghost use Rattle.std.specs.Prelude.{◌≡◌, ◌≤◌, ◌<◌, IfErr, OnOk};
 ghost use Rattle.array_fields.specs.declared.error.MetadataError.TheVariants.{TooLong};
 
+use crate::escape::escaped;
 use codec_metadata::PluginCreateError;
-use parts_escaped_text::escaped;
 use std::alloc::{AllocError, AllocFailed, Global};
 use thiserror::Error;
 

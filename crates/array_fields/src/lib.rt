@@ -1,10 +1,14 @@
-// The values of an array's metadata: what stands under which key of a JSON text, where, and why metadata is refused.
+// The values of an array's metadata: what stands under which key of a JSON text, where, and why metadata is refused; and a
+// stranger's text on a terminal, which is short, and nothing in it acts.
 #![tactic(auto)]
 
 mod error;
+mod escape;
 mod fields;
 mod json;
+mod printed;
 
 pub use error::{LONGEST_TEXT, MetadataError};
+pub use escape::{escaped, escaped_whole};
 pub use fields::Placed;
 pub use json::value_in;

@@ -1,7 +1,7 @@
 -- What is said of a file or folder.
 use Rattle.std.specs.Prelude.{⊤, chars, string_bytes}
 use Rattle.std.specs.List.{All}
-use Rattle.parts_escaped_text.specs.Printed.{IsPrinted}
+use Rattle.array_fields.specs.Printed.{IsPrinted}
 use Rattle.array_folder.specs.declared.error.FolderError.{FolderError}
 use Rattle.array_folder.specs.declared.error.FolderError.TheVariants.{System}
 

@@ -1,7 +1,7 @@
 // Why a folder is not read.
 ghost use Rattle.array_folder.specs.Shown.{IsPathPrinted};
 
-use parts_escaped_text::escaped;
+use array_fields::escaped;
 use std::alloc::{AllocError, AllocFailed, Global};
 use std::io;
 use thiserror::Error;

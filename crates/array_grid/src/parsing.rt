@@ -1,7 +1,7 @@
 // The words of a subset as they stand on a command line.
 use crate::subsets::SubsetError;
 use crate::words::{Position, Word};
-use parts_escaped_text::escaped;
+use array_fields::escaped;
 use std::alloc::Global;
 
 // The number that digits alone are, where it fits 64 bits.

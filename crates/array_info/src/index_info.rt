@@ -3,8 +3,8 @@ ghost use Rattle.std.specs.Prelude.{◌≡◌, ◌*◌, IfOk, length};
 ghost use Rattle.parts_row_major.specs.Numbering.{count_of};
 ghost use Rattle.parts_subsets.specs.Grid.{grid_of};
 
+use array_cli::Stop;
 use array_folder::{IndexInfo, info_of};
-use array_opening::Stop;
 use codec_traits::{ArrayToBytesCodecTraits, BytesRepresentation};
 use parts_arrays::{DataType, FillValue};
 use parts_errors::{CodecError, CodecOptions};

@@ -2,10 +2,12 @@
 use crate::folder::{Listing, write_folder};
 use crate::json;
 use crate::index_info::{index_info, index_range, index_size, whole_index};
-use array_cli::{Progress, write_numbers, write_rows};
+use array_cli::{
+    Array, Ending, Place, Progress, Refusal, Shard, ShardFile, Stop, write_numbers, write_rows,
+    written,
+};
 use array_folder::{ChunkFile, ChunkFiles, Counted, FolderFiles, IndexInfo, info_of};
 use array_metadata::ArrayMetadata;
-use array_opening::{Array, Ending, Place, Refusal, Shard, ShardFile, Stop, written};
 use codec_traits::ArrayToBytesCodecTraits;
 use parts_errors::CodecError;
 use parts_subsets::ChunkShape;

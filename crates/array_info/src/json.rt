@@ -1,9 +1,8 @@
 // What an array holds, as lines of JSON.
 use crate::info::{ShardInfo, Sums};
-use array_cli::{JsonLine, write_json_cell};
+use array_cli::{JsonLine, Place, Refusal, write_json_cell};
 use array_folder::ChunkFiles;
 use array_metadata::ArrayMetadata;
-use array_opening::{Place, Refusal};
 use std::io;
 use std::io::Write;
 

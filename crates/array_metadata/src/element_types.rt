@@ -6,10 +6,9 @@ ghost use Rattle.parts_arrays.specs.Types.{type_name, HasElements};
 ghost use Rattle.array_metadata.specs.ElementTypes.{IsTypeIn, IsTypeOf, IsListedOr, IsUnnamed, IsRaw, IsNameOf, carrier, listed_type};
 
 use crate::floats::FloatFormat;
-use array_fields::{MetadataError, Placed};
+use array_fields::{MetadataError, Placed, escaped};
 use codec_metadata::PluginCreateError;
 use parts_arrays::DataType;
-use parts_escaped_text::escaped;
 use std::alloc::{AllocError, Global};
 
 // How many bytes an element may have of a type that is named by its bits: 64 KiB.

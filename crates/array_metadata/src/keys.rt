@@ -6,8 +6,7 @@ ghost use Rattle.codec_metadata.specs.Metadata.{name_in};
 ghost use Rattle.array_fields.specs.MetadataFields.{configured_in};
 ghost use Rattle.array_metadata.specs.KeyEncodings.{encoding_name, default_separator, separator_text};
 
-use array_fields::{MetadataError, Placed};
-use parts_escaped_text::escaped;
+use array_fields::{MetadataError, Placed, escaped};
 use std::alloc::{AllocError, Global};
 
 /// How a chunk's key is made (Zarr V3 core, "Chunk key encoding").

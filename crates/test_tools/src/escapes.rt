@@ -1,6 +1,6 @@
 // Texts of anybody for a terminal.
 use crate::compared::same;
-use parts_escaped_text::escaped;
+use array_fields::escaped;
 use std::alloc::{AllocError, Global};
 
 // Texts, and how they are shown.

@@ -1,14 +1,13 @@
 // An array on disk that is open: its metadata, its shards, and their files.
 use crate::refusal::{Place, Refusal};
 use crate::stop::Stop;
-use array_fields::{LONGEST_TEXT, MetadataError};
+use array_fields::{LONGEST_TEXT, MetadataError, escaped};
 use array_folder::{ChunkFiles, ChunkGrid, KeyForm, document_length, list_chunks, read_document};
 use array_grid::{ListPart, dealt};
 use array_metadata::{ArrayMetadata, KeyEncoding};
 use codec_traits::ArrayToBytesCodecTraits;
 use parts_arrays::ArrayBytes;
 use parts_errors::{CodecError, CodecOptions};
-use parts_escaped_text::escaped;
 use parts_subsets::{ArraySubset, ChunkShape};
 use sharding_codec::{ShardingCodec, ShardingPartialDecoder};
 use sharding_format::{SubchunkWriteOrder, calculate_chunks_per_shard, of_stored};

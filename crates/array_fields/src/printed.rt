@@ -1,6 +1,6 @@
 // Which characters a terminal shows as they are.
 ghost use Rattle.std.specs.Prelude.{◌↔◌, IsTrue};
-ghost use Rattle.parts_escaped_text.specs.Printed.{IsControl, IsDirection, IsUnseen, IsPrinted};
+ghost use Rattle.array_fields.specs.Printed.{IsControl, IsDirection, IsUnseen, IsPrinted};
 
 // Whether a terminal obeys a character, or ends a line or a paragraph there.
 fn is_control(c: char) -> bool

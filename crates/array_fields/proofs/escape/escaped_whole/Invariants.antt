@@ -1,8 +1,8 @@
 -- The characters so far are shown.
 use Rattle.std.proofs.Common.{◌≡◌, ◌++◌, [], ℕ, List, IsUtf8, chars, string_bytes}
 use Rattle.std.specs.Str.Iter.{chars_rest}
-use Rattle.parts_escaped_text.specs.Printed.{IsShown}
-use Rattle.parts_escaped_text.proofs.escape.escaped_whole.Given as goal
+use Rattle.array_fields.specs.Printed.{IsShown}
+use Rattle.array_fields.proofs.escape.escaped_whole.Given as goal
 
 abbrev pub invariant-loop-c : goal.invariant-loop-c
 invariant-loop-c l = record {

@@ -1,7 +1,7 @@
 -- The status that a command which stops gives the program to end with.
 use Rattle.std.specs.Prelude.{ℕ}
-use Rattle.array_opening.specs.declared.stop.Stop.{Stop}
-use Rattle.array_opening.specs.declared.stop.Stop.TheVariants.{Refused, Absent}
+use Rattle.array_cli.specs.declared.stop.Stop.{Stop}
+use Rattle.array_cli.specs.declared.stop.Stop.TheVariants.{Refused, Absent}
 
 -- 1 where a shard is refused or a subchunk is absent, else 2
 abbrev pub status_of : Stop → ℕ

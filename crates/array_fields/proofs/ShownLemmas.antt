@@ -6,7 +6,7 @@ use Rattle.std.proofs.Math.ListN.{get_or-append}
 use Rattle.std.proofs.Math.Utf8.{encode, encodes}
 use Rattle.std.proofs.lemmas.Str.{encodes-chars, chars_from_encodes, encodes-append, chars_past_char, IsUtf8-nil}
 use Rattle.std.proofs.lemmas.List.Elements.{All-append, All-cons}
-use Rattle.parts_escaped_text.specs.Printed.{IsPrinted, IsShown}
+use Rattle.array_fields.specs.Printed.{IsPrinted, IsShown}
 
 -- one character more
 pushed_char : (old new : List ℕ) (c : ℕ) → IsUtf8 old → IsUtf8 new → new ≡ old ++ encode c → chars new ≡ chars old ++ c ∷ []

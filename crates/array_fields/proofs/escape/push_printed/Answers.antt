@@ -1,7 +1,7 @@
 use Rattle.std.proofs.Common.{string_bytes}
 use Rattle.std.proofs.lemmas.Str.{IsUtf8-string_bytes}
-use Rattle.parts_escaped_text.proofs.ShownLemmas.{shown_char}
-use Rattle.parts_escaped_text.proofs.escape.push_printed.Goals as goal
+use Rattle.array_fields.proofs.ShownLemmas.{shown_char}
+use Rattle.array_fields.proofs.escape.push_printed.Goals as goal
 
 pub returns : goal.returns
 returns c =

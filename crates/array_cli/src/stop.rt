@@ -1,6 +1,6 @@
 // Why a command stops, and how it ends.
 ghost use Rattle.std.specs.Prelude.{◌≡◌, ◌≤◌};
-ghost use Rattle.array_opening.specs.Statuses.{status_of};
+ghost use Rattle.array_cli.specs.Statuses.{status_of};
 
 use crate::refusal::Refusal;
 use array_fields::MetadataError;

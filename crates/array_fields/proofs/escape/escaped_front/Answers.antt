@@ -1,8 +1,8 @@
 use Rattle.std.proofs.Common.{◌++◌, [], ◌∷◌, subst, sym, refl, string_bytes, arith, length-append}
 use Rattle.std.proofs.lemmas.Str.{IsUtf8-past_char, IsUtf8-string_bytes}
-use Rattle.parts_escaped_text.specs.Printed.{IsShown}
-use Rattle.parts_escaped_text.proofs.ShownLemmas.{shown_more, next_split, no_more, all_printed, shown_whole, same_bytes}
-use Rattle.parts_escaped_text.proofs.escape.escaped_front.Goals as goal
+use Rattle.array_fields.specs.Printed.{IsShown}
+use Rattle.array_fields.proofs.ShownLemmas.{shown_more, next_split, no_more, all_printed, shown_whole, same_bytes}
+use Rattle.array_fields.proofs.escape.escaped_front.Goals as goal
 
 pub returns-then-count-eq-LIMIT-clause-printed : goal.returns-then-count-eq-LIMIT-clause-printed
 returns-then-count-eq-LIMIT-clause-printed c = all_printed _ _ c.loop-c.invariant.shown

@@ -1,8 +1,8 @@
 use Rattle.std.proofs.Common.{◌++◌, [], ◌∷◌, subst, sym, string_bytes}
 use Rattle.std.proofs.lemmas.Str.{IsUtf8-past_char}
-use Rattle.parts_escaped_text.specs.Printed.{IsShown}
-use Rattle.parts_escaped_text.proofs.ShownLemmas.{shown_mark, shown_more, next_split, no_more}
-use Rattle.parts_escaped_text.proofs.escape.push_text.Goals as goal
+use Rattle.array_fields.specs.Printed.{IsShown}
+use Rattle.array_fields.proofs.ShownLemmas.{shown_mark, shown_more, next_split, no_more}
+use Rattle.array_fields.proofs.escape.push_text.Goals as goal
 
 pub loop-c-preserved : goal.loop-c-preserved
 loop-c-preserved c =

@@ -1,7 +1,7 @@
 use Rattle.std.proofs.Common.{string_bytes, IsTrue, false}
-use Rattle.parts_escaped_text.specs.Printed.{IsPrinted}
-use Rattle.parts_escaped_text.proofs.ShownLemmas.{shown_escape}
-use Rattle.parts_escaped_text.proofs.escape.push_escaped.Goals as goal
+use Rattle.array_fields.specs.Printed.{IsPrinted}
+use Rattle.array_fields.proofs.ShownLemmas.{shown_escape}
+use Rattle.array_fields.proofs.escape.push_escaped.Goals as goal
 
 untrue : IsTrue false → ⊥
 untrue h = cc

@@ -1,7 +1,7 @@
 // A text for a terminal.
 ghost use Rattle.std.specs.Prelude.{◌≡◌, ◌≤◌, ◌∷◌, [], false, IfOk, OnOk, chars, length, string_bytes};
 ghost use Rattle.std.specs.List.{All};
-ghost use Rattle.parts_escaped_text.specs.Printed.{IsPrinted, IsShown};
+ghost use Rattle.array_fields.specs.Printed.{IsPrinted, IsShown};
 
 use crate::printed::is_printed;
 use std::alloc::{AllocError, Global};
