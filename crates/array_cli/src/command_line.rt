@@ -37,13 +37,19 @@ pub enum Work<'a> {
         key: &'a str,
         number: &'a str,
     },
+    Map {
+        key: Option<&'a str>,
+        svg: Option<&'a str>,
+    },
     Read {
         requested: Option<&'a str>,
         form: Form,
+        fills: bool,
     },
     Save {
         requested: Option<&'a str>,
         path: &'a str,
+        fills: bool,
     },
     Compact {
         is_dry: bool,
@@ -111,6 +117,26 @@ fn check_command<'a>(alloc: Global) -> Result<Command<'a>, AllocError> {
         .arg(part_option(alloc))
 }
 
+fn svg_option<'a>(alloc: Global) -> Arg<'a> {
+    Arg::new(alloc, "svg")
+        .long("svg")
+        .value_name("FILE")
+        .help("A picture of the format SVG, written in place of an answer")
+}
+
+fn map_command<'a>(alloc: Global) -> Result<Command<'a>, AllocError> {
+    Command::new(alloc, "map")
+        .about(
+            "Draws which shards of the array are there, or the subchunks of a shard and the bytes of its file",
+        )
+        .after_help(
+            "Example: zarr_shard map weather/temperature c/0/3\nOf a shard each subchunk that is present is decoded.",
+        )
+        .arg(path_argument(alloc))?
+        .arg(key_argument(alloc))?
+        .arg(svg_option(alloc))
+}
+
 fn number_argument<'a>(alloc: Global) -> Arg<'a> {
     Arg::new(alloc, "NUMBER").required(true).help(
         "The row-major number of the subchunk in the shard, from 0 on",
@@ -159,6 +185,13 @@ fn npy_option<'a>(alloc: Global) -> Result<Arg<'a>, AllocError> {
         .conflicts_with("raw")
 }
 
+fn fill_flag<'a>(alloc: Global) -> Arg<'a> {
+    Arg::new(alloc, "fill-damaged")
+        .long("fill-damaged")
+        .action(ArgAction::SetTrue)
+        .help("Fill values for what is refused, which is told on standard error; status 1 then")
+}
+
 // The command `read`, and what it reads.
 fn boxed_command<'a>(alloc: Global) -> Result<Command<'a>, AllocError> {
     Command::new(alloc, "read")
@@ -175,7 +208,8 @@ fn read_command<'a>(alloc: Global) -> Result<Command<'a>, AllocError> {
     boxed_command(alloc)?
         .arg(json_flag(alloc))?
         .arg(raw)?
-        .arg(npy)
+        .arg(npy)?
+        .arg(fill_flag(alloc))
 }
 
 fn dry_flag<'a>(alloc: Global) -> Arg<'a> {
@@ -236,6 +270,7 @@ pub fn program<'a>(alloc: Global) -> Result<Command<'a>, AllocError> {
     let program = with(bare_program(alloc), list_command(alloc))?;
     let program = with(program, info_command(alloc))?;
     let program = with(program, check_command(alloc))?;
+    let program = with(program, map_command(alloc))?;
     let program = with(program, read_command(alloc))?;
     let program = with(program, extract_command(alloc))?;
     with(program, compact_command(alloc))
@@ -275,11 +310,17 @@ fn telling<'a>(matches: &ArgMatches<'a>) -> Work<'a> {
 // What the command `read` does.
 fn reading<'a>(matches: &ArgMatches<'a>) -> Work<'a> {
     let requested = matches.get_str("BOX");
+    let fills = matches.get_flag("fill-damaged");
     match matches.get_str("npy") {
-        Some(path) => Work::Save { requested, path },
+        Some(path) => Work::Save {
+            requested,
+            path,
+            fills,
+        },
         None => Work::Read {
             requested,
             form: form_of(matches),
+            fills,
         },
     }
 }
@@ -294,6 +335,10 @@ pub fn work_of<'a>(name: &str, matches: &ArgMatches<'a>) -> Work<'a> {
         "extract" => Work::Extract {
             key: matches.get_str("KEY").unwrap_or(""),
             number: matches.get_str("NUMBER").unwrap_or(""),
+        },
+        "map" => Work::Map {
+            key: matches.get_str("KEY"),
+            svg: matches.get_str("svg"),
         },
         "read" => reading(matches),
         "compact" => Work::Compact {

@@ -1,6 +1,7 @@
 // How far a command is, as it shows on a terminal.
 ghost use Rattle.std.specs.Prelude.{◌≢◌};
 
+use std::fmt::Display;
 use std::io::Write;
 
 /// Shows how far a command is: a percentage that stands alone on its line, and over which the next one is written. What is
@@ -44,6 +45,12 @@ impl<'a, M: Write> Progress<'a, M> {
             let _ = write!(self.messages, "\r{percent:3} %");
             self.shown = Some(percent);
         }
+    }
+
+    /// Writes a line on what is filled, under a key and with a reason.
+    pub fn tell_filled<D: Display>(&mut self, key: &str, reason: &D) {
+        self.clear();
+        let _ = writeln!(self.messages, "{key}: filled: {reason}");
     }
 
     /// Blanks the percentage that stands there.

@@ -108,7 +108,7 @@ impl<W: Write, M: Write> Told<'_, '_, W, M> {
 }
 
 // Reads a subchunk of a shard, or looks it up in the index alone, and says whether it is present.
-fn check_subchunk<
+pub(crate) fn check_subchunk<
     R: Files + AllocGlobal,
     I: ArrayToBytesCodecTraits,
     X: ArrayToBytesCodecTraits,

@@ -4,6 +4,7 @@ ghost use Rattle.std.specs.Prelude.{◌≤◌, IfOk};
 use crate::check::check;
 use crate::compact::compact;
 use crate::extract::extract;
+use crate::map::{map_array, map_shard};
 use crate::npy::save_subset;
 use crate::read::read_array;
 use array_cli::{
@@ -50,15 +51,16 @@ fn read_and_write<
     array: &Array<'_, R, I, X>,
     subset: &ArraySubset,
     form: Form,
+    fills: bool,
     out: &mut W,
     progress: &mut Progress<'_, M>,
 ) -> Result<Ending, Stop> {
-    let cells = read_array(array, subset, progress)?;
+    let (cells, ending) = read_array(array, subset, fills, progress)?;
     progress.clear();
     let element_type = array.metadata.element_type;
     let wrote = write_cells(out, form, element_type, cells.bytes(), subset.shape());
-    written(wrote, Ending::Done)?;
-    Ok(Ending::Done)
+    written(wrote, ending)?;
+    Ok(ending)
 }
 
 // Reads the subset that a word names, and writes its elements.
@@ -72,12 +74,33 @@ fn run_read<
     array: &Array<'_, R, I, X>,
     requested: Option<&str>,
     form: Form,
+    fills: bool,
     out: &mut W,
     progress: &mut Progress<'_, M>,
 ) -> Result<Ending, Stop> {
     array.test_read()?;
     let subset = subset_of(array.alloc(), requested, &array.metadata.shape)?.subset;
-    read_and_write(array, &subset, form, out, progress)
+    read_and_write(array, &subset, form, fills, out, progress)
+}
+
+// Draws an array, or the shard that has a key.
+fn run_map<
+    R: Files + AllocGlobal,
+    I: ArrayToBytesCodecTraits,
+    X: ArrayToBytesCodecTraits,
+    W: Write,
+    M: Write,
+>(
+    array: &Array<'_, R, I, X>,
+    key: Option<&str>,
+    svg: Option<&str>,
+    out: &mut W,
+    progress: &mut Progress<'_, M>,
+) -> Result<Ending, Stop> {
+    match key {
+        Some(key) => map_shard(array, key, svg, out, progress),
+        None => map_array(array, svg, out, progress),
+    }
 }
 
 // Which shards a command goes over, and how it tells of them. Refused as `Stop::NoPart` where a word names no part.
@@ -114,9 +137,18 @@ fn run_work<
             is_index_alone,
             scope,
         } => check(array, is_index_alone, &listing_of(alloc, scope)?, out, progress),
+        Work::Map { key, svg } => run_map(array, key, svg, out, progress),
         Work::Extract { key, number } => extract(array, key, number, out),
-        Work::Read { requested, form } => run_read(array, requested, form, out, progress),
-        Work::Save { requested, path } => save_subset(array, requested, path, out, progress),
+        Work::Read {
+            requested,
+            form,
+            fills,
+        } => run_read(array, requested, form, fills, out, progress),
+        Work::Save {
+            requested,
+            path,
+            fills,
+        } => save_subset(array, requested, path, fills, out, progress),
         Work::Compact { is_dry, scope } => {
             compact(array, is_dry, &listing_of(alloc, scope)?, out, progress)
         }

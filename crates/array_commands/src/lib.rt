@@ -5,9 +5,13 @@
 mod check;
 mod command;
 mod compact;
+mod drawing;
 mod extract;
+mod map;
 mod npy;
+mod picture;
 mod read;
 mod rewriting;
+mod sound;
 
 pub use command::run_command;

@@ -39,6 +39,17 @@ fn save<R: Files + AllocGlobal, I, X, W: Write>(
     }
 }
 
+/// Makes a file at a path of bytes. A file of that name is replaced once the new one is whole.
+pub fn save_bytes<R: Files + AllocGlobal, I, X, W: Write>(
+    array: &Array<'_, R, I, X>,
+    path: &str,
+    bytes: &[u8],
+    out: &mut W,
+) -> Result<(), Stop> {
+    let beside = npy_beside(array.rt, path)?;
+    save(array, path, &beside, &[], bytes, out)
+}
+
 // The header of a file of NumPy's format, to be at a path, which has the elements that are requested.
 fn header_of<R: Files + AllocGlobal, I, X>(
     array: &Array<'_, R, I, X>,
@@ -62,15 +73,16 @@ fn save_requested<
     array: &Array<'_, R, I, X>,
     requested: &Requested,
     path: &str,
-    beside: &str,
+    fills: bool,
     out: &mut W,
     progress: &mut Progress<'_, M>,
 ) -> Result<Ending, Stop> {
+    let beside = npy_beside(array.rt, path)?;
     let header = header_of(array, requested, path)?;
-    let cells = read_array(array, &requested.subset, progress)?;
+    let (cells, ending) = read_array(array, &requested.subset, fills, progress)?;
     progress.clear();
-    save(array, path, beside, &header, cells.bytes(), out)?;
-    Ok(Ending::Done)
+    save(array, path, &beside, &header, cells.bytes(), out)?;
+    Ok(ending)
 }
 
 /// Reads a subset, and makes a file of NumPy's format of it, which has no axis that is named by one coordinate. A file of that
@@ -85,11 +97,11 @@ pub fn save_subset<
     array: &Array<'_, R, I, X>,
     requested: Option<&str>,
     path: &str,
+    fills: bool,
     out: &mut W,
     progress: &mut Progress<'_, M>,
 ) -> Result<Ending, Stop> {
     array.test_read()?;
     let requested = subset_of(array.alloc(), requested, &array.metadata.shape)?;
-    let beside = npy_beside(array.rt, path)?;
-    save_requested(array, &requested, path, &beside, out, progress)
+    save_requested(array, &requested, path, fills, out, progress)
 }

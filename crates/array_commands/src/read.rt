@@ -1,5 +1,8 @@
 // The elements of a subset of an array.
-use array_cli::{Array, Decoder, Place, Progress, Shard, Stop, decode_subset, read_through};
+use crate::sound::{put_sound, shared_elements};
+use array_cli::{
+    Array, Decoder, Ending, Place, Progress, Refusal, Shard, Stop, decode_subset, read_through,
+};
 use array_grid::{ShardGrid, ShardPart, ShardParts, SubsetCells};
 use codec_traits::ArrayToBytesCodecTraits;
 use parts_arrays::ArrayBytes;
@@ -10,6 +13,17 @@ use sharding_codec::ShardingPartialDecoder;
 use std::io::Write;
 use std::rt::Files;
 use storage_handles::BytesPartialDecoderTraits;
+
+// What is read so far.
+#[derive(Drop)]
+struct Answer {
+    // the elements of the subset, once a part is read
+    cells: Option<SubsetCells>,
+    // whether what is refused is filled
+    fills: bool,
+    // whether something was
+    is_filled: bool,
+}
 
 // The cells of a subset as they are held, or fill values where none are.
 fn held_cells<R: Files + AllocGlobal, I, X>(
@@ -37,20 +51,7 @@ fn put_shard_part<R: Files + AllocGlobal, I, X>(
     Ok(())
 }
 
-// Whether a subchunk of a shape, which has these coordinates in its shard, overlaps a subset of the shard.
-fn overlaps(subset: &ArraySubset, subchunk: &[u64], shape: &[u64]) -> bool {
-    let ranges = subset.start().iter().zip(subset.shape());
-    for ((place, size), (start, count)) in subchunk.iter().zip(shape).zip(ranges) {
-        let first = place.saturating_mul(*size);
-        let ends_before = first.saturating_add(*size) <= *start;
-        if ends_before || first >= start.saturating_add(*count) {
-            return false;
-        }
-    }
-    true
-}
-
-// Whether a subchunk of a shard that is open overlaps a subset of it, and does not decode.
+// Whether a subchunk of a shard that is open has elements of a part of a subset, and does not decode.
 fn is_damaged<
     R: Files + AllocGlobal,
     I: ArrayToBytesCodecTraits,
@@ -58,7 +59,7 @@ fn is_damaged<
     H: BytesPartialDecoderTraits,
 >(
     array: &Array<'_, R, I, X>,
-    subset: &ArraySubset,
+    part: &ShardPart,
     decoder: &mut ShardingPartialDecoder<'_, I, X, H>,
     number: u64,
 ) -> Result<bool, CodecError> {
@@ -66,14 +67,15 @@ fn is_damaged<
     let Some(subchunk) = unravel_index(alloc, number, array.subchunks.as_slice())? else {
         return Ok(false);
     };
-    if !overlaps(subset, &subchunk, array.metadata.subchunk.as_slice()) {
+    let shape = array.metadata.subchunk.as_slice();
+    if shared_elements(alloc, part, &subchunk, shape)?.is_none() {
         return Ok(false);
     }
     let read = read_through(alloc, decoder, array.codec, array.metadata, &subchunk);
     Ok(matches!(read, Err(CodecError::Damaged)))
 }
 
-// Where a refusal of a read of a subset of a shard lies, which is open: the lowest subchunk that does not decode.
+// Where a refusal of a read of a part of a subset lies, of a shard that is open: the lowest subchunk that does not decode.
 fn place_of<
     R: Files + AllocGlobal,
     I: ArrayToBytesCodecTraits,
@@ -81,7 +83,7 @@ fn place_of<
     H: BytesPartialDecoderTraits,
 >(
     array: &Array<'_, R, I, X>,
-    subset: &ArraySubset,
+    part: &ShardPart,
     decoder: &mut ShardingPartialDecoder<'_, I, X, H>,
     error: CodecError,
 ) -> Result<Place, CodecError> {
@@ -89,7 +91,7 @@ fn place_of<
         return Ok(Place::reading(&error));
     }
     for number in 0..array.subchunks.num_elements().unwrap_or(0) {
-        if is_damaged(array, subset, decoder, number)? {
+        if is_damaged(array, part, decoder, number)? {
             return Ok(Place::Subchunk(number));
         }
     }
@@ -134,14 +136,14 @@ fn read_placed<
     let Some(error) = read_open_part(array, requested, part, decoder, cells)? else {
         return Ok(None);
     };
-    let place = match place_of(array, &part.in_shard, decoder, error) {
+    let place = match place_of(array, part, decoder, error) {
         Ok(place) => place,
         Err(_) => Place::reading(&error),
     };
     Ok(Some((error, place)))
 }
 
-// Reads the part of a subset that lies in a shard, which is open.
+// Reads the part of a subset that lies in a shard, which is open, or gives its refusal.
 fn read_opened<R: Files + AllocGlobal, I: ArrayToBytesCodecTraits, X: ArrayToBytesCodecTraits>(
     array: &Array<'_, R, I, X>,
     requested: &ArraySubset,
@@ -149,40 +151,64 @@ fn read_opened<R: Files + AllocGlobal, I: ArrayToBytesCodecTraits, X: ArrayToByt
     shard: &Shard<'_>,
     mut decoder: Decoder<'_, R, I, X>,
     cells: &mut Option<SubsetCells>,
-) -> Result<(), Stop> {
+) -> Result<Option<Refusal>, Stop> {
     let refused = read_placed(array, requested, part, &mut decoder, cells);
     let file = decoder.close();
     match refused? {
-        Some((error, place)) => {
-            let refusal = array.refusal(shard, &file, error, place)?;
-            Err(Stop::Refused(refusal))
-        }
-        None => Ok(()),
+        Some((error, place)) => Ok(Some(array.refusal(shard, &file, error, place)?)),
+        None => Ok(None),
     }
 }
 
-// Reads a part of a subset, which lies in a shard.
+// Reads a part of a subset, which lies in a shard, or gives its refusal.
 fn read_shard<R: Files + AllocGlobal, I: ArrayToBytesCodecTraits, X: ArrayToBytesCodecTraits>(
     array: &Array<'_, R, I, X>,
     requested: &ArraySubset,
     part: &ShardPart,
     shard: &Shard<'_>,
     cells: &mut Option<SubsetCells>,
-) -> Result<(), Stop> {
+) -> Result<Option<Refusal>, Stop> {
     let file = array.file(shard.key)?;
     match array.decoder(shard, file)? {
         Ok(decoder) => read_opened(array, requested, part, shard, decoder, cells),
-        Err(refusal) => Err(Stop::Refused(refusal)),
+        Err(refusal) => Ok(Some(refusal)),
     }
 }
 
+// Reads what is sound of a part of a subset that is refused, where the rest is to be filled.
+fn fill_part<
+    R: Files + AllocGlobal,
+    I: ArrayToBytesCodecTraits,
+    X: ArrayToBytesCodecTraits,
+    M: Write,
+>(
+    array: &Array<'_, R, I, X>,
+    requested: &ArraySubset,
+    part: &ShardPart,
+    shard: &Shard<'_>,
+    answer: &mut Answer,
+    progress: &mut Progress<'_, M>,
+) -> Result<(), Stop> {
+    let mut held = held_cells(array, requested, answer.cells.take())?;
+    put_sound(array, part, shard, &mut held, progress)?;
+    answer.cells = Some(held);
+    answer.is_filled = true;
+    Ok(())
+}
+
 // Reads a part of a subset, which lies in a shard of a grid.
-fn read_part<R: Files + AllocGlobal, I: ArrayToBytesCodecTraits, X: ArrayToBytesCodecTraits>(
+fn read_part<
+    R: Files + AllocGlobal,
+    I: ArrayToBytesCodecTraits,
+    X: ArrayToBytesCodecTraits,
+    M: Write,
+>(
     array: &Array<'_, R, I, X>,
     requested: &ArraySubset,
     part: &ShardPart,
     grid: &ShardGrid,
-    cells: &mut Option<SubsetCells>,
+    answer: &mut Answer,
+    progress: &mut Progress<'_, M>,
 ) -> Result<(), Stop> {
     let Some(coordinates) = grid.coordinates(array.alloc(), part.shard)? else {
         return Err(CodecError::OutOfBounds.into());
@@ -192,7 +218,11 @@ fn read_part<R: Files + AllocGlobal, I: ArrayToBytesCodecTraits, X: ArrayToBytes
         key: &key,
         coordinates: &coordinates,
     };
-    read_shard(array, requested, part, &shard, cells)
+    match read_shard(array, requested, part, &shard, &mut answer.cells)? {
+        None => Ok(()),
+        Some(_) if answer.fills => fill_part(array, requested, part, &shard, answer, progress),
+        Some(refusal) => Err(Stop::Refused(refusal)),
+    }
 }
 
 // The shards of an array whose elements have numbers.
@@ -205,21 +235,28 @@ fn shards_of<R: Files + AllocGlobal, I, X>(array: &Array<'_, R, I, X>) -> Result
 }
 
 // Reads the part of a subset with this number.
-fn read_numbered<R: Files + AllocGlobal, I: ArrayToBytesCodecTraits, X: ArrayToBytesCodecTraits>(
+fn read_numbered<
+    R: Files + AllocGlobal,
+    I: ArrayToBytesCodecTraits,
+    X: ArrayToBytesCodecTraits,
+    M: Write,
+>(
     array: &Array<'_, R, I, X>,
     requested: &ArraySubset,
     grid: &ShardGrid,
     parts: &ShardParts,
     number: u64,
-    cells: &mut Option<SubsetCells>,
+    answer: &mut Answer,
+    progress: &mut Progress<'_, M>,
 ) -> Result<(), Stop> {
+    progress.step(number, parts.len());
     match parts.part(array.alloc(), number)? {
-        Some(part) => read_part(array, requested, &part, grid, cells),
+        Some(part) => read_part(array, requested, &part, grid, answer, progress),
         None => Ok(()),
     }
 }
 
-// The elements of the parts of a subset, and fill values of those that are in none.
+// Reads the elements of the parts of a subset.
 fn read_parts<
     R: Files + AllocGlobal,
     I: ArrayToBytesCodecTraits,
@@ -230,17 +267,16 @@ fn read_parts<
     requested: &ArraySubset,
     grid: &ShardGrid,
     parts: &ShardParts,
+    answer: &mut Answer,
     progress: &mut Progress<'_, M>,
-) -> Result<SubsetCells, Stop> {
-    let mut cells: Option<SubsetCells> = None;
+) -> Result<(), Stop> {
     for number in 0..parts.len() {
-        progress.step(number, parts.len());
-        read_numbered(array, requested, grid, parts, number, &mut cells)?;
+        read_numbered(array, requested, grid, parts, number, answer, progress)?;
     }
-    Ok(held_cells(array, requested, cells)?)
+    Ok(())
 }
 
-// The elements of a subset, from each shard of a grid that it overlaps.
+// Reads the elements of a subset, from each shard of a grid that it overlaps.
 fn read_grid<
     R: Files + AllocGlobal,
     I: ArrayToBytesCodecTraits,
@@ -250,14 +286,16 @@ fn read_grid<
     array: &Array<'_, R, I, X>,
     requested: &ArraySubset,
     grid: &ShardGrid,
+    answer: &mut Answer,
     progress: &mut Progress<'_, M>,
-) -> Result<SubsetCells, Stop> {
+) -> Result<(), Stop> {
     let parts = grid.parts(array.alloc(), requested)?;
-    read_parts(array, requested, grid, &parts, progress)
+    read_parts(array, requested, grid, &parts, answer, progress)
 }
 
 /// The elements of a subset, from each shard that it overlaps, and fill values of those that are absent. Memory for them is
-/// allocated once a part is read, so that a subset in one shard takes less.
+/// allocated once a part is read, so that a subset in one shard takes less. Where `fills` is true, what is refused has fill values too,
+/// the messages say which shards and subchunks that are, and the command ends as `Ending::Refused`.
 pub fn read_array<
     R: Files + AllocGlobal,
     I: ArrayToBytesCodecTraits,
@@ -266,8 +304,20 @@ pub fn read_array<
 >(
     array: &Array<'_, R, I, X>,
     requested: &ArraySubset,
+    fills: bool,
     progress: &mut Progress<'_, M>,
-) -> Result<SubsetCells, Stop> {
+) -> Result<(SubsetCells, Ending), Stop> {
     let grid = shards_of(array)?;
-    read_grid(array, requested, &grid, progress)
+    let mut answer = Answer {
+        cells: None,
+        fills,
+        is_filled: false,
+    };
+    read_grid(array, requested, &grid, &mut answer, progress)?;
+    let ending = if answer.is_filled {
+        Ending::Refused
+    } else {
+        Ending::Done
+    };
+    Ok((held_cells(array, requested, answer.cells)?, ending))
 }

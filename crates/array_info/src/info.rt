@@ -324,6 +324,17 @@ fn write_info_lines<R: Files + AllocGlobal, I, X, W: Write>(
     json::write_sums(out, sums)
 }
 
+/// What is known of the shards in these files; nothing of one whose file is gone. Of each only the index is read. Refused as
+/// `info_of_array` is.
+pub fn known_shards<R: Files + AllocGlobal, I, X: ArrayToBytesCodecTraits, M: Write>(
+    array: &Array<'_, R, I, X>,
+    files: &ChunkFiles,
+    progress: &mut Progress<'_, M>,
+) -> Result<Vec<Option<ShardInfo>>, Stop> {
+    let size = index_size(array.alloc(), &array.codec.index_codec, &array.subchunks)?;
+    listed(array, &files.chunks, size, progress)
+}
+
 /// Writes what the metadata says, and what is known of the shards that are there. Of each only the index is read; a shard that is
 /// refused has a line that says why. Refused, in this order, as `Stop::Codec` where the index has no fixed size, as `Stop::System`
 /// where the folder or a file is not read, and as `Stop::Output` or `Stop::Closed` where the answer is not taken.

@@ -11,7 +11,7 @@ mod shard_info;
 
 pub use folder::{Listing, shard_of, write_folder};
 pub use index_info::whole_index;
-pub use info::info_of_array;
+pub use info::{ShardInfo, info_of_array, known_shards};
 pub use json::{put_refusal, write_folder_lines};
 pub use list::list_nodes;
 pub use shard_info::info_of_shard;
