@@ -53,6 +53,7 @@ pub enum Work<'a> {
     },
     Compact {
         is_dry: bool,
+        output: Option<&'a str>,
         scope: Scope<'a>,
     },
 }
@@ -76,10 +77,9 @@ fn lines_flag<'a>(alloc: Global) -> Arg<'a> {
 }
 
 fn part_option<'a>(alloc: Global) -> Arg<'a> {
-    Arg::new(alloc, "part")
-        .long("part")
-        .value_name("K/N")
-        .help("Only the K-th of N parts of the shards, which are dealt out in turn")
+    Arg::new(alloc, "part").long("part").value_name("K/N").help(
+        "Only the K-th of N parts of the shards, which are dealt out in turn",
+    )
 }
 
 fn info_command<'a>(alloc: Global) -> Result<Command<'a>, AllocError> {
@@ -118,10 +118,9 @@ fn check_command<'a>(alloc: Global) -> Result<Command<'a>, AllocError> {
 }
 
 fn svg_option<'a>(alloc: Global) -> Arg<'a> {
-    Arg::new(alloc, "svg")
-        .long("svg")
-        .value_name("FILE")
-        .help("A picture of the format SVG, written in place of an answer")
+    Arg::new(alloc, "svg").long("svg").value_name("FILE").help(
+        "A picture of the format SVG, written in place of an answer",
+    )
 }
 
 fn map_command<'a>(alloc: Global) -> Result<Command<'a>, AllocError> {
@@ -219,12 +218,21 @@ fn dry_flag<'a>(alloc: Global) -> Arg<'a> {
         .help("Says what would be saved, and writes no file")
 }
 
+fn output_option<'a>(alloc: Global) -> Result<Arg<'a>, AllocError> {
+    Arg::new(alloc, "output")
+        .long("output")
+        .value_name("DIR")
+        .help("Leaves the array as it is, and writes another one into this folder")
+        .conflicts_with("dry-run")
+}
+
 fn compact_command<'a>(alloc: Global) -> Result<Command<'a>, AllocError> {
     Command::new(alloc, "compact")
         .about("Puts a compact shard in the place of each that has dead bytes")
         .after_help("Example: zarr_shard compact --dry-run weather/temperature")
         .arg(path_argument(alloc))?
         .arg(dry_flag(alloc))?
+        .arg(output_option(alloc)?)?
         .arg(lines_flag(alloc))?
         .arg(part_option(alloc))
 }
@@ -343,6 +351,7 @@ pub fn work_of<'a>(name: &str, matches: &ArgMatches<'a>) -> Work<'a> {
         "read" => reading(matches),
         "compact" => Work::Compact {
             is_dry: matches.get_flag("dry-run"),
+            output: matches.get_str("output"),
             scope: scope_of(matches),
         },
         _ => telling(matches),

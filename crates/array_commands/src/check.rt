@@ -94,7 +94,10 @@ impl<W: Write, M: Write> Told<'_, '_, W, M> {
     // Tells a refusal.
     fn tell(&mut self, refusal: &Refusal) -> Result<(), Stop> {
         self.progress.clear();
-        written(write_refusal(self.out, refusal, self.is_json), Ending::Refused)
+        written(
+            write_refusal(self.out, refusal, self.is_json),
+            Ending::Refused,
+        )
     }
 
     // Tells, in JSON, that a shard was checked, of a check that ends so, as far as it has come.

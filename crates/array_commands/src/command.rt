@@ -2,7 +2,7 @@
 ghost use Rattle.std.specs.Prelude.{◌≤◌, IfOk};
 
 use crate::check::check;
-use crate::compact::compact;
+use crate::compact::{Way, compact};
 use crate::extract::extract;
 use crate::map::{map_array, map_shard};
 use crate::npy::save_subset;
@@ -116,6 +116,15 @@ fn listing_of(alloc: Global, scope: Scope<'_>) -> Result<Listing, Stop> {
     }
 }
 
+// Where compact shards go.
+fn way_of(is_dry: bool, output: Option<&str>) -> Way<'_> {
+    match output {
+        Some(folder) => Way::Copy { folder },
+        None if is_dry => Way::Dry,
+        None => Way::Replace,
+    }
+}
+
 // Does a work, and writes its answer.
 fn run_work<
     R: Files + AllocGlobal + Clock,
@@ -136,7 +145,13 @@ fn run_work<
         Work::Check {
             is_index_alone,
             scope,
-        } => check(array, is_index_alone, &listing_of(alloc, scope)?, out, progress),
+        } => check(
+            array,
+            is_index_alone,
+            &listing_of(alloc, scope)?,
+            out,
+            progress,
+        ),
         Work::Map { key, svg } => run_map(array, key, svg, out, progress),
         Work::Extract { key, number } => extract(array, key, number, out),
         Work::Read {
@@ -149,8 +164,13 @@ fn run_work<
             path,
             fills,
         } => save_subset(array, requested, path, fills, out, progress),
-        Work::Compact { is_dry, scope } => {
-            compact(array, is_dry, &listing_of(alloc, scope)?, out, progress)
+        Work::Compact {
+            is_dry,
+            output,
+            scope,
+        } => {
+            let way = way_of(is_dry, output);
+            compact(array, way, &listing_of(alloc, scope)?, out, progress)
         }
     }
 }

@@ -1,25 +1,49 @@
 // The compaction of an array's shards.
+use crate::npy::save;
 use crate::rewriting::{Planned, plan_of, replace};
 use array_cli::{
     Array, Ending, JsonLine, Place, Progress, Refusal, Shard, ShardFile, Stop, written,
 };
-use array_fields::escaped;
-use array_folder::{ChunkFiles, age_of};
+use array_fields::{LONGEST_TEXT, escaped};
+use array_folder::{ChunkFiles, age_of, read_document};
 use array_info::{Listing, put_refusal};
 use codec_traits::ArrayToBytesCodecTraits;
 use sharding_layout::CompactionPlan;
-use std::io::Write;
+use std::io::{ErrorKind, Write};
 use std::rt::{Clock, Files};
 use std::{fs, io};
 use storage_files::path_beside;
 
 // How shards are compacted.
 #[derive(Debug, Clone, Copy)]
-struct Rule {
+struct Rule<'r> {
     // whether no file is written
     is_dry: bool,
+    // the folder to which shards are written; where it is `None` they are replaced
+    folder: Option<&'r str>,
     // whether a line of JSON is written for each shard
     is_json: bool,
+}
+
+/// Where compact shards go.
+#[derive(Debug, Clone, Copy, PartialEq, Eq)]
+pub enum Way<'w> {
+    /// In the place of the shards.
+    Replace,
+    /// Nowhere: it is only told what would be saved.
+    Dry,
+    /// To the folder of another array, which is not there yet.
+    Copy { folder: &'w str },
+}
+
+impl<'w> Way<'w> {
+    // The folder of another array.
+    fn folder(self) -> Option<&'w str> {
+        match self {
+            Way::Copy { folder } => Some(folder),
+            Way::Replace | Way::Dry => None,
+        }
+    }
 }
 
 /// What was gained, and what was not done.
@@ -78,30 +102,14 @@ enum Outcome {
     Busy(String),
 }
 
-// The path of the new file of a shard.
+// The path at which the new file of a path stands until it is whole.
 fn beside_of<R: Files + AllocGlobal, I, X>(
     array: &Array<'_, R, I, X>,
-    shard: &Shard<'_>,
+    path: &str,
 ) -> Result<String, Stop> {
-    let path = array.path_of(shard.key)?;
-    match path_beside(array.alloc(), array.rt, &path) {
+    match path_beside(array.alloc(), array.rt, path) {
         Ok(beside) => Ok(beside),
-        Err(error) => Err(Stop::system(array.alloc(), &path, error)),
-    }
-}
-
-// Compacts a shard by a plan, if no new file stands at the path `beside`, and says so. Without a plan no file is written.
-fn put_beside<'a, R: Files + AllocGlobal, I, X, W: Write>(
-    array: &Array<'a, R, I, X>,
-    shard: &Shard<'_>,
-    file: &mut ShardFile<'a, R>,
-    beside: &str,
-    plan: Option<&CompactionPlan>,
-    out: &mut W,
-) -> Result<bool, Stop> {
-    match plan {
-        Some(plan) => replace(array, shard, file, beside, plan, out),
-        None => Ok(fs::symlink_metadata(array.rt, beside).is_err()),
+        Err(error) => Err(Stop::system(array.alloc(), path, error)),
     }
 }
 
@@ -114,13 +122,65 @@ fn put<'a, R: Files + AllocGlobal, I, X, W: Write>(
     plan: Option<&CompactionPlan>,
     out: &mut W,
 ) -> Result<Outcome, Stop> {
-    let beside = beside_of(array, shard)?;
-    let is_free = put_beside(array, shard, file, &beside, plan, out)?;
+    let path = array.path_of(shard.key)?;
+    let beside = beside_of(array, &path)?;
+    let is_free = match plan {
+        Some(_) => replace(array, shard, file, (&path, &beside), plan, out)?,
+        None => fs::symlink_metadata(array.rt, &beside).is_err(),
+    };
     Ok(if is_free {
         Outcome::Saved(bytes)
     } else {
         Outcome::Busy(beside)
     })
+}
+
+// What a compaction makes of the shard in a file: its plan, if it has one, and what is said of it.
+fn planned<'a, R: Files + AllocGlobal, I: ArrayToBytesCodecTraits, X: ArrayToBytesCodecTraits>(
+    array: &Array<'a, R, I, X>,
+    shard: &Shard<'_>,
+    file: &mut ShardFile<'a, R>,
+) -> Result<(Option<CompactionPlan>, Outcome), Stop> {
+    match plan_of(
+        array.alloc(),
+        array.codec,
+        &array.metadata.shard,
+        file,
+        false,
+    ) {
+        Ok(Planned::Nothing) => Ok((None, Outcome::Compact)),
+        Ok(Planned::Longer(longer)) => Ok((None, Outcome::Longer(longer))),
+        Ok(Planned::Saves { bytes, plan }) => Ok((plan, Outcome::Saved(bytes))),
+        Err(error) => {
+            let refusal = array.refusal(shard, file, error, Place::opening(&error))?;
+            Ok((None, Outcome::Refused(refusal)))
+        }
+    }
+}
+
+// Writes a shard to another folder: compacted, or as it is where that would not make it shorter or where it is refused.
+fn copy_to<
+    'a,
+    R: Files + AllocGlobal,
+    I: ArrayToBytesCodecTraits,
+    X: ArrayToBytesCodecTraits,
+    W: Write,
+>(
+    array: &Array<'a, R, I, X>,
+    shard: &Shard<'_>,
+    file: &mut ShardFile<'a, R>,
+    folder: &str,
+    out: &mut W,
+) -> Result<Outcome, Stop> {
+    let key = shard.key;
+    let path = format!(in array.alloc(); "{folder}/{key}")?;
+    let beside = beside_of(array, &path)?;
+    let (plan, outcome) = planned(array, shard, file)?;
+    if replace(array, shard, file, (&path, &beside), plan.as_ref(), out)? {
+        Ok(outcome)
+    } else {
+        Ok(Outcome::Busy(beside))
+    }
 }
 
 // Compacts the shard in a file.
@@ -227,11 +287,14 @@ fn outcome_of<
 >(
     array: &Array<'_, R, I, X>,
     shard: &Shard<'_>,
-    is_dry: bool,
+    rule: &Rule<'_>,
     out: &mut W,
 ) -> Result<Outcome, Stop> {
     let mut file = array.file(shard.key)?;
-    compact_file(array, shard, &mut file, is_dry, out)
+    match rule.folder {
+        Some(folder) => copy_to(array, shard, &mut file, folder, out),
+        None => compact_file(array, shard, &mut file, rule.is_dry, out),
+    }
 }
 
 // Compacts a shard, and writes a line where it is not compact.
@@ -244,12 +307,12 @@ fn compact_one<
 >(
     array: &Array<'_, R, I, X>,
     shard: &Shard<'_>,
-    rule: &Rule,
+    rule: &Rule<'_>,
     out: &mut W,
     gained: &mut Gained,
     progress: &mut Progress<'_, M>,
 ) -> Result<(), Stop> {
-    let outcome = outcome_of(array, shard, rule.is_dry, out)?;
+    let outcome = outcome_of(array, shard, rule, out)?;
     match &outcome {
         Outcome::Saved(saved) => gained.add(*saved),
         Outcome::Refused(_) => gained.is_refused = true,
@@ -277,7 +340,7 @@ fn compact_all<
 >(
     array: &Array<'_, R, I, X>,
     files: &ChunkFiles,
-    rule: &Rule,
+    rule: &Rule<'_>,
     out: &mut W,
     progress: &mut Progress<'_, M>,
 ) -> Result<Gained, Stop> {
@@ -295,8 +358,35 @@ fn compact_all<
     Ok(gained)
 }
 
-/// Compacts each shard that a part has, and writes a line for each that is not compact and how many bytes were saved in all. With
-/// `is_dry` no file is written.
+// Tests that a folder does not hold an array or a group yet.
+fn test_no_array<R: Files + AllocGlobal, I, X>(
+    array: &Array<'_, R, I, X>,
+    folder: &str,
+) -> Result<(), Stop> {
+    let alloc = array.alloc();
+    let path = format!(in alloc; "{folder}/zarr.json")?;
+    if fs::symlink_metadata(array.rt, &path).is_err() {
+        return Ok(());
+    }
+    let error = io::Error::new(ErrorKind::AlreadyExists, "stands there already");
+    Err(Stop::system(alloc, &path, error))
+}
+
+// Copies the metadata of an array to another folder, which is an array's from then on.
+fn copy_metadata<R: Files + AllocGlobal, I, X, W: Write>(
+    array: &Array<'_, R, I, X>,
+    folder: &str,
+    out: &mut W,
+) -> Result<(), Stop> {
+    let alloc = array.alloc();
+    let text = read_document(array.rt, &array.path_of("zarr.json")?, LONGEST_TEXT)?;
+    let path = format!(in alloc; "{folder}/zarr.json")?;
+    let beside = beside_of(array, &path)?;
+    save(array, &path, &beside, text.as_bytes(), &[], out)
+}
+
+/// Compacts each shard that a part has, and writes a line for each that is not compact and how many bytes were saved in all. As a copy,
+/// each shard is written to the folder of another array, also one that is compact or refused, and the metadata last, by the first part.
 pub fn compact<
     R: Files + AllocGlobal + Clock,
     I: ArrayToBytesCodecTraits,
@@ -305,15 +395,19 @@ pub fn compact<
     M: Write,
 >(
     array: &Array<'_, R, I, X>,
-    is_dry: bool,
+    way: Way<'_>,
     listing: &Listing,
     out: &mut W,
     progress: &mut Progress<'_, M>,
 ) -> Result<Ending, Stop> {
+    if let Way::Copy { folder } = way {
+        test_no_array(array, folder)?;
+    }
     let files = array.files_in(&listing.part)?;
     let all = files.chunks.len();
     let rule = Rule {
-        is_dry,
+        is_dry: way == Way::Dry,
+        folder: way.folder(),
         is_json: listing.is_json,
     };
     let gained = compact_all(array, &files, &rule, out, progress)?;
@@ -324,5 +418,10 @@ pub fn compact<
         writeln!(out, "{bytes} bytes saved in {shards} of {all} shards")
     };
     written(wrote, gained.ending())?;
+    if let Way::Copy { folder } = way
+        && listing.part.is_first()
+    {
+        copy_metadata(array, folder, out)?;
+    }
     Ok(gained.ending())
 }

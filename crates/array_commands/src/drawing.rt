@@ -40,6 +40,7 @@ const COLUMNS: u64 = 64;
 
 // What a mark of a bar is for bytes that no index entry names, and for those of the index.
 const DEAD: u8 = b'-';
+
 const INDEX: u8 = b'=';
 
 // The marks of slices, from the lowest number of a subchunk on.
@@ -98,7 +99,10 @@ impl ShardMap {
     fn digit(&self, number: usize) -> u8 {
         let count = self.subchunks.len().max(DIGITS.len());
         let place = number.saturating_mul(DIGITS.len()).checked_div(count);
-        place.and_then(|place| DIGITS.get(place)).copied().unwrap_or(b'z')
+        place
+            .and_then(|place| DIGITS.get(place))
+            .copied()
+            .unwrap_or(b'z')
     }
 }
 
@@ -153,7 +157,9 @@ pub fn write_array_map<W: Write>(out: &mut W, marks: &[Mark], counts: &[u64]) ->
 
 // The column of a bar that has a byte of a file of a length.
 fn column_of(byte: u64, length: u64) -> usize {
-    let place = (byte as u128).saturating_mul(COLUMNS as u128).checked_div(length as u128);
+    let place = (byte as u128)
+        .saturating_mul(COLUMNS as u128)
+        .checked_div(length as u128);
     place.unwrap_or(0).min(COLUMNS as u128) as usize
 }
 
@@ -162,7 +168,10 @@ fn paint(bar: &mut [u8], (start, end): (u64, u64), length: u64, mark: u8) {
     if start >= end {
         return;
     }
-    let (first, last) = (column_of(start, length), column_of(end.saturating_sub(1), length));
+    let (first, last) = (
+        column_of(start, length),
+        column_of(end.saturating_sub(1), length),
+    );
     for column in first..last.saturating_add(1) {
         if let Some(place) = bar.get_mut(column) {
             *place = mark;

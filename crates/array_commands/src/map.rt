@@ -32,9 +32,7 @@ fn places_of(counts: &[u64]) -> Result<u64, Stop> {
         places = places.saturating_mul(*count);
     }
     if places > MOST_PLACES {
-        return Err(Stop::TooManyPlaces {
-            most: MOST_PLACES,
-        });
+        return Err(Stop::TooManyPlaces { most: MOST_PLACES });
     }
     Ok(places)
 }
@@ -42,9 +40,7 @@ fn places_of(counts: &[u64]) -> Result<u64, Stop> {
 // The first byte of a slice, and the one behind its last.
 fn bytes_of(range: ByteRange) -> (u64, u64) {
     match range {
-        ByteRange::FromStart(offset, size) => {
-            (offset, offset.saturating_add(size.unwrap_or(0)))
-        }
+        ByteRange::FromStart(offset, size) => { (offset, offset.saturating_add(size.unwrap_or(0))) }
         ByteRange::Suffix(size) => (0, size),
     }
 }
@@ -130,10 +126,12 @@ fn follows(drawn: &[Drawn], sequence: &SubchunkSequence) -> bool {
     let mut reached = 0;
     for position in 0..sequence.len() {
         let number = sequence.number_at(position);
-        if let Some(Drawn {
-            mark: _,
-            bytes: Some((start, _)),
-        }) = drawn.get(number as usize)
+        if let Some(
+            Drawn {
+                mark: _,
+                bytes: Some((start, _)),
+            },
+        ) = drawn.get(number as usize)
         {
             if *start < reached {
                 return false;
@@ -179,7 +177,9 @@ fn map_of<
     progress: &mut Progress<'_, M>,
 ) -> Result<ShardMap, CodecError> {
     let alloc = array.alloc();
-    let index = array.codec.index_interval(alloc, length, &array.metadata.shard)?;
+    let index = array
+        .codec
+        .index_interval(alloc, length, &array.metadata.shard)?;
     let subchunks = draw_each(array, decoder, count, progress)?;
     let order = order_of(alloc, &subchunks, &array.subchunks)?;
     Ok(ShardMap {
@@ -253,7 +253,10 @@ pub fn map_shard<
             write_shard_picture(&mut picture, shard.key, &map, grid)?;
             save_bytes(array, path, &picture, out)?;
         }
-        None => written(write_shard_map(out, array.alloc(), shard.key, &map, grid), ending)?,
+        None => written(
+            write_shard_map(out, array.alloc(), shard.key, &map, grid),
+            ending,
+        )?,
     }
     Ok(ending)
 }

@@ -19,7 +19,7 @@ fn busy() -> io::Error {
 }
 
 // Makes the file at a path of a header and cells.
-fn save<R: Files + AllocGlobal, I, X, W: Write>(
+pub(crate) fn save<R: Files + AllocGlobal, I, X, W: Write>(
     array: &Array<'_, R, I, X>,
     path: &str,
     beside: &str,

@@ -5,8 +5,11 @@ use std::io::Write;
 
 // The side of a square, the room around what is drawn, and the height and the length of a bar.
 const SIDE: u64 = 16;
+
 const MARGIN: u64 = 12;
+
 const BAR: u64 = 28;
+
 const LENGTH: u64 = 768;
 
 // A rectangle of a picture, by its left upper corner.
@@ -20,8 +23,11 @@ struct Rectangle {
 
 // The color of what is refused, of the index, of dead bytes, and of what is absent.
 const REFUSED: u32 = 0xd62728;
+
 const INDEX: u32 = 0x555555;
+
 const DEAD: u32 = 0xf0c9c9;
+
 const ABSENT: u32 = 0xffffff;
 
 // A part of a color between two, so many parts of so many on the way.
@@ -46,7 +52,10 @@ fn begin<W: Write>(out: &mut W, width: u64, height: u64) -> io::Result<()> {
         out,
         "<svg xmlns=\"http://www.w3.org/2000/svg\" width=\"{width}\" height=\"{height}\" font-family=\"monospace\" font-size=\"12\">"
     )?;
-    writeln!(out, "<rect width=\"{width}\" height=\"{height}\" fill=\"#ffffff\"/>")
+    writeln!(
+        out,
+        "<rect width=\"{width}\" height=\"{height}\" fill=\"#ffffff\"/>"
+    )
 }
 
 // Writes a rectangle in a color.
@@ -125,9 +134,15 @@ pub fn write_array_picture<W: Write>(
 ) -> io::Result<()> {
     let places = marks.len() as u64;
     let top = 2 * MARGIN + SIDE;
-    let height = top.saturating_add(height_of(counts, places)).saturating_add(MARGIN);
+    let height = top
+        .saturating_add(height_of(counts, places))
+        .saturating_add(MARGIN);
     begin(out, width_of(counts), height)?;
-    write_words(out, MARGIN + SIDE, "shards: blue present, white absent, red refused")?;
+    write_words(
+        out,
+        MARGIN + SIDE,
+        "shards: blue present, white absent, red refused",
+    )?;
     for (number, mark) in marks.iter().enumerate() {
         let number = number as u64;
         let color = color_of(*mark, number, 1);
@@ -139,7 +154,9 @@ pub fn write_array_picture<W: Write>(
 // Where bytes of a file of a length lie on a bar at a height.
 fn bar_at((start, end): (u64, u64), length: u64, y: u64) -> Rectangle {
     let along = |byte: u64| {
-        let place = (byte as u128).saturating_mul(LENGTH as u128).checked_div(length as u128);
+        let place = (byte as u128)
+            .saturating_mul(LENGTH as u128)
+            .checked_div(length as u128);
         place.unwrap_or(0).min(LENGTH as u128) as u64
     };
     let (first, last) = (along(start), along(end));
@@ -190,7 +207,9 @@ pub fn write_shard_picture<W: Write>(
 ) -> io::Result<()> {
     let of = map.subchunks.len() as u64;
     let top = 2 * MARGIN + SIDE;
-    let bar = top.saturating_add(height_of(counts, of)).saturating_add(SIDE);
+    let bar = top
+        .saturating_add(height_of(counts, of))
+        .saturating_add(SIDE);
     let bottom = bar.saturating_add(BAR).saturating_add(2 * SIDE);
     begin(out, width_of(counts), bottom.saturating_add(SIDE))?;
     let (length, order) = (map.length, map.order);
@@ -198,7 +217,8 @@ pub fn write_shard_picture<W: Write>(
     writeln!(out, "{key}: {length} bytes, slices {order}</text>")?;
     write_squares(out, map, counts, top)?;
     write_bar(out, map, bar)?;
-    let words = "blue: subchunks and their slices, light to dark by number; white: absent; red: refused; gray: index; pink: dead";
+    let words =
+        "blue: subchunks and their slices, light to dark by number; white: absent; red: refused; gray: index; pink: dead";
     write_words(out, bottom, words)?;
     out.write_all(b"</svg>\n")
 }

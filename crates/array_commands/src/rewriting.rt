@@ -129,13 +129,28 @@ fn copy_slices<H: BytesPartialDecoderTraits, R: Files>(
     Ok(())
 }
 
-// Writes what a plan says to the new file.
+// Appends all bytes of an old file to the new one.
+fn copy_file<H: BytesPartialDecoderTraits, R: Files>(
+    alloc: Global,
+    old: &mut H,
+    new: &mut Replacement<R>,
+) -> Result<(), Failure> {
+    match old.len()? {
+        Some(length) => copy_slice(alloc, old, 0, length, new),
+        None => Err(Failure::Old(CodecError::Fault)),
+    }
+}
+
+// Writes what a plan says to the new file; without a plan what the old one has.
 fn write_plan<H: BytesPartialDecoderTraits, R: Files>(
     alloc: Global,
     old: &mut H,
-    plan: &CompactionPlan,
+    plan: Option<&CompactionPlan>,
     new: &mut Replacement<R>,
 ) -> Result<(), Failure> {
+    let Some(plan) = plan else {
+        return copy_file(alloc, old, new);
+    };
     match plan.index_location() {
         ShardingIndexLocation::Start => {
             new.write(plan.index())?;
@@ -148,11 +163,12 @@ fn write_plan<H: BytesPartialDecoderTraits, R: Files>(
     }
 }
 
-// Writes what a plan says to the new file, and puts it in the place of the old one. Where that is refused the old one stands.
+// Writes what a plan says, or without a plan what the old file has, to the new file, and puts it in its place. Where that is refused,
+// what stood there stands.
 fn carry_out<H: BytesPartialDecoderTraits, R: Files + Drop>(
     alloc: Global,
     old: &mut H,
-    plan: &CompactionPlan,
+    plan: Option<&CompactionPlan>,
     mut new: Replacement<R>,
 ) -> Result<(), Failure> {
     match write_plan(alloc, old, plan, &mut new) {
@@ -210,27 +226,17 @@ fn stop_of<'a, R: Files + AllocGlobal, I, X>(
     }
 }
 
-// The new file of a shard, or `None` where one stands there already.
-fn begin_shard<'a, R: Files + AllocGlobal, I, X>(
-    array: &Array<'a, R, I, X>,
-    shard: &Shard<'_>,
-    beside: &str,
-) -> Result<Option<Replacement<&'a R>>, Stop> {
-    let path = array.path_of(shard.key)?;
-    begin(array, &path, beside)
-}
-
-/// Puts what a plan says in the place of a shard's file, by a new file that stands at the path `beside` until it is whole; or
-/// says that a file stands there already.
+/// Puts what a plan says, or without a plan the shard as it is, at a path, by a new file that stands at the path `beside` until it is
+/// whole; or says that a file stands there already.
 pub fn replace<'a, R: Files + AllocGlobal, I, X, W: Write>(
     array: &Array<'a, R, I, X>,
     shard: &Shard<'_>,
     old: &mut ShardFile<'a, R>,
-    beside: &str,
-    plan: &CompactionPlan,
+    (path, beside): (&str, &str),
+    plan: Option<&CompactionPlan>,
     out: &mut W,
 ) -> Result<bool, Stop> {
-    let Some(new) = begin_shard(array, shard, beside)? else {
+    let Some(new) = begin(array, path, beside)? else {
         return Ok(false);
     };
     // a line that nobody reads stops nothing

@@ -56,7 +56,10 @@ pub fn shared_elements(
     let (mut starts, mut targets) = (Vec::new(alloc), Vec::new(alloc));
     let mut counts = Vec::new(alloc);
     let parts = part.in_shard.start().iter().zip(part.in_shard.shape());
-    let axes = subchunk.iter().zip(shape).zip(parts.zip(part.in_subset.start()));
+    let axes = subchunk
+        .iter()
+        .zip(shape)
+        .zip(parts.zip(part.in_subset.start()));
     for ((place, size), ((start, count), target)) in axes {
         let first = place.saturating_mul(*size);
         let Some(axis) = shared_axis((first, *size), (*start, *count), *target) else {
@@ -123,7 +126,12 @@ fn tell_filled<M: Write>(progress: &mut Progress<'_, M>, refusal: &Refusal) {
 }
 
 // Puts what each subchunk of a shard that is open has of a part of a subset, and tells which ones are refused.
-fn put_each<R: Files + AllocGlobal, I: ArrayToBytesCodecTraits, X: ArrayToBytesCodecTraits, M: Write>(
+fn put_each<
+    R: Files + AllocGlobal,
+    I: ArrayToBytesCodecTraits,
+    X: ArrayToBytesCodecTraits,
+    M: Write,
+>(
     array: &Array<'_, R, I, X>,
     part: &ShardPart,
     shard: &Shard<'_>,

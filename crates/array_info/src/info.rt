@@ -1,7 +1,7 @@
 // What an array on disk holds, and its shards.
 use crate::folder::{Listing, write_folder};
-use crate::json;
 use crate::index_info::{index_info, index_range, index_size, whole_index};
+use crate::json;
 use array_cli::{
     Array, Ending, Place, Progress, Refusal, Shard, ShardFile, Stop, write_numbers, write_rows,
     written,

@@ -39,7 +39,8 @@ pub fn write_array<W: Write>(
     if let Some(name) = unread {
         line.text("unread_codec", name)?;
     }
-    line.member("possible_shards")?.write_all(possible.as_bytes())?;
+    line.member("possible_shards")?
+        .write_all(possible.as_bytes())?;
     line.end()
 }
 
