@@ -11,7 +11,7 @@ import textwrap
 from sources import TOP, crate, defined, items, read
 
 PATH = f"{TOP}/docs/REFERENCE.md"
-PUBLIC = ["zarr_parts", "zarr_codecs", "zarrs_sharding", "shard_sessions", "tool_script", "codec_crc32c", "codec_gzip", "codec_deflate", "codec_zstd", "codec_xxhash", "codec_decompression", "sharding_plans", "storage_files"]
+PUBLIC = ["zarr_parts", "zarr_codecs", "zarrs_sharding", "shard_sessions", "tool_script", "codec_checksums", "codec_gzip", "codec_deflate", "codec_zstd", "codec_compression", "sharding_plans", "storage_files"]
 NOTES = {"tool_script": "The program `shard_tool` calls `run_script_explained`."}
 PLAIN = {"Drop", "Model"}
 WIDTH = 118

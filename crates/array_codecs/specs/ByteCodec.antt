@@ -2,7 +2,7 @@
 use Rattle.std.proofs.Common.{refl}
 use Rattle.codec_chains.specs.Codings.{Coding, IsInvertible, IsBounded}
 use Rattle.codec_chains.specs.TrailerLaws.{trailer_invertible, trailer_bounded}
-use Rattle.codec_crc32c.specs.Crc32c.{checksum_bytes, crc32c_coding}
+use Rattle.codec_checksums.specs.Crc32c.{checksum_bytes, crc32c_coding}
 use Rattle.codec_gzip.specs.GzipCoding.{gzip_coding}
 use Rattle.codec_gzip.specs.GzipLaws.{gzip_bounded}
 use Rattle.codec_zstd.specs.ZstdCoding.{zstd_coding}

@@ -4,7 +4,7 @@ use Rattle.parts_errors.specs.Words.{Bytes}
 use Rattle.codec_chains.specs.Codings.{Coding, IsInvertible, IsBounded}
 use Rattle.codec_chains.specs.Trailers.{with_trailer, without_trailer, longer_by}
 use Rattle.codec_chains.specs.TrailerLaws.{trailer_invertible, trailer_bounded}
-use Rattle.codec_crc32c.specs.Crc32c.{checksum_bytes}
+use Rattle.codec_checksums.specs.Crc32c.{checksum_bytes}
 use Rattle.array_codecs.specs.ByteCodec.{byte_coding, byte_invertible, byte_bounded}
 use Rattle.array_codecs.specs.declared.byte_codecs.ByteCodecs.{ByteCodecs}
 

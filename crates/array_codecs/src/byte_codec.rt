@@ -1,6 +1,6 @@
 // The codecs from bytes to bytes that are served.
 use codec_chains::BytesToBytesCodecTraits;
-use codec_crc32c::Crc32cCodec;
+use codec_checksums::Crc32cCodec;
 use codec_gzip::GzipCodec;
 use codec_traits::BytesRepresentation;
 use codec_zstd::ZstdCodec;

@@ -3,11 +3,11 @@ ghost use Rattle.std.specs.Prelude.{◌≡◌, Some, IfOk, IfErr, IsSome};
 ghost use Rattle.parts_errors.specs.Order.{◌or◌then◌, done, RefusedBy};
 ghost use Rattle.parts_errors.specs.declared.error.CodecError.TheVariants.{Damaged};
 ghost use Rattle.codec_chains.specs.Trailers.{without_trailer};
-ghost use Rattle.codec_crc32c.specs.Crc32c.{checksum_bytes};
+ghost use Rattle.codec_checksums.specs.Crc32c.{checksum_bytes};
 
 use crate::byte_codec::ByteCodec;
 use codec_chains::BytesToBytesCodecTraits;
-use codec_crc32c::Crc32cCodec;
+use codec_checksums::Crc32cCodec;
 use codec_traits::BytesRepresentation;
 use parts_errors::CodecError;
 use std::alloc::Global;

@@ -8,7 +8,7 @@ use Rattle.codec_metadata.specs.Metadata.{name_in, first_refused, members_in}
 use Rattle.parts_subsets.specs.Grid.{Divides}
 use Rattle.parts_arrays.specs.Types.{size_of, HasElements}
 use Rattle.parts_arrays.specs.declared.data_type.DataTypeSize.TheVariants.{Fixed}
-use Rattle.sharding_configuration.specs.Configuration.{shape_in}
+use Rattle.sharding_codec.specs.Configuration.{shape_in}
 use Rattle.array_fields.specs.MetadataFields.{member_in, configured_in, whole_number_in, whole_numbers_in, is_understood}
 use Rattle.array_metadata.specs.KeyEncodings.{encoding_name, default_separator, separator_text}
 use Rattle.array_metadata.specs.FillValues.{IsFillIn}

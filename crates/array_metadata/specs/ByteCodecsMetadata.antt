@@ -5,7 +5,7 @@ use Rattle.serde_json.specs.Data.{Data, Items, no_items, item}
 use Rattle.serde_json.specs.Find.{get, as_bool}
 use Rattle.codec_metadata.specs.CreateErrors.{Reading, and_then, or_refused, unsupported_chain, bad_field}
 use Rattle.codec_metadata.specs.Metadata.{codec_of, name_in}
-use Rattle.codec_crc32c.specs.declared.codec.Crc32cCodec.{Crc32cCodec}
+use Rattle.codec_checksums.specs.declared.crc32c_codec.Crc32cCodec.{Crc32cCodec}
 use Rattle.codec_gzip.specs.declared.codec.GzipCodec.{GzipCodec}
 use Rattle.codec_zstd.specs.declared.codec.ZstdCodec.{ZstdCodec}
 use Rattle.array_codecs.specs.declared.byte_codec.ByteCodec.{ByteCodec}

@@ -9,7 +9,7 @@ ghost use Rattle.array_metadata.specs.CodecNames.{IsByteCodec, IsNamed, Names, m
 use crate::codecs::{CodecName, NamedCodec};
 use array_codecs::{ByteCodec, ByteCodecs};
 use array_fields::{MetadataError, Placed};
-use codec_crc32c::Crc32cCodec;
+use codec_checksums::Crc32cCodec;
 use codec_gzip::GzipCodec;
 use codec_zstd::ZstdCodec;
 use std::alloc::Global;

@@ -3,8 +3,8 @@ ghost use Rattle.std.specs.Prelude.{◌≡◌, IsTrue, Some, Ok, IfOk, IfSome, l
 ghost use Rattle.std.specs.List.{All};
 ghost use Rattle.serde_json.specs.Find.{get};
 ghost use Rattle.serde_json.specs.View.{view, items_view};
-ghost use Rattle.sharding_configuration.specs.Configuration.{configuration_in, shape_in};
-ghost use Rattle.sharding_configuration.specs.Configurations.{configuration_of};
+ghost use Rattle.sharding_codec.specs.Configuration.{configuration_in, shape_in};
+ghost use Rattle.sharding_codec.specs.Configurations.{configuration_of};
 ghost use Rattle.array_fields.specs.MetadataFields.{configured_in};
 ghost use Rattle.array_metadata.specs.ArrayCodecs.{bytes_in, elements_in, shards_in, served_in, subchunks_in};
 ghost use Rattle.array_metadata.specs.UnreadCodecs.{sole_shards, chunks_in};
@@ -20,8 +20,7 @@ use codec_metadata::{CodecTraitsV3, PluginCreateError};
 use parts_arrays::{DataType, DataTypeSize};
 use parts_subsets::ChunkShape;
 use serde_json::Value;
-use sharding_codec::ShardingCodec;
-use sharding_configuration::{ShardingCodecConfiguration, ShardingCodecConfigurationV1};
+use sharding_codec::{ShardingCodec, ShardingCodecConfiguration, ShardingCodecConfigurationV1};
 use std::alloc::Global;
 
 /// `bytes`, or `bytes` and codecs from bytes to bytes behind it.

@@ -10,7 +10,7 @@ ghost use Rattle.array_metadata.specs.FillValues.{IsFillIn};
 ghost use Rattle.array_metadata.specs.ArrayCodecs.{shards_in, subchunks_in};
 ghost use Rattle.array_metadata.specs.UnreadCodecs.{chunks_in, unread_codec_in};
 ghost use Rattle.array_metadata.specs.ElementTypes.{IsTypeIn, IsRead, carrier};
-ghost use Rattle.sharding_configuration.specs.Configuration.{shape_in};
+ghost use Rattle.sharding_codec.specs.Configuration.{shape_in};
 ghost use Rattle.parts_subsets.specs.Grid.{Divides};
 ghost use Rattle.parts_arrays.specs.Types.{size_of, HasElements};
 ghost use Rattle.parts_arrays.specs.declared.data_type.DataTypeSize.TheVariants.{Fixed};

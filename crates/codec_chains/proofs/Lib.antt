@@ -1,3 +1,4 @@
+pub mod ArrayChainSteps
 pub mod ChainSteps
 pub mod InnerSteps
 pub mod TrailerSteps

@@ -1,3 +1,6 @@
+pub mod ArrayCodings
+pub mod ArrayChains
+pub mod ArrayChainLaws
 pub mod Codings
 pub mod Chains
 pub mod ChainLaws

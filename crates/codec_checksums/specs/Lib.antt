@@ -1,1 +1,4 @@
 pub mod Checksum
+pub mod Castagnoli
+pub mod Crc32c
+pub mod XxHash

@@ -1,10 +1,10 @@
 -- Laws of the members of a gzip file.
 use Rattle.std.proofs.Common.{◌≡◌, ℕ, zero, suc, ◌+◌, ◌-◌, ◌<◌, ◌≤◌, ◌≢◌, ◌++◌, [], ◌∷◌, Option, Some, None, IfSome, length, get_or, drop, refl, sym, ap, subst, ◌∙◌, arith, length-append}
-use Rattle.codec_decompression.specs.Options.{◌>>=◌}
-use Rattle.codec_decompression.specs.Bits.{Bytes}
+use Rattle.codec_compression.specs.Options.{◌>>=◌}
+use Rattle.codec_compression.specs.Bits.{Bytes}
 use Rattle.codec_deflate.specs.Inflate.{inflated}
-use Rattle.codec_decompression.specs.Refusals.{content_of}
-use Rattle.codec_decompression.proofs.Exits.{IsOver}
+use Rattle.codec_compression.specs.Refusals.{content_of}
+use Rattle.codec_compression.proofs.Exits.{IsOver}
 use Rattle.codec_gzip.specs.Gzip.{after_zero, after_header, after_trailer, member_at}
 
 pub text_more : (place : ℕ) (bytes : Bytes) → place < length bytes → get_or bytes place 0 ≢ 0 → after_zero (drop place bytes) ≡ after_zero (drop (place + 1) bytes)

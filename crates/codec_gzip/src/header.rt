@@ -1,10 +1,10 @@
 // The header and the trailer of a member (RFC 1952, 2.3): each function returns the bytes after a part.
 ghost use Rattle.std.specs.Prelude.{◌≡◌, ◌+◌, ◌*◌, ◌-◌, ◌/◌, ◌^◌, ◌<◌, ◌≤◌, ◌++◌, ℕ, length, IfOk};
-ghost use Rattle.codec_decompression.specs.Reading.{Gives};
+ghost use Rattle.codec_compression.specs.Reading.{Gives};
 ghost use Rattle.codec_gzip.specs.Gzip.{after, after_zero, after_extra, after_crc16, if_set, after_header, after_trailer};
 
 use crate::checksum::crc32;
-use codec_decompression::DecompressError;
+use codec_compression::DecompressError;
 
 // `count` bytes.
 #[tactic(auto, unfolding(crate::specs::Gzip::after))]

@@ -23,16 +23,16 @@ use Rattle.sharding_codec.specs.SessionWrites.{IsWritten}
 use Rattle.sharding_codec.specs.LockedSessions.{HasWritten, HasRefusedWrite, HasRead, HasRefusedRead, HasErased}
 use Rattle.sharding_codec.specs.declared.codec.ShardingCodec.{ShardingCodec}
 use Rattle.sharding_open.proofs.PreparedLemmas.{length-object_cells}
-use Rattle.session_model.specs.Maps.{CellMap, elements_of}
-use Rattle.session_model.specs.Objects.{Shards, shards_of, Shows}
-use Rattle.session_model.proofs.ShownLemmas.{length-elements_of, get_or-elements_of}
-use Rattle.session_model.proofs.StepLemmas.{write_leads, read_leads, erase_leads}
-use Rattle.session_model.proofs.SessionCauses.{cached_in_step, numbers_in_step}
-use Rattle.session_model.specs.Histories.{Happens, IsLegal, IsCellsOf, Replays}
+use Rattle.session_runs.specs.Maps.{CellMap, elements_of}
+use Rattle.session_runs.specs.Objects.{Shards, shards_of, Shows}
+use Rattle.session_runs.proofs.ShownLemmas.{length-elements_of, get_or-elements_of}
+use Rattle.session_runs.proofs.StepLemmas.{write_leads, read_leads, erase_leads}
+use Rattle.session_runs.proofs.SessionCauses.{cached_in_step, numbers_in_step}
+use Rattle.session_runs.specs.Histories.{Happens, IsLegal, IsCellsOf, Replays}
 use Rattle.session_records.specs.Recorded.{recorded_of, HoldsNamed, meaning_in, IsRecorded}
 use Rattle.session_records.specs.RefusedErasures.{HasRefusedToErase}
-use Rattle.session_model.specs.declared.event.Event.{Event}
-use Rattle.session_model.specs.declared.event.Event.TheVariants.{Write, Read, Erase}
+use Rattle.session_runs.specs.declared.event.Event.{Event}
+use Rattle.session_runs.specs.declared.event.Event.TheVariants.{Write, Read, Erase}
 
 legal-push : (g : ArraySpec) (events : List Event) (event : Event) (m between end : CellMap) → IsLegal g events m between → Happens g event between end → IsLegal g (events ++ event ∷ []) m end
 legal-push g [] event m between end l h = (end, subst (λ x. Happens g event x end) l h, refl)

@@ -13,10 +13,10 @@ use Rattle.codec_traits.specs.Meanings.{Meaning}
 use Rattle.sharding_codec.specs.Decoders.{ObjectCellsRefusals}
 use Rattle.sharding_codec.specs.Sessions.{Session, IsInStep, IsLeft}
 use Rattle.sharding_codec.specs.declared.codec.ShardingCodec.{ShardingCodec}
-use Rattle.session_model.specs.Objects.{shards_of, IsSound}
-use Rattle.session_model.proofs.CauseLemmas.{selection_first}
-use Rattle.session_model.proofs.OpeningLemmas.{usable_in_step}
-use Rattle.session_model.specs.Histories.{IsCellsOf}
+use Rattle.session_runs.specs.Objects.{shards_of, IsSound}
+use Rattle.session_runs.proofs.CauseLemmas.{selection_first}
+use Rattle.session_runs.proofs.OpeningLemmas.{usable_in_step}
+use Rattle.session_runs.specs.Histories.{IsCellsOf}
 use Rattle.session_records.specs.Recorded.{full_subset, meaning_in, WholeReadRefusals, RecordedRefusals}
 
 -- tests that look at an object, also from before a reading call

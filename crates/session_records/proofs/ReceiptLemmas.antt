@@ -7,8 +7,8 @@ use Rattle.std.proofs.lemmas.Bool.Decides.{nat_tests}
 use Rattle.std.proofs.lemmas.List.{append-nil, append_assoc, take_more}
 use Rattle.std.proofs.lemmas.List.Elements.{All-head, All-tail, All-append, All-push}
 use Rattle.std.proofs.lemmas.Option.{slice_get-get_or}
-use Rattle.session_model.specs.declared.event.Event.{Event}
-use Rattle.session_model.specs.declared.event.Receipt.{Receipt}
+use Rattle.session_runs.specs.declared.event.Event.{Event}
+use Rattle.session_runs.specs.declared.event.Receipt.{Receipt}
 use Rattle.session_records.specs.Receipts.{receipts_of, Stands, RiseFrom, times, Agree, IsMismatch}
 use Rattle.session_records.specs.steps.Marks.{number_of_mark, mark_at, marks, IsSeatMismatch}
 

@@ -4,7 +4,7 @@ use Rattle.parts_arrays.specs.Arrays.{Array}
 use Rattle.parts_errors.specs.declared.error.CodecError.TheVariants.{SessionFailed}
 use Rattle.session_records.specs.Receipts.{receipts_of, IsMismatch}
 use Rattle.session_records.specs.Recorded.{Recorded}
-use Rattle.session_model.specs.declared.event.Receipt.{Receipt}
+use Rattle.session_runs.specs.declared.event.Receipt.{Receipt}
 use Rattle.session_records.specs.declared.closing.Closed.{Closed}
 use Rattle.session_records.specs.declared.closing.CloseError.{CloseError}
 use Rattle.session_records.specs.declared.closing.CloseError.TheVariants.{SeatsMissing, ReceiptMismatch, Session}

@@ -1,8 +1,8 @@
 -- How the receipts of seats agree with a history.
 use Rattle.std.specs.Prelude.{ℕ, ◌≡◌, ◌≤◌, ◌+◌, ◌==◌, ⊤, List, [], ◌∷◌, ◌++◌, Some, take, slice_get, if◌then◌else◌}
 use Rattle.std.specs.List.{All}
-use Rattle.session_model.specs.declared.event.Event.{Event}
-use Rattle.session_model.specs.declared.event.Receipt.{Receipt}
+use Rattle.session_runs.specs.declared.event.Event.{Event}
+use Rattle.session_runs.specs.declared.event.Receipt.{Receipt}
 
 -- the receipts of seats, one seat after the other
 abbrev pub receipts_of : List (List Receipt) → List Receipt

@@ -18,9 +18,9 @@ use Rattle.sharding_codec.specs.Meanings.{shard_meaning}
 use Rattle.sharding_codec.specs.Decoders.{ObjectCellsRefusals}
 use Rattle.sharding_codec.specs.Sessions.{Session, IsInStep, SessionRefusals}
 use Rattle.sharding_codec.specs.declared.codec.ShardingCodec.{ShardingCodec}
-use Rattle.session_model.specs.Objects.{Shards, shards_of, IsSound}
-use Rattle.session_model.specs.Histories.{Replays}
-use Rattle.session_model.specs.declared.event.Event.{Event}
+use Rattle.session_runs.specs.Objects.{Shards, shards_of, IsSound}
+use Rattle.session_runs.specs.Histories.{Replays}
+use Rattle.session_runs.specs.declared.event.Event.{Event}
 
 -- what contracts see of a recorded session: the session, the cells that it opened with, and what was done since
 pub record Recorded (C H : Type 0) : Type 0 where

@@ -8,7 +8,7 @@ use Rattle.sharding_codec.specs.Sessions.{Session}
 use Rattle.sharding_codec.specs.declared.codec.ShardingCodec.{ShardingCodec}
 pub use Rattle.session_records.specs.RefusedErasures.{HasRefusedToErase}
 use Rattle.session_records.specs.Recorded.{Recorded, IsRecorded}
-use Rattle.session_model.specs.declared.event.Event.{Event}
+use Rattle.session_runs.specs.declared.event.Event.{Event}
 
 -- of some recorded session of a name this is so
 abbrev pub OfRecorded : {I X H : Type 0} → (I → ArraySpec → Meaning) → (X → ArraySpec → Meaning) → (H → HandleState)

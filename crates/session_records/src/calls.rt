@@ -4,13 +4,13 @@ ghost use Rattle.parts_subsets.specs.Selections.{subset_selection};
 ghost use Rattle.sharding_codec.specs.Sessions.{IsInStep};
 ghost use Rattle.sharding_codec.specs.LockedSessions.{HasWritten, HasRefusedWrite, HasRead, HasRefusedRead, HasErased};
 ghost use Rattle.session_records.specs.RefusedErasures.{HasRefusedToErase};
-ghost use Rattle.session_model.specs.declared.event.Event.TheVariants.{Write, Read, Erase};
+ghost use Rattle.session_runs.specs.declared.event.Event.TheVariants.{Write, Read, Erase};
 
 use codec_traits::ArrayToBytesCodecTraits;
 use parts_arrays::ArrayBytes;
 use parts_errors::{CodecError, CodecOptions};
 use parts_subsets::ArraySubset;
-use session_model::{Event, History, Receipt};
+use session_runs::{Event, History, Receipt};
 use sharding_codec::{ShardState, ShardingCodec};
 use std::alloc::Global;
 use storage_handles::BytesPartialEncoderTraits;

@@ -7,7 +7,7 @@ use crate::receipts::{first_mismatch, have_as_many};
 use crate::seat::Seat;
 use parts_arrays::ArrayBytes;
 use parts_errors::CodecError;
-use session_model::{Event, same_elements};
+use session_runs::{Event, same_elements};
 
 /// What a recorded session leaves: the handle, the cells that it opened with, and what was done since, in order.
 #[derive(Debug, Drop)]

@@ -5,7 +5,7 @@ ghost use Rattle.session_records.specs.Receipts.{Stands, RiseFrom, times, receip
 ghost use Rattle.session_records.specs.steps.Marks.{mark_at, marks, IsSeatMismatch};
 
 use crate::seat::Seat;
-use session_model::{Event, Receipt, same_event};
+use session_runs::{Event, Receipt, same_event};
 
 // Whether a receipt's event stands at its place.
 fn stands(events: &[Event], receipt: &Receipt) -> bool

@@ -1,7 +1,7 @@
 // A caller's place in a recorded session.
 ghost use Rattle.std.specs.Prelude.{◌≡◌, []};
 
-use session_model::Receipt;
+use session_runs::Receipt;
 use std::alloc::Global;
 use std::marker::Model;
 
@@ -14,7 +14,7 @@ pub struct Seat {
 
 impl Model for Seat {
     ghost use Rattle.std.specs.Prelude.{List};
-    ghost use Rattle.session_model.specs.declared.event.Receipt.{Receipt};
+    ghost use Rattle.session_runs.specs.declared.event.Receipt.{Receipt};
 
     // its receipts
     ghost Value = { List Receipt };

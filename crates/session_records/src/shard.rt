@@ -3,11 +3,11 @@ ghost use Rattle.std.specs.Prelude.{◌≡◌, ◌++◌, ◌∷◌, [], false, S
 ghost use Rattle.parts_subsets.specs.Selections.{subset_selection};
 ghost use Rattle.sharding_codec.specs.Sessions.{IsInStep};
 ghost use Rattle.sharding_codec.specs.LockedSessions.{HasWritten, HasRefusedWrite, HasRead, HasRefusedRead, HasErased};
-ghost use Rattle.session_model.specs.Objects.{shards_of};
-ghost use Rattle.session_model.specs.Histories.{IsCellsOf};
+ghost use Rattle.session_runs.specs.Objects.{shards_of};
+ghost use Rattle.session_runs.specs.Histories.{IsCellsOf};
 ghost use Rattle.session_records.specs.Recorded.{IsRecorded};
 ghost use Rattle.session_records.specs.SharedRecords.{HasRefusedToErase};
-ghost use Rattle.session_model.specs.declared.event.Event.TheVariants.{Write, Read, Erase};
+ghost use Rattle.session_runs.specs.declared.event.Event.TheVariants.{Write, Read, Erase};
 
 use crate::calls::{record_erase, record_read, record_write};
 use crate::naming::Naming;
@@ -16,7 +16,7 @@ use codec_traits::ArrayToBytesCodecTraits;
 use parts_arrays::ArrayBytes;
 use parts_errors::CodecError;
 use parts_subsets::ArraySubset;
-use session_model::History;
+use session_runs::History;
 use sharding_codec::{ShardState, ShardingCodec};
 use std::alloc::Global;
 use std::marker::{Model, PhantomData};

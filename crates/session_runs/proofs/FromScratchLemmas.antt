@@ -25,16 +25,16 @@ use Rattle.sharding_format.specs.declared.slot.Slot.TheVariants.{Absent, InRange
 use Rattle.sharding_format.proofs.CompactionLemmas.{holds_encoded, scratch_of_compacted}
 use Rattle.sharding_index.specs.DataPart.{IsInDataPart}
 use Rattle.sharding_codec.specs.declared.codec.ShardingCodec.{ShardingCodec}
-use Rattle.session_model.specs.Maps.{CellMap, elements_of}
-use Rattle.session_model.specs.Objects.{Shards, shards_of, Shows, IsSound, IsMinimal, IsRewritten}
-use Rattle.session_model.specs.Runs.{AreLeft, Step, Run}
-use Rattle.session_model.specs.Ended.{Ended}
+use Rattle.session_runs.specs.Maps.{CellMap, elements_of}
+use Rattle.session_runs.specs.Objects.{Shards, shards_of, Shows, IsSound, IsMinimal, IsRewritten}
+use Rattle.session_runs.specs.Runs.{AreLeft, Step, Run}
+use Rattle.session_runs.specs.Ended.{Ended}
 use Rattle.session_runs.specs.FromScratch.{AreFunctional, IsEncoded, GainsNothing, AcceptsNothing, LeavesScratch, LeavesUnwritten, LeavesUntouched}
-use Rattle.session_model.specs.declared.command.Command.{Command}
-use Rattle.session_model.specs.declared.command.Command.TheVariants.{Write, Read, ReadCells, Erase, Compact, Reopen}
-use Rattle.session_model.specs.declared.command.Reply.{Reply}
-use Rattle.session_model.specs.declared.command.Reply.TheVariants.{Done, Cells, Compacted, Refused}
-use Rattle.session_model.proofs.ShownLemmas.{shards, get_or-shown, get_or-elements_of}
+use Rattle.session_runs.specs.declared.command.Command.{Command}
+use Rattle.session_runs.specs.declared.command.Command.TheVariants.{Write, Read, ReadCells, Erase, Compact, Reopen}
+use Rattle.session_runs.specs.declared.command.Reply.{Reply}
+use Rattle.session_runs.specs.declared.command.Reply.TheVariants.{Done, Cells, Compacted, Refused}
+use Rattle.session_runs.proofs.ShownLemmas.{shards, get_or-shown, get_or-elements_of}
 use Rattle.session_runs.proofs.StandingLemmas.{Mirrors, mirrors_left, mirrors_erased, mirrors_rewritten, mirrors_written, array_of}
 
 same_bytes : (x y : Bytes) → Some x ≡ Some y → x ≡ y

@@ -1,3 +1,9 @@
+pub mod ShownLemmas
+pub mod CauseLemmas
+pub mod StepLemmas
+pub mod OpeningLemmas
+pub mod SessionCauses
+pub mod EqualityLemmas
 pub mod StandingLemmas
 pub mod FromScratchLemmas
 pub mod RunLemmas

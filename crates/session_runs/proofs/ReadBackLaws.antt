@@ -8,13 +8,13 @@ use Rattle.parts_arrays.specs.ArraySpec.{ArraySpec}
 use Rattle.parts_row_major.specs.Numbering.{count_of, number_of}
 use Rattle.parts_row_major.specs.Subsets.{Subset, points_of, point_in, number_in}
 use Rattle.parts_arrays.specs.Arrays.{Array}
-use Rattle.session_model.specs.Maps.{CellMap, filled, elements_at, IsOverridden}
-use Rattle.session_model.specs.Objects.{Shards, Shows}
-use Rattle.session_model.specs.Runs.{Run, ReopenStep, CompactStep}
-use Rattle.session_model.specs.declared.command.Command.TheVariants.{Write, Read, Compact, Reopen}
-use Rattle.session_model.specs.declared.command.Reply.{Reply}
-use Rattle.session_model.specs.declared.command.Reply.TheVariants.{Done, Cells, Compacted, Refused}
-use Rattle.session_model.proofs.ShownLemmas.{shown_by_each}
+use Rattle.session_runs.specs.Maps.{CellMap, filled, elements_at, IsOverridden}
+use Rattle.session_runs.specs.Objects.{Shards, Shows}
+use Rattle.session_runs.specs.Runs.{Run, ReopenStep, CompactStep}
+use Rattle.session_runs.specs.declared.command.Command.TheVariants.{Write, Read, Compact, Reopen}
+use Rattle.session_runs.specs.declared.command.Reply.{Reply}
+use Rattle.session_runs.specs.declared.command.Reply.TheVariants.{Done, Cells, Compacted, Refused}
+use Rattle.session_runs.proofs.ShownLemmas.{shown_by_each}
 
 -- without an object each cell is the fill value
 pub shows_fill : (s : Shards) → Shows s None (filled s.array_spec)

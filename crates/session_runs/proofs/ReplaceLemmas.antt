@@ -17,15 +17,15 @@ use Rattle.sharding_format.specs.Serves.{ShardServes}
 use Rattle.sharding_format.specs.Compacting.{CompactRefusals}
 use Rattle.sharding_format.specs.declared.location.ShardingIndexLocation.{ShardingIndexLocation}
 use Rattle.sharding_format.specs.declared.order.SubchunkWriteOrder.{SubchunkWriteOrder}
-use Rattle.session_model.specs.Objects.{Shards, IsRewritten}
-use Rattle.session_model.specs.Runs.{CompactStep}
-use Rattle.session_model.specs.steps.Serving.{Leads, IsUsable, ObjectCompactRefusals}
+use Rattle.session_runs.specs.Objects.{Shards, IsRewritten}
+use Rattle.session_runs.specs.Runs.{CompactStep}
+use Rattle.session_runs.specs.steps.Serving.{Leads, IsUsable, ObjectCompactRefusals}
 use Rattle.session_runs.specs.steps.Replacing.{IsReplaced}
-use Rattle.session_model.specs.declared.command.Reply.{Reply}
-use Rattle.session_model.specs.declared.command.Reply.TheVariants.{Done, Cells, Compacted, Refused}
-use Rattle.session_model.proofs.ShownLemmas.{shards}
-use Rattle.session_model.proofs.CauseLemmas.{compact_cause, object_first}
-use Rattle.session_model.proofs.StepLemmas.{refused_leads, rewritten_leads, rewritten_sound, rewritten_long}
+use Rattle.session_runs.specs.declared.command.Reply.{Reply}
+use Rattle.session_runs.specs.declared.command.Reply.TheVariants.{Done, Cells, Compacted, Refused}
+use Rattle.session_runs.proofs.ShownLemmas.{shards}
+use Rattle.session_runs.proofs.CauseLemmas.{compact_cause, object_first}
+use Rattle.session_runs.proofs.StepLemmas.{refused_leads, rewritten_leads, rewritten_sound, rewritten_long}
 
 -- the tests of bytes that were read whole are those of the object
 pub whole_refusals : (s : Shards) (contents : Option Bytes) (bytes : Bytes) (e : CodecError) → IsPart (FromStart 0 None) contents (Some bytes) → CompactRefusals s.index s.layout bytes e → ObjectCompactRefusals s contents e

@@ -5,15 +5,15 @@ use Rattle.parts_errors.specs.Words.{Bytes}
 use Rattle.parts_errors.specs.declared.error.CodecError.{CodecError}
 use Rattle.storage_handles.specs.Handles.{HandleState}
 use Rattle.storage_handles.specs.Writes.{IsWriting}
-use Rattle.session_model.specs.Maps.{CellMap}
-use Rattle.session_model.specs.Objects.{Shards}
-use Rattle.session_model.specs.Runs.{Step, Run}
-use Rattle.session_model.specs.Ended.{Ended, StopsBy, MayStopLast}
-use Rattle.session_model.specs.steps.Serving.{Leads, IsUsable}
+use Rattle.session_runs.specs.Maps.{CellMap}
+use Rattle.session_runs.specs.Objects.{Shards}
+use Rattle.session_runs.specs.Runs.{Step, Run}
+use Rattle.session_runs.specs.Ended.{Ended, StopsBy, MayStopLast}
+use Rattle.session_runs.specs.steps.Serving.{Leads, IsUsable}
 use Rattle.session_runs.specs.Halting.{Halts, Ran, with_reply}
-use Rattle.session_model.specs.declared.command.Command.{Command}
-use Rattle.session_model.specs.declared.command.Command.TheVariants.{Compact}
-use Rattle.session_model.specs.declared.command.Reply.{Reply}
+use Rattle.session_runs.specs.declared.command.Command.{Command}
+use Rattle.session_runs.specs.declared.command.Command.TheVariants.{Compact}
+use Rattle.session_runs.specs.declared.command.Reply.{Reply}
 
 module _ (s : Shards) where
   run_more : (m : CellMap) (o : Option Bytes) (cs : List Command) (rs : List Reply) (mid : CellMap) (oid : Option Bytes) (c : Command) (r : Reply) (m' : CellMap) (o' : Option Bytes)

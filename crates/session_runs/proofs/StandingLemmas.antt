@@ -32,11 +32,11 @@ use Rattle.sharding_write.specs.Writing.{HoldsNumbers, AreAbsent, IsNew, cells_i
 use Rattle.sharding_write.proofs.AnewLemmas.{in_list, entry_absent}
 use Rattle.sharding_write.proofs.CachedLemmas.{told_len}
 use Rattle.sharding_write.proofs.WrittenLemmas.{absent_slot}
-use Rattle.session_model.specs.Maps.{CellMap, filled, IsOverridden, elements_of}
-use Rattle.session_model.specs.Objects.{Shards, index_numbers, IsObjectWritten, IsRewritten, written_layout}
-use Rattle.session_model.specs.Causes.{subchunk_elements}
-use Rattle.session_model.specs.Runs.{AreLeft}
-use Rattle.session_model.proofs.ShownLemmas.{shards, length-elements_of, get_or-elements_of}
+use Rattle.session_runs.specs.Maps.{CellMap, filled, IsOverridden, elements_of}
+use Rattle.session_runs.specs.Objects.{Shards, index_numbers, IsObjectWritten, IsRewritten, written_layout}
+use Rattle.session_runs.specs.Causes.{subchunk_elements}
+use Rattle.session_runs.specs.Runs.{AreLeft}
+use Rattle.session_runs.proofs.ShownLemmas.{shards, length-elements_of, get_or-elements_of}
 
 same_numbers : (x y : List ℕ) → Some x ≡ Some y → x ≡ y
 same_numbers x y h = cc

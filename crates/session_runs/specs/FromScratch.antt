@@ -9,14 +9,14 @@ use Rattle.sharding_format.specs.Index.{index_spec}
 use Rattle.sharding_format.specs.Encoding.{IsEncoding}
 use Rattle.sharding_format.specs.Scratch.{scratch}
 use Rattle.sharding_format.specs.Serves.{subchunk_spec}
-use Rattle.session_model.specs.Maps.{CellMap, elements_of}
-use Rattle.session_model.specs.Objects.{Shards, Shows}
-use Rattle.session_model.specs.Runs.{Run}
-use Rattle.session_model.specs.Ended.{IsShort}
-use Rattle.session_model.specs.declared.command.Command.{Command}
-use Rattle.session_model.specs.declared.command.Command.TheVariants as command
-use Rattle.session_model.specs.declared.command.Reply.{Reply}
-use Rattle.session_model.specs.declared.command.Reply.TheVariants.{Done, Compacted}
+use Rattle.session_runs.specs.Maps.{CellMap, elements_of}
+use Rattle.session_runs.specs.Objects.{Shards, Shows}
+use Rattle.session_runs.specs.Runs.{Run}
+use Rattle.session_runs.specs.Ended.{IsShort}
+use Rattle.session_runs.specs.declared.command.Command.{Command}
+use Rattle.session_runs.specs.declared.command.Command.TheVariants as command
+use Rattle.session_runs.specs.declared.command.Reply.{Reply}
+use Rattle.session_runs.specs.declared.command.Reply.TheVariants.{Done, Compacted}
 
 -- each array of an array spec has one encoding, which a function gives
 abbrev pub HasOneEncoding : Meaning → ArraySpec → (encoding : Elements → Bytes) → Type 0

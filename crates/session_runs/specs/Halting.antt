@@ -5,12 +5,12 @@ use Rattle.parts_errors.specs.declared.error.CodecError.{CodecError}
 use Rattle.parts_arrays.specs.ArraySpec.{ArraySpec}
 use Rattle.storage_handles.specs.Handles.{HandleState, MayFault}
 use Rattle.sharding_codec.specs.Sessions.{Session}
-use Rattle.session_model.specs.Maps.{CellMap}
-use Rattle.session_model.specs.Objects.{Shards, Shows}
-use Rattle.session_model.specs.Runs.{Run}
-use Rattle.session_model.specs.Ended.{StopsBy}
-use Rattle.session_model.specs.declared.command.Command.{Command}
-use Rattle.session_model.specs.declared.command.Reply.{Reply}
+use Rattle.session_runs.specs.Maps.{CellMap}
+use Rattle.session_runs.specs.Objects.{Shards, Shows}
+use Rattle.session_runs.specs.Runs.{Run}
+use Rattle.session_runs.specs.Ended.{StopsBy}
+use Rattle.session_runs.specs.declared.command.Command.{Command}
+use Rattle.session_runs.specs.declared.command.Reply.{Reply}
 
 -- the replies with one more, where there is one
 abbrev pub with_reply : List Reply → Option Reply → List Reply

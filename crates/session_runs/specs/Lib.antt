@@ -1,3 +1,9 @@
+pub mod Maps
+pub mod Objects
+pub mod Causes
+pub mod Runs
+pub mod Ended
+pub mod Histories
 pub mod Halting
 pub mod FromScratch
 pub mod Served

@@ -4,16 +4,17 @@ ghost use Rattle.parts_errors.specs.Order.{RefusedBy};
 ghost use Rattle.storage_handles.specs.Handles.{IsRead, IsCounted};
 ghost use Rattle.storage_handles.specs.Objects.{ObjectRefusals};
 ghost use Rattle.storage_handles.specs.Writes.{IsWriting};
-ghost use Rattle.session_model.specs.Objects.{shards_of, IsMinimal, IsRewritten};
-ghost use Rattle.session_model.specs.Runs.{CompactStep};
+ghost use Rattle.session_runs.specs.Objects.{shards_of, IsMinimal, IsRewritten};
+ghost use Rattle.session_runs.specs.Runs.{CompactStep};
 ghost use Rattle.session_runs.specs.Served.{served_spec};
-ghost use Rattle.session_model.specs.steps.Serving.{Leads, HasFaulted, ObjectCompactRefusals, IsUsable};
+ghost use Rattle.session_runs.specs.steps.Serving.{Leads, HasFaulted, ObjectCompactRefusals, IsUsable};
 ghost use Rattle.session_runs.specs.steps.Replacing.{IsReplaced};
 
+use crate::command::Reply;
+use crate::replies::refused;
 use crate::served::Served;
 use codec_traits::ArrayToBytesCodecTraits;
 use parts_errors::{CodecError, CodecOptions};
-use session_model::{Reply, refused};
 use sharding_codec::ShardingCodec;
 use std::alloc::Global;
 use storage_handles::{

@@ -1,11 +1,11 @@
 // What a run of commands says to a caller, as the contract of a call.
 ghost use Rattle.std.specs.Prelude.{◌≡◌, IfOk, IfSome};
 
+use crate::command::{Command, Reply};
 use crate::run::{CommandRun, run_commands};
 use codec_traits::ArrayToBytesCodecTraits;
 use parts_arrays::{ArrayBytes, DataType, FillValue};
 use parts_subsets::{ArraySubset, ChunkShape};
-use session_model::{Command, Reply};
 use sharding_codec::ShardingCodec;
 use std::alloc::{AllocError, Global};
 use storage_handles::MemoryHandle;

@@ -1,14 +1,15 @@
 // One command on a session that stays open.
 ghost use Rattle.std.specs.Prelude.{◌≡◌, ◌≢◌, false, IsTrue, IfOk, IfErr, OnOk};
 ghost use Rattle.sharding_codec.specs.Sessions.{IsInStep, IsDone};
-ghost use Rattle.session_model.specs.Objects.{shards_of};
-ghost use Rattle.session_model.specs.Runs.{Step};
-ghost use Rattle.session_model.specs.steps.Serving.{Leads, HasFaulted};
-ghost use Rattle.session_model.specs.declared.command.Command.TheVariants.{Compact, Reopen};
+ghost use Rattle.session_runs.specs.Objects.{shards_of};
+ghost use Rattle.session_runs.specs.Runs.{Step};
+ghost use Rattle.session_runs.specs.steps.Serving.{Leads, HasFaulted};
+ghost use Rattle.session_runs.specs.declared.command.Command.TheVariants.{Compact, Reopen};
 
+use crate::command::{Command, Reply};
+use crate::replies::{erase, read, write};
 use codec_traits::ArrayToBytesCodecTraits;
 use parts_errors::CodecError;
-use session_model::{Command, Reply, erase, read, write};
 use sharding_codec::{ShardState, ShardingCodec};
 use std::alloc::Global;
 use storage_handles::BytesPartialEncoderTraits;

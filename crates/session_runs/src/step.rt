@@ -3,20 +3,20 @@ ghost use Rattle.std.specs.Prelude.{◌≡◌, IsTrue, None, IsSome, IfOk, IfErr
 ghost use Rattle.storage_handles.specs.Handles.{IsRead};
 ghost use Rattle.storage_handles.specs.Writes.{IsWriting};
 ghost use Rattle.sharding_codec.specs.Sessions.{IsInStep};
-ghost use Rattle.session_model.specs.Objects.{shards_of};
-ghost use Rattle.session_model.specs.Runs.{Step, CompactStep};
-ghost use Rattle.session_model.specs.Ended.{StopsBy};
+ghost use Rattle.session_runs.specs.Objects.{shards_of};
+ghost use Rattle.session_runs.specs.Runs.{Step, CompactStep};
+ghost use Rattle.session_runs.specs.Ended.{StopsBy};
 ghost use Rattle.session_runs.specs.Served.{served_spec};
-ghost use Rattle.session_model.specs.steps.Serving.{Leads, IsUsable};
+ghost use Rattle.session_runs.specs.steps.Serving.{Leads, IsUsable};
 ghost use Rattle.session_runs.specs.Halting.{Halts, IsSessionOf};
-ghost use Rattle.session_model.specs.declared.command.Command.TheVariants.{Compact};
-ghost use Rattle.session_model.specs.declared.command.Reply.TheVariants.{Done};
+ghost use Rattle.session_runs.specs.declared.command.Command.TheVariants.{Compact};
+ghost use Rattle.session_runs.specs.declared.command.Reply.TheVariants.{Done};
 
+use crate::command::{Command, Reply};
 use crate::served::Served;
 use crate::session::serve;
 use codec_traits::ArrayToBytesCodecTraits;
 use parts_errors::CodecError;
-use session_model::{Command, Reply};
 use sharding_codec::{ShardState, ShardingCodec};
 use std::alloc::Global;
 use storage_handles::BytesPartialEncoderTraits;

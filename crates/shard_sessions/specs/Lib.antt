@@ -1,10 +1,10 @@
-pub use Rattle.session_model.specs.Maps
-pub use Rattle.session_model.specs.Objects
-pub use Rattle.session_model.specs.Causes
-pub use Rattle.session_model.specs.Runs
-pub use Rattle.session_model.specs.Ended
+pub use Rattle.session_runs.specs.Maps
+pub use Rattle.session_runs.specs.Objects
+pub use Rattle.session_runs.specs.Causes
+pub use Rattle.session_runs.specs.Runs
+pub use Rattle.session_runs.specs.Ended
 pub use Rattle.session_runs.specs.FromScratch
-pub use Rattle.session_model.specs.Histories
+pub use Rattle.session_runs.specs.Histories
 pub use Rattle.session_records.specs.Recorded
 pub use Rattle.session_records.specs.SharedRecords
 pub use Rattle.session_records.specs.Receipts

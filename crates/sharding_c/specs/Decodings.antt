@@ -1,9 +1,9 @@
 -- What the calls leave that decode a subchunk into a room.
 use Rattle.std.specs.Prelude.{◌≡◌, ◌≤◌, ◌++◌, ℕ, Option, Some, length, drop}
-use Rattle.codec_decompression.specs.Bits.{Bytes}
-use Rattle.codec_decompression.specs.Refusals.{Refuses}
-use Rattle.codec_decompression.specs.declared.error.DecompressError.{DecompressError}
-use Rattle.codec_decompression.specs.declared.error.DecompressError.TheVariants.{Damaged, TooLong, OutOfMemory}
+use Rattle.codec_compression.specs.Bits.{Bytes}
+use Rattle.codec_compression.specs.Refusals.{Refuses}
+use Rattle.codec_compression.specs.declared.error.DecompressError.{DecompressError}
+use Rattle.codec_compression.specs.declared.error.DecompressError.TheVariants.{Damaged, TooLong, OutOfMemory}
 use Rattle.sharding_c.specs.declared.layout.Told.{Told}
 
 -- the content stands at the front of a room, whose rest stays; `told` has its length

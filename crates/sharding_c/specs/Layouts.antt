@@ -7,7 +7,7 @@ use Rattle.parts_errors.specs.declared.error.CodecError.TheVariants.{TooLarge, I
 use Rattle.parts_row_major.specs.Numbering.{count_of, AllPositive}
 use Rattle.parts_row_major.specs.Subsets.{IsSubset}
 use Rattle.parts_subsets.specs.Grid.{Divides, grid_of}
-use Rattle.codec_crc32c.specs.Checksum.{checksum}
+use Rattle.codec_checksums.specs.Castagnoli.{checksum}
 use Rattle.sharding_format.specs.declared.location.ShardingIndexLocation.TheVariants.{Start, End}
 use Rattle.sharding_plans.specs.declared.packed.IndexPlace.{IndexPlace}
 use Rattle.sharding_c.specs.declared.layout.Layout.{Layout}

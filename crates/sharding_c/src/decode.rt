@@ -5,7 +5,7 @@ ghost use Rattle.codec_zstd.specs.Frames.{decompressed};
 ghost use Rattle.sharding_c.specs.Decodings.{IsDecoded, IsDecodingRefused, status_of_decoding};
 
 use crate::layout::Told;
-use codec_decompression::DecompressError;
+use codec_compression::DecompressError;
 use codec_gzip::gunzip;
 use codec_zstd::unzstd;
 use std::alloc::Global;

@@ -2,13 +2,13 @@
 ghost use Rattle.std.specs.Prelude.{◌≡◌, ◌↔◌, ◌<◌, ◌≤◌, ◌+◌, ◌*◌, ◌++◌, ℕ, IsTrue, IfOk, IfErr, OnOk, OnErr, length, slice_index, drop, flat_map};
 ghost use Rattle.std.specs.Int.{to_le_bytes, w32};
 ghost use Rattle.parts_errors.specs.declared.error.CodecError.TheVariants.{OutOfMemory};
-ghost use Rattle.codec_crc32c.specs.Checksum.{checksum};
+ghost use Rattle.codec_checksums.specs.Castagnoli.{checksum};
 ghost use Rattle.sharding_c.specs.Layouts.{index_size, subchunks_of, IsLaidOut, IsIndexRange, IsIndex, AreIndexNumbers, number_as, number_at, number_bytes, index_bytes};
 ghost use Rattle.sharding_c.specs.Exports.{IndexRangeTests, IndexReadTests, IndexWriteTests};
 
 use crate::layout::{AT_START, BIG_ENDIAN, CRC32C, Layout, Range, has, shard_of};
 use crate::status::Refusal;
-use codec_crc32c::crc32c;
+use codec_checksums::crc32c;
 use parts_errors::CodecError;
 use std::alloc::{AllocError, Global};
 

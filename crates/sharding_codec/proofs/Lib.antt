@@ -1,3 +1,6 @@
+pub mod ValueLists
+pub mod ConfigurationLaws
+pub mod CodecListLaws
 pub mod AnswerLemmas
 pub mod SessionLemmas
 pub mod WriteLemmas

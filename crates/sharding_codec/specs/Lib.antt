@@ -1,3 +1,6 @@
+pub mod Configuration
+pub mod Configurations
+pub mod CodecLists
 pub mod Meanings
 pub mod ShardLaws
 pub mod Decoders

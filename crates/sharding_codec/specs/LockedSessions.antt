@@ -12,7 +12,7 @@ use Rattle.storage_handles.specs.Objects.{ObjectRefusals}
 use Rattle.codec_traits.specs.Meanings.{Meaning}
 use Rattle.codec_traits.specs.Reads.{cells_at, IsAnswer, RequestRefusals}
 use Rattle.sharding_gather.specs.Updates.{UpdateRefusals, IsUpdateOf}
-pub use Rattle.sharding_lock.specs.Told.{Told}
+pub use Rattle.sharding_workers.specs.Told.{Told}
 use Rattle.sharding_write.specs.Writing.{AreOverlaid}
 use Rattle.sharding_codec.specs.Decoders.{object_cells, ObjectCellsRefusals}
 use Rattle.sharding_codec.specs.Sessions.{Session, IsInStep, IsLeft, IsDone, IsLeftOrFailed, absent_index, subchunks_of}

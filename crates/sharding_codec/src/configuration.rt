@@ -1,130 +1,76 @@
-// The sharding codec as the metadata of an array names it.
-ghost use Rattle.std.specs.Prelude.{◌≡◌, Bool, Option, Ok, IfOk, IfErr, OnOk, codes};
-ghost use Rattle.parts_row_major.specs.Numbering.{AllPositive};
-ghost use Rattle.serde_json.specs.Data.{object};
-ghost use Rattle.serde_json.specs.View.{view, members_view};
+// The configuration of the codec `sharding_indexed`.
+ghost use Rattle.std.specs.Prelude.{◌≡◌, Ok, IfOk, IfErr};
+ghost use Rattle.serde_json.specs.View.{view};
 ghost use Rattle.codec_metadata.specs.CreateErrors.{RefusedAs};
-ghost use Rattle.codec_metadata.specs.Metadata.{metadata_of};
-ghost use Rattle.codec_metadata.specs.declared.error.PluginCreateError.TheVariants.{OutOfMemory};
-ghost use Rattle.sharding_configuration.specs.CodecLists.{codec_in_list};
-ghost use Rattle.sharding_configuration.specs.Configurations.{configuration_of};
-ghost use Rattle.sharding_codec.specs.ShardMetadata.{shard_of, shard_configured, shard_written, shard_told};
+ghost use Rattle.sharding_codec.specs.Configuration.{configuration_in};
+ghost use Rattle.sharding_codec.specs.Configurations.{configuration_of};
 
-use crate::codec::ShardingCodec;
-use codec_metadata::{CodecTraitsV3, PluginCreateError};
-use serde_json::{Map, Value};
-use sharding_configuration::{
-    ShardingCodecConfiguration, codec_list_of, sole_codec, written_members,
-};
-use std::alloc::{AllocError, Global};
+use crate::configuration_fields::{list_under, location_under, shape_under};
+use codec_metadata::{MemberTest, PluginCreateError, test_members};
+use parts_subsets::ChunkShape;
+use serde_json::Value;
+use sharding_format::ShardingIndexLocation;
+use std::alloc::Global;
 
-impl<I: CodecTraitsV3 + Drop, X: CodecTraitsV3 + Drop> ShardingCodec<I, X> {
-    /// The codec of a configuration, which writes subchunks in the order `Unordered`. First "codecs" is looked at, and after it
-    /// "index_codecs". Refused, in this order, for the first member of a list that is neither a string nor an object with a
-    /// string under "name", as `BadField` with the list's key, or that has another name than the wanted codec's, as
-    /// `UnsupportedCodec` with that name; as `UnsupportedChain` where the list has other than one member; and as `create` of the
-    /// wanted codec refuses the member; or as `OutOfMemory`.
-    pub fn new_with_configuration(
-        alloc: Global,
-        configuration: &ShardingCodecConfiguration,
-    ) -> Result<Self, PluginCreateError>
-        ensures made { IfOk result (λ codec. shard_of (codec_in_list (codes "codecs") I.named I.configured)
-            (codec_in_list (codes "index_codecs") X.named X.configured) (configuration_of configuration.now) ≡ Ok codec) }
-        ensures refused { IfErr result (RefusedAs (shard_of (codec_in_list (codes "codecs") I.named I.configured)
-            (codec_in_list (codes "index_codecs") X.named X.configured) (configuration_of configuration.now))) }
-    {
-        let ShardingCodecConfiguration::V1(configuration) = configuration;
-        let inner: I = sole_codec(alloc, &configuration.codecs, "codecs")?;
-        let index_codec: X = sole_codec(alloc, &configuration.index_codecs, "index_codecs")?;
-        let shape = configuration.chunk_shape.try_clone(alloc)?;
-        Ok(ShardingCodec::new(shape, inner, index_codec, configuration.index_location))
-    }
+/// The configuration of the codec `sharding_indexed` (Zarr V3, "Configuration parameters"), by its version.
+#[derive(Drop)]
+pub enum ShardingCodecConfiguration {
+    /// The first version.
+    V1(ShardingCodecConfigurationV1),
 }
 
-impl<I: CodecTraitsV3, X: CodecTraitsV3> ShardingCodec<I, X> {
-    /// The codec's configuration: "chunk_shape", "codecs", "index_codecs" and "index_location". The order in which subchunks
-    /// are written is no part of it. Refused only as out of memory.
-    pub fn configuration(&self, alloc: Global) -> Result<Value, AllocError>
-        ensures written { IfOk result (λ value. view value ≡ object (shard_written (metadata_of (I.own_name self.now.inner) (I.written self.now.inner))
-            (metadata_of (X.own_name self.now.index_codec) (X.written self.now.index_codec)) self.now)) }
-        ensures valid { OnOk result (AllPositive self.now.subchunk_shape × I.valid self.now.inner × X.valid self.now.index_codec) }
-    {
-        Ok(Value::Object(self.configuration_members(alloc)?))
-    }
+/// The first version of the configuration of the codec `sharding_indexed`.
+#[derive(Drop)]
+pub struct ShardingCodecConfigurationV1 {
+    /// The shape of each subchunk.
+    pub chunk_shape: ChunkShape,
+    /// The metadata of the codecs that encode each subchunk.
+    pub codecs: Vec<Value>,
+    /// The metadata of the codecs that encode the index.
+    pub index_codecs: Vec<Value>,
+    /// Where the index stands.
+    pub index_location: ShardingIndexLocation,
+}
 
-    // The members of the codec's configuration.
-    fn configuration_members(&self, alloc: Global) -> Result<Map<String, Value>, AllocError>
-        ensures written { IfOk result (λ members. members_view members.entries ≡ shard_written (metadata_of (I.own_name self.now.inner) (I.written self.now.inner))
-            (metadata_of (X.own_name self.now.index_codec) (X.written self.now.index_codec)) self.now) }
-        ensures valid { OnOk result (AllPositive self.now.subchunk_shape × I.valid self.now.inner × X.valid self.now.index_codec) }
-    {
-        let _positive = self.subchunk_shape.as_slice();
-        let codecs = codec_list_of(alloc, self.inner.metadata(alloc)?)?;
-        let index_codecs = codec_list_of(alloc, self.index_codec.metadata(alloc)?)?;
-        written_members(
-            alloc,
-            &self.subchunk_shape,
-            codecs,
-            index_codecs,
-            self.location,
+// The members of a configuration of the codec `sharding_indexed`.
+struct ConfigurationMembers;
+
+impl MemberTest for ConfigurationMembers {
+    ghost use Rattle.sharding_codec.specs.Configuration.{is_configuration_member};
+
+    ghost passes = { is_configuration_member };
+
+    fn may_have(key: &str, _value: &Value) -> bool {
+        matches!(
+            key,
+            "chunk_shape" | "codecs" | "index_codecs" | "index_location"
         )
     }
 }
 
-impl<I: CodecTraitsV3 + Drop, X: CodecTraitsV3 + Drop> CodecTraitsV3 for ShardingCodec<I, X> {
-    ghost use Rattle.std.specs.Prelude.{Some, bytes_eq, refl};
-    ghost use Rattle.sharding_codec.specs.ShardMetadataLaws.{shard_remembers, shard_told_again};
-
-    ghost named = { λ name. bytes_eq name (codes "sharding_indexed") };
-
-    ghost own_name = { λ s. codes "sharding_indexed" };
-
-    ghost configured = { λ name. shard_configured (codec_in_list (codes "codecs") I.named I.configured)
-        (codec_in_list (codes "index_codecs") X.named X.configured) };
-
-    ghost written = { λ s. Some (shard_written (metadata_of (I.own_name s.inner) (I.written s.inner)) (metadata_of (X.own_name s.index_codec) (X.written s.index_codec)) s) };
-
-    ghost valid = { λ s. AllPositive s.subchunk_shape × I.valid s.inner × X.valid s.index_codec };
-
-    ghost told = { λ s. shard_told (I.told s.inner) (X.told s.index_codec) s };
-
-    /// `sharding_indexed`.
-    fn has_name(name: &str) -> bool {
-        name == "sharding_indexed"
+impl ShardingCodecConfiguration {
+    /// The configuration that a JSON value is. What the members of its lists are is not looked at. Refused, in this order, as
+    /// `BadField("configuration")` where the value is no object, as `BadField` with the first other key, in the order of keys,
+    /// and for "chunk_shape" (a list of whole numbers from 1 to 2^64 - 1), "codecs", "index_codecs" (lists) and "index_location"
+    /// (`start` or `end`, and `end` where it is not given) in turn, as `MissingField` with the key where it must be there and
+    /// is not, and as `BadField` with the key where its value has another form; or as `OutOfMemory`.
+    pub fn from_value(alloc: Global, value: &Value) -> Result<Self, PluginCreateError>
+        ensures read { IfOk result (λ configuration. configuration_in (view value.now) ≡ Ok (configuration_of configuration)) }
+        ensures refused { IfErr result (RefusedAs (configuration_in (view value.now))) }
+    {
+        if !value.is_object() {
+            return Err(PluginCreateError::bad_field(alloc, "configuration"));
+        }
+        test_members::<ConfigurationMembers>(alloc, value)?;
+        let chunk_shape = shape_under(alloc, value, "chunk_shape")?;
+        let codecs = list_under(alloc, value, "codecs")?;
+        let index_codecs = list_under(alloc, value, "index_codecs")?;
+        let index_location = location_under(alloc, value, "index_location")?;
+        Ok(ShardingCodecConfiguration::V1(ShardingCodecConfigurationV1 {
+            chunk_shape,
+            codecs,
+            index_codecs,
+            index_location,
+        }))
     }
-
-    /// `sharding_indexed`.
-    fn written_name(&self) -> &'static str {
-        "sharding_indexed"
-    }
-
-    /// Refused as `MissingField("configuration")` where there is none, and then as `ShardingCodecConfiguration::from_value` and
-    /// `new_with_configuration` refuse; or as `OutOfMemory`.
-    fn from_configuration(
-        alloc: Global,
-        _name: &str,
-        configuration: Option<&Value>,
-    ) -> Result<Self, PluginCreateError> {
-        let Some(value) = configuration else {
-            return Err(PluginCreateError::missing_field(alloc, "configuration"));
-        };
-        let configuration = ShardingCodecConfiguration::from_value(alloc, value)?;
-        ShardingCodec::new_with_configuration(alloc, &configuration)
-    }
-
-    /// All four members.
-    fn to_configuration(&self, alloc: Global) -> Result<Option<Map<String, Value>>, AllocError> {
-        Ok(Some(self.configuration_members(alloc)?))
-    }
-
-    ghost remembers = { λ s valid. shard_remembers I.named X.named I.configured X.configured (I.own_name s.inner) (X.own_name s.index_codec) (I.written s.inner) (X.written s.index_codec)
-        s (I.told s.inner) (X.told s.index_codec) valid.0 (I.names_itself s.inner) (I.remembers s.inner valid.1) (X.names_itself s.index_codec) (X.remembers s.index_codec valid.2) };
-
-    ghost names_itself = { λ s. refl };
-
-    ghost told_again = { λ s. (
-      refl,
-      shard_told_again I.own_name X.own_name I.written X.written s (I.told s.inner) (X.told s.index_codec)
-          (I.told_again s.inner) (X.told_again s.index_codec),
-    ) };
 }

@@ -14,7 +14,7 @@ use codec_traits::ArrayToBytesCodecTraits;
 use parts_arrays::{ArrayBytes, DataType, FillValue};
 use parts_errors::{CodecError, CodecOptions};
 use parts_subsets::{ChunkShape, Indexer};
-use sharding_lock::SessionLock;
+use sharding_workers::SessionLock;
 use std::alloc::Global;
 use std::marker::Model;
 use std::sync::Wait;
@@ -34,7 +34,7 @@ pub struct ShardingPartialEncoder<
 
 impl<'a, I: ArrayToBytesCodecTraits, X: ArrayToBytesCodecTraits, H: BytesPartialEncoderTraits> Model
     for ShardingPartialEncoder<'a, I, X, H> {
-    ghost use Rattle.sharding_lock.specs.Told.{Told};
+    ghost use Rattle.sharding_workers.specs.Told.{Told};
 
     // what is told without the lock
     ghost Value = { Told };

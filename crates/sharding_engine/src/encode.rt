@@ -17,8 +17,7 @@ use codec_traits::ArrayToBytesCodecTraits;
 use parts_arrays::ArrayBytes;
 use parts_errors::CodecError;
 use sharding_format::ShardingIndexLocation;
-use sharding_layout::{CutArray, elements_in_row};
-use sharding_order::SubchunkSequence;
+use sharding_layout::{CutArray, SubchunkSequence, elements_in_row};
 use std::alloc::{AllocError, Global};
 
 // Puts zeros after bytes that are there where the index of a shard, of this size, stands in front of the data part. A refusal

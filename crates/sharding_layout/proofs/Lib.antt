@@ -1,3 +1,6 @@
+pub mod CodeLemmas
+pub mod ListLemmas
+pub mod ReachLemmas
 pub mod RepackingLemmas
 mod OffsetLemmas
 mod PlanLemmas

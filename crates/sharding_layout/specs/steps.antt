@@ -1,2 +1,4 @@
 -- What the steps of this crate say of one another: no public clause reaches it.
+pub mod Reached
+pub mod Sequences
 pub mod Cutting

@@ -1,12 +1,14 @@
-// Where the slices of a shard go: subchunks laid end to end, and slices packed.
+// In which order the subchunks of a shard are written, and where their slices go: laid end to end, and packed.
 #![tactic(auto)]
 
 mod compact;
 mod covered;
 mod laying;
+mod morton;
 mod offsets;
 mod packing;
 mod plan;
+mod sequence;
 mod storing;
 
 pub use compact::compacted;
@@ -18,4 +20,5 @@ pub use laying::{
 pub use offsets::{CachedIndex, fresh_offset, index_offset, length_after, offset_after, slot_in};
 pub use packing::{compact_size, packed_numbers, push_slices};
 pub use plan::{CompactionPlan, plan_compaction, plan_compaction_of_index};
+pub use sequence::SubchunkSequence;
 pub use storing::store_after;

@@ -19,9 +19,8 @@ use parts_arrays::ArrayBytes;
 use parts_errors::CodecError;
 use sharding_format::{ArraySpecRef, Slot};
 use sharding_layout::{
-    CutArray, absent_slots, gather_subchunk, placed, room_for_next, store_after,
+    CutArray, SubchunkSequence, absent_slots, gather_subchunk, placed, room_for_next, store_after,
 };
-use sharding_order::SubchunkSequence;
 use std::alloc::Global;
 
 /// What is to be stored of a subchunk: nothing where it is all fill.

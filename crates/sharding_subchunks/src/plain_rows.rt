@@ -13,8 +13,7 @@ use crate::subchunks::Subchunks;
 use codec_traits::ArrayToBytesCodecTraits;
 use parts_arrays::{ArrayBytes, FillValue};
 use sharding_format::Slot;
-use sharding_layout::{CutArray, absent_slots, placed, room_for_next};
-use sharding_order::SubchunkSequence;
+use sharding_layout::{CutArray, SubchunkSequence, absent_slots, placed, room_for_next};
 use std::alloc::{AllocError, Global};
 use std::borrow::CowSlice;
 

@@ -8,11 +8,11 @@ ghost use Rattle.sharding_subchunks.specs.steps.Inner.{spec_of_subchunks, inner_
 
 use crate::gate::Gate;
 use crate::numbered::in_order;
+use crate::threads::by_number;
 use codec_traits::ArrayToBytesCodecTraits;
 use parts_arrays::ArrayBytes;
 use parts_errors::CodecError;
 use sharding_format::ShardIndex;
-use sharding_lock::by_number;
 use sharding_subchunks::Subchunks;
 use std::alloc::Global;
 use std::thread::Threads;

@@ -14,11 +14,10 @@ ghost use Rattle.sharding_workers.specs.steps.Storing.{CanStore, AreStored};
 
 use crate::gate::Gate;
 use crate::numbered::in_order;
+use crate::threads::by_number;
 use codec_traits::ArrayToBytesCodecTraits;
 use parts_errors::CodecError;
-use sharding_layout::{CutArray, StoredSlices, absent_slots, placed};
-use sharding_lock::by_number;
-use sharding_order::SubchunkSequence;
+use sharding_layout::{CutArray, StoredSlices, SubchunkSequence, absent_slots, placed};
 use sharding_subchunks::{Stored, Subchunks};
 use std::alloc::Global;
 use std::thread::Threads;

@@ -2,7 +2,7 @@
 use crate::compared::{same, same_at};
 use crate::examples::{said, told};
 use crate::pairs::{decoded_pair, encoded_pair, second_of, two_cells, wanted};
-use codec_crc32c::{Crc32cCodec, crc32c};
+use codec_checksums::{Crc32cCodec, crc32c};
 use std::borrow::CowSlice;
 use test_helpers::{MarkedCodec, PackedCodec};
 use zarr_codecs::{

@@ -1,6 +1,6 @@
 // Gzip files that Python's zlib wrote, and some that were changed by hand.
 use crate::compared::same;
-use codec_decompression::DecompressError;
+use codec_compression::DecompressError;
 use codec_deflate::inflate;
 use codec_gzip::{GzipCodec, gunzip, gzip_stored};
 use std::alloc::Global;

@@ -1,4 +1,4 @@
-// Tests of the handles and the codecs, over their public calls alone.
+// Tests of the handles, the codecs, their metadata, and the configuration of the sharding codec, over their public calls alone.
 #![tactic(auto)]
 
 #[cfg(test)]
@@ -21,6 +21,18 @@ mod handles;
 mod inverted;
 #[cfg(test)]
 mod laws;
+#[cfg(test)]
+mod metadata_accepted;
+#[cfg(test)]
+mod metadata_building;
+#[cfg(test)]
+mod metadata_errors;
+#[cfg(test)]
+mod metadata_examples;
+#[cfg(test)]
+mod metadata_laws;
+#[cfg(test)]
+mod metadata_refused;
 #[cfg(test)]
 mod pairs;
 #[cfg(test)]

@@ -1,7 +1,7 @@
 // Zstd files that the command zstd 1.5.4 wrote, and some that were changed by hand.
 use crate::compared::same;
-use codec_decompression::DecompressError;
-use codec_xxhash::xxh64;
+use codec_checksums::xxh64;
+use codec_compression::DecompressError;
 use codec_zstd::{ZstdCodec, unzstd, zstd_stored};
 use std::alloc::Global;
 use std::process::Abort;

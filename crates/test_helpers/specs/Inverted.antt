@@ -1,7 +1,7 @@
 -- A codec that takes each byte of an array from 255.
 use Rattle.std.specs.Prelude.{ℕ, Some, map, bit_xor}
 use Rattle.parts_errors.specs.Words.{Elements}
-use Rattle.codec_array_chains.specs.ArrayCodings.{ArrayCoding}
+use Rattle.codec_chains.specs.ArrayCodings.{ArrayCoding}
 
 -- a byte taken from 255: each of its bits turned over
 abbrev pub inverted_byte : ℕ → ℕ

@@ -3,7 +3,7 @@ use Rattle.std.proofs.Common.{◌≡◌, ℕ, List, [], ◌∷◌, Some, map, le
 use Rattle.std.proofs.lemmas.List.{length-map}
 use Rattle.std.specs.Int.Bits.{bit_xor, xor_assoc, xor_self, xor_zero_r}
 use Rattle.parts_errors.specs.Words.{Bytes, Elements}
-use Rattle.codec_array_chains.specs.ArrayCodings.{IsInvertible, SameLengths, KeepsLengths}
+use Rattle.codec_chains.specs.ArrayCodings.{IsInvertible, SameLengths, KeepsLengths}
 use Rattle.test_helpers.specs.Inverted.{inverted_byte, inverted_elements, inverted_coding}
 
 twice_byte : (b : ℕ) → inverted_byte (inverted_byte b) ≡ b

@@ -3,7 +3,7 @@ ghost use Rattle.std.specs.Prelude.{◌≡◌, IfOk, IfErr, map};
 ghost use Rattle.parts_errors.specs.declared.error.CodecError.TheVariants.{OutOfMemory};
 ghost use Rattle.test_helpers.specs.Inverted.{inverted_byte, inverted_elements};
 
-use codec_array_chains::ArrayToArrayCodecTraits;
+use codec_chains::ArrayToArrayCodecTraits;
 use std::alloc::{AllocError, Global};
 use zarr_parts::{ArrayBuilder, ArrayBytes, CodecError};
 

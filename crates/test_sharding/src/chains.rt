@@ -3,7 +3,7 @@ use crate::compared::same;
 use crate::shards::{
     ABSENT, around, decoded, done, is_decoded_to, is_encoded_as, read_back, shape_of, shard_of,
 };
-use codec_crc32c::Crc32cCodec;
+use codec_checksums::Crc32cCodec;
 use std::alloc::Global;
 use std::process::Abort;
 use test_helpers::{MarkedCodec, UnboundedCodec};

@@ -11,8 +11,8 @@ use Rattle.sharding_codec.specs.declared.codec.ShardingCodec.{ShardingCodec}
 use Rattle.sharding_format.specs.declared.location.ShardingIndexLocation.{ShardingIndexLocation}
 use Rattle.sharding_format.specs.declared.order.SubchunkWriteOrder.{SubchunkWriteOrder}
 use Rattle.sharding_format.specs.declared.order.SubchunkWriteOrder.TheVariants.{C}
-use Rattle.codec_default.specs.declared.default_codec.DefaultArrayToBytesCodec.{DefaultArrayToBytesCodec}
-use Rattle.codec_default.specs.DefaultCodec.{default_codec_of}
+use Rattle.codec_vlen.specs.declared.default_codec.DefaultArrayToBytesCodec.{DefaultArrayToBytesCodec}
+use Rattle.codec_vlen.specs.DefaultCodec.{default_codec_of}
 use Rattle.tool_script.specs.Elements.{type_of}
 use Rattle.tool_script.specs.declared.element_type.ElementType.{ElementType}
 use Rattle.sharding_codec.specs.Decoders.{index_in}

@@ -1,15 +1,14 @@
 // The parts of a sharding codec.
 ghost use Rattle.std.specs.Prelude.{◌≡◌, Some, IfOk};
-ghost use Rattle.codec_default.specs.DefaultCodec.{default_codec_of};
+ghost use Rattle.codec_vlen.specs.DefaultCodec.{default_codec_of};
 ghost use Rattle.std.specs.Arc.{arc_value};
 ghost use Rattle.codec_bytes.specs.declared.bytes_codec.Endianness.TheVariants.{Little};
 ghost use Rattle.sharding_format.specs.declared.location.ShardingIndexLocation.TheVariants.{End};
 ghost use Rattle.sharding_format.specs.declared.order.SubchunkWriteOrder.TheVariants.{Unordered};
 
-use codec_array_chains::ArrayChain;
 use codec_bytes::BytesCodec;
-use codec_chains::BytesChain;
-use codec_default::{DefaultArrayToBytesCodec, default_array_to_bytes_codec};
+use codec_chains::{ArrayChain, BytesChain};
+use codec_vlen::{DefaultArrayToBytesCodec, default_array_to_bytes_codec};
 use parts_arrays::DataType;
 use parts_subsets::ChunkShape;
 use sharding_codec::ShardingCodec;

@@ -2,8 +2,8 @@
 use Rattle.std.specs.Prelude.{ℕ, ◌≡◌, ◌≤◌, ◌+◌, ◌⊎◌, Bool, true, false, List, [], ◌∷◌, ◌++◌, slice_index_or}
 use Rattle.std.specs.List.{All}
 use Rattle.session_records.specs.Receipts.{Stands, RiseFrom, times}
-use Rattle.session_model.specs.declared.event.Event.{Event}
-use Rattle.session_model.specs.declared.event.Receipt.{Receipt}
+use Rattle.session_runs.specs.declared.event.Event.{Event}
+use Rattle.session_runs.specs.declared.event.Receipt.{Receipt}
 
 -- a mark, as a number
 abbrev pub number_of_mark : Bool → ℕ

@@ -2,8 +2,8 @@
 use Rattle.std.specs.Prelude.{◌≡◌, ◌≤◌, ◌<◌, ◌^◌, ◌+◌, ◌⊎◌, true, length, Option, Some}
 use Rattle.parts_errors.specs.Words.{Bytes}
 use Rattle.parts_errors.specs.declared.error.CodecError.TheVariants.{OutOfMemory, TooLarge}
-use Rattle.session_model.specs.declared.command.Reply.{Reply}
-use Rattle.session_model.specs.declared.command.Reply.TheVariants.{Compacted, Refused}
+use Rattle.session_runs.specs.declared.command.Reply.{Reply}
+use Rattle.session_runs.specs.declared.command.Reply.TheVariants.{Compacted, Refused}
 
 -- by the reply: the bytes, or the old object, where there was no memory, or where
 -- they reach 2^64 - 1

@@ -1,6 +1,6 @@
 use Rattle.std.proofs.Common.{refl}
 use Rattle.std.specs.Cow.{cow_slice_items}
-use Rattle.codec_crc32c.specs.Crc32c.{checksum_bytes}
+use Rattle.codec_checksums.specs.Crc32c.{checksum_bytes}
 use Rattle.array_codecs.proofs.BeforeChecksum.{stands_before}
 use Rattle.array_codecs.proofs.byte_codecs.before_checksum.Goals as goal
 

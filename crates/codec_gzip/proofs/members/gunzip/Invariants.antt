@@ -1,5 +1,5 @@
 use Rattle.std.proofs.Common.{◌≡◌, ◌≤◌, ◌-◌, [], length, vec_len}
-use Rattle.codec_decompression.specs.Parts.{parts}
+use Rattle.codec_compression.specs.Parts.{parts}
 use Rattle.codec_gzip.specs.Gzip.{member_at}
 use Rattle.codec_gzip.proofs.members.gunzip.Given as goal
 

@@ -12,9 +12,9 @@ use Rattle.sharding_format.specs.Cells.{shard_cells}
 use Rattle.sharding_open.specs.Cached.{object_cells}
 use Rattle.sharding_codec.specs.Decoders.{ObjectCellsRefusals}
 use Rattle.sharding_open.proofs.PreparedLemmas.{length-object_cells}
-use Rattle.session_model.specs.Objects.{shards_of}
-use Rattle.session_model.proofs.CauseLemmas.{session_first}
-use Rattle.session_model.specs.Histories.{IsCellsOf}
+use Rattle.session_runs.specs.Objects.{shards_of}
+use Rattle.session_runs.proofs.CauseLemmas.{session_first}
+use Rattle.session_runs.specs.Histories.{IsCellsOf}
 use Rattle.session_records.specs.Recorded.{full_subset, meaning_in}
 use Rattle.session_records.proofs.WholeLemmas.{whole_cells}
 use Rattle.session_records.proofs.OpeningLemmas.{cells_left}

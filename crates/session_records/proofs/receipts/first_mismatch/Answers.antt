@@ -1,7 +1,7 @@
 use Rattle.std.proofs.Common.{◌≡◌, ◌+◌, ◌++◌, ◌∷◌, [], List, false, length, take, sym, ap, ◌∙◌, arith}
 use Rattle.std.proofs.lemmas.List.{take_more, take_all, length-replicate, length-append}
 use Rattle.std.proofs.lemmas.List.Elements.{All-nil, All-append, All-push}
-use Rattle.session_model.specs.declared.event.Receipt.{Receipt}
+use Rattle.session_runs.specs.declared.event.Receipt.{Receipt}
 use Rattle.session_records.specs.Receipts.{receipts_of, Stands, RiseFrom}
 use Rattle.session_records.specs.steps.Marks.{mark_at, marks}
 use Rattle.session_records.proofs.ReceiptLemmas.{receipts_of-push, times-append, none_marked, unmarked, marks_most, is_mismatch}

@@ -2,7 +2,7 @@ use Rattle.std.proofs.Common.{◌≡◌, ◌<◌, ◌+◌, ◌++◌, ◌∷◌, 
 use Rattle.std.proofs.Math.Seq.{split_at}
 use Rattle.std.proofs.lemmas.List.{take_more}
 use Rattle.std.proofs.lemmas.List.Elements.{All-push}
-use Rattle.session_model.specs.declared.event.Receipt.{Receipt}
+use Rattle.session_runs.specs.declared.event.Receipt.{Receipt}
 use Rattle.session_records.specs.Receipts.{Stands, RiseFrom, times}
 use Rattle.session_records.specs.steps.Marks.{number_of_mark, mark_at, IsSeatMismatch}
 use Rattle.session_records.proofs.ReceiptLemmas.{times-append, rise_more, mark_below, mark_at-set, marks-set}

@@ -1,6 +1,6 @@
 use Rattle.std.proofs.Common.{◌≡◌, ◌≤◌, ◌+◌, ◌↔◌, ◌++◌, ◌∷◌, [], ℕ, length, take}
 use Rattle.std.specs.List.{All}
-use Rattle.session_model.specs.declared.event.Receipt.{Receipt}
+use Rattle.session_runs.specs.declared.event.Receipt.{Receipt}
 use Rattle.session_records.specs.Receipts.{Stands, RiseFrom, times}
 use Rattle.session_records.specs.steps.Marks.{mark_at, marks}
 use Rattle.session_records.proofs.receipts.seat_mismatch.Given as goal

@@ -1,6 +1,6 @@
 use Rattle.std.proofs.Common.{inl, inr, length}
 use Rattle.session_runs.specs.steps.Replacing.{IsReplaced}
-use Rattle.session_model.proofs.SessionCauses.{of_refused}
+use Rattle.session_runs.proofs.SessionCauses.{of_refused}
 use Rattle.session_runs.proofs.ReplaceLemmas.{replace_refused}
 use Rattle.session_runs.proofs.compact.replace.Goals as goal
 

@@ -1,7 +1,7 @@
 use Rattle.std.proofs.Common.{refl, ◌∙◌, ap}
 use Rattle.parts_arrays.specs.ArraySpec.{array_spec}
-use Rattle.session_model.specs.Maps.{filled}
-use Rattle.session_model.specs.Objects.{shards_of}
+use Rattle.session_runs.specs.Maps.{filled}
+use Rattle.session_runs.specs.Objects.{shards_of}
 use Rattle.session_runs.proofs.ReadBackLaws.{shows_fill, replied_back}
 use Rattle.session_runs.proofs.laws.read_back.Goals as goal
 

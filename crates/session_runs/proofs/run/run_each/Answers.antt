@@ -2,10 +2,10 @@ use Rattle.std.proofs.Common.{◌+◌, ◌++◌, ◌∷◌, [], take, refl, sym,
 use Rattle.std.proofs.lemmas.List.{take_more, length_push}
 use Rattle.parts_subsets.specs.Grid.{grid_of}
 use Rattle.sharding_format.specs.Index.{index_spec}
-use Rattle.session_model.specs.Objects.{shards_of}
+use Rattle.session_runs.specs.Objects.{shards_of}
 use Rattle.session_runs.specs.Served.{served_spec}
-use Rattle.session_model.specs.declared.command.Command.{Command}
-use Rattle.session_model.proofs.OpeningLemmas.{meant, index_never_long, opening_refused, usable_closed}
+use Rattle.session_runs.specs.declared.command.Command.{Command}
+use Rattle.session_runs.proofs.OpeningLemmas.{meant, index_never_long, opening_refused, usable_closed}
 use Rattle.session_runs.proofs.RunLemmas.{ran_more, ended_by, ended_by_halt, length-with_reply, halts_last, writing_on}
 use Rattle.session_runs.proofs.run.run_each.Goals as goal
 

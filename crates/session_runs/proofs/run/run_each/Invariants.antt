@@ -1,10 +1,10 @@
 use Rattle.std.proofs.Common.{◌≡◌, IsTrue, length, take}
 use Rattle.storage_handles.specs.Writes.{IsWriting}
 use Rattle.sharding_codec.specs.Sessions.{IsInStep}
-use Rattle.session_model.specs.Objects.{shards_of}
+use Rattle.session_runs.specs.Objects.{shards_of}
 use Rattle.session_runs.specs.Served.{served_spec}
 use Rattle.session_runs.specs.Halting.{Ran, IsSessionOf}
-use Rattle.session_model.proofs.OpeningLemmas.{meant}
+use Rattle.session_runs.proofs.OpeningLemmas.{meant}
 use Rattle.session_runs.proofs.run.run_each.Given as goal
 
 -- the session stands where the run so far has led

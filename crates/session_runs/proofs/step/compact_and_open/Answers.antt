@@ -1,8 +1,8 @@
 use Rattle.parts_subsets.specs.Grid.{grid_of}
 use Rattle.sharding_format.specs.Index.{index_spec}
-use Rattle.session_model.specs.Objects.{shards_of}
+use Rattle.session_runs.specs.Objects.{shards_of}
 use Rattle.session_runs.specs.Served.{served_spec}
-use Rattle.session_model.proofs.OpeningLemmas.{meant, index_never_long, opening_refused}
+use Rattle.session_runs.proofs.OpeningLemmas.{meant, index_never_long, opening_refused}
 use Rattle.session_runs.proofs.RunLemmas.{stops_from}
 use Rattle.session_runs.proofs.step.compact_and_open.Goals as goal
 

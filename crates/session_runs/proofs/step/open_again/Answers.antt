@@ -1,9 +1,9 @@
 use Rattle.std.proofs.Common.{refl}
 use Rattle.parts_subsets.specs.Grid.{grid_of}
 use Rattle.sharding_format.specs.Index.{index_spec}
-use Rattle.session_model.specs.Objects.{shards_of}
+use Rattle.session_runs.specs.Objects.{shards_of}
 use Rattle.session_runs.specs.Served.{served_spec}
-use Rattle.session_model.proofs.OpeningLemmas.{meant, index_never_long, opening_refused}
+use Rattle.session_runs.proofs.OpeningLemmas.{meant, index_never_long, opening_refused}
 use Rattle.session_runs.proofs.step.open_again.Goals as goal
 
 pub returns-in-Err-clause-halts : goal.returns-in-Err-clause-halts

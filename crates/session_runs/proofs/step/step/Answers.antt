@@ -1,5 +1,5 @@
 use Rattle.session_runs.specs.Served.{served_spec}
-use Rattle.session_model.proofs.OpeningLemmas.{usable_closed}
+use Rattle.session_runs.proofs.OpeningLemmas.{usable_closed}
 use Rattle.session_runs.proofs.step.step.Goals as goal
 
 pub compact_and_open-requires-clause-usable : goal.compact_and_open-requires-clause-usable

@@ -1,4 +1,4 @@
-use Rattle.session_model.specs.declared.event.Event.TheVariants.{Erase}
+use Rattle.session_runs.specs.declared.event.Event.TheVariants.{Erase}
 use Rattle.session_records.proofs.HistoryLemmas.{recorded_erase, unset_after}
 use Rattle.session_records.proofs.shard.RecordedShard.erase.Goals as goal
 

@@ -1,4 +1,4 @@
-use Rattle.session_model.specs.declared.event.Event.TheVariants.{Read}
+use Rattle.session_runs.specs.declared.event.Event.TheVariants.{Read}
 use Rattle.session_records.proofs.HistoryLemmas.{recorded_read, unset_after}
 use Rattle.session_records.proofs.shard.RecordedShard.read.Goals as goal
 

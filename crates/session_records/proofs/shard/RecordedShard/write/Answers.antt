@@ -1,4 +1,4 @@
-use Rattle.session_model.specs.declared.event.Event.TheVariants.{Write}
+use Rattle.session_runs.specs.declared.event.Event.TheVariants.{Write}
 use Rattle.session_records.proofs.HistoryLemmas.{recorded_write, unset_after}
 use Rattle.session_records.proofs.shard.RecordedShard.write.Goals as goal
 

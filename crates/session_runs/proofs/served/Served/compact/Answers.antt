@@ -2,13 +2,13 @@ use Rattle.std.proofs.Common.{IsTrue, subst}
 use Rattle.parts_errors.specs.Words.{Bytes}
 use Rattle.parts_subsets.specs.Grid.{grid_of}
 use Rattle.sharding_format.specs.Index.{index_spec}
-use Rattle.session_model.specs.Objects.{shards_of}
-use Rattle.session_model.specs.Runs.{CompactStep}
+use Rattle.session_runs.specs.Objects.{shards_of}
+use Rattle.session_runs.specs.Runs.{CompactStep}
 use Rattle.session_runs.specs.Served.{served_spec}
-use Rattle.session_model.specs.steps.Serving.{Leads, IsUsable}
+use Rattle.session_runs.specs.steps.Serving.{Leads, IsUsable}
 use Rattle.session_runs.specs.steps.Replacing.{IsReplaced}
-use Rattle.session_model.proofs.OpeningLemmas.{index_never_long}
-use Rattle.session_model.proofs.SessionCauses.{of_refused}
+use Rattle.session_runs.proofs.OpeningLemmas.{index_never_long}
+use Rattle.session_runs.proofs.SessionCauses.{of_refused}
 use Rattle.session_runs.proofs.ReplaceLemmas.{replaced_leads, replaced_usable, unmade_leads, each_ok, on_ok_told}
 use Rattle.session_runs.proofs.served.Served.compact.Goals as goal
 

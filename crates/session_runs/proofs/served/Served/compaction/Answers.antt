@@ -1,6 +1,6 @@
 use Rattle.std.proofs.Common.{inl, inr}
 use Rattle.codec_traits.proofs.CodecLaws.{refused_so}
-use Rattle.session_model.specs.Objects.{shards_of}
+use Rattle.session_runs.specs.Objects.{shards_of}
 use Rattle.session_runs.specs.Served.{served_spec}
 use Rattle.session_runs.proofs.ReplaceLemmas.{whole_refusals}
 use Rattle.session_runs.proofs.served.Served.compaction.Goals as goal

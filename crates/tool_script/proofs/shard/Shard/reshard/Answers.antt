@@ -1,7 +1,7 @@
 use Rattle.parts_arrays.specs.ArraySpec.{ArraySpec}
 use Rattle.parts_subsets.specs.Grid.{grid_of}
 use Rattle.codec_traits.specs.Meanings.{Meaning}
-use Rattle.codec_default.specs.DefaultCodec.{default_meaning}
+use Rattle.codec_vlen.specs.DefaultCodec.{default_meaning}
 use Rattle.codec_bytes.specs.BytesCodec.{bytes_meaning}
 use Rattle.codec_traits.specs.RefusalLaws.{passed_on}
 use Rattle.sharding_format.specs.Index.{index_spec}

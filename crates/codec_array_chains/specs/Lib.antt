@@ -1,3 +1,0 @@
-pub mod ArrayCodings
-pub mod ArrayChains
-pub mod ArrayChainLaws

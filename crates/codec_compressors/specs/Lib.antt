@@ -1,2 +1,0 @@
-pub mod Compressors
-pub mod CompressorLaws

@@ -1,2 +1,0 @@
-pub mod Checksum
-pub mod Crc32c

@@ -1,3 +1,0 @@
-pub mod DefaultCodec
-pub mod DefaultMetadata
-pub mod DefaultMetadataLaws

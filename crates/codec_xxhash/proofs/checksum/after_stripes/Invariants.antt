@@ -1,6 +1,0 @@
-use Rattle.std.proofs.Common.{◌≡◌, fold, take}
-use Rattle.codec_xxhash.specs.XxHash.{after_stripe, first_accumulators}
-use Rattle.codec_xxhash.proofs.checksum.after_stripes.Given as goal
-
-abbrev pub invariant-loop-stripe : goal.invariant-loop-stripe
-invariant-loop-stripe l = l.accumulators ≡ fold after_stripe first_accumulators (take l.stripe-index l.stripes)

@@ -1,3 +1,0 @@
-pub mod ValueLists
-pub mod ConfigurationLaws
-pub mod CodecListLaws

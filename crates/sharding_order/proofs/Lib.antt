@@ -1,3 +1,0 @@
-pub mod CodeLemmas
-pub mod ListLemmas
-pub mod ReachLemmas
