@@ -77,7 +77,7 @@ pub enum Stop {
     #[error("no shard of this array has the key {0}")]
     NoShard(String),
     /// A grid that has too many places to be drawn.
-    #[error("a map has at most {most} places, and this one would have more; name a shard, or another one")]
+    #[error("a map has at most {most} places, and this one would have more; name one of its shards")]
     TooManyPlaces { most: u64 },
     /// What names no part of the shards.
     #[error("{0} is no part of the shards, as 2/8 is the second of eight")]

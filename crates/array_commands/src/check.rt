@@ -4,7 +4,7 @@ use array_cli::{
     read_through, written,
 };
 use array_folder::{ChunkFiles, Counted};
-use array_info::{Listing, put_refusal, write_folder, write_folder_lines};
+use array_info::{Listing, check_subchunk, put_refusal, write_folder, write_folder_lines};
 use codec_traits::ArrayToBytesCodecTraits;
 use parts_errors::CodecError;
 use parts_row_major::unravel_index;
@@ -107,26 +107,6 @@ impl<W: Write, M: Write> Told<'_, '_, W, M> {
         }
         self.progress.clear();
         written(write_shard_line(self.out, key, shard), ending)
-    }
-}
-
-// Reads a subchunk of a shard, or looks it up in the index alone, and says whether it is present.
-pub(crate) fn check_subchunk<
-    R: Files + AllocGlobal,
-    I: ArrayToBytesCodecTraits,
-    X: ArrayToBytesCodecTraits,
-    H: BytesPartialDecoderTraits,
->(
-    array: &Array<'_, R, I, X>,
-    is_index_alone: bool,
-    decoder: &mut ShardingPartialDecoder<'_, I, X, H>,
-    number: u64,
-) -> Result<bool, CodecError> {
-    let alloc = array.alloc();
-    match unravel_index(alloc, number, array.subchunks.as_slice())? {
-        Some(subchunk) if is_index_alone => is_present(decoder, &subchunk),
-        Some(subchunk) => read_through(alloc, decoder, array.codec, array.metadata, &subchunk),
-        None => Ok(false),
     }
 }
 

@@ -4,7 +4,6 @@ ghost use Rattle.std.specs.Prelude.{◌≤◌, IfOk};
 use crate::check::check;
 use crate::compact::{Way, compact};
 use crate::extract::extract;
-use crate::map::{map_array, map_shard};
 use crate::npy::save_subset;
 use crate::read::read_array;
 use array_cli::{
@@ -13,7 +12,7 @@ use array_cli::{
 };
 use array_fields::escaped;
 use array_grid::{ListPart, subset_of};
-use array_info::{Listing, info_of_array, info_of_shard, list_nodes};
+use array_info::{Listing, info_of_array, info_of_shard, list_nodes, map_array, map_shard};
 use array_metadata::{ArrayMetadata, ElementType};
 use clap::ArgMatches;
 use codec_traits::ArrayToBytesCodecTraits;

@@ -1,12 +1,11 @@
 // The compaction of an array's shards.
-use crate::npy::save;
 use crate::rewriting::{Planned, plan_of, replace};
 use array_cli::{
     Array, Ending, JsonLine, Place, Progress, Refusal, Shard, ShardFile, Stop, written,
 };
 use array_fields::{LONGEST_TEXT, escaped};
 use array_folder::{ChunkFiles, age_of, read_document};
-use array_info::{Listing, put_refusal};
+use array_info::{Listing, put_refusal, save};
 use codec_traits::ArrayToBytesCodecTraits;
 use sharding_layout::CompactionPlan;
 use std::io::{ErrorKind, Write};

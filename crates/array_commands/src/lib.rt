@@ -5,11 +5,8 @@
 mod check;
 mod command;
 mod compact;
-mod drawing;
 mod extract;
-mod map;
 mod npy;
-mod picture;
 mod read;
 mod rewriting;
 mod sound;

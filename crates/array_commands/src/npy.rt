@@ -1,54 +1,14 @@
 // A subset of an array as a file of NumPy's format.
 use crate::read::read_array;
-use crate::rewriting::{begin, tell_owner};
 use array_cli::{Array, Ending, Progress, Stop};
 use array_fields::escaped;
 use array_folder::{npy_beside, npy_header, write_npy};
 use array_grid::{Requested, subset_of};
+use array_info::save;
 use codec_traits::ArrayToBytesCodecTraits;
 use std::io;
 use std::io::{ErrorKind, Write};
 use std::rt::Files;
-
-// Why a new file is not begun where another one stands.
-fn busy() -> io::Error {
-    io::Error::new(
-        ErrorKind::AlreadyExists,
-        "stands there; if no program writes it, remove it",
-    )
-}
-
-// Makes the file at a path of a header and cells.
-pub(crate) fn save<R: Files + AllocGlobal, I, X, W: Write>(
-    array: &Array<'_, R, I, X>,
-    path: &str,
-    beside: &str,
-    header: &[u8],
-    cells: &[u8],
-    out: &mut W,
-) -> Result<(), Stop> {
-    let shown = escaped(array.alloc(), path)?;
-    let Some(new) = begin(array, path, beside)? else {
-        return Err(Stop::system(array.alloc(), beside, busy()));
-    };
-    // a line that nobody reads stops nothing
-    let _ = tell_owner(out, &shown, &new);
-    match write_npy(new, header, cells) {
-        Ok(()) => Ok(()),
-        Err(error) => Err(Stop::system(array.alloc(), path, error)),
-    }
-}
-
-/// Makes a file at a path of bytes. A file of that name is replaced once the new one is whole.
-pub fn save_bytes<R: Files + AllocGlobal, I, X, W: Write>(
-    array: &Array<'_, R, I, X>,
-    path: &str,
-    bytes: &[u8],
-    out: &mut W,
-) -> Result<(), Stop> {
-    let beside = npy_beside(array.rt, path)?;
-    save(array, path, &beside, &[], bytes, out)
-}
 
 // The header of a file of NumPy's format, to be at a path, which has the elements that are requested.
 fn header_of<R: Files + AllocGlobal, I, X>(

@@ -1,6 +1,6 @@
 // A compact shard that is written in the place of a shard's file.
 use array_cli::{Array, Place, Shard, ShardFile, Stop};
-use array_info::whole_index;
+use array_info::{begin, tell_owner, whole_index};
 use codec_traits::ArrayToBytesCodecTraits;
 use parts_errors::{CodecError, CodecOptions};
 use parts_subsets::ChunkShape;
@@ -178,35 +178,6 @@ fn carry_out<H: BytesPartialDecoderTraits, R: Files + Drop>(
             Err(failure)
         }
     }
-}
-
-/// The new file of a path, or `None` where one stands there already.
-pub fn begin<'a, R: Files + AllocGlobal, I, X>(
-    array: &Array<'a, R, I, X>,
-    path: &str,
-    beside: &str,
-) -> Result<Option<Replacement<&'a R>>, Stop> {
-    match Replacement::begin(array.alloc(), array.rt, path) {
-        Ok(replacement) => Ok(Some(replacement)),
-        Err(error) if error.kind() == ErrorKind::AlreadyExists => Ok(None),
-        Err(error) => Err(Stop::folder(array.alloc(), folder_of(beside), error)),
-    }
-}
-
-/// Tells where a new file has not the owner and the group of the old one.
-pub fn tell_owner<R: Files, W: Write>(
-    out: &mut W,
-    key: &str,
-    replacement: &Replacement<R>,
-) -> io::Result<()> {
-    if replacement.keeps_owner() {
-        return Ok(());
-    }
-    writeln!(
-        out,
-        "{key}: this program may not give its new file the owner and group of the old one"
-    )?;
-    out.flush()
 }
 
 // Why a shard was not replaced.

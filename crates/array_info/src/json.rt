@@ -44,15 +44,16 @@ pub fn write_array<W: Write>(
     line.end()
 }
 
-/// Puts why something is refused, and where, into a line: `number`, `name`, and `subchunk` where it is one, with how many others are
-/// refused so.
+/// Puts why something is refused, and where, into a line: `number`, `name`, `subchunk` where it is one, with how many others are
+/// refused so, and the `sentence` that stands in a line of text, which has no character that JSON knows otherwise.
 pub fn put_refusal<W: Write>(line: &mut JsonLine<'_, W>, refusal: &Refusal) -> io::Result<()> {
     line.number("number", refusal.error.number() as u64)?;
     line.text("name", refusal.error.name())?;
     if let Place::Subchunk(number) = refusal.position {
         line.each(&[("subchunk", number), ("others", refusal.others)])?;
     }
-    Ok(())
+    let reason = refusal.reason();
+    write!(line.member("sentence")?, "\"{reason}\"")
 }
 
 /// Writes a line of the kind `shard`.

@@ -1,12 +1,13 @@
 // A map of an array's shards, or of the subchunks of one shard.
-use crate::check::check_subchunk;
 use crate::drawing::{Drawn, Mark, ShardMap, ending_of, write_array_map, write_shard_map};
-use crate::npy::save_bytes;
+use crate::folder::shard_of;
+use crate::info::{ShardInfo, known_shards};
+use crate::new_file::save_bytes;
 use crate::picture::{write_array_picture, write_shard_picture};
+use crate::subchunks::check_subchunk;
 use array_cli::{Array, Ending, Place, Progress, Shard, ShardFile, Stop, written};
 use array_fields::escaped;
 use array_folder::ChunkFiles;
-use array_info::{ShardInfo, known_shards, shard_of};
 use codec_traits::ArrayToBytesCodecTraits;
 use parts_errors::CodecError;
 use parts_row_major::{ravel_indices, unravel_index};
@@ -246,7 +247,7 @@ pub fn map_shard<
     let map = map_of_file(array, &shard, array.file(shard.key)?, count, progress)?;
     progress.clear();
     let grid = array.subchunks.as_slice();
-    let ending = map.ending();
+    let ending = ending_of(&map.marks(array.alloc())?);
     match svg {
         Some(path) => {
             let mut picture: Vec<u8> = Vec::new(array.alloc());

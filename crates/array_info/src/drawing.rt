@@ -1,6 +1,6 @@
 // Maps as text.
 use array_cli::Ending;
-use std::alloc::Global;
+use std::alloc::{AllocError, Global};
 use std::io;
 use std::io::Write;
 
@@ -74,14 +74,13 @@ pub fn ending_of(marks: &[Mark]) -> Ending {
 }
 
 impl ShardMap {
-    /// How a command ends that found this.
-    pub fn ending(&self) -> Ending {
-        let is_refused = |drawn: &Drawn| drawn.mark == Mark::Refused;
-        if self.subchunks.iter().any(is_refused) {
-            Ending::Refused
-        } else {
-            Ending::Done
+    /// What each subchunk is.
+    pub fn marks(&self, alloc: Global) -> Result<Vec<Mark>, AllocError> {
+        let mut marks: Vec<Mark> = Vec::new(alloc);
+        for drawn in self.subchunks.iter() {
+            marks.push(drawn.mark)?;
         }
+        Ok(marks)
     }
 
     // How many subchunks have a mark.
@@ -106,8 +105,8 @@ impl ShardMap {
     }
 }
 
-// How many marks stand on a line, and how many lines are between two empty ones, in a map of a grid with these counts.
-fn rows_of(counts: &[u64]) -> (u64, u64) {
+/// How many marks stand on a line, and how many lines make a plane, in a map of a grid with these counts.
+pub fn rows_of(counts: &[u64]) -> (u64, u64) {
     match counts {
         [] => (1, 1),
         [row] => (*row, 1),
@@ -129,23 +128,11 @@ fn write_break<W: Write>(out: &mut W, number: u64, of: u64, counts: &[u64]) -> i
     Ok(())
 }
 
-// Writes a mark for each place of a grid, a row of the last axis a line.
-fn write_grid<W: Write>(out: &mut W, marks: &[u8], counts: &[u64]) -> io::Result<()> {
-    let mut number = 0u64;
-    for mark in marks {
-        out.write_all(&[*mark])?;
-        number = number.saturating_add(1);
-        write_break(out, number, marks.len() as u64, counts)?;
-    }
-    Ok(())
-}
-
 // Writes a map's first line, which says what its marks are.
 const LEGEND: &[u8] = b"# present, . absent, x refused\n";
 
-/// Writes which shards of an array are there.
-pub fn write_array_map<W: Write>(out: &mut W, marks: &[Mark], counts: &[u64]) -> io::Result<()> {
-    out.write_all(LEGEND)?;
+// Writes a mark for each place of a grid, a row of the last axis a line.
+fn write_marks<W: Write>(out: &mut W, marks: &[Mark], counts: &[u64]) -> io::Result<()> {
     let mut number = 0u64;
     for mark in marks {
         out.write_all(&[mark.character()])?;
@@ -153,6 +140,12 @@ pub fn write_array_map<W: Write>(out: &mut W, marks: &[Mark], counts: &[u64]) ->
         write_break(out, number, marks.len() as u64, counts)?;
     }
     Ok(())
+}
+
+/// Writes which shards of an array are there.
+pub fn write_array_map<W: Write>(out: &mut W, marks: &[Mark], counts: &[u64]) -> io::Result<()> {
+    out.write_all(LEGEND)?;
+    write_marks(out, marks, counts)
 }
 
 // The column of a bar that has a byte of a file of a length.
@@ -213,11 +206,7 @@ pub fn write_shard_map<W: Write>(
 ) -> io::Result<()> {
     write_counts(out, key, map)?;
     out.write_all(LEGEND)?;
-    let mut marks: Vec<u8> = Vec::new(alloc);
-    for drawn in map.subchunks.iter() {
-        marks.push(drawn.mark.character())?;
-    }
-    write_grid(out, &marks, counts)?;
+    write_marks(out, &map.marks(alloc)?, counts)?;
     out.write_all(b"0 to z slices by subchunk, = index, - dead\n")?;
     out.write_all(&bar_of(map))?;
     out.write_all(b"\n")

@@ -1,5 +1,5 @@
 // Maps as pictures, in the format SVG.
-use crate::drawing::{Mark, ShardMap};
+use crate::drawing::{Mark, ShardMap, rows_of};
 use std::io;
 use std::io::Write;
 
@@ -79,11 +79,7 @@ fn write_words<W: Write>(out: &mut W, y: u64, words: &str) -> io::Result<()> {
 
 // How many squares stand side by side, how many lines of them a plane has, and how many planes there are, of a grid.
 fn planes_of(counts: &[u64], places: u64) -> (u64, u64, u64) {
-    let (row, rows) = match counts {
-        [] => (1, 1),
-        [row] => (*row, 1),
-        [.., rows, row] => (*row, *rows),
-    };
+    let (row, rows) = rows_of(counts);
     let planes = places.checked_div(row.saturating_mul(rows)).unwrap_or(0);
     (row, rows, planes)
 }
