@@ -58,6 +58,62 @@ def test_info(program, name, path, shards):
             bad.append(f"{name}: info of {key}: {lines.get(key)}")
 
 
+def lines_of(ran):
+    """The objects of an answer that is lines of JSON."""
+    return [json.loads(line) for line in ran[1].decode().splitlines()]
+
+
+def test_lines(program, name, path, shards):
+    """What `info` tells in JSON, at once and in three parts."""
+    told = {line["key"]: line for line in lines_of(run(program, "info", path, "--json")) if line["kind"] == "shard"}
+    compare(name, "shards in JSON", sorted(told), sorted(key for key, shard in shards.items() if shard != "absent"))
+    for key, line in told.items():
+        wanted = shards[key]
+        members = {it: wanted[it] for it in ("present", "absent", "dead")} if wanted["index"] == "ok" else {}
+        compare(name, f"{key} in JSON", {it: line.get(it) for it in members}, members)
+        compare(name, f"length of {key} in JSON", line["bytes"], wanted["length"])
+        compare(name, f"refusal of {key} in JSON", "number" in line, wanted["index"] != "ok")
+    parts = [run(program, "info", path, "--json", "--part", f"{part}/3") for part in (1, 2, 3)]
+    dealt = [line["key"] for part in parts for line in lines_of(part) if line["kind"] == "shard"]
+    compare(name, "shards of three parts", sorted(dealt), sorted(told))
+
+
+def test_map(program, name, path, expected, is_decoded):
+    """The marks of each shard's map, counted."""
+    for key, shard in expected["shards"].items():
+        if shard == "absent" or shard["index"] != "ok":
+            continue
+        out = run(program, "map", path, key)[1].decode()
+        grid = out[out.index("refused\n") + 8 : out.index("0 to z slices")] if "0 to z slices" in out else ""
+        hurt = sum(place == key for place, _, _ in expected["damaged"]) if is_decoded else 0
+        wanted = (shard["present"] - hurt, shard["absent"], hurt)
+        compare(name, f"map of {key}", tuple(grid.count(mark) for mark in "#.x"), wanted)
+
+
+def test_filled(program, name, path, expected):
+    """A read in which what is damaged has the fill value."""
+    status, out, told = run(program, "read", path, "--raw", "--fill-damaged")
+    cells = [expected["fill_value"] if cell is None else cell for cell in expected["cells"]]
+    compare(name, "read with fill values", (status, out), (1, bytes_of(cells, expected["data_type"])))
+    compare(name, "what is filled", told.count(": filled: "), len(expected["damaged"]))
+
+
+def test_copy(program, name, path, shards):
+    """A compacted copy, which leaves the array as it is."""
+    copy = f"{path}.copy"
+    run(program, "compact", path, "--output", copy)
+    for key, shard in shards.items():
+        if shard != "absent":
+            with open(f"{path}/{key}", "rb") as old, open(f"{copy}/{key}", "rb") as new:
+                old, new = old.read(), new.read()
+            compare(name, f"length of {key} behind a copy", len(old), shard["length"])
+            wanted = shard["compacted_sha256"] or hashlib.sha256(old).hexdigest()
+            compare(name, f"{key} copied", hashlib.sha256(new).hexdigest(), wanted)
+    with open(f"{path}/zarr.json", "rb") as old, open(f"{copy}/zarr.json", "rb") as new:
+        compare(name, "zarr.json copied", new.read(), old.read())
+    refused(name, "compact into an array", run(program, "compact", path, "--output", copy))
+
+
 def test_check(program, name, path, expected, is_decoded):
     status, out, told = run(program, "check", path)
     found = set()
@@ -156,6 +212,11 @@ def test_array(program, name, folder, expected):
     test_read(program, name, path, expected, is_read)
     if is_read and not expected["damaged"]:
         test_json(program, name, path, expected)
+    elif is_read:
+        test_filled(program, name, path, expected)
+    test_lines(program, name, path, expected["shards"])
+    test_map(program, name, path, expected, is_decoded)
+    test_copy(program, name, path, expected["shards"])
     test_compact(program, name, path, expected["shards"])
     if not expected["damaged"]:
         test_read(program, name, path, expected, is_read)
