@@ -12,6 +12,8 @@ mod faults;
 #[cfg(test)]
 mod limits;
 #[cfg(test)]
+mod list_parts;
+#[cfg(test)]
 mod messages;
 #[cfg(test)]
 mod metadata;
