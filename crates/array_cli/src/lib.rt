@@ -1,12 +1,14 @@
 // What the commands over an array on disk share: what stands on a command line, how cells and the progress of a command are
-// written; an array that is open, why a shard of it is refused, and why a command stops.
+// written; an array that is open, the elements of a subset of it, why a shard is refused, and why a command stops.
 #![tactic(auto)]
 
 mod arrays;
 mod command_line;
 mod json_line;
 mod progress;
+mod read;
 mod refusal;
+mod sound;
 mod stop;
 mod text;
 
@@ -16,6 +18,7 @@ pub use arrays::{
 pub use command_line::{Form, Scope, Work, program, work_of};
 pub use json_line::{JsonLine, write_json_text};
 pub use progress::Progress;
+pub use read::read_array;
 pub use refusal::{Place, Refusal};
 pub use stop::{Ending, Stop, written};
 pub use text::{write_json, write_json_cell, write_numbers, write_rows};

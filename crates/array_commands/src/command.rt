@@ -5,10 +5,9 @@ use crate::check::check;
 use crate::compact::{Way, compact};
 use crate::extract::extract;
 use crate::npy::save_subset;
-use crate::read::read_array;
 use array_cli::{
-    Array, Ending, Form, Progress, Scope, Stop, Work, metadata_of, program, work_of, write_json,
-    write_rows, written,
+    Array, Ending, Form, Progress, Scope, Stop, Work, metadata_of, program, read_array, work_of,
+    write_json, write_rows, written,
 };
 use array_fields::escaped;
 use array_grid::{ListPart, subset_of};

@@ -7,8 +7,6 @@ mod command;
 mod compact;
 mod extract;
 mod npy;
-mod read;
 mod rewriting;
-mod sound;
 
 pub use command::run_command;

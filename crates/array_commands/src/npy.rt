@@ -1,6 +1,5 @@
 // A subset of an array as a file of NumPy's format.
-use crate::read::read_array;
-use array_cli::{Array, Ending, Progress, Stop};
+use array_cli::{Array, Ending, Progress, Stop, read_array};
 use array_fields::escaped;
 use array_folder::{npy_beside, npy_header, write_npy};
 use array_grid::{Requested, subset_of};

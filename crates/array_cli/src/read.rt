@@ -1,8 +1,9 @@
 // The elements of a subset of an array.
+use crate::arrays::{Array, Decoder, Shard, decode_subset, read_through};
+use crate::progress::Progress;
+use crate::refusal::{Place, Refusal};
 use crate::sound::{put_sound, shared_elements};
-use array_cli::{
-    Array, Decoder, Ending, Place, Progress, Refusal, Shard, Stop, decode_subset, read_through,
-};
+use crate::stop::{Ending, Stop};
 use array_grid::{ShardGrid, ShardPart, ShardParts, SubsetCells};
 use codec_traits::ArrayToBytesCodecTraits;
 use parts_arrays::ArrayBytes;

@@ -1,5 +1,8 @@
 // What is sound of a part of a subset, where its shard or a subchunk is refused.
-use array_cli::{Array, Decoder, Place, Progress, Refusal, Shard, Stop, decode_subset};
+use crate::arrays::{Array, Decoder, Shard, decode_subset};
+use crate::progress::Progress;
+use crate::refusal::{Place, Refusal};
+use crate::stop::Stop;
 use array_grid::{ShardPart, SubsetCells};
 use codec_traits::ArrayToBytesCodecTraits;
 use parts_errors::CodecError;
