@@ -57,11 +57,26 @@ fn named<T: Drop>(
     }
 }
 
-// What the array's `zarr.json`, which has this text, says. Shards are written anew in row-major order.
-fn read_metadata(alloc: Global, text: &str) -> Result<ArrayMetadata, MetadataError> {
+// What an array's `zarr.json`, which has this text, says. Shards are written anew in an order.
+fn read_metadata(
+    alloc: Global,
+    text: &str,
+    order: SubchunkWriteOrder,
+) -> Result<ArrayMetadata, MetadataError> {
     let mut metadata = ArrayMetadata::from_text(alloc, text)?;
-    metadata.codec.order = SubchunkWriteOrder::C;
+    metadata.codec.order = order;
     Ok(metadata)
+}
+
+/// The metadata of an array that is to have a path, by the text of its `zarr.json`, and whose shards are written in an order.
+pub fn described(
+    alloc: Global,
+    path: &str,
+    text: &str,
+    order: SubchunkWriteOrder,
+) -> Result<ArrayMetadata, Stop> {
+    let document = format!(in alloc; "{path}/zarr.json")?;
+    named(alloc, &document, read_metadata(alloc, text, order))
 }
 
 /// The metadata of the array whose folder has this path. How long the text is, is tested before it is read.
@@ -71,7 +86,8 @@ pub fn metadata_of<R: Files + AllocGlobal>(rt: &R, path: &str) -> Result<ArrayMe
     let length = document_length(rt, path, &document)?;
     named(alloc, &document, MetadataError::test_length(length))?;
     let text = read_document(rt, &document, LONGEST_TEXT)?;
-    named(alloc, &document, read_metadata(alloc, &text))
+    let order = SubchunkWriteOrder::C;
+    named(alloc, &document, read_metadata(alloc, &text, order))
 }
 
 // Tests whether a codec serves the shards of an array.

@@ -19,6 +19,22 @@ pub struct Scope<'a> {
     pub is_json: bool,
 }
 
+/// How an array is laid out anew, by the words of a command line. What is `None` stays as it is.
+#[derive(Debug, Clone, Copy, PartialEq, Eq)]
+pub struct LayoutWords<'a> {
+    /// The shapes of a shard and of a subchunk, as `512,512`.
+    pub shard: Option<&'a str>,
+    pub subchunk: Option<&'a str>,
+    /// Where the index stands: `start` or `end`.
+    pub index: Option<&'a str>,
+    /// Whether `crc32c` is behind the index.
+    pub is_checked: Option<bool>,
+    /// The codec behind `bytes` inside a shard: `none`, `crc32c`, `gzip` or `zstd`.
+    pub inner: Option<&'a str>,
+    /// In which order the subchunks are written: `c` or `morton`.
+    pub order: Option<&'a str>,
+}
+
 /// What is done with an array.
 #[derive(Debug, Clone, Copy, PartialEq, Eq)]
 pub enum Work<'a> {
@@ -50,6 +66,13 @@ pub enum Work<'a> {
         requested: Option<&'a str>,
         path: &'a str,
         fills: bool,
+    },
+    Reshard {
+        path: &'a str,
+        words: LayoutWords<'a>,
+    },
+    Compare {
+        path: &'a str,
     },
     Compact {
         is_dry: bool,
@@ -237,6 +260,109 @@ fn compact_command<'a>(alloc: Global) -> Result<Command<'a>, AllocError> {
         .arg(part_option(alloc))
 }
 
+// An option with a value.
+fn value_option<'a>(
+    alloc: Global,
+    name: &'static str,
+    value: &'static str,
+    help: &'static str,
+) -> Arg<'a> {
+    Arg::new(alloc, name)
+        .long(name)
+        .value_name(value)
+        .help(help)
+}
+
+fn flag<'a>(alloc: Global, name: &'static str, help: &'static str) -> Arg<'a> {
+    Arg::new(alloc, name)
+        .long(name)
+        .action(ArgAction::SetTrue)
+        .help(help)
+}
+
+fn other_argument<'a>(alloc: Global, name: &'static str, help: &'static str) -> Arg<'a> {
+    Arg::new(alloc, name).required(true).help(help)
+}
+
+// The options of `reshard` on shapes and on the index.
+fn shape_options<'a>(alloc: Global, command: Command<'a>) -> Result<Command<'a>, AllocError> {
+    let checked = flag(alloc, "crc32c", "The index has a checksum");
+    let unchecked = flag(alloc, "no-crc32c", "The index has no checksum");
+    command
+        .arg(value_option(alloc, "shard", "SHAPE", "The shape of a shard, as 512,512"))?
+        .arg(value_option(
+            alloc,
+            "subchunk",
+            "SHAPE",
+            "The shape of a subchunk, as 64,64",
+        ))?
+        .arg(value_option(
+            alloc,
+            "index",
+            "PLACE",
+            "Where the index stands: start or end",
+        ))?
+        .arg(checked)?
+        .arg(unchecked.conflicts_with("crc32c")?)
+}
+
+fn reshard_command<'a>(alloc: Global) -> Result<Command<'a>, AllocError> {
+    let command = Command::new(alloc, "reshard")
+        .about(
+            "Makes a new array of the elements, laid out in another way; what is not named stays as it is",
+        )
+        .after_help(
+            "Example: zarr_shard reshard weather/temperature new --shard 512,512 --subchunk 64,64 --inner zstd",
+        )
+        .arg(path_argument(alloc))?
+        .arg(other_argument(
+            alloc,
+            "DST",
+            "The folder of the new array, which is not there yet",
+        ))?;
+    shape_options(alloc, command)?
+        .arg(value_option(
+            alloc,
+            "order",
+            "ORDER",
+            "The order of the subchunks in a shard: c or morton",
+        ))?
+        .arg(value_option(
+            alloc,
+            "inner",
+            "CODEC",
+            "The codec behind bytes in a shard: none, crc32c, gzip or zstd",
+        ))
+}
+
+fn compare_command<'a>(alloc: Global) -> Result<Command<'a>, AllocError> {
+    Command::new(alloc, "compare")
+        .about(
+            "Says how many elements of two arrays differ, and the first one; status 1 where one does",
+        )
+        .after_help("Example: zarr_shard compare weather/temperature new")
+        .arg(path_argument(alloc))?
+        .arg(other_argument(alloc, "OTHER", "The folder of the other array"))
+}
+
+// The words for a new layout.
+fn layout_words<'a>(matches: &ArgMatches<'a>) -> LayoutWords<'a> {
+    LayoutWords {
+        shard: matches.get_str("shard"),
+        subchunk: matches.get_str("subchunk"),
+        index: matches.get_str("index"),
+        is_checked: if matches.get_flag("crc32c") {
+            Some(true)
+        } else if matches.get_flag("no-crc32c") {
+            Some(false)
+        } else {
+            None
+        },
+        inner: matches.get_str("inner"),
+        order: matches.get_str("order"),
+    }
+}
+
 fn list_command<'a>(alloc: Global) -> Result<Command<'a>, AllocError> {
     Command::new(alloc, "list")
         .about(
@@ -281,7 +407,9 @@ pub fn program<'a>(alloc: Global) -> Result<Command<'a>, AllocError> {
     let program = with(program, map_command(alloc))?;
     let program = with(program, read_command(alloc))?;
     let program = with(program, extract_command(alloc))?;
-    with(program, compact_command(alloc))
+    let program = with(program, compact_command(alloc))?;
+    let program = with(program, reshard_command(alloc))?;
+    with(program, compare_command(alloc))
 }
 
 // How the cells that a command reads are to be written.
@@ -349,6 +477,13 @@ pub fn work_of<'a>(name: &str, matches: &ArgMatches<'a>) -> Work<'a> {
             svg: matches.get_str("svg"),
         },
         "read" => reading(matches),
+        "reshard" => Work::Reshard {
+            path: matches.get_str("DST").unwrap_or(""),
+            words: layout_words(matches),
+        },
+        "compare" => Work::Compare {
+            path: matches.get_str("OTHER").unwrap_or(""),
+        },
         "compact" => Work::Compact {
             is_dry: matches.get_flag("dry-run"),
             output: matches.get_str("output"),

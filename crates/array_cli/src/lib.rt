@@ -13,9 +13,10 @@ mod stop;
 mod text;
 
 pub use arrays::{
-    Array, Decoder, Shard, ShardFile, decode_subset, is_present, metadata_of, read_through,
+    Array, Decoder, Shard, ShardFile, decode_subset, described, is_present, metadata_of,
+    read_through,
 };
-pub use command_line::{Form, Scope, Work, program, work_of};
+pub use command_line::{Form, LayoutWords, Scope, Work, program, work_of};
 pub use json_line::{JsonLine, write_json_text};
 pub use progress::Progress;
 pub use read::read_array;

@@ -20,6 +20,8 @@ pub enum Ending {
     Refused,
     /// A part of it could not be done.
     Undone,
+    /// Two arrays differ.
+    Different,
 }
 
 impl Ending {
@@ -29,7 +31,7 @@ impl Ending {
     {
         match self {
             Ending::Done => 0,
-            Ending::Refused => 1,
+            Ending::Refused | Ending::Different => 1,
             Ending::Undone => 2,
         }
     }
@@ -79,6 +81,9 @@ pub enum Stop {
     /// A grid that has too many places to be drawn.
     #[error("a map has at most {most} places, and this one would have more; name one of its shards")]
     TooManyPlaces { most: u64 },
+    /// A word that is none of those that it may be.
+    #[error("{0} is none of the words that can stand there")]
+    BadWord(String),
     /// What names no part of the shards.
     #[error("{0} is no part of the shards, as 2/8 is the second of eight")]
     NoPart(String),

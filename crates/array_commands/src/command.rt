@@ -13,6 +13,7 @@ use array_fields::escaped;
 use array_grid::{ListPart, subset_of};
 use array_info::{Listing, info_of_array, info_of_shard, list_nodes, map_array, map_shard};
 use array_metadata::{ArrayMetadata, ElementType};
+use array_reshard::{compare, reshard};
 use clap::ArgMatches;
 use codec_traits::ArrayToBytesCodecTraits;
 use parts_subsets::ArraySubset;
@@ -101,6 +102,24 @@ fn run_map<
     }
 }
 
+// Compares an array with the one at a path.
+fn run_compare<
+    R: Files + AllocGlobal,
+    I: ArrayToBytesCodecTraits,
+    X: ArrayToBytesCodecTraits,
+    W: Write,
+    M: Write,
+>(
+    array: &Array<'_, R, I, X>,
+    path: &str,
+    out: &mut W,
+    progress: &mut Progress<'_, M>,
+) -> Result<Ending, Stop> {
+    let metadata = metadata_of(array.rt, path)?;
+    let other = Array::open(array.rt, path, &metadata, &metadata.codec)?;
+    compare(array, &other, out, progress)
+}
+
 // Which shards a command goes over, and how it tells of them. Refused as `Stop::NoPart` where a word names no part.
 fn listing_of(alloc: Global, scope: Scope<'_>) -> Result<Listing, Stop> {
     let is_json = scope.is_json;
@@ -162,6 +181,8 @@ fn run_work<
             path,
             fills,
         } => save_subset(array, requested, path, fills, out, progress),
+        Work::Reshard { path, words } => reshard(array, path, &words, out, progress),
+        Work::Compare { path } => run_compare(array, path, out, progress),
         Work::Compact {
             is_dry,
             output,
