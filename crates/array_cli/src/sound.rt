@@ -75,7 +75,7 @@ pub fn shared_elements(
     subsets_of(alloc, starts, targets, counts)
 }
 
-// The two subsets that begin at these elements, of so many along each axis.
+// The two subsets that begin at these elements, of as many along each axis as are counted.
 fn subsets_of(
     alloc: Global,
     starts: Vec<u64>,

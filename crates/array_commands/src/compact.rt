@@ -266,7 +266,7 @@ fn write_outcome_line<W: Write>(out: &mut W, key: &str, outcome: &Outcome) -> io
     line.end()
 }
 
-// Writes a line of JSON for what was gained, of so many shards.
+// Writes a line of JSON for what was gained, of as many shards as there are.
 fn write_sum_line<W: Write>(out: &mut W, gained: &Gained, all: u64) -> io::Result<()> {
     let mut line = JsonLine::new(out, "sum")?;
     line.each(&[

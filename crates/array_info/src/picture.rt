@@ -30,7 +30,7 @@ const DEAD: u32 = 0xf0c9c9;
 
 const ABSENT: u32 = 0xffffff;
 
-// A part of a color between two, so many parts of so many on the way.
+// The number on the way from one to another that is this part of the way.
 fn between(from: u64, to: u64, part: u64, of: u64) -> u64 {
     let gone = from.saturating_sub(to).saturating_mul(part).checked_div(of);
     from.saturating_sub(gone.unwrap_or(0))
@@ -113,7 +113,7 @@ fn width_of(counts: &[u64]) -> u64 {
     squares.max(LENGTH).saturating_add(2 * MARGIN)
 }
 
-// The color of a mark at a place of so many.
+// The color of a mark at the place with a number, of as many places.
 fn color_of(mark: Mark, number: u64, of: u64) -> u32 {
     match mark {
         Mark::Present => shade(number, of),

@@ -48,7 +48,7 @@ impl Differences {
         Ok(())
     }
 
-    // Adds the elements of a subset that differ, of so many bytes each.
+    // Adds the elements of a subset that differ, each of a size.
     fn add_all(
         &mut self,
         alloc: Global,
