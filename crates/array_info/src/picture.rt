@@ -214,7 +214,7 @@ pub fn write_shard_picture<W: Write>(
     write_squares(out, map, counts, top)?;
     write_bar(out, map, bar)?;
     let words =
-        "blue: subchunks and their slices, light to dark by number; white: absent; red: refused; gray: index; pink: dead";
+        "blue: slices, light to dark by subchunk; white: absent; red: refused; gray: index; pink: dead";
     write_words(out, bottom, words)?;
     out.write_all(b"</svg>\n")
 }
