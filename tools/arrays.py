@@ -114,6 +114,31 @@ def test_copy(program, name, path, shards):
     refused(name, "compact into an array", run(program, "compact", path, "--output", copy))
 
 
+def words(shape):
+    return ",".join(map(str, shape))
+
+
+def test_reshard(program, name, path, expected):
+    """The array in three other layouts, and back to its own: the elements stay."""
+    chunk, part = expected["chunk_shape"], expected["subchunk_shape"]
+    rows = [1] * (len(chunk) - 1) + chunk[-1:]
+    layouts = [
+        ["--subchunk", words(chunk), "--inner", "none", "--index", "start", "--no-crc32c"],
+        ["--shard", words(chunk), "--subchunk", words(rows), "--inner", "zstd", "--order", "morton"],
+        ["--shard", words([3 * size for size in part]), "--subchunk", words(part), "--inner", "gzip", "--index", "end", "--crc32c"],
+        ["--shard", words(chunk), "--subchunk", words(part), "--inner", "crc32c"],
+    ]
+    old = path
+    for number, layout in enumerate(layouts if chunk else layouts[:0]):
+        new = f"{path}.{number}"
+        compare(name, f"reshard {layout}", run(program, "reshard", old, new, *layout)[::2], (0, ""))
+        status, out, told = run(program, "read", new, "--raw")
+        compare(name, f"elements of {layout}", (status, hashlib.sha256(out).hexdigest(), told), (0, expected["raw_sha256"], ""))
+        compare(name, f"comparison of {layout}", run(program, "compare", path, new)[:2], (0, b"no element differs\n"))
+        compare(name, f"check of {layout}", run(program, "check", new)[0], 0)
+        old = new
+
+
 def test_check(program, name, path, expected, is_decoded):
     status, out, told = run(program, "check", path)
     found = set()
@@ -217,6 +242,8 @@ def test_array(program, name, folder, expected):
     test_lines(program, name, path, expected["shards"])
     test_map(program, name, path, expected, is_decoded)
     test_copy(program, name, path, expected["shards"])
+    if is_read and not expected["damaged"]:
+        test_reshard(program, name, path, expected)
     test_compact(program, name, path, expected["shards"])
     if not expected["damaged"]:
         test_read(program, name, path, expected, is_read)

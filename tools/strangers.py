@@ -199,6 +199,56 @@ def killed(program, top):
             bad.append("a compaction after one that was killed: other cells")
 
 
+def resharded(program, top):
+    """A `reshard` that is killed leaves the old array as it was, and the new one absent or whole; the next one says what is left."""
+    dice, path, size = random.Random(2), f"{top}/old", 16384
+    array(path, [16 * size], [size], [size // 4])
+    for number in range(16):
+        shard(f"{path}/{number}", [dice.randbytes(size // 4) for _ in range(4)], 3)
+    whole, new = cells(program, path), f"{top}/new"
+    layout = ["reshard", path, new, "--shard", str(3 * size), "--subchunk", str(size // 8), "--crc32c"]
+    for time in range(1, 26):
+        with contextlib.suppress(subprocess.TimeoutExpired):
+            subprocess.run([program, *layout], stdout=subprocess.DEVNULL, timeout=time * dice.random() / 200)
+        if os.path.exists(new):
+            if cells(program, new) != whole:
+                bad.append("a reshard that was killed left another array under the name")
+            shutil.rmtree(new)
+        if os.path.exists(f"{new}.partial"):
+            expect([program, *layout], 2, f"{new}.partial: stands there; if no reshard writes it, remove it")
+            shutil.rmtree(f"{new}.partial")
+        if cells(program, path) != whole:
+            bad.append("a reshard that was killed changed the old array")
+    expect([program, *layout], 0, "6 shards: ")
+    expect([program, *layout], 2, f"{new}: stands there already")
+    expect([program, "compare", path, new], 0, "no element differs")
+    with open(f"{path}/3", "r+b") as file:
+        file.truncate(40)
+    shutil.rmtree(new)
+    expect([program, *layout], 1, "3: 7 ShardTooShort: the file is shorter than its index")
+    if os.path.exists(new) or os.path.exists(f"{new}.partial"):
+        bad.append("a reshard of a damaged array left something")
+
+
+def told_at_once(program, top):
+    """`check` prints a refusal as it comes: it stands there while a long shard is read."""
+    path = f"{top}/told"
+    array(path, [2 * GIB], [GIB], [GIB // 2])
+    with open(f"{path}/0", "wb") as file:
+        file.write(b"short")
+    with open(f"{path}/1", "wb") as file:
+        file.truncate(GIB)
+        file.seek(0, os.SEEK_END)
+        file.write(struct.pack("<4Q", 0, GIB // 2, GIB // 2, GIB // 2))
+    with subprocess.Popen([program, "check", path], stdout=subprocess.PIPE, text=True) as ran:
+        first = ran.stdout.readline()
+        ran.kill()
+        rest = ran.stdout.read()
+    if not first.startswith("0: 7 ShardTooShort") or rest:
+        bad.append(f"check told {first!r}, and then {rest!r}")
+    shutil.rmtree(path)
+
+
 def expect_small(words, status, most=MOST_MEMORY):
     """Runs a command, which must end with this status and take so little memory."""
     with subprocess.Popen(words, stdout=subprocess.DEVNULL, stderr=subprocess.DEVNULL) as ran:
@@ -349,7 +399,7 @@ if __name__ == "__main__":
         shutil.copyfile(built, f"{folder}/zarr_shard")
         os.chmod(f"{folder}/zarr_shard", 0o755)
         # The last one takes memory of its own, and a command is said to take as much as the process that starts it.
-        for case in (strangers, malformed, closed, killed, large, indexed, bombs, owners, limits, damaged_gzip):
+        for case in (strangers, malformed, closed, killed, resharded, told_at_once, large, indexed, bombs, owners, limits, damaged_gzip):
             case(f"{folder}/zarr_shard", folder)
     print("\n".join(bad) or "each command ended as it must")
     sys.exit(bool(bad))
