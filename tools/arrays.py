@@ -20,7 +20,8 @@ ARRAYS = f"{TOP}/tests/arrays"
 MOST = 60  # seconds
 SERVED = [["bytes"], ["bytes", "crc32c"], ["bytes", "gzip"], ["bytes", "zstd"], ["bytes", "zstd", "crc32c"], ["sharding_indexed"]]
 FORMATS = {"bool": "B", "int8": "b", "uint8": "B", "int16": "h", "uint16": "H", "int32": "i", "uint32": "I", "int64": "q", "uint64": "Q",
-           "float32": "f", "float64": "d", "float16": "e", "bfloat16": "H", "numpy.datetime64": "q", "numpy.timedelta64": "q"}
+           "float32": "f", "float64": "d", "float16": "e", "bfloat16": "H", "numpy.datetime64": "q", "numpy.timedelta64": "q",
+           "complex64": "ff", "complex128": "dd"}
 INDEXES = {"checksum": "15 Damaged", "short": "7 ShardTooShort"}
 bad = []
 
@@ -189,8 +190,16 @@ def numbers(shape, starts, ends):
     return found
 
 
+def is_raw(data_type):
+    return bool(re.fullmatch(r"r\d+", data_type))
+
+
 def bytes_of(cells, data_type):
+    if is_raw(data_type):
+        return b"".join(map(bytes.fromhex, cells))
     form = FORMATS[data_type]
+    if len(form) == 2:
+        return b"".join(struct.pack("<" + form, *map(float, cell)) for cell in cells)
     return b"".join(struct.pack("<" + form, cell if form not in "efd" else float(cell)) for cell in cells)
 
 
@@ -213,8 +222,19 @@ def test_read(program, name, path, expected, is_read):
 
 def test_json(program, name, path, expected):
     status, out, _ = run(program, "read", path, "--json")
-    cells = json.loads(out)["cells"] if status == 0 else None
-    if expected["data_type"] in FORMATS and FORMATS[expected["data_type"]] in "fd":
+    told = json.loads(out) if status == 0 else {}
+    cells = told.get("cells")
+    compare(name, "data type in JSON", told.get("data_type"), expected["data_type"])
+    if is_raw(expected["data_type"]):
+        compare(name, "elements in JSON", cells, [list(bytes.fromhex(cell)) for cell in expected["cells"]])
+        lines = run(program, "read", path)[1].decode().split()
+        compare(name, "elements as text", lines, ["0x" + cell for cell in expected["cells"]])
+    elif len(FORMATS[expected["data_type"]]) == 2:
+        both = [[[str(float(part)) for part in cell] for cell in these] for these in (cells or [], expected["cells"])]
+        compare(name, "elements in JSON", both[0], both[1])
+        lines = [line[1:-1].split(",") for line in run(program, "read", path)[1].decode().split()]
+        compare(name, "elements as text", [[str(float(part)) for part in cell] for cell in lines], both[1])
+    elif expected["data_type"] in FORMATS and FORMATS[expected["data_type"]] in "fd":
         both = [[str(float(cell)) for cell in part] for part in (cells or [], expected["cells"])]
         compare(name, "elements in JSON", both[0], both[1])
     elif expected["data_type"] in FORMATS and FORMATS[expected["data_type"]] in "bBhHiIqQ" and "float" not in expected["data_type"]:
@@ -231,7 +251,7 @@ def test_array(program, name, folder, expected):
             refused(name, command, run(program, command, path))
         return False
     is_decoded = expected["inner_codecs"] in SERVED
-    is_read = is_decoded and expected["data_type"] in FORMATS
+    is_read = is_decoded and (expected["data_type"] in FORMATS or is_raw(expected["data_type"]))
     test_info(program, name, path, expected["shards"])
     test_check(program, name, path, expected, is_decoded)
     test_read(program, name, path, expected, is_read)

@@ -1,17 +1,19 @@
 // An array on disk that is open: its metadata, its shards, and their files.
 use crate::refusal::{Place, Refusal};
 use crate::stop::Stop;
+use array_codecs::reversed_parts;
 use array_fields::{LONGEST_TEXT, MetadataError, escaped};
 use array_folder::{ChunkFiles, ChunkGrid, KeyForm, document_length, list_chunks, read_document};
 use array_grid::{ListPart, dealt};
-use array_metadata::{ArrayMetadata, KeyEncoding};
+use array_metadata::{ArrayMetadata, KeyEncoding, reversed_size};
 use codec_traits::ArrayToBytesCodecTraits;
-use parts_arrays::ArrayBytes;
+use parts_arrays::{ArrayBytes, FillValue};
 use parts_errors::{CodecError, CodecOptions};
 use parts_subsets::{ArraySubset, ChunkShape};
 use sharding_codec::{ShardingCodec, ShardingPartialDecoder};
 use sharding_format::{SubchunkWriteOrder, calculate_chunks_per_shard, of_stored};
 use std::alloc::{AllocError, Global};
+use std::borrow::CowSlice;
 use std::rt::Files;
 use storage_files::FileHandle;
 use storage_handles::BytesPartialDecoderTraits;
@@ -57,7 +59,21 @@ fn named<T: Drop>(
     }
 }
 
-// What an array's `zarr.json`, which has this text, says. Shards are written anew in an order.
+/// Bytes of elements in the other order, where these are complex numbers whose parts are stored most significant byte first; the codecs do
+/// not turn them. `None` where elements are stored least significant byte first.
+pub fn turned(
+    alloc: Global,
+    metadata: &ArrayMetadata,
+    bytes: &[u8],
+) -> Result<Option<Vec<u8>>, AllocError> {
+    match reversed_size(metadata.element_type, &metadata.codec.inner) {
+        Some(size) if size > 0 => Ok(Some(reversed_parts(alloc, bytes, size)?)),
+        _ => Ok(None),
+    }
+}
+
+// What an array's `zarr.json`, which has this text, says; the fill value in the order in which elements are stored. Shards are written
+// anew in an order.
 fn read_metadata(
     alloc: Global,
     text: &str,
@@ -65,6 +81,9 @@ fn read_metadata(
 ) -> Result<ArrayMetadata, MetadataError> {
     let mut metadata = ArrayMetadata::from_text(alloc, text)?;
     metadata.codec.order = order;
+    if let Some(bytes) = turned(alloc, &metadata, metadata.fill_value.as_ne_bytes())? {
+        metadata.fill_value = FillValue::new(bytes);
+    }
     Ok(metadata)
 }
 
@@ -220,6 +239,14 @@ impl<'a, R: Files + AllocGlobal, I, X> Array<'a, R, I, X> {
             &document,
             self.metadata.test_read(self.alloc()),
         )
+    }
+
+    /// Bytes of elements that the codecs gave, each number of them least significant byte first.
+    pub fn least_first<'b>(&self, bytes: &'b [u8]) -> Result<CowSlice<'b, u8>, AllocError> {
+        match turned(self.alloc(), self.metadata, bytes)? {
+            Some(bytes) => Ok(CowSlice::Owned(bytes)),
+            None => Ok(CowSlice::Borrowed(bytes)),
+        }
     }
 
     /// The files of the array's chunks.

@@ -14,7 +14,7 @@ mod text;
 
 pub use arrays::{
     Array, Decoder, Shard, ShardFile, decode_subset, described, is_present, metadata_of,
-    read_through,
+    read_through, turned,
 };
 pub use command_line::{Form, LayoutWords, Scope, Work, program, work_of};
 pub use json_line::{JsonLine, write_json_text};
@@ -22,4 +22,4 @@ pub use progress::Progress;
 pub use read::read_array;
 pub use refusal::{Place, Refusal};
 pub use stop::{Ending, Stop, written};
-pub use text::{write_json, write_json_cell, write_numbers, write_rows};
+pub use text::{full_name, write_json, write_json_cell, write_numbers, write_rows};

@@ -4,6 +4,7 @@ ghost use Rattle.std.specs.Prelude.{◌<◌};
 use crate::json_line::write_json_numbers;
 use array_metadata::{ElementType, FloatFormat, half_to_f32};
 use parts_arrays::{DataType, DataTypeSize};
+use std::alloc::{AllocError, Global};
 use std::io;
 use std::io::Write;
 use std::num::{f32_from_bits_with_nan, f64_from_bits_with_nan};
@@ -72,7 +73,7 @@ impl Cell {
         Cell::Signed(i64::from_le_bytes(widened(element, filler)))
     }
 
-    // The cell that an element of a type is.
+    // The cell that an element is of a type whose elements are one number.
     fn of(element_type: ElementType, element: &[u8]) -> Self {
         match element_type {
             ElementType::Float(format) => {
@@ -114,6 +115,92 @@ impl Cell {
     }
 }
 
+// Writes an element as text; words stand between quotes where it is JSON.
+fn write_number<W: Write>(
+    out: &mut W,
+    element_type: ElementType,
+    element: &[u8],
+    is_json: bool,
+) -> io::Result<()> {
+    let cell = Cell::of(element_type, element);
+    if is_json {
+        cell.write_json(out)
+    } else {
+        cell.write(out)
+    }
+}
+
+// Writes a complex number, as a list of both parts.
+fn write_complex<W: Write>(
+    out: &mut W,
+    format: FloatFormat,
+    element: &[u8],
+    is_json: bool,
+) -> io::Result<()> {
+    let (real, imaginary) = element.split_at(format.size().min(element.len()));
+    let part = ElementType::Float(format);
+    out.write_all(b"[")?;
+    write_number(out, part, real, is_json)?;
+    out.write_all(b",")?;
+    write_number(out, part, imaginary, is_json)?;
+    out.write_all(b"]")
+}
+
+// Writes raw bits as text: `0x`, and two hexadecimal digits a byte, in their order.
+fn write_digits<W: Write>(out: &mut W, element: &[u8]) -> io::Result<()> {
+    out.write_all(b"0x")?;
+    for byte in element {
+        write!(out, "{:02x}", *byte)?;
+    }
+    Ok(())
+}
+
+// Writes raw bits as JSON: a list of their bytes.
+fn write_bytes<W: Write>(out: &mut W, element: &[u8]) -> io::Result<()> {
+    let mut before = "[";
+    for byte in element {
+        write!(out, "{before}{}", *byte)?;
+        before = ",";
+    }
+    out.write_all(b"]")
+}
+
+// Writes an element as text, or as JSON.
+fn write_element<W: Write>(
+    out: &mut W,
+    element_type: ElementType,
+    element: &[u8],
+    is_json: bool,
+) -> io::Result<()> {
+    match element_type {
+        ElementType::Complex(format) => write_complex(out, format, element, is_json),
+        ElementType::RawBits(_) if is_json => write_bytes(out, element),
+        ElementType::RawBits(_) => write_digits(out, element),
+        _ => write_number(out, element_type, element, is_json),
+    }
+}
+
+// How many bits so many bytes have.
+fn bits_of(size: usize) -> u64 {
+    (size as u64).saturating_mul(8)
+}
+
+/// The Zarr name of a type that is read.
+pub fn full_name(alloc: Global, element_type: ElementType) -> Result<String, AllocError> {
+    match element_type {
+        ElementType::RawBits(size) => format!(in alloc; "r{}", bits_of(size)),
+        _ => String::from_str(alloc, element_type.name()),
+    }
+}
+
+// Writes the Zarr name of a type that is read.
+fn write_name<W: Write>(out: &mut W, element_type: ElementType) -> io::Result<()> {
+    match element_type {
+        ElementType::RawBits(size) => write!(out, "r{}", bits_of(size)),
+        _ => out.write_all(element_type.name().as_bytes()),
+    }
+}
+
 // How many bytes a cell of a type has, at least 1.
 fn cell_size(element_type: ElementType) -> usize
     ensures { 0 < result }
@@ -148,7 +235,7 @@ pub fn write_rows<W: Write>(
         if column > 0 {
             out.write_all(b" ")?;
         }
-        Cell::of(element_type, element).write(out)?;
+        write_element(out, element_type, element, false)?;
         column = column.saturating_add(1);
         if column >= row {
             out.write_all(b"\n")?;
@@ -164,7 +251,7 @@ pub fn write_json_cell<W: Write>(
     element_type: ElementType,
     element: &[u8],
 ) -> io::Result<()> {
-    Cell::of(element_type, element).write_json(out)
+    write_element(out, element_type, element, true)
 }
 
 // Writes cells as a list of JSON.
@@ -193,8 +280,9 @@ pub fn write_json<W: Write>(
 ) -> io::Result<()> {
     out.write_all(b"{\"cells\":")?;
     write_json_cells(out, element_type, bytes)?;
-    let name = element_type.name();
-    write!(out, ",\"data_type\":\"{name}\",\"shape\":")?;
+    out.write_all(b",\"data_type\":\"")?;
+    write_name(out, element_type)?;
+    out.write_all(b"\",\"shape\":")?;
     write_json_numbers(out, shape)?;
     out.write_all(b"}\n")
 }

@@ -1,1 +1,2 @@
 pub mod BeforeChecksum
+pub mod TransposeSteps

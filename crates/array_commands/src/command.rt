@@ -57,7 +57,8 @@ fn read_and_write<
     let (cells, ending) = read_array(array, subset, fills, progress)?;
     progress.clear();
     let element_type = array.metadata.element_type;
-    let wrote = write_cells(out, form, element_type, cells.bytes(), subset.shape());
+    let bytes = array.least_first(cells.bytes())?;
+    let wrote = write_cells(out, form, element_type, &bytes, subset.shape());
     written(wrote, ending)?;
     Ok(ending)
 }

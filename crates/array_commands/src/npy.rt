@@ -1,5 +1,5 @@
 // A subset of an array as a file of NumPy's format.
-use array_cli::{Array, Ending, Progress, Stop, read_array};
+use array_cli::{Array, Ending, Progress, Stop, full_name, read_array};
 use array_fields::escaped;
 use array_folder::{npy_beside, npy_header, write_npy};
 use array_grid::{Requested, subset_of};
@@ -17,8 +17,8 @@ fn header_of<R: Files + AllocGlobal, I, X>(
 ) -> Result<Vec<u8>, Stop> {
     let alloc = array.alloc();
     let shape = requested.kept_shape(alloc)?;
-    let name = array.metadata.element_type.name();
-    Ok(npy_header(alloc, path, name, &shape)?)
+    let name = full_name(alloc, array.metadata.element_type)?;
+    Ok(npy_header(alloc, path, &name, &shape)?)
 }
 
 // Reads what is requested, and makes the file at a path of it.
@@ -40,7 +40,8 @@ fn save_requested<
     let header = header_of(array, requested, path)?;
     let (cells, ending) = read_array(array, &requested.subset, fills, progress)?;
     progress.clear();
-    save(array, path, &beside, &header, cells.bytes(), out)?;
+    let bytes = array.least_first(cells.bytes())?;
+    save(array, path, &beside, &header, &bytes, out)?;
     Ok(ending)
 }
 

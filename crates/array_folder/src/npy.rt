@@ -26,7 +26,28 @@ fn descr_of(name: &str) -> Option<&'static str> {
         "float16" => Some("<f2"),
         "float32" => Some("<f4"),
         "float64" => Some("<f8"),
+        "complex64" => Some("<c8"),
+        "complex128" => Some("<c16"),
         _ => None,
+    }
+}
+
+// What NumPy calls raw bits of the data type with a name, as `r16`.
+fn raw_descr(alloc: Global, name: &str) -> Result<Option<String>, AllocError> {
+    let Some(digits) = name.strip_prefix("r") else {
+        return Ok(None);
+    };
+    match digits.parse::<u64>() {
+        Ok(bits) => Ok(Some(format!(in alloc; "|V{}", bits / 8)?)),
+        Err(_) => Ok(None),
+    }
+}
+
+// What NumPy calls elements of the data type with a name.
+fn full_descr(alloc: Global, name: &str) -> Result<Option<String>, AllocError> {
+    match descr_of(name) {
+        Some(descr) => Ok(Some(String::from_str(alloc, descr)?)),
+        None => raw_descr(alloc, name),
     }
 }
 
@@ -65,7 +86,7 @@ fn header_of(alloc: Global, text: &str) -> Result<Vec<u8>, AllocError>
 
 // The header of a file of elements of the data type with a name, and with a shape.
 fn described(alloc: Global, name: &str, shape: &[u64]) -> io::Result<Vec<u8>> {
-    let Some(descr) = descr_of(name) else {
+    let Some(descr) = full_descr(alloc, name)? else {
         return Err(io::Error::new(
             ErrorKind::Unsupported,
             "elements of this data type are not written in NumPy's format",

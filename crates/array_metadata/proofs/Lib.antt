@@ -4,3 +4,4 @@ pub mod SaidFloats
 pub mod Types
 pub mod Lists
 pub mod ShardCodecs
+pub mod SaidBytes

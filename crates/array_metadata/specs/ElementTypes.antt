@@ -8,9 +8,9 @@ use Rattle.parts_arrays.specs.declared.data_type.DataType.TheVariants.{UInt16, U
 use Rattle.array_metadata.specs.declared.floats.FloatFormat.{FloatFormat}
 use Rattle.array_metadata.specs.declared.floats.FloatFormat.TheVariants.{Float16, BFloat16, Float32, Float64}
 use Rattle.array_metadata.specs.declared.element_types.ElementType.{ElementType}
-use Rattle.array_metadata.specs.declared.element_types.ElementType.TheVariants.{Number, Float, DateTime64, TimeDelta64, Unread}
+use Rattle.array_metadata.specs.declared.element_types.ElementType.TheVariants.{Number, Float, Complex, RawBits, DateTime64, TimeDelta64, Unread}
 
--- the types of the names that the codecs do not know: floats, times, and how many bytes an element has of others
+-- the types of the names that the codecs do not know: floats, pairs of them, and times
 abbrev pub listed_type : Text → Option ElementType
 listed_type name =
     if bytes_eq name (codes "float16") then Some (Float Float16) else
@@ -19,8 +19,10 @@ listed_type name =
     if bytes_eq name (codes "float64") then Some (Float Float64) else
     if bytes_eq name (codes "numpy.datetime64") then Some DateTime64 else
     if bytes_eq name (codes "numpy.timedelta64") then Some TimeDelta64 else
-    if bytes_eq name (codes "complex64") then Some (Unread 8) else
-    if bytes_eq name (codes "complex128") then Some (Unread 16) else None
+    if bytes_eq name (codes "complex64") then Some (Complex Float32) else
+    if bytes_eq name (codes "complex128") then Some (Complex Float64) else
+    if bytes_eq name (codes "complex_float16") then Some (Complex Float16) else
+    if bytes_eq name (codes "complex_bfloat16") then Some (Complex BFloat16) else None
 
 -- as what the codecs take a float: as the unsigned number of the same size
 abbrev pub float_carrier : FloatFormat → DataType
@@ -29,17 +31,27 @@ float_carrier BFloat16 = UInt16
 float_carrier Float32 = UInt32
 float_carrier Float64 = UInt64
 
--- as what the codecs take an element
+-- how many bytes a float has
+abbrev pub float_size : FloatFormat → ℕ
+float_size Float16 = 2
+float_size BFloat16 = 2
+float_size Float32 = 4
+float_size Float64 = 8
+
+-- as what the codecs take an element: a complex number and raw bits as their bytes
 abbrev pub carrier : ElementType → DataType
 carrier (Number data_type) = data_type
 carrier (Float format) = float_carrier format
 carrier DateTime64 = Int64
 carrier TimeDelta64 = Int64
+carrier (Complex format) = Raw (2 * float_size format)
+carrier (RawBits size) = Raw size
 carrier (Unread size) = Raw size
 
 -- the name of a type by which it is found, if it is read
 abbrev pub IsNameOf : ElementType → Text → Type 0
 IsNameOf (Number data_type) name = name ≡ unwrap_or (type_name data_type) (codes "raw")
+IsNameOf (RawBits size) name = name ≡ codes "raw"
 IsNameOf (Unread size) name = name ≡ codes "raw"
 IsNameOf element_type name = listed_type name ≡ Some element_type
 
@@ -62,16 +74,12 @@ IsNamed name element_type = ⊥
 abbrev pub IsUnnamed : Text → Type 0
 IsUnnamed name = (data_type : DataType) → type_name data_type ≡ Some name → data_type ≡ Bytes
 
--- how many bytes an element has of a name that is not listed; where a codec of elements is not served, which is named, a size that is
--- not known is 1
-abbrev pub IsSizeOf : Option Text → Text → ℕ → Type 0
-IsSizeOf None name size = IsRaw name size
-IsSizeOf (Some codec) name size = IsRaw name size ⊎ (size ≡ 1)
-
--- the type of a name by what is listed of it
+-- the type of a name by what is listed of it, else raw bits; where a codec of elements is not served, which is named, elements of an
+-- unknown size are one byte
 abbrev pub IsListedOr : Option ElementType → Option Text → Text → ElementType → Type 0
 IsListedOr (Some listed) codec name element_type = element_type ≡ listed
-IsListedOr None codec name (Unread size) = IsSizeOf codec name size
+IsListedOr None codec name (RawBits size) = IsRaw name size
+IsListedOr None (Some codec) name (Unread size) = size ≡ 1
 IsListedOr None codec name element_type = ⊥
 
 -- the type of a name

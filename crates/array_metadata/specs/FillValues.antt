@@ -1,16 +1,19 @@
 -- The fill value that the metadata gives: of `bool` true or false, of whole numbers and times a whole number, of floats a number, the
--- name of one, or its bits.
-use Rattle.std.specs.Prelude.{◌≡◌, ℕ, ℤ, pos, negsuc, Option, Some, None, if◌then◌else◌, option_map, option_and_then, codes, bytes_eq}
+-- name of one, or its bits; of complex numbers a pair of these, and of raw bits a list of bytes or their base64.
+use Rattle.std.specs.Prelude.{◌≡◌, ℕ, ℤ, pos, negsuc, Option, Some, None, if◌then◌else◌, option_map, option_and_then, codes, bytes_eq, take, drop}
 use Rattle.std.specs.Int.{w8, w16, w32, w64, from_bool, from_le_bytes, cast_signed}
 use Rattle.parts_errors.specs.Words.{Bytes as Text}
 use Rattle.parts_arrays.specs.declared.data_type.DataType.{DataType}
 use Rattle.parts_arrays.specs.declared.data_type.DataType.TheVariants.{Bool, Int8, Int16, Int32, Int64, UInt8, UInt16, UInt32, UInt64, Raw, Bytes, Optional}
-use Rattle.serde_json.specs.Data.{Data, number, string}
-use Rattle.serde_json.specs.Find.{as_bool, as_number, as_integer, to_float}
+use Rattle.serde_json.specs.Data.{Data, Items, number, string, no_items, item}
+use Rattle.serde_json.specs.Find.{as_array, as_bool, as_number, as_integer, to_float}
+use Rattle.base64.specs.Engines.{standard}
+use Rattle.base64.specs.GeneralPurpose.{decoded_of}
+use Rattle.array_fields.specs.MetadataFields.{whole_numbers_in}
 use Rattle.array_metadata.specs.declared.floats.FloatFormat.{FloatFormat}
 use Rattle.array_metadata.specs.declared.element_types.ElementType.{ElementType}
-use Rattle.array_metadata.specs.declared.element_types.ElementType.TheVariants.{Number, Float, DateTime64, TimeDelta64, Unread}
-use Rattle.array_metadata.specs.ElementTypes.{carrier}
+use Rattle.array_metadata.specs.declared.element_types.ElementType.TheVariants.{Number, Float, Complex, RawBits, DateTime64, TimeDelta64, Unread}
+use Rattle.array_metadata.specs.ElementTypes.{carrier, float_carrier, float_size}
 use Rattle.array_metadata.specs.Floats.{IsFloatText, IsFloatNumber}
 
 -- the whole number that an element is, its bytes least significant first, of a signed type in two's complement; of the types that are read
@@ -45,15 +48,45 @@ IsFloatIn format (string text) bits = IsFloatText format text bits
 IsFloatIn format (number n) bits = IsFloatNumber format (to_float n) bits
 IsFloatIn format d bits = ⊥
 
--- what a value says of an element that is this number, where floats are their bits; of types that are not read nothing is said
+-- what a value says of an element that is this number, where floats are their bits; of types that are not read nothing is said, and a
+-- complex number and raw bits are no number
 abbrev pub IsElementIn : ElementType → Data → ℤ → Type 0
 IsElementIn (Number data_type) d z = number_in data_type d ≡ Some z
 IsElementIn (Float format) d z = (bits : ℕ) × (z ≡ pos bits) × IsFloatIn format d bits
 IsElementIn DateTime64 d z = time_in d ≡ Some z
 IsElementIn TimeDelta64 d z = time_in d ≡ Some z
 IsElementIn (Unread size) d z = Unit {0}
+IsElementIn (Complex format) d z = ⊥
+IsElementIn (RawBits size) d z = ⊥
+
+-- a complex number is two floats, the real part and then the imaginary one
+pub record IsComplexOf (format : FloatFormat) (real imaginary : Data) (element : Text) : Type 0 where
+  pub real_part : IsElementIn (Float format) real (number_of (float_carrier format) (take (float_size format) element))
+  pub imaginary_part : IsElementIn (Float format) imaginary (number_of (float_carrier format) (drop (float_size format) element))
+
+abbrev pub IsComplexIn : FloatFormat → Option Items → Text → Type 0
+IsComplexIn format None element = ⊥
+IsComplexIn format (Some no_items) element = ⊥
+IsComplexIn format (Some (item real no_items)) element = ⊥
+IsComplexIn format (Some (item real (item imaginary no_items))) element = IsComplexOf format real imaginary element
+IsComplexIn format (Some (item real (item imaginary (item d later)))) element = ⊥
+
+-- the bytes that a text is the base64 of (RFC 4648)
+unfoldable pub base64_in : Text → Option Text
+base64_in text = decoded_of standard text
+
+-- raw bits are the bytes of a list, or those that a text is the base64 of
+abbrev pub IsRawIn : Data → Text → Type 0
+IsRawIn (string text) element = base64_in text ≡ Some element
+IsRawIn d element = whole_numbers_in d ≡ Some element
+
+-- what a value says of an element with these bytes
+abbrev pub IsValueIn : ElementType → Data → Text → Type 0
+IsValueIn (Complex format) d element = IsComplexIn format (as_array d) element
+IsValueIn (RawBits size) d element = IsRawIn d element
+IsValueIn element_type d element = IsElementIn element_type d (number_of (carrier element_type) element)
 
 -- the fill value of metadata that gives a value of one
 abbrev pub IsFillIn : ElementType → Option Data → Text → Type 0
 IsFillIn element_type None element = ⊥
-IsFillIn element_type (Some d) element = IsElementIn element_type d (number_of (carrier element_type) element)
+IsFillIn element_type (Some d) element = IsValueIn element_type d element

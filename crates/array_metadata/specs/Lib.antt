@@ -7,3 +7,4 @@ pub mod ByteCodecsMetadata
 pub mod ArrayCodecs
 pub mod CodecNames
 pub mod AcceptedMetadata
+pub mod ByteOrders

@@ -21,6 +21,10 @@ pub enum ElementType {
     Number(DataType),
     /// A float.
     Float(FloatFormat),
+    /// Two floats: the real part, and then the imaginary one.
+    Complex(FloatFormat),
+    /// So many bytes, as `r16` has two.
+    RawBits(usize),
     /// A time, by how many units after 1970 it is (Zarr extension `numpy.datetime64`).
     DateTime64,
     /// A length of time in units (Zarr extension `numpy.timedelta64`).
@@ -30,7 +34,8 @@ pub enum ElementType {
 }
 
 impl ElementType {
-    /// As what the codecs take an element: a float as the unsigned number of the same size, a time as `int64`.
+    /// As what the codecs take an element: a float as the unsigned number of the same size, a time as `int64`, a complex number and raw
+    /// bits as their bytes.
     pub fn carrier(self) -> DataType
         ensures { result ≡ carrier self }
     {
@@ -38,11 +43,20 @@ impl ElementType {
             ElementType::Number(data_type) => data_type,
             ElementType::Float(format) => format.carrier(),
             ElementType::DateTime64 | ElementType::TimeDelta64 => DataType::Int64,
-            ElementType::Unread(size) => DataType::Raw(size),
+            ElementType::Complex(format) => DataType::Raw(2 * format.size()),
+            ElementType::RawBits(size) | ElementType::Unread(size) => DataType::Raw(size),
         }
     }
 
-    /// The Zarr name, of types that are read.
+    // What has a byte order: of a complex number its parts.
+    pub fn part_type(self) -> DataType {
+        match self {
+            ElementType::Complex(format) => format.carrier(),
+            _ => self.carrier(),
+        }
+    }
+
+    /// The Zarr name, of types that are read; of raw bits `raw`.
     pub fn name(self) -> &'static str
         ensures { IsNameOf self result.now }
     {
@@ -51,7 +65,8 @@ impl ElementType {
             ElementType::Float(format) => format.name(),
             ElementType::DateTime64 => "numpy.datetime64",
             ElementType::TimeDelta64 => "numpy.timedelta64",
-            ElementType::Unread(_) => "raw",
+            ElementType::Complex(format) => format.complex_name(),
+            ElementType::RawBits(_) | ElementType::Unread(_) => "raw",
         }
     }
 
@@ -89,8 +104,10 @@ fn listed_type(name: &str) -> Option<ElementType>
         "float64" => Some(ElementType::Float(FloatFormat::Float64)),
         "numpy.datetime64" => Some(ElementType::DateTime64),
         "numpy.timedelta64" => Some(ElementType::TimeDelta64),
-        "complex64" => Some(ElementType::Unread(8)),
-        "complex128" => Some(ElementType::Unread(16)),
+        "complex64" => Some(ElementType::Complex(FloatFormat::Float32)),
+        "complex128" => Some(ElementType::Complex(FloatFormat::Float64)),
+        "complex_float16" => Some(ElementType::Complex(FloatFormat::Float16)),
+        "complex_bfloat16" => Some(ElementType::Complex(FloatFormat::BFloat16)),
         _ => None,
     }
 }
@@ -110,7 +127,7 @@ fn raw_size(name: &str) -> Option<usize>
 pub fn unread_type(alloc: Global, name: &str) -> Result<MetadataError, AllocError> {
     let name = escaped(alloc, name)?;
     let sentence = format!(in alloc;
-        "elements of the data type {name} are not read, only bool, int8 to int64, uint8 to uint64, floats and times"
+        "elements of the data type {name} are not read, only bool, int8 to int64, uint8 to uint64, floats, complex numbers, raw bits and times"
     )?;
     let error = PluginCreateError::bad_field(alloc, "data_type");
     Ok(MetadataError::refused(alloc, error, "data_type", sentence.as_str()))
@@ -126,7 +143,7 @@ fn sized_type(
     ensures sized { IfOk result (IsListedOr None (option_map string_bytes codec.now) name.now) }
 {
     match raw_size(name) {
-        Some(size) => Ok(ElementType::Unread(size)),
+        Some(size) => Ok(ElementType::RawBits(size)),
         None if codec.is_some() => Ok(ElementType::Unread(1)),
         None => Err(unread_type(alloc, name)?),
     }

@@ -1,17 +1,18 @@
 // The fill value.
 ghost use Rattle.std.specs.Prelude.{◌≡◌, ◌≤◌, ◌<◌, ◌*◌, ◌≤ℤ◌, ℤ, pos, Some, IfOk, IfSome, length, take, option_and_then};
 ghost use Rattle.std.specs.Int.{w64, to_le_bytes};
-ghost use Rattle.serde_json.specs.Find.{as_number, as_integer};
+ghost use Rattle.serde_json.specs.Find.{as_array, as_number, as_integer};
 ghost use Rattle.serde_json.specs.View.{view};
 ghost use Rattle.parts_arrays.specs.Types.{size_of, byte_size};
 ghost use Rattle.parts_arrays.specs.declared.data_type.DataTypeSize.TheVariants.{Fixed};
 ghost use Rattle.parts_arrays.specs.declared.data_type.DataType.TheVariants.{Int64};
-ghost use Rattle.array_metadata.specs.ElementTypes.{carrier};
+ghost use Rattle.array_metadata.specs.ElementTypes.{carrier, float_size};
 ghost use Rattle.array_metadata.specs.Floats.{sign_of};
-ghost use Rattle.array_metadata.specs.FillValues.{number_in, number_of, time_in, IsFloatIn, IsElementIn, IsFillIn};
+ghost use Rattle.array_metadata.specs.FillValues.{number_in, number_of, time_in, IsFloatIn, IsElementIn, IsComplexIn, IsValueIn, IsFillIn};
 
 use crate::element_types::ElementType;
 use crate::floats::FloatFormat;
+use crate::raw_bits::raw_bytes;
 use array_fields::{MetadataError, Placed};
 use parts_arrays::{DataType, DataTypeSize, FillValue};
 use serde_json::Value;
@@ -102,7 +103,72 @@ fn element_bits(value: &Value, element_type: ElementType) -> Option<u64>
         ElementType::Number(data_type) => number_bits(value, data_type),
         ElementType::Float(format) => float_bits(value, format),
         ElementType::DateTime64 | ElementType::TimeDelta64 => time_bits(value),
-        ElementType::Unread(_) => None,
+        ElementType::Complex(_) | ElementType::RawBits(_) | ElementType::Unread(_) => None,
+    }
+}
+
+// The bytes of an element that a value is, of a type whose elements are numbers.
+fn number_bytes(
+    alloc: Global,
+    value: &Value,
+    element_type: ElementType,
+) -> Result<Option<Vec<u8>>, AllocError>
+    ensures size { IfOk result (λ found. IfSome found (λ bytes. size_of (carrier element_type) ≡ Fixed (length bytes.items))) }
+    ensures read { IfOk result (λ found. IfSome found (λ bytes. IsElementIn element_type (view value.now) (number_of (carrier element_type) bytes.items))) }
+{
+    let Some(bits) = element_bits(value, element_type) else {
+        return Ok(None);
+    };
+    let bytes = bits.to_le_bytes();
+    match element_type.carrier().size() {
+        DataTypeSize::Fixed(size) if size <= bytes.len() => {
+            Ok(Some(bytes[..size].to_vec(alloc)?))
+        }
+        _ => Ok(None),
+    }
+}
+
+// The bytes of a complex number that a value is: a list of both parts.
+#[tactic(auto, using(crate::proofs::SaidBytes::complex_said))]
+fn complex_bytes(
+    alloc: Global,
+    value: &Value,
+    format: FloatFormat,
+) -> Result<Option<Vec<u8>>, AllocError>
+    ensures size { IfOk result (λ found. IfSome found (λ bytes. length bytes.items ≡ 2 * float_size format)) }
+    ensures read { IfOk result (λ found. IfSome found (λ bytes. IsComplexIn format (as_array (view value.now)) bytes.items)) }
+{
+    let Some(parts) = value.as_array() else {
+        return Ok(None);
+    };
+    let [real, imaginary] = parts.as_slice() else {
+        return Ok(None);
+    };
+    let part = ElementType::Float(format);
+    let Some(mut bytes) = number_bytes(alloc, real, part)? else {
+        return Ok(None);
+    };
+    let Some(behind) = number_bytes(alloc, imaginary, part)? else {
+        return Ok(None);
+    };
+    bytes.extend_from_slice(&behind)?;
+    Ok(Some(bytes))
+}
+
+// The bytes of an element that a value is.
+#[tactic(auto, using(crate::proofs::SaidBytes::number_said))]
+fn element_bytes(
+    alloc: Global,
+    fill: &Placed,
+    element_type: ElementType,
+) -> Result<Option<Vec<u8>>, MetadataError>
+    ensures size { IfOk result (λ found. IfSome found (λ bytes. size_of (carrier element_type) ≡ Fixed (length bytes.items))) }
+    ensures read { IfOk result (λ found. IfSome found (λ bytes. IsValueIn element_type (view fill.now.value.now) bytes.items)) }
+{
+    match element_type {
+        ElementType::Complex(format) => Ok(complex_bytes(alloc, fill.value, format)?),
+        ElementType::RawBits(size) => raw_bytes(alloc, fill, size),
+        _ => Ok(number_bytes(alloc, fill.value, element_type)?),
     }
 }
 
@@ -117,6 +183,9 @@ fn sentence_of(
         ElementType::Float(_) if value.is_number() => {
             format!(in alloc; "this number is past the range of {name}")
         }
+        ElementType::RawBits(size) => {
+            format!(in alloc; "this is no list of {size} bytes, and no base64 of as many")
+        }
         _ => format!(in alloc; "this is no element of {name}"),
     }
 }
@@ -130,15 +199,11 @@ pub fn fill_value_in(
     ensures size { IfOk result (λ fill_value. size_of (carrier element_type) ≡ Fixed (length fill_value)) }
     ensures read { IfOk result (IsFillIn element_type (Some (view fill.now.value.now))) }
 {
-    let Some(bits) = element_bits(fill.value, element_type) else {
-        let sentence = sentence_of(alloc, fill.value, element_type)?;
-        return Err(fill.bad(alloc, sentence.as_str()));
-    };
-    let bytes = bits.to_le_bytes();
-    match element_type.carrier().size() {
-        DataTypeSize::Fixed(size) if size <= bytes.len() => {
-            Ok(FillValue::new(bytes[..size].to_vec(alloc)?))
+    match element_bytes(alloc, fill, element_type)? {
+        Some(bytes) => Ok(FillValue::new(bytes)),
+        None => {
+            let sentence = sentence_of(alloc, fill.value, element_type)?;
+            Err(fill.bad(alloc, sentence.as_str()))
         }
-        _ => Err(fill.bad(alloc, "elements of this size are not read")),
     }
 }

@@ -1,8 +1,8 @@
 // Floats: their formats, and the bits that metadata gives them.
 ghost use Rattle.std.specs.Prelude.{◌≡◌, ◌↔◌, ◌≤◌, ◌<◌, ◌^◌, ◌%◌, IfSome, true};
 ghost use Rattle.std.specs.Float.{NotNan, is_sign_negative};
-ghost use Rattle.array_metadata.specs.ElementTypes.{float_carrier, IsNameOf};
-ghost use Rattle.array_metadata.specs.declared.element_types.ElementType.TheVariants.{Float};
+ghost use Rattle.array_metadata.specs.ElementTypes.{float_carrier, float_size, IsNameOf};
+ghost use Rattle.array_metadata.specs.declared.element_types.ElementType.TheVariants.{Complex, Float};
 ghost use Rattle.array_metadata.specs.Floats.{digits_of, infinity_of, nan_of, sign_of, named_bits, IsHexadecimal, IsFloatText, finer_half, finer_brain, is_between, is_nearest, half_size, half_value, IsFloatNumber};
 
 use parts_arrays::DataType;
@@ -34,6 +34,29 @@ impl FloatFormat {
             FloatFormat::BFloat16 => "bfloat16",
             FloatFormat::Float32 => "float32",
             FloatFormat::Float64 => "float64",
+        }
+    }
+
+    /// The Zarr name of a pair of these.
+    pub fn complex_name(self) -> &'static str
+        ensures { IsNameOf (Complex self) result.now }
+    {
+        match self {
+            FloatFormat::Float16 => "complex_float16",
+            FloatFormat::BFloat16 => "complex_bfloat16",
+            FloatFormat::Float32 => "complex64",
+            FloatFormat::Float64 => "complex128",
+        }
+    }
+
+    /// How many bytes a float has.
+    pub fn size(self) -> usize
+        ensures { result ≡ float_size self }
+    {
+        match self {
+            FloatFormat::Float16 | FloatFormat::BFloat16 => 2,
+            FloatFormat::Float32 => 4,
+            FloatFormat::Float64 => 8,
         }
     }
 

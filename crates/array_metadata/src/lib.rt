@@ -2,14 +2,17 @@
 #![tactic(auto)]
 
 mod byte_codecs;
+mod byte_order;
 mod codecs;
 mod element_types;
 mod fill;
 mod floats;
 mod keys;
 mod metadata;
+mod raw_bits;
 mod unread;
 
+pub use byte_order::reversed_size;
 pub use codecs::{ArrayCodec, ElementCodec, IndexCodec, InnerCodec, ServedCodec};
 pub use element_types::ElementType;
 pub use floats::{FloatFormat, half_to_f32};

@@ -319,8 +319,8 @@ fn codecs_of_cells(
     ensures read { IfOk result (λ found. option_map (shards_in subchunks_in) (chunks_in (view codecs.now.value.now)) ≡ Some (Ok found.codec)) }
     ensures unread { IfOk result (λ found. option_map string_bytes found.unread ≡ unread_codec_in (chunks_in (view codecs.now.value.now))) }
 {
-    let data_type = cells.element_type.carrier();
-    let codec = array_codec(alloc, codecs, data_type, cells.shape.len())?;
+    let part_type = cells.element_type.part_type();
+    let codec = array_codec(alloc, codecs, part_type, cells.shape.len())?;
     test_subchunks(alloc, &cells.shard, &codec)?;
     let subchunk = codec.subchunk_shape.try_clone(alloc)?;
     let unread = unread_codec(alloc, codecs)?;
@@ -396,8 +396,7 @@ impl ArrayMetadata {
     /// The metadata that a `zarr.json` holds (Zarr V3 core, "Array metadata"). Refused, in this order, where the text is no JSON,
     /// nests deeper than is read, has a number past the range of a float, is no object, of another `zarr_format` than 3, of another
     /// `node_type` than `array`, has an unknown member that must be understood, or `storage_transformers`; and then for `shape` (whole
-    /// numbers), `data_type` (`bool`, `int8` to `int64`, `uint8` to `uint64`, floats, times, or a type whose elements have a known
-    /// size), `chunk_grid` (`regular`), `chunk_key_encoding` (`default` or `v2`), `fill_value` (an element of the type, or of one that
+    /// numbers), `data_type` (`bool`, `int8` to `int64`, `uint8` to `uint64`, floats, complex numbers, raw bits or times), `chunk_grid` (`regular`), `chunk_key_encoding` (`default` or `v2`), `fill_value` (an element of the type, or of one that
     /// is not read any value) and `codecs` (`sharding_indexed` alone, with `bytes`, `bytes` and `crc32c`, `sharding_indexed` once more
     /// inside, or codecs of other names, which are not looked into) in turn: each with its place, and a sentence that says what is not
     /// served; or as `OutOfMemory`. Where elements go through a codec of another name, their type may have any name.

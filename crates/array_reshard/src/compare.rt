@@ -92,7 +92,9 @@ fn add_chunk<
     let (first, _) = read_array(one, &subset, false, &mut progress)?;
     let (second, _) = read_array(other, &subset, false, &mut progress)?;
     let size = metadata.fill_value.as_ne_bytes().len();
-    found.add_all(alloc, &subset, size, (first.bytes(), second.bytes()))
+    let first = one.least_first(first.bytes())?;
+    let second = other.least_first(second.bytes())?;
+    found.add_all(alloc, &subset, size, (&first, &second))
 }
 
 // The chunks of the first array's grid in which elements may differ: those that either has elements of, or all where they have other

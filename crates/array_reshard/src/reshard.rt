@@ -2,7 +2,9 @@
 use crate::chunks::{chunks_of, elements_of};
 use crate::encoding::encode_chunk;
 use crate::layout::new_document;
-use array_cli::{Array, Ending, LayoutWords, Progress, Stop, described, read_array, written};
+use array_cli::{
+    Array, Ending, LayoutWords, Progress, Stop, described, read_array, turned, written,
+};
 use array_fields::{LONGEST_TEXT, escaped};
 use array_folder::read_document;
 use array_grid::SubsetCells;
@@ -30,17 +32,14 @@ struct Written {
 fn padded(
     alloc: Global,
     requested: &ArraySubset,
-    elements: SubsetCells,
+    elements: &[u8],
     new: &ArrayMetadata,
 ) -> Result<SubsetCells, CodecError> {
-    if requested.shape() == new.shard.as_slice() {
-        return Ok(elements);
-    }
     let whole = ArraySubset::new_with_shape(alloc, Vec::from_slice(alloc, new.shard.as_slice())?)?;
     let mut cells = SubsetCells::new(alloc, &whole, &new.fill_value)?;
     let part = ArraySubset::new_with_shape(alloc, Vec::from_slice(alloc, requested.shape())?)?;
     let size = new.fill_value.as_ne_bytes().len();
-    match ArrayBytes::new_flen(CowSlice::Borrowed(elements.bytes()), size) {
+    match ArrayBytes::new_flen(CowSlice::Borrowed(elements), size) {
         Some(found) => cells.put(&part, &found)?,
         None => return Err(CodecError::WrongElementKind),
     }
@@ -70,7 +69,13 @@ fn new_chunk<
         false,
         &mut Progress::new(&mut silent, false),
     )?;
-    let cells = padded(alloc, &requested, elements, new)?;
+    let elements = old.least_first(elements.bytes())?;
+    let turned = turned(alloc, new, &elements)?;
+    let stored = match &turned {
+        Some(stored) => stored.as_slice(),
+        None => &elements,
+    };
+    let cells = padded(alloc, &requested, stored, new)?;
     let size = new.fill_value.as_ne_bytes().len();
     match ArrayBytes::new_flen(CowSlice::Borrowed(cells.bytes()), size) {
         Some(elements) => Ok(encode_chunk(alloc, codec, &elements, new)?),

@@ -25,3 +25,5 @@ mod refused;
 mod shards;
 #[cfg(test)]
 mod subsets;
+#[cfg(test)]
+mod transposes;

@@ -61,7 +61,22 @@ const HEADERS: &[(&str, &[u64], &str)] = &[
         "128 {'descr': '<u8', 'fortran_order': False, 'shape': (18446744073709551615, 18446744073709551615, 0, 1, 2, 3), }",
     ),
     (
-        "r8",
+        "complex64",
+        &[2],
+        "128 {'descr': '<c8', 'fortran_order': False, 'shape': (2,), }",
+    ),
+    (
+        "complex128",
+        &[2],
+        "128 {'descr': '<c16', 'fortran_order': False, 'shape': (2,), }",
+    ),
+    (
+        "r16",
+        &[1],
+        "128 {'descr': '|V2', 'fortran_order': False, 'shape': (1,), }",
+    ),
+    (
+        "bfloat16",
         &[1],
         "a.npy: elements of this data type are not written in NumPy's format",
     ),

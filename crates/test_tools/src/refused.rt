@@ -70,15 +70,15 @@ const MEMBERS: &[(&str, &str)] = &[
     ),
     (
         r#""data_type": "r12""#,
-        "4 BadField data_type: in data_type: elements of the data type r12 are not read, only bool, int8 to int64, uint8 to uint64, floats and times",
+        "4 BadField data_type: in data_type: elements of the data type r12 are not read, only bool, int8 to int64, uint8 to uint64, floats, complex numbers, raw bits and times",
     ),
     (
         r#""data_type": "bytes""#,
-        "4 BadField data_type: in data_type: elements of the data type bytes are not read, only bool, int8 to int64, uint8 to uint64, floats and times",
+        "4 BadField data_type: in data_type: elements of the data type bytes are not read, only bool, int8 to int64, uint8 to uint64, floats, complex numbers, raw bits and times",
     ),
     (
         r#""data_type": {"name": "x"}"#,
-        "4 BadField data_type: in data_type: elements of the data type x are not read, only bool, int8 to int64, uint8 to uint64, floats and times",
+        "4 BadField data_type: in data_type: elements of the data type x are not read, only bool, int8 to int64, uint8 to uint64, floats, complex numbers, raw bits and times",
     ),
     (
         r#""chunk_grid": {"name": "rectilinear"}"#,
@@ -125,6 +125,14 @@ const MEMBERS: &[(&str, &str)] = &[
         "4 BadField fill_value: in fill_value: this is no element of uint16",
     ),
     (
+        r#""data_type": "complex64", "fill_value": [1]"#,
+        "4 BadField fill_value: in fill_value: this is no element of complex64",
+    ),
+    (
+        r#""data_type": "r16", "fill_value": [1, 256]"#,
+        "4 BadField fill_value: in fill_value: this is no list of 2 bytes, and no base64 of as many",
+    ),
+    (
         r#""data_type": "int8", "fill_value": 128"#,
         "4 BadField fill_value: in fill_value: this is no element of int8",
     ),
@@ -166,7 +174,7 @@ const MEMBERS: &[(&str, &str)] = &[
     ),
     (
         r#""data_type": "a\tb\u202ec""#,
-        r"4 BadField data_type: in data_type: elements of the data type a\tb\u{202e}c are not read, only bool, int8 to int64, uint8 to uint64, floats and times",
+        r"4 BadField data_type: in data_type: elements of the data type a\tb\u{202e}c are not read, only bool, int8 to int64, uint8 to uint64, floats, complex numbers, raw bits and times",
     ),
     (
         r#""chunk_grid": {"name": "\u0085"}"#,

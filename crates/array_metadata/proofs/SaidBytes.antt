@@ -1,0 +1,56 @@
+-- What values say of complex numbers and of raw bits.
+use Rattle.std.proofs.Common.{◌≡◌, ◌*◌, ℕ, Option, None, Some, ◌++◌, length, take, drop, refl, sym, ap, subst, ◌∙◌, arith}
+use Rattle.std.proofs.Math.Seq.{take-append_seam, drop-append_seam}
+use Rattle.serde_json.specs.Data.{Data, Items, null, boolean, number, string, array, object, no_items, item}
+use Rattle.serde_json.specs.Find.{as_str, as_array}
+use Rattle.parts_errors.specs.Words.{Bytes as Text}
+use Rattle.array_fields.specs.MetadataFields.{whole_numbers_in}
+use Rattle.array_metadata.specs.declared.floats.FloatFormat.{FloatFormat}
+use Rattle.array_metadata.specs.declared.element_types.ElementType.{ElementType}
+use Rattle.array_metadata.specs.declared.element_types.ElementType.TheVariants as of
+use Rattle.array_metadata.specs.ElementTypes.{carrier, float_carrier, float_size}
+use Rattle.array_metadata.specs.FillValues.{number_of, base64_in, IsElementIn, IsComplexIn, IsRawIn, IsValueIn}
+
+-- a value that says an element as a number says it
+pub number_said : (element_type : ElementType) (d : Data) (element : Text) → IsElementIn element_type d (number_of (carrier element_type) element)
+    → IsValueIn element_type d element
+number_said (of.Number data_type) d element h = h
+number_said (of.Float format) d element h = h
+number_said (of.Complex format) d element h = absurd h
+number_said (of.RawBits size) d element h = absurd h
+number_said of.DateTime64 d element h = h
+number_said of.TimeDelta64 d element h = h
+number_said (of.Unread size) d element h = h
+
+some_same : {A : Type 0} (a b : A) → Some a ≡ Some b → a ≡ b
+some_same a b e = cc
+
+-- two floats, one after the other
+pub complex_said : (format : FloatFormat) (real imaginary : Data) (o : Option Items) (a b : Text) → o ≡ Some (item real (item imaginary no_items))
+    → length a ≡ float_size format → IsElementIn (of.Float format) real (number_of (float_carrier format) a)
+    → IsElementIn (of.Float format) imaginary (number_of (float_carrier format) b) → IsComplexIn format o (a ++ b)
+complex_said format real imaginary o a b is long first second =
+    let front : take (float_size format) (a ++ b) ≡ a = ap (λ n. take n (a ++ b)) (sym long) ∙ take-append_seam a b in
+    let back : drop (float_size format) (a ++ b) ≡ b = ap (λ n. drop n (a ++ b)) (sym long) ∙ drop-append_seam a b in
+    rw is (record {
+      real_part = subst (λ (part : Text). IsElementIn (of.Float format) real (number_of (float_carrier format) part)) (sym front) first;
+      imaginary_part = subst (λ (part : Text). IsElementIn (of.Float format) imaginary (number_of (float_carrier format) part)) (sym back) second;
+    })
+
+-- a text says the bytes that it is the base64 of
+pub raw_text : (d : Data) (text element : Text) → as_str d ≡ Some text → base64_in text ≡ Some element → IsRawIn d element
+raw_text null text element is h = absurd (cc)
+raw_text (boolean b) text element is h = absurd (cc)
+raw_text (number n) text element is h = absurd (cc)
+raw_text (string s) text element is h = subst (λ (t : Text). base64_in t ≡ Some element) (sym (some_same s text is)) h
+raw_text (array ds) text element is h = absurd (cc)
+raw_text (object ms) text element is h = absurd (cc)
+
+-- and what is no text, those of a list
+pub raw_list : (d : Data) (element : Text) → as_str d ≡ None → whole_numbers_in d ≡ Some element → IsRawIn d element
+raw_list null element none h = h
+raw_list (boolean b) element none h = h
+raw_list (number n) element none h = h
+raw_list (string s) element none h = absurd (cc)
+raw_list (array ds) element none h = h
+raw_list (object ms) element none h = h

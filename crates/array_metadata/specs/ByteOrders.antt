@@ -1,0 +1,27 @@
+-- The byte order of complex numbers, which the codecs take as bytes and so do not turn.
+use Rattle.std.specs.Prelude.{ℕ, Option, Some, None}
+use Rattle.codec_bytes.specs.declared.bytes_codec.Endianness.{Endianness}
+use Rattle.codec_bytes.specs.declared.bytes_codec.Endianness.TheVariants.{Big}
+use Rattle.codec_chains.specs.declared.either_codec.EitherCodec.TheVariants.{First, Second}
+use Rattle.array_metadata.specs.ArrayCodecs.{Elements, Served, Subchunks}
+use Rattle.array_metadata.specs.ElementTypes.{float_size}
+use Rattle.array_metadata.specs.declared.element_types.ElementType.{ElementType}
+use Rattle.array_metadata.specs.declared.element_types.ElementType.TheVariants.{Complex}
+
+-- the byte order that the codec `bytes` of elements has
+abbrev pub order_of : Elements → Option Endianness
+order_of (First bytes) = bytes
+order_of (Second chain) = chain.array_to_bytes
+
+abbrev pub served_order : Served → Option Endianness
+served_order (First elements) = order_of elements
+served_order (Second shards) = order_of shards.inner
+
+abbrev pub subchunks_order : Subchunks → Option Endianness
+subchunks_order (First served) = served_order served
+subchunks_order (Second opaque) = None
+
+-- how many bytes each part has of elements whose parts are stored most significant byte first
+abbrev pub reversed_size : ElementType → Option Endianness → Option ℕ
+reversed_size (Complex format) (Some Big) = Some (float_size format)
+reversed_size element_type order = None
