@@ -70,12 +70,10 @@ fn new_chunk<
         &mut Progress::new(&mut silent, false),
     )?;
     let elements = old.least_first(elements.bytes())?;
-    let turned = turned(alloc, new, &elements)?;
-    let stored = match &turned {
-        Some(stored) => stored.as_slice(),
-        None => &elements,
+    let cells = match turned(alloc, new, &elements)? {
+        Some(stored) => padded(alloc, &requested, &stored, new)?,
+        None => padded(alloc, &requested, &elements, new)?,
     };
-    let cells = padded(alloc, &requested, stored, new)?;
     let size = new.fill_value.as_ne_bytes().len();
     match ArrayBytes::new_flen(CowSlice::Borrowed(cells.bytes()), size) {
         Some(elements) => Ok(encode_chunk(alloc, codec, &elements, new)?),
