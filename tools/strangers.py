@@ -222,6 +222,10 @@ def resharded(program, top):
     expect([program, *layout], 0, "6 shards: ")
     expect([program, *layout], 2, f"{new}: stands there already")
     expect([program, "compare", path, new], 0, "no element differs")
+    with open(f"{new}/0", "r+b") as file:
+        file.seek(5)
+        file.write(bytes([whole[5] ^ 1]))
+    expect([program, "compare", path, new], 1, f"1 element differs, at: 5\n{whole[5]}\n{whole[5] ^ 1}\n")
     with open(f"{path}/3", "r+b") as file:
         file.truncate(40)
     shutil.rmtree(new)
