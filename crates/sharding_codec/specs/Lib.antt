@@ -7,5 +7,7 @@ pub mod Decoders
 pub mod Sessions
 pub mod SessionWrites
 pub mod LockedSessions
+pub mod ConfigurationLaws
+pub mod CodecListLaws
 pub mod ShardMetadata
 pub mod ShardMetadataLaws

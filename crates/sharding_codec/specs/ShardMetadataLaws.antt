@@ -6,8 +6,8 @@ use Rattle.serde_json.specs.Data.{Data, Members, object}
 use Rattle.codec_metadata.specs.CreateErrors.{Reading}
 use Rattle.codec_metadata.specs.Metadata.{metadata_of}
 use Rattle.sharding_codec.specs.CodecLists.{codec_in_list}
-use Rattle.sharding_codec.proofs.ConfigurationLaws.{configuration_in-written}
-use Rattle.sharding_codec.proofs.CodecListLaws.{codec_in_list-written}
+use Rattle.sharding_codec.specs.ConfigurationLaws.{configuration_in-written}
+use Rattle.sharding_codec.specs.CodecListLaws.{codec_in_list-written}
 use Rattle.sharding_codec.specs.declared.codec.ShardingCodec.{ShardingCodec}
 use Rattle.sharding_codec.specs.ShardMetadata.{shard_configured, configured_by, shard_written, shard_told}
 
