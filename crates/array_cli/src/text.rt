@@ -222,24 +222,37 @@ pub fn write_numbers<W: Write>(out: &mut W, name: &str, numbers: &[u64]) -> io::
     out.write_all(b"\n")
 }
 
-/// Writes cells as text, a row of the last axis a line.
+// How many cells a row of the last axis has, and how many rows a plane of the last two, before the next of which an empty line stands.
+fn plane_of(shape: &[u64]) -> (u64, u64) {
+    match shape {
+        [] => (1, u64::MAX),
+        [row] | [_, row] => (*row, u64::MAX),
+        [.., rows, row] => (*row, *rows),
+    }
+}
+
+/// Writes cells as text, a row of the last axis a line, and an empty line between planes of the last two.
 pub fn write_rows<W: Write>(
     out: &mut W,
     element_type: ElementType,
     bytes: &[u8],
     shape: &[u64],
 ) -> io::Result<()> {
-    let row = shape.last().copied().unwrap_or(1);
-    let mut column = 0u64;
+    let (row, rows) = plane_of(shape);
+    let (mut column, mut line) = (0u64, 0u64);
     for element in bytes.chunks(cell_size(element_type)) {
         if column > 0 {
             out.write_all(b" ")?;
+        } else if line >= rows {
+            out.write_all(b"\n")?;
+            line = 0;
         }
         write_element(out, element_type, element, false)?;
         column = column.saturating_add(1);
         if column >= row {
             out.write_all(b"\n")?;
             column = 0;
+            line = line.saturating_add(1);
         }
     }
     Ok(())
