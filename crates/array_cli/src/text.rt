@@ -180,7 +180,7 @@ fn write_element<W: Write>(
     }
 }
 
-// How many bits so many bytes have.
+// The number of bits in bytes.
 fn bits_of(size: usize) -> u64 {
     (size as u64).saturating_mul(8)
 }

@@ -1,2 +1,3 @@
 pub mod BeforeChecksum
 pub mod TransposeSteps
+pub mod AxisOrderSteps

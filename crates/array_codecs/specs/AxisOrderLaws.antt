@@ -11,7 +11,7 @@ use Rattle.std.proofs.lemmas.Map.Steps.{le-length_from_below}
 use Rattle.parts_row_major.specs.Numbering.{count_of, number_of, point_of, IsInside}
 use Rattle.parts_row_major.proofs.NumberingLaws.{number_below, length-point_of, point_inside, point_of-number_of, number_of-point_of, below_axis}
 use Rattle.parts_row_major.proofs.SubsetLaws.{all_zip_from_each}
-use Rattle.array_codecs.specs.AxisOrders.{inverse_of, is_undone, is_order, permuted, number_moved, transposed}
+use Rattle.array_codecs.specs.AxisOrders.{inverse_of, is_undone, are_undone, is_order, permuted, number_moved, transposed}
 
 -- an order that another one undoes
 pub record IsUndone (order inverse : List ℕ) : Type 0 where
@@ -37,12 +37,12 @@ pub length-inverse_of : (order : List ℕ) → length (inverse_of order) ≡ len
 length-inverse_of order = length-map-range_with_len _ 0 (length order)
 
 each_place : (order : List ℕ) (i : ℕ) → is_order order ≡ true → i < length order
-    → (is_undone order (inverse_of order) i && is_undone (inverse_of order) order i) ≡ true
+    → are_undone order (inverse_of order) i ≡ true
 each_place order i h lt =
     let places = range_with_len 0 (length order) in
-    let each = AllPass-from_list_all (λ place. is_undone order (inverse_of order) place && is_undone (inverse_of order) order place) places h in
+    let each = AllPass-from_list_all (are_undone order (inverse_of order)) places h in
     let here : get_or places i 0 ≡ i = get_or-range_with_len 0 (length order) i 0 lt ∙ zero-add i in
-    subst (λ (place : ℕ). (is_undone order (inverse_of order) place && is_undone (inverse_of order) order place) ≡ true) here
+    subst (λ (place : ℕ). are_undone order (inverse_of order) place ≡ true) here
     (each i 0 (omega (arith, length-range_with_len 0 (length order))))
 
 undone_from : (order inverse : List ℕ) → length inverse ≡ length order → ((i : ℕ) → i < length order → is_undone order inverse i ≡ true) → IsUndone order inverse

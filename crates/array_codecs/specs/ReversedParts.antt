@@ -6,6 +6,6 @@ use Rattle.std.specs.List.{range_with_len}
 abbrev pub mirrored : ℕ → ℕ → ℕ
 mirrored size i = i - i % size + (size - 1 - i % size)
 
--- parts of so many bytes, each in reverse
+-- bytes in parts of a size, each in reverse
 abbrev pub parts_reversed : ℕ → List ℕ → List ℕ
 parts_reversed size bytes = map (λ i. slice_index bytes (mirrored size i)) (range_with_len 0 (length bytes))

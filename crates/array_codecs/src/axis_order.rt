@@ -1,7 +1,7 @@
 // Orders of the axes of an array.
 ghost use Rattle.std.specs.Prelude.{◌≡◌, ℕ, ◌^◌, ◌<◌, IfOk, IsTrue, ◌↔◌, SomeIff, true, length};
 ghost use Rattle.parts_row_major.specs.Numbering.{count_of, AllPositive};
-ghost use Rattle.array_codecs.specs.AxisOrders.{place_of, inverse_of, is_undone, is_order, permuted};
+ghost use Rattle.array_codecs.specs.AxisOrders.{place_of, inverse_of, is_undone, are_undone, is_order, permuted};
 
 use parts_subsets::{Axes, ChunkShape};
 use std::alloc::{AllocError, Global};
@@ -30,10 +30,12 @@ impl Model for AxisOrder {
 fn place_of(order: &[u64], axis: u64) -> u64
     ensures { result ≡ place_of order.now axis }
 {
-    match order.iter().position(|other| *other == axis) {
-        Some(place) => place as u64,
-        None => order.len() as u64,
+    for place in 0..order.len() {
+        if order[place] == axis {
+            return place as u64;
+        }
     }
+    order.len() as u64
 }
 
 // Where each axis stands in an order.
@@ -57,13 +59,22 @@ fn is_undone(order: &[u64], inverse: &[u64], place: usize) -> bool
     axis < order.len() as u64 && inverse[axis as usize] == place as u64
 }
 
+// Whether two orders undo one another at a place.
+fn are_undone(order: &[u64], inverse: &[u64], place: usize) -> bool
+    requires alike { length inverse.now ≡ length order.now }
+    requires place { place < length order.now }
+    ensures { result ≡ are_undone order.now inverse.now place }
+{
+    is_undone(order, inverse, place) && is_undone(inverse, order, place)
+}
+
 // Whether an order, which has this inverse, is a permutation of the axes.
 fn is_order(order: &[u64], inverse: &[u64]) -> bool
     requires { inverse.now ≡ inverse_of order.now }
     ensures { result ≡ is_order order.now }
 {
     for place in 0..order.len() {
-        if !is_undone(order, inverse, place) || !is_undone(inverse, order, place) {
+        if !are_undone(order, inverse, place) {
             return false;
         }
     }
@@ -108,7 +119,9 @@ impl AxisOrder {
         requires { length shape.now ≡ length self.now }
         ensures shape { IfOk result (λ inner. inner ≡ permuted self.now shape.now) }
     {
-        let axes = permuted_axes(alloc, self.as_slice(), shape.as_slice())?;
+        let order = self.as_slice();
+        let numbers = shape.as_slice();
+        let axes = permuted_axes(alloc, order, numbers)?;
         Ok(ChunkShape::from_positive(axes))
     }
 }

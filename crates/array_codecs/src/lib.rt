@@ -4,14 +4,14 @@
 mod axis_order;
 mod byte_codec;
 mod byte_codecs;
+mod byte_parts;
 mod moved_points;
 mod opaque_codec;
-mod reversed_parts;
 mod transpose_codec;
 
 pub use axis_order::AxisOrder;
 pub use byte_codec::ByteCodec;
 pub use byte_codecs::ByteCodecs;
+pub use byte_parts::reversed_parts;
 pub use opaque_codec::OpaqueCodec;
-pub use reversed_parts::reversed_parts;
 pub use transpose_codec::TransposeCodec;

@@ -1,11 +1,16 @@
 -- What values say of complex numbers and of raw bits.
-use Rattle.std.proofs.Common.{◌≡◌, ◌*◌, ℕ, Option, None, Some, ◌++◌, length, take, drop, refl, sym, ap, subst, ◌∙◌, arith}
+use Rattle.std.proofs.Common.{◌≡◌, ◌*◌, ℕ, List, [], ◌∷◌, Option, None, Some, ◌++◌, length, get_or, take, drop, refl, sym, ap, subst, ◌∙◌, arith}
 use Rattle.std.proofs.Math.Seq.{take-append_seam, drop-append_seam}
 use Rattle.serde_json.specs.Data.{Data, Items, null, boolean, number, string, array, object, no_items, item}
 use Rattle.serde_json.specs.Find.{as_str, as_array}
+use Rattle.serde_json.specs.View.{view, items_view}
+use Rattle.serde_json.specs.declared.value.Value.{Value}
+use Rattle.parts_arrays.specs.Types.{size_of}
+use Rattle.parts_arrays.specs.declared.data_type.DataTypeSize.TheVariants.{Fixed}
 use Rattle.parts_errors.specs.Words.{Bytes as Text}
 use Rattle.array_fields.specs.MetadataFields.{whole_numbers_in}
 use Rattle.array_metadata.specs.declared.floats.FloatFormat.{FloatFormat}
+use Rattle.array_metadata.specs.declared.floats.FloatFormat.TheVariants.{Float16, BFloat16, Float32, Float64}
 use Rattle.array_metadata.specs.declared.element_types.ElementType.{ElementType}
 use Rattle.array_metadata.specs.declared.element_types.ElementType.TheVariants as of
 use Rattle.array_metadata.specs.ElementTypes.{carrier, float_carrier, float_size}
@@ -36,6 +41,29 @@ complex_said format real imaginary o a b is long first second =
       real_part = subst (λ (part : Text). IsElementIn (of.Float format) real (number_of (float_carrier format) part)) (sym front) first;
       imaginary_part = subst (λ (part : Text). IsElementIn (of.Float format) imaginary (number_of (float_carrier format) part)) (sym back) second;
     })
+
+-- as many bytes as a float has
+float_long : (format : FloatFormat) (a : Text) → size_of (float_carrier format) ≡ Fixed (length a) → length a ≡ float_size format
+float_long Float16 a is = cc
+float_long BFloat16 a is = cc
+float_long Float32 a is = cc
+float_long Float64 a is = cc
+
+two_items : (values : List Value) (real imaginary : Value) → length values ≡ 2 → real ≡ get_or values 0 real → imaginary ≡ get_or values 1 imaginary
+    → items_view values ≡ item (view real) (item (view imaginary) no_items)
+two_items [] real imaginary two first second = absurd (omega arith)
+two_items (a ∷ []) real imaginary two first second = absurd (omega arith)
+two_items (a ∷ b ∷ []) real imaginary two first second = rw (first, second) refl
+two_items (a ∷ b ∷ d ∷ later) real imaginary two first second = absurd (omega arith)
+
+-- of a list of two values
+pub complex_pair : (format : FloatFormat) (values : List Value) (real imaginary : Value) (o : Option Items) (a b : Text)
+    → Some (items_view values) ≡ o → length values ≡ 2 → real ≡ get_or values 0 real → imaginary ≡ get_or values 1 imaginary
+    → size_of (float_carrier format) ≡ Fixed (length a) → IsElementIn (of.Float format) (view real) (number_of (float_carrier format) a)
+    → IsElementIn (of.Float format) (view imaginary) (number_of (float_carrier format) b) → IsComplexIn format o (a ++ b)
+complex_pair format values real imaginary o a b is two first second long real_said imaginary_said =
+    complex_said format (view real) (view imaginary) o a b (sym is ∙ ap Some (two_items values real imaginary two first second)) (float_long format a long) real_said
+    imaginary_said
 
 -- a text says the bytes that it is the base64 of
 pub raw_text : (d : Data) (text element : Text) → as_str d ≡ Some text → base64_in text ≡ Some element → IsRawIn d element

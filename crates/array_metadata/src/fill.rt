@@ -129,7 +129,6 @@ fn number_bytes(
 }
 
 // The bytes of a complex number that a value is: a list of both parts.
-#[tactic(auto, using(crate::proofs::SaidBytes::complex_said))]
 fn complex_bytes(
     alloc: Global,
     value: &Value,

@@ -4,7 +4,7 @@ ghost use Rattle.array_codecs.specs.ReversedParts.{mirrored, parts_reversed};
 
 use std::alloc::{AllocError, Global};
 
-// The byte that comes to a place where each part of so many bytes is reversed.
+// The byte that comes to a place where each part of a size is reversed.
 fn mirrored_byte(bytes: &[u8], size: usize, i: usize) -> u8
     requires { 0 < size }
     ensures { result ≡ slice_index bytes.now (mirrored size i) }
@@ -13,7 +13,7 @@ fn mirrored_byte(bytes: &[u8], size: usize, i: usize) -> u8
     bytes.get(place).copied().unwrap_or(0)
 }
 
-/// Bytes in parts of so many, each in reverse: as elements of this size in the other byte order.
+/// Bytes in parts of a size, each in reverse: as elements of this size in the other byte order.
 pub fn reversed_parts(alloc: Global, bytes: &[u8], size: usize) -> Result<Vec<u8>, AllocError>
     requires { 0 < size }
     ensures { IfOk result (λ reversed. reversed.items ≡ parts_reversed size bytes.now) }
