@@ -1,9 +1,8 @@
-// What the commands over an array on disk share: what stands on a command line, how cells and the progress of a command are
-// written; an array that is open, the elements of a subset of it, why a shard is refused, and why a command stops.
+// What the commands over an array on disk share: an array that is open, the elements of a subset of it, why a shard is refused, and why
+// a command stops; how elements and the progress of a command are written.
 #![tactic(auto)]
 
 mod arrays;
-mod command_line;
 mod json_line;
 mod progress;
 mod read;
@@ -16,7 +15,6 @@ pub use arrays::{
     Array, Decoder, Shard, ShardFile, decode_subset, described, is_present, metadata_of,
     read_through, turned,
 };
-pub use command_line::{Form, LayoutWords, Scope, Work, program, work_of};
 pub use json_line::{JsonLine, write_json_text};
 pub use progress::Progress;
 pub use read::read_array;

@@ -2,12 +2,12 @@
 ghost use Rattle.std.specs.Prelude.{◌≤◌, IfOk};
 
 use crate::check::check;
+use crate::command_line::{Form, Scope, Work, program, work_of};
 use crate::compact::{Way, compact};
 use crate::extract::extract;
 use crate::npy::save_subset;
 use array_cli::{
-    Array, Ending, Form, Progress, Scope, Stop, Work, metadata_of, program, read_array, work_of,
-    write_json, write_rows, written,
+    Array, Ending, Progress, Stop, metadata_of, read_array, write_json, write_rows, written,
 };
 use array_fields::escaped;
 use array_grid::{ListPart, subset_of};

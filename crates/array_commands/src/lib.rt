@@ -4,6 +4,7 @@
 
 mod check;
 mod command;
+mod command_line;
 mod compact;
 mod extract;
 mod npy;

@@ -1,10 +1,26 @@
 // How an array is laid out anew, and its metadata then.
-use array_cli::{LayoutWords, Stop};
+use array_cli::Stop;
 use array_fields::escaped;
 use array_metadata::ArrayMetadata;
 use serde_json::Value;
 use sharding_format::ShardingIndexLocation;
 use std::alloc::{AllocError, Global};
+
+/// How an array is laid out anew, by the words of a command line. What is `None` stays as it is.
+#[derive(Debug, Clone, Copy, PartialEq, Eq)]
+pub struct LayoutWords<'a> {
+    /// The shapes of a shard and of a subchunk, as `512,512`.
+    pub shard: Option<&'a str>,
+    pub subchunk: Option<&'a str>,
+    /// Where the index stands: `start` or `end`.
+    pub index: Option<&'a str>,
+    /// Whether `crc32c` is behind the index.
+    pub is_checked: Option<bool>,
+    /// The codec behind `bytes` inside a shard: `none`, `crc32c`, `gzip` or `zstd`.
+    pub inner: Option<&'a str>,
+    /// In which order the subchunks are written: `c` or `morton`.
+    pub order: Option<&'a str>,
+}
 
 // Numbers of a command line as a list of JSON. Refused as `Stop::BadWord` where a word is no list of numbers.
 fn list_of(alloc: Global, word: &str) -> Result<String, Stop> {

@@ -9,4 +9,5 @@ mod reshard;
 
 pub use compare::compare;
 pub use encoding::encode_chunk;
+pub use layout::LayoutWords;
 pub use reshard::reshard;

@@ -1,10 +1,8 @@
 // An array laid out anew in another folder.
 use crate::chunks::{chunks_of, elements_of};
 use crate::encoding::encode_chunk;
-use crate::layout::new_document;
-use array_cli::{
-    Array, Ending, LayoutWords, Progress, Stop, described, read_array, turned, written,
-};
+use crate::layout::{LayoutWords, new_document};
+use array_cli::{Array, Ending, Progress, Stop, described, read_array, turned, written};
 use array_fields::{LONGEST_TEXT, escaped};
 use array_folder::read_document;
 use array_grid::SubsetCells;

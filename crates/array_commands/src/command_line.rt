@@ -1,4 +1,5 @@
 // The command line.
+use array_reshard::LayoutWords;
 use clap::{Arg, ArgAction, ArgMatches, Command};
 use std::alloc::{AllocError, Global};
 
@@ -17,22 +18,6 @@ pub struct Scope<'a> {
     pub part: Option<&'a str>,
     /// Whether it writes lines of JSON.
     pub is_json: bool,
-}
-
-/// How an array is laid out anew, by the words of a command line. What is `None` stays as it is.
-#[derive(Debug, Clone, Copy, PartialEq, Eq)]
-pub struct LayoutWords<'a> {
-    /// The shapes of a shard and of a subchunk, as `512,512`.
-    pub shard: Option<&'a str>,
-    pub subchunk: Option<&'a str>,
-    /// Where the index stands: `start` or `end`.
-    pub index: Option<&'a str>,
-    /// Whether `crc32c` is behind the index.
-    pub is_checked: Option<bool>,
-    /// The codec behind `bytes` inside a shard: `none`, `crc32c`, `gzip` or `zstd`.
-    pub inner: Option<&'a str>,
-    /// In which order the subchunks are written: `c` or `morton`.
-    pub order: Option<&'a str>,
 }
 
 /// What is done with an array.
