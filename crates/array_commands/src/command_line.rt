@@ -231,7 +231,8 @@ fn output_option<'a>(alloc: Global) -> Result<Arg<'a>, AllocError> {
         .long("output")
         .value_name("DIR")
         .help("Leaves the array as it is, and writes another one into this folder")
-        .conflicts_with("dry-run")
+        .conflicts_with("dry-run")?
+        .conflicts_with("part")
 }
 
 fn compact_command<'a>(alloc: Global) -> Result<Command<'a>, AllocError> {

@@ -385,7 +385,8 @@ fn copy_metadata<R: Files + AllocGlobal, I, X, W: Write>(
 }
 
 /// Compacts each shard that a part has, and writes a line for each that is not compact and how many bytes were saved in all. As a copy,
-/// each shard is written to the folder of another array, also one that is compact or refused, and the metadata last, by the first part.
+/// each shard is written to the folder of another array, also one that is compact or refused, and the metadata last, once every shard
+/// is there.
 pub fn compact<
     R: Files + AllocGlobal + Clock,
     I: ArrayToBytesCodecTraits,
@@ -417,8 +418,9 @@ pub fn compact<
         writeln!(out, "{bytes} bytes saved in {shards} of {all} shards")
     };
     written(wrote, gained.ending())?;
+    // a copy that has not every shard becomes no array
     if let Way::Copy { folder } = way
-        && listing.part.is_first()
+        && !gained.is_undone
     {
         copy_metadata(array, folder, out)?;
     }
