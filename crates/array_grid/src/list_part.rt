@@ -15,6 +15,7 @@ pub struct ListPart {
 }
 
 impl Model for ListPart {
+    ghost use Rattle.std.specs.Prelude.{◌<◌};
     ghost use Rattle.array_grid.specs.ListParts.{PartOfList};
 
     // which part it is, counted from 0, and of how many
