@@ -1,3 +1,1 @@
 pub mod BeforeChecksum
-pub mod TransposeSteps
-pub mod AxisOrderSteps

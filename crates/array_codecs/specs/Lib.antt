@@ -2,9 +2,4 @@ pub mod ByteCodec
 pub mod ByteCodecs
 pub mod OpaqueCodec
 pub mod OpaqueLaws
-pub mod AxisOrders
-pub mod AxisOrderLaws
-pub mod MovedPoints
-pub mod TransposeCodec
-pub mod TransposeLaws
 pub mod ReversedParts

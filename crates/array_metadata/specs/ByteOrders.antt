@@ -1,7 +1,7 @@
 -- The byte order of complex numbers, which the codecs take as bytes and so do not turn.
 use Rattle.std.specs.Prelude.{ℕ, Option, Some, None}
 use Rattle.codec_bytes.specs.declared.bytes_codec.Endianness.{Endianness}
-use Rattle.codec_bytes.specs.declared.bytes_codec.Endianness.TheVariants.{Big}
+use Rattle.codec_bytes.specs.declared.bytes_codec.Endianness.TheVariants.{Big, Little}
 use Rattle.codec_chains.specs.declared.either_codec.EitherCodec.TheVariants.{First, Second}
 use Rattle.array_metadata.specs.ArrayCodecs.{Elements, Served, Subchunks}
 use Rattle.array_metadata.specs.ElementTypes.{float_size}
@@ -22,6 +22,11 @@ subchunks_order (First served) = served_order served
 subchunks_order (Second opaque) = None
 
 -- how many bytes each part has of elements whose parts are stored most significant byte first
+abbrev pub size_if_big : ℕ → Option Endianness → Option ℕ
+size_if_big size None = None
+size_if_big size (Some Little) = None
+size_if_big size (Some Big) = Some size
+
 abbrev pub reversed_size : ElementType → Option Endianness → Option ℕ
-reversed_size (Complex format) (Some Big) = Some (float_size format)
+reversed_size (Complex format) order = size_if_big (float_size format) order
 reversed_size element_type order = None

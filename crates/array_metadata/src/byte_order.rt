@@ -1,6 +1,6 @@
 // The byte order of complex numbers.
 ghost use Rattle.std.specs.Prelude.{◌≡◌};
-ghost use Rattle.array_metadata.specs.ByteOrders.{order_of, subchunks_order, reversed_size};
+ghost use Rattle.array_metadata.specs.ByteOrders.{order_of, subchunks_order, size_if_big, reversed_size};
 
 use crate::codecs::{ElementCodec, InnerCodec, ServedCodec};
 use crate::element_types::ElementType;
@@ -28,13 +28,31 @@ fn subchunks_order(codec: &InnerCodec) -> Option<Endianness>
     }
 }
 
+// A size, where the order is most significant byte first.
+fn size_if_big(size: usize, order: Option<Endianness>) -> Option<usize>
+    ensures { result ≡ size_if_big size order }
+{
+    match order {
+        Some(Endianness::Big) => Some(size),
+        Some(Endianness::Little) | None => None,
+    }
+}
+
+// How many bytes each part has of elements whose parts are stored most significant byte first, by the order of the codec.
+fn size_of_parts(element_type: ElementType, order: Option<Endianness>) -> Option<usize>
+    ensures { result ≡ reversed_size element_type order }
+{
+    match element_type {
+        ElementType::Complex(format) => size_if_big(format.size(), order),
+        ElementType::Number(_) | ElementType::Float(_) | ElementType::RawBits(_) => None,
+        ElementType::DateTime64 | ElementType::TimeDelta64 | ElementType::Unread(_) => None,
+    }
+}
+
 /// How many bytes each part has of elements whose parts the codecs give most significant byte first: of complex numbers that are stored
 /// so. `None` where elements come least significant byte first.
 pub fn reversed_size(element_type: ElementType, codec: &InnerCodec) -> Option<usize>
     ensures { result ≡ reversed_size element_type (subchunks_order codec.now) }
 {
-    match (element_type, subchunks_order(codec)) {
-        (ElementType::Complex(format), Some(Endianness::Big)) => Some(format.size()),
-        _ => None,
-    }
+    size_of_parts(element_type, subchunks_order(codec))
 }

@@ -2,6 +2,8 @@
 #![tactic(auto)]
 
 #[cfg(test)]
+mod byte_parts;
+#[cfg(test)]
 mod compared;
 #[cfg(test)]
 mod escapes;
@@ -25,5 +27,3 @@ mod refused;
 mod shards;
 #[cfg(test)]
 mod subsets;
-#[cfg(test)]
-mod transposes;
