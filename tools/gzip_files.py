@@ -4,7 +4,7 @@
     python3 tools/gzip_files.py PROGRAM
 
 PROGRAM LIMIT decompresses its standard input by `gunzip`, and ends with status 1 where that is refused, with the name
-of the refusal on standard error; PROGRAM alone writes a gzip file of its standard input by `gzip_stored`.
+of the refusal on standard error; PROGRAM --level LEVEL writes a gzip file of its standard input by `gzip`.
 """
 import gzip
 import random
@@ -95,8 +95,10 @@ def main():
     for kind, make in KINDS.items():
         for size in SIZES:
             content = make(size)
-            if wanted(run(content)[0]) != content:
-                wrong.append(f"written: {kind}, {size} bytes")
+            for level in (0, 1, 6, 9):
+                written = run(content, "--level", str(level))[0]
+                if wanted(written) != content or len(written) > 1.1 * len(gzip.compress(content, level)) + 10:
+                    wrong.append(f"written: {kind}, {size} bytes, level {level}")
     print("\n".join(f"differs: {it}" for it in wrong) or f"{count} files: as Python reads them")
     return bool(wrong)
 

@@ -20,7 +20,7 @@ PARAMETERS, CLAUSES = 7, 12
 WIDTHS = {".md": 120, ".antt": 140}
 LENGTHS = {"README.md": 150, "docs/ARCHITECTURE.md": 120}
 DECISION = 8  # lines of an entry in docs/DECISIONS.md
-CRATES, CRATE, FILE = 60, 2200, 500  # crates; lines of the src/ of one without tests; lines of a file
+CRATES, CRATE, FILE = 61, 2200, 500  # crates; lines of the src/ of one without tests; lines of a file
 # Where this project was made, and papers that its reader does not have.
 FOREIGN = r"/(?:work|opt)/[a-z]|\b(?:row|rule) \d\d+\b|\b[RDW]\d{1,2}\b"
 found = []

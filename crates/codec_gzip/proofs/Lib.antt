@@ -1,2 +1,2 @@
 pub mod GzipLaws
-pub mod StoredLaws
+pub mod WrittenLaws

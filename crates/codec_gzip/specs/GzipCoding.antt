@@ -2,7 +2,7 @@
 use Rattle.codec_chains.specs.Codings.{Coding}
 use Rattle.codec_compression.specs.Compressors.{compressor_coding}
 use Rattle.codec_gzip.specs.Gzip.{gunzipped}
-use Rattle.codec_gzip.specs.Stored.{gzip_bound}
+use Rattle.codec_gzip.specs.Written.{gzip_bound}
 
 -- what the codec means
 abbrev pub gzip_coding : Coding

@@ -3,7 +3,7 @@ use Rattle.std.proofs.Common.{arith}
 use Rattle.codec_chains.specs.Codings.{IsBounded}
 use Rattle.codec_compression.specs.CompressorLaws.{compressor_bounded}
 use Rattle.codec_gzip.specs.Gzip.{gunzipped}
-use Rattle.codec_gzip.specs.Stored.{gzip_bound}
+use Rattle.codec_gzip.specs.Written.{gzip_bound}
 use Rattle.codec_gzip.specs.GzipCoding.{gzip_coding}
 
 pub gzip_bounded : IsBounded gzip_coding

@@ -1,5 +1,5 @@
 pub mod Checksum
 pub mod Gzip
-pub mod Stored
+pub mod Written
 pub mod GzipCoding
 pub mod GzipLaws

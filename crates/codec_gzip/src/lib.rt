@@ -1,14 +1,14 @@
-// Gzip (RFC 1952): files are read, and written without compression.
+// Gzip (RFC 1952): files are read and written.
 #![tactic(auto)]
 
 mod checksum;
 mod codec;
 mod header;
 mod members;
-mod stored;
 mod table;
+mod written;
 
 pub use checksum::crc32;
 pub use codec::GzipCodec;
 pub use members::gunzip;
-pub use stored::gzip_stored;
+pub use written::gzip;

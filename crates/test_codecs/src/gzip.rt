@@ -2,7 +2,7 @@
 use crate::compared::same;
 use codec_compression::DecompressError;
 use codec_deflate::inflate;
-use codec_gzip::{GzipCodec, gunzip, gzip_stored};
+use codec_gzip::{GzipCodec, gunzip, gzip};
 use std::alloc::Global;
 use std::process::Abort;
 use zarr_codecs::{BytesRepresentation, BytesToBytesCodecTraits};
@@ -16,6 +16,10 @@ const TOO_LONG: &[u8] = b"too long";
 // A file without compression, as zlib writes it at level 0.
 const STORED: &[u8] =
     b"\x1f\x8b\x08\x00\x00\x00\x00\x00\x00\xff\x01\x02\x00\xfd\xffhi\xac*\x93\xd8\x02\x00\x00\x00";
+
+// A file with fixed codes, as zlib writes it at level 5.
+const COMPRESSED: &[u8] =
+    b"\x1f\x8b\x08\x00\x00\x00\x00\x00\x00\xff\xcb\xc8\x04\x00\xac*\x93\xd8\x02\x00\x00\x00";
 
 // The content as a slice, or why the file was refused.
 fn content(found: &Result<Vec<u8>, DecompressError>) -> &[u8] {
@@ -139,8 +143,18 @@ fn a_stream_ends_before_the_trailer(rt: HostRuntime) {
 
 #[test]
 fn a_file_is_written_without_compression(rt: HostRuntime) {
-    let found = gzip_stored(rt.alloc(), b"hi").expect(&rt, "refused");
+    let found = gzip(rt.alloc(), b"hi", 0).expect(&rt, "refused");
     same(&rt, found.as_slice(), STORED);
+}
+
+// A copy of sixteen bytes, a copy from one byte back, and bytes that do not come again.
+#[test]
+fn a_file_is_compressed(rt: HostRuntime) {
+    let content = b"sixteen letters, sixteen letters, aaaaaaaaaaaaaaaaaaaaaaaaaaaaaaaaaaaaaaaaaaaaaaaaaaa0123456789";
+    let file = gzip(rt.alloc(), content, 6).expect(&rt, "refused");
+    assert!(rt; file.len() < 70);
+    let found = gunzip(rt.alloc(), &file, content.len()).expect(&rt, "refused");
+    same(&rt, found.as_slice(), content.as_slice());
 }
 
 // What the codec decodes of a file within a limit.
@@ -153,7 +167,7 @@ fn decoded_within<R: Abort>(rt: &R, alloc: Global, limit: usize) -> Result<Vec<u
 fn the_codec_reads_and_writes_files(rt: HostRuntime) {
     let codec = GzipCodec { level: 5 };
     let encoded = codec.encode(rt.alloc(), b"hi").expect(&rt, "refused");
-    same(&rt, encoded.as_slice(), STORED);
+    same(&rt, encoded.as_slice(), COMPRESSED);
     let decoded = codec.decode(rt.alloc(), &encoded).expect(&rt, "refused");
     same(&rt, decoded.as_slice(), b"hi".as_slice());
     let within = decoded_within(&rt, rt.alloc(), 2).expect(&rt, "refused");
