@@ -150,7 +150,8 @@ fn a_file_is_written_without_compression(rt: HostRuntime) {
 // A copy of sixteen bytes, a copy from one byte back, and bytes that do not come again.
 #[test]
 fn a_file_is_compressed(rt: HostRuntime) {
-    let content = b"sixteen letters, sixteen letters, aaaaaaaaaaaaaaaaaaaaaaaaaaaaaaaaaaaaaaaaaaaaaaaaaaa0123456789";
+    let content =
+        b"sixteen letters, sixteen letters, aaaaaaaaaaaaaaaaaaaaaaaaaaaaaaaaaaaaaaaaaaaaaaaaaaa0123456789";
     let file = gzip(rt.alloc(), content, 6).expect(&rt, "refused");
     assert!(rt; file.len() < 70);
     let found = gunzip(rt.alloc(), &file, content.len()).expect(&rt, "refused");
