@@ -3,8 +3,10 @@ use crate::refusal::{Place, Refusal};
 use crate::stop::Stop;
 use array_codecs::reversed_parts;
 use array_fields::{LONGEST_TEXT, MetadataError, escaped};
-use array_folder::{ChunkFiles, ChunkGrid, KeyForm, document_length, list_chunks, read_document};
-use array_grid::{ListPart, dealt};
+use array_folder::{
+    ChunkFile, ChunkFiles, ChunkGrid, KeyForm, document_length, list_chunks, read_document,
+};
+use array_grid::ListPart;
 use array_metadata::{ArrayMetadata, KeyEncoding, reversed_size};
 use codec_traits::ArrayToBytesCodecTraits;
 use parts_arrays::{ArrayBytes, FillValue};
@@ -187,6 +189,21 @@ fn decode_subchunk<I: ArrayToBytesCodecTraits, X>(
     }
 }
 
+// The files that a part has of a list of them, in its order.
+fn chunks_in(
+    alloc: Global,
+    chunks: Vec<ChunkFile>,
+    part: &ListPart,
+) -> Result<Vec<ChunkFile>, AllocError> {
+    let mut kept = Vec::new(alloc);
+    for (place, chunk) in chunks.into_iter().enumerate() {
+        if part.has(place as u64) {
+            kept.push(chunk)?;
+        }
+    }
+    Ok(kept)
+}
+
 /// Whether a subchunk of a shard that is open is present. Reads nothing.
 pub fn is_present<
     I: ArrayToBytesCodecTraits,
@@ -265,7 +282,7 @@ impl<'a, R: Files + AllocGlobal, I, X> Array<'a, R, I, X> {
             others,
             replacing,
         } = self.files()?;
-        let chunks = dealt(self.alloc(), chunks, part)?;
+        let chunks = chunks_in(self.alloc(), chunks, part)?;
         if part.is_first() {
             return Ok(ChunkFiles {
                 chunks,

@@ -1,5 +1,5 @@
 -- The parts of a list.
-use Rattle.std.specs.Prelude.{◌≡◌, ◌%◌, ◌∷◌, [], suc, ℕ, List, nat_eq, if◌then◌else◌}
+use Rattle.std.specs.Prelude.{◌≡◌, ◌%◌, ℕ}
 
 -- one of the parts to which the places of a list are dealt out in turn: which one, counted from 0, and of how many
 pub record PartOfList : Type 0 where
@@ -19,9 +19,3 @@ pub record HoldsAlone (place parts : ℕ) (part : PartOfList) : Type 0 where
   pub counted : part.parts ≡ parts
   pub has : IsIn place part
   pub alone : (other : PartOfList) → other.parts ≡ parts → IsIn place other → other ≡ part
-
--- what a part has of the items that stand in a list from a place on
-pub dealt : {A : Type 0} → ℕ → PartOfList → List A → List A
-dealt place part [] = []
-dealt place part (item ∷ items) =
-    if nat_eq (place % part.parts) part.number then item ∷ dealt (suc place) part items else dealt (suc place) part items

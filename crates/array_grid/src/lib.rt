@@ -13,7 +13,7 @@ mod words;
 
 pub use cells::SubsetCells;
 pub use grid::ShardGrid;
-pub use list_part::{ListPart, dealt};
+pub use list_part::ListPart;
 pub use parsing::parse;
 pub use parts::{ShardPart, ShardParts};
 pub use picking::{Requested, resolve};

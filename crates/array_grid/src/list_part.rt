@@ -1,8 +1,7 @@
 // A part of a list, so that several programs share a work.
-ghost use Rattle.std.specs.Prelude.{◌≡◌, ◌<◌, ◌↔◌, IsTrue, IfOk};
-ghost use Rattle.array_grid.specs.ListParts.{IsIn, HoldsAlone, whole_list, dealt};
+ghost use Rattle.std.specs.Prelude.{◌≡◌, ◌<◌, ◌↔◌, IsTrue};
+ghost use Rattle.array_grid.specs.ListParts.{IsIn, HoldsAlone, whole_list};
 
-use std::alloc::{AllocError, Global};
 use std::marker::Model;
 
 /// One of the parts to which the places of a list are dealt out in turn: of N parts the K-th, counted from 1, has the K-th place of
@@ -74,17 +73,4 @@ impl ListPart {
             parts,
         }
     }
-}
-
-/// What a part has of a list, in its order. Refused only if memory runs out.
-pub fn dealt<T: Drop>(alloc: Global, list: Vec<T>, part: &ListPart) -> Result<Vec<T>, AllocError>
-    ensures { IfOk result (λ kept. kept.items ≡ dealt 0 part.now list.items) }
-{
-    let mut kept = Vec::new(alloc);
-    for (place, item) in list.into_iter().enumerate() {
-        if part.has(place as u64) {
-            kept.push(item)?;
-        }
-    }
-    Ok(kept)
 }

@@ -1,15 +1,15 @@
 // The parts into which a list of shards is dealt out.
 use crate::compared::same;
-use array_grid::{ListPart, dealt};
+use array_grid::ListPart;
 use std::process::Abort;
 
-// Words, and what the part that each names has of the list 10 to 16; the second of no part.
-const PARTS: &[(&str, &[u64])] = &[
-    ("1/1", &[10, 11, 12, 13, 14, 15, 16]),
-    ("1/3", &[10, 13, 16]),
-    ("2/3", &[11, 14]),
-    ("3/3", &[12, 15]),
-    ("8/9", &[]),
+// Words, and whether the part that each names has the places 0 to 6 of a list.
+const PARTS: &[(&str, [bool; 7])] = &[
+    ("1/1", [true, true, true, true, true, true, true]),
+    ("1/3", [true, false, false, true, false, false, true]),
+    ("2/3", [false, true, false, false, true, false, false]),
+    ("3/3", [false, false, true, false, false, true, false]),
+    ("8/9", [false, false, false, false, false, false, false]),
 ];
 
 // Words that name no part.
@@ -27,11 +27,11 @@ const NONE: &[&str] = &[
     "1/18446744073709551616",
 ];
 
-fn compare_part<R: Abort + AllocGlobal>(rt: &R, word: &str, want: &[u64]) {
-    let list = Vec::from_slice(rt.alloc(), &[10, 11, 12, 13, 14, 15, 16]).expect(rt, "memory");
+fn compare_part<R: Abort>(rt: &R, word: &str, wanted: &[bool]) {
     let part = ListPart::named(word).expect(rt, "a part");
-    let found = dealt(rt.alloc(), list, &part).expect(rt, "memory");
-    same(rt, found.as_slice(), want);
+    for (place, want) in wanted.iter().enumerate() {
+        same(rt, part.has(place as u64), *want);
+    }
 }
 
 #[test]
