@@ -234,6 +234,39 @@ def resharded(program, top):
         bad.append("a reshard of a damaged array left something")
 
 
+def compressed(program, top):
+    """Subchunks that `reshard` compresses are gzip files that zlib reads, and no longer than zlib's by more than a tenth and 10 bytes."""
+    dice, count = random.Random(3), MIB // 2
+    words = [dice.randbytes(dice.randrange(2, 9)).hex().encode() for _ in range(500)]
+    contents = {
+        "words": b" ".join(dice.choice(words) for _ in range(count))[:count],
+        "random": dice.randbytes(count),
+        "sevens": b"\7" * count,
+        "numbers": b"".join(struct.pack("<H", (number // 3 + dice.randrange(8)) % 65536) for number in range(count // 2)),
+    }
+    for name, content in contents.items():
+        old = f"{top}/{name}"
+        array(old, [count], [count], [count])
+        shard(f"{old}/0", [content], 0)
+        for part in (256, 4096, count):
+            new = f"{old}.{part}"
+            expect([program, "reshard", old, new, "--subchunk", str(part), "--inner", "gzip"], 0, "1 shard")
+            expect([program, "compare", old, new], 0, "no element differs")
+            with open(f"{new}/0", "rb") as file:
+                whole = file.read()
+            subchunks = count // part
+            index = struct.unpack(f"<{2 * subchunks}Q", whole[-16 * subchunks :])
+            for number in range(0, subchunks, max(1, subchunks // 64)):
+                wanted = content[number * part : (number + 1) * part]
+                offset, size = index[2 * number : 2 * number + 2]
+                if offset == 2**64 - 1:
+                    found, size = bytes(part), 0
+                else:
+                    found = gzip.decompress(whole[offset : offset + size])
+                if found != wanted or size > 1.1 * len(gzip.compress(wanted, 5)) + 10:
+                    bad.append(f"{name} in subchunks of {part}: subchunk {number} has {size} bytes, or zlib reads it otherwise")
+
+
 def told_at_once(program, top):
     """`check` prints a refusal as it comes: it stands there while a long shard is read."""
     path = f"{top}/told"
@@ -403,7 +436,7 @@ if __name__ == "__main__":
         shutil.copyfile(built, f"{folder}/zarr_shard")
         os.chmod(f"{folder}/zarr_shard", 0o755)
         # The last one takes memory of its own, and a command is said to take as much as the process that starts it.
-        for case in (strangers, malformed, closed, killed, resharded, told_at_once, large, indexed, bombs, owners, limits, damaged_gzip):
+        for case in (strangers, malformed, closed, killed, resharded, compressed, told_at_once, large, indexed, bombs, owners, limits, damaged_gzip):
             case(f"{folder}/zarr_shard", folder)
     print("\n".join(bad) or "each command ended as it must")
     sys.exit(bool(bad))

@@ -4,7 +4,7 @@ use crate::encoding::encode_chunk;
 use crate::layout::{LayoutWords, new_document};
 use array_cli::{Array, Ending, Progress, Stop, described, read_array, turned, written};
 use array_fields::{LONGEST_TEXT, escaped};
-use array_folder::read_document;
+use array_folder::{Counted, read_document};
 use array_grid::SubsetCells;
 use array_metadata::ArrayMetadata;
 use codec_traits::ArrayToBytesCodecTraits;
@@ -235,9 +235,7 @@ pub fn reshard<
     let new = described(alloc, path, &document, order)?;
     let Written { shards, bytes } = make(old, path, &document, &new, progress)?;
     progress.clear();
-    written(
-        writeln!(out, "{shards} shards: {bytes} bytes"),
-        Ending::Done,
-    )?;
+    let shards = Counted(shards, "shard");
+    written(writeln!(out, "{shards}: {bytes} bytes"), Ending::Done)?;
     Ok(Ending::Done)
 }
