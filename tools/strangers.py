@@ -435,8 +435,8 @@ if __name__ == "__main__":
     with tempfile.TemporaryDirectory(prefix="strangers-") as folder:
         shutil.copyfile(built, f"{folder}/zarr_shard")
         os.chmod(f"{folder}/zarr_shard", 0o755)
-        # The last one takes memory of its own, and a command is said to take as much as the process that starts it.
-        for case in (strangers, malformed, closed, killed, resharded, compressed, told_at_once, large, indexed, bombs, owners, limits, damaged_gzip):
+        # The last two take memory of their own, and a command is said to take as much as the process that starts it.
+        for case in (strangers, malformed, closed, killed, resharded, told_at_once, large, indexed, bombs, owners, limits, damaged_gzip, compressed):
             case(f"{folder}/zarr_shard", folder)
     print("\n".join(bad) or "each command ended as it must")
     sys.exit(bool(bad))
