@@ -114,15 +114,19 @@ pub fn rows_of(counts: &[u64]) -> (u64, u64) {
     }
 }
 
+// Whether a number is a multiple of a count.
+fn is_multiple(number: u64, count: u64) -> bool {
+    number.checked_rem(count) == Some(0)
+}
+
 // Writes what stands behind the mark of this number: the end of a row, and an empty line behind a plane but the last one.
 fn write_break<W: Write>(out: &mut W, number: u64, of: u64, counts: &[u64]) -> io::Result<()> {
     let (row, rows) = rows_of(counts);
-    let is_end = |count: u64| number.checked_rem(count) == Some(0);
-    if !is_end(row) {
+    if !is_multiple(number, row) {
         return Ok(());
     }
     out.write_all(b"\n")?;
-    if number < of && is_end(row.saturating_mul(rows)) && counts.len() > 2 {
+    if number < of && is_multiple(number, row.saturating_mul(rows)) && counts.len() > 2 {
         out.write_all(b"\n")?;
     }
     Ok(())

@@ -39,11 +39,14 @@ fn between(from: u64, to: u64, part: u64, of: u64) -> u64 {
 // The color of a subchunk, from light to dark in the order of their numbers.
 fn shade(number: u64, of: u64) -> u32 {
     let last = of.saturating_sub(1);
-    let part = |from: u64, to: u64| between(from, to, number, last).min(255) as u32;
-    let (red, green, blue) = (part(0xb8, 0x08), part(0xd8, 0x30), part(0xf4, 0x6b));
-    red.saturating_mul(0x1_0000)
+    let red = between(0xb8, 0x08, number, last);
+    let green = between(0xd8, 0x30, number, last);
+    let blue = between(0xf4, 0x6b, number, last);
+    let color = red
+        .saturating_mul(0x1_0000)
         .saturating_add(green.saturating_mul(0x100))
-        .saturating_add(blue)
+        .saturating_add(blue);
+    color.min(0xff_ffff) as u32
 }
 
 // Begins a picture of a size.
@@ -147,15 +150,17 @@ pub fn write_array_picture<W: Write>(
     out.write_all(b"</svg>\n")
 }
 
+// How far along a bar a byte of a file of a length lies.
+fn along(byte: u64, length: u64) -> u64 {
+    let place = (byte as u128)
+        .saturating_mul(LENGTH as u128)
+        .checked_div(length as u128);
+    place.unwrap_or(0).min(LENGTH as u128) as u64
+}
+
 // Where bytes of a file of a length lie on a bar at a height.
 fn bar_at((start, end): (u64, u64), length: u64, y: u64) -> Rectangle {
-    let along = |byte: u64| {
-        let place = (byte as u128)
-            .saturating_mul(LENGTH as u128)
-            .checked_div(length as u128);
-        place.unwrap_or(0).min(LENGTH as u128) as u64
-    };
-    let (first, last) = (along(start), along(end));
+    let (first, last) = (along(start, length), along(end, length));
     Rectangle {
         x: MARGIN.saturating_add(first),
         y,

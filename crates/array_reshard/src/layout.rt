@@ -59,14 +59,17 @@ fn behind_bytes(name: &str) -> Option<&'static str> {
     }
 }
 
-// The codec `bytes` of a list, or one of little endian where the list has none.
+// The first codec of a list, and its name.
+fn first_of(list: Option<&Value>) -> Option<(&Value, &str)> {
+    let codec = list?.get(0)?;
+    let name = codec.get("name")?.as_str()?;
+    Some((codec, name))
+}
+
+// The codec `bytes` of a list, or one of little endian where the list does not begin with one.
 fn bytes_text(alloc: Global, list: Option<&Value>) -> Result<String, AllocError> {
-    let first = list.and_then(|list| list.get(0));
-    let name = first
-        .and_then(|codec| codec.get("name"))
-        .and_then(Value::as_str);
-    match (name, first) {
-        (Some("bytes"), Some(codec)) => codec.to_string(alloc),
+    match first_of(list) {
+        Some((codec, "bytes")) => codec.to_string(alloc),
         _ => String::from_str(
             alloc,
             "{\"name\":\"bytes\",\"configuration\":{\"endian\":\"little\"}}",
@@ -124,11 +127,17 @@ fn codecs_text(
     document: &Value,
     metadata: &ArrayMetadata,
 ) -> Result<String, Stop> {
-    let configuration = document.pointer("/codecs/0/configuration");
-    let list = |key: &str| configuration.and_then(|found| found.get(key));
     let chunk = shape_text(alloc, words.subchunk, metadata.subchunk.as_slice())?;
-    let inner = inner_text(alloc, words.inner, list("codecs"))?;
-    let index = index_text(alloc, words.is_checked, list("index_codecs"))?;
+    let inner = inner_text(
+        alloc,
+        words.inner,
+        document.pointer("/codecs/0/configuration/codecs"),
+    )?;
+    let index = index_text(
+        alloc,
+        words.is_checked,
+        document.pointer("/codecs/0/configuration/index_codecs"),
+    )?;
     let location = location_text(alloc, words.index, metadata.codec.location)?;
     Ok(format!(in alloc;
         "[{{\"name\":\"sharding_indexed\",\"configuration\":{{\"chunk_shape\":{chunk},\"codecs\":{inner},\"index_codecs\":{index},\"index_location\":\"{location}\"}}}}]"

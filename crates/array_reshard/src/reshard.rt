@@ -191,6 +191,24 @@ fn end_folder<R: Files + AllocGlobal>(
     }
 }
 
+// Makes a new array in the folder `beside`, which is there, and puts it at its path.
+fn make_in<
+    R: Files + AllocGlobal,
+    I: ArrayToBytesCodecTraits,
+    X: ArrayToBytesCodecTraits,
+    M: Write,
+>(
+    old: &Array<'_, R, I, X>,
+    (path, beside): (&str, &str),
+    document: &str,
+    new: &ArrayMetadata,
+    progress: &mut Progress<'_, M>,
+) -> Result<Written, Stop> {
+    let sum = put_all(old, &new.codec, new, beside, progress)?;
+    end_folder(old.rt, path, beside, document)?;
+    Ok(sum)
+}
+
 // Makes a new array in a folder beside its path, and puts it there; where that is refused, nothing is left of it.
 fn make<R: Files + AllocGlobal, I: ArrayToBytesCodecTraits, X: ArrayToBytesCodecTraits, M: Write>(
     old: &Array<'_, R, I, X>,
@@ -201,10 +219,7 @@ fn make<R: Files + AllocGlobal, I: ArrayToBytesCodecTraits, X: ArrayToBytesCodec
 ) -> Result<Written, Stop> {
     let beside = format!(in old.alloc(); "{path}.partial")?;
     begin_folder(old.rt, path, &beside)?;
-    let made = match put_all(old, &new.codec, new, &beside, progress) {
-        Ok(sum) => end_folder(old.rt, path, &beside, document).map(|()| sum),
-        Err(stop) => Err(stop),
-    };
+    let made = make_in(old, (path, &beside), document, new, progress);
     if made.is_err() {
         let _ = fs::remove_dir_all(old.rt, &beside);
     }
