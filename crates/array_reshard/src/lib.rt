@@ -2,12 +2,12 @@
 #![tactic(auto)]
 
 mod chunks;
-mod compare;
+mod differences;
 mod encoding;
 mod layout;
-mod reshard;
+mod new_array;
 
-pub use compare::compare;
+pub use differences::compare;
 pub use encoding::encode_chunk;
 pub use layout::LayoutWords;
-pub use reshard::reshard;
+pub use new_array::reshard;

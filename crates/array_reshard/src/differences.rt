@@ -132,7 +132,7 @@ fn all_chunks(alloc: Global, counts: &[u64]) -> Result<Vec<Vec<u64>>, Stop> {
 }
 
 // The differences of two arrays of a shape and a type.
-fn differences<
+fn found_in<
     R: Files + AllocGlobal,
     I: ArrayToBytesCodecTraits,
     X: ArrayToBytesCodecTraits,
@@ -202,7 +202,7 @@ pub fn compare<
         written(out.write_all(b"the data types differ\n"), Ending::Different)?;
         return Ok(Ending::Different);
     }
-    let found = differences(one, other, progress)?;
+    let found = found_in(one, other, progress)?;
     progress.clear();
     let ending = match found.count {
         0 => Ending::Done,
