@@ -135,7 +135,12 @@ fn put<'a, R: Files + AllocGlobal, I, X, W: Write>(
 }
 
 // What a compaction makes of the shard in a file: its plan, if it has one, and what is said of it.
-fn planned<'a, R: Files + AllocGlobal, I: ArrayToBytesCodecTraits, X: ArrayToBytesCodecTraits>(
+fn plan_and_outcome<
+    'a,
+    R: Files + AllocGlobal,
+    I: ArrayToBytesCodecTraits,
+    X: ArrayToBytesCodecTraits,
+>(
     array: &Array<'a, R, I, X>,
     shard: &Shard<'_>,
     file: &mut ShardFile<'a, R>,
@@ -174,7 +179,7 @@ fn copy_to<
     let key = shard.key;
     let path = format!(in array.alloc(); "{folder}/{key}")?;
     let beside = beside_of(array, &path)?;
-    let (plan, outcome) = planned(array, shard, file)?;
+    let (plan, outcome) = plan_and_outcome(array, shard, file)?;
     if replace(array, shard, file, (&path, &beside), plan.as_ref(), out)? {
         Ok(outcome)
     } else {
