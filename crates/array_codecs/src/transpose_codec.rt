@@ -10,7 +10,7 @@ ghost use Rattle.codec_traits.specs.Refusals.{RefusesUnserved, MayRefuseDecode};
 ghost use Rattle.codec_array_chains.specs.ArrayChains.{ArrayElementRefusals};
 ghost use Rattle.array_codecs.specs.AxisOrders.{permuted, transposed};
 ghost use Rattle.array_codecs.specs.AxisOrderLaws.{IsPermutation};
-ghost use Rattle.array_codecs.specs.TransposeCodec.{transpose_meaning, transposed_spec};
+ghost use Rattle.array_codecs.specs.TransposeCodec.{TransposeServes, transpose_meaning, transposed_spec};
 
 use crate::axis_order::AxisOrder;
 use crate::moved_points::MovedPoints;
@@ -89,11 +89,12 @@ impl<C: ArrayToBytesCodecTraits> TransposeCodec<C> {
         ensures axes { OnOk result (length shape.now ≡ length self.now.order) }
         ensures shape { IfOk result (λ inner. inner ≡ permuted self.now.order shape.now) }
         ensures serves { let g = array_spec shape.now data_type.now fill_value.now in
-            OnOk result (C.meaning self.now.codec (transposed_spec self.now.order g)).serves }
+            OnOk result (TransposeServes self.now.order (C.meaning self.now.codec (transposed_spec self.now.order g)) g) }
         ensures refused { let g = array_spec shape.now data_type.now fill_value.now in
             IfErr result (RefusedBy (RefusesUnserved (transpose_meaning self.now.order (C.meaning self.now.codec (transposed_spec self.now.order g)) g))) }
     {
-        if shape.as_slice().len() != self.order.as_slice().len() {
+        let order = self.order.as_slice();
+        if shape.as_slice().len() != order.len() {
             return Err(CodecError::IncompatibleDimensionality);
         }
         let inner_shape = self.order.transposed_shape(alloc, shape)?;
