@@ -14,16 +14,22 @@ use Rattle.codec_chains.specs.declared.either_codec.EitherCodec.TheVariants.{Fir
 use Rattle.sharding_codec.specs.declared.codec.ShardingCodec.{ShardingCodec}
 use Rattle.sharding_codec.specs.ShardMetadata.{shard_configured}
 use Rattle.array_codecs.specs.declared.opaque_codec.OpaqueCodec.{OpaqueCodec}
-use Rattle.array_metadata.specs.ByteCodecsMetadata.{byte_codecs_in}
+use Rattle.array_codecs.specs.declared.transpose_codec.TransposeCodec.{TransposeCodec}
+use Rattle.array_metadata.specs.ByteCodecsMetadata.{byte_codecs_in, is_named}
+use Rattle.array_metadata.specs.Transposes.{transpose_in}
 use Rattle.array_metadata.specs.UnreadCodecs.{sole_shards, innermost, unserved_in, have_names}
 
 -- `bytes` by its byte order, or `bytes` and codecs from bytes to bytes behind it
 abbrev pub Elements : Type 0
 Elements = EitherCodec (Option Endianness) (BytesChain (Option Endianness) ByteCodecs)
 
--- a codec of elements, or of shards once more
+-- a codec of elements, with `transpose` before it or not
+abbrev pub Arranged : Type 0
+Arranged = EitherCodec Elements (TransposeCodec Elements)
+
+-- a codec of elements inside a shard, or of shards once more
 abbrev pub Served : Type 0
-Served = EitherCodec Elements (ShardingCodec Elements Elements)
+Served = EitherCodec Arranged (ShardingCodec Arranged Elements)
 
 -- a codec that is looked into, or one that is not
 abbrev pub Subchunks : Type 0
@@ -41,17 +47,25 @@ elements_in (item d (item e later)) =
     Ok (Second (record { array_to_bytes = bytes; bytes_to_bytes = codecs }))))
 elements_in no_items = Err unsupported_chain
 
+-- the codec of elements inside a shard that a list names
+abbrev pub arranged_in : Items → Reading Arranged
+arranged_in no_items = Err unsupported_chain
+arranged_in (item d later) =
+    if is_named (codes "transpose") d
+    then and_then (transpose_in d) (λ order. and_then (elements_in later) (λ codec. Ok (Second (record { order = order; codec = codec }))))
+    else and_then (elements_in (item d later)) (λ codec. Ok (First codec))
+
 -- the codec of the name `sharding_indexed`, by how the list of its subchunks' codecs is read
 abbrev pub shards_in : {I : Type 0} → (Items → Reading I) → Data → Reading (ShardingCodec I Elements)
 shards_in inner_in = codec_of (bytes_eq (codes "sharding_indexed")) (λ name. shard_configured inner_in elements_in)
 
 -- the codec that is looked into of subchunks that a list names: of shards where it is such a list, else of elements
-abbrev pub shards_or : Option Data → Reading Elements → Reading Served
-shards_or (Some d) elements = and_then (shards_in elements_in d) (λ shards. Ok (Second shards))
+abbrev pub shards_or : Option Data → Reading Arranged → Reading Served
+shards_or (Some d) elements = and_then (shards_in arranged_in d) (λ shards. Ok (Second shards))
 shards_or None elements = and_then elements (λ codec. Ok (First codec))
 
 abbrev pub served_in : Items → Reading Served
-served_in list = shards_or (sole_shards list) (elements_in list)
+served_in list = shards_or (sole_shards list) (arranged_in list)
 
 -- the codec of subchunks that a list names: where elements go through a codec that is not served, one that isn't looked into, if each
 -- of these codecs has a name

@@ -6,13 +6,14 @@ ghost use Rattle.serde_json.specs.View.{view, items_view};
 ghost use Rattle.sharding_configuration.specs.Configuration.{configuration_in, shape_in};
 ghost use Rattle.sharding_configuration.specs.Configurations.{configuration_of};
 ghost use Rattle.array_fields.specs.MetadataFields.{configured_in};
-ghost use Rattle.array_metadata.specs.ArrayCodecs.{bytes_in, elements_in, shards_in, served_in, subchunks_in};
+ghost use Rattle.array_metadata.specs.ArrayCodecs.{bytes_in, elements_in, arranged_in, shards_in, served_in, subchunks_in};
 ghost use Rattle.array_metadata.specs.UnreadCodecs.{sole_shards, chunks_in};
 ghost use Rattle.array_metadata.specs.CodecNames.{codec_name, IsByteCodec, IsNamed, Names, listed, metadata_of};
 
 use crate::byte_codecs::{checked_codec, single_codec};
+use crate::transposes::axis_order;
 use crate::unread::{first_unserved, innermost, test_names};
-use array_codecs::{ByteCodec, ByteCodecs, OpaqueCodec};
+use array_codecs::{ByteCodec, ByteCodecs, OpaqueCodec, TransposeCodec};
 use array_fields::{MetadataError, Placed};
 use codec_bytes::BytesCodec;
 use codec_chains::{BytesChain, EitherCodec};
@@ -30,8 +31,11 @@ pub type ElementCodec = EitherCodec<BytesCodec, BytesChain<BytesCodec, ByteCodec
 /// The codec of a shard's index.
 pub type IndexCodec = ElementCodec;
 
+/// The codec of elements inside a shard, with `transpose` before it or not.
+pub type ArrangedCodec = EitherCodec<ElementCodec, TransposeCodec<ElementCodec>>;
+
 /// The codec of subchunks that are looked into: of elements, or of shards once more.
-pub type ServedCodec = EitherCodec<ElementCodec, ShardingCodec<ElementCodec, IndexCodec>>;
+pub type ServedCodec = EitherCodec<ArrangedCodec, ShardingCodec<ArrangedCodec, IndexCodec>>;
 
 /// The codec of a shard's subchunks, which are looked into or not.
 pub type InnerCodec = EitherCodec<ServedCodec, OpaqueCodec>;
@@ -46,6 +50,7 @@ pub enum CodecName {
     Crc32c,
     Gzip,
     Zstd,
+    Transpose,
     ShardingIndexed,
 }
 
@@ -59,6 +64,7 @@ impl CodecName {
             "crc32c" => Some(CodecName::Crc32c),
             "gzip" => Some(CodecName::Gzip),
             "zstd" => Some(CodecName::Zstd),
+            "transpose" => Some(CodecName::Transpose),
             "sharding_indexed" => Some(CodecName::ShardingIndexed),
             _ => None,
         }
@@ -79,7 +85,7 @@ impl NamedCodec<'_> {
     {
         match self.name {
             CodecName::Crc32c | CodecName::Gzip | CodecName::Zstd => true,
-            CodecName::Bytes | CodecName::ShardingIndexed => false,
+            CodecName::Bytes | CodecName::Transpose | CodecName::ShardingIndexed => false,
         }
     }
 }
@@ -105,7 +111,6 @@ pub fn unserved(name: &str) -> &'static str {
         "blosc" | "zlib" | "lz4" | "bz2" | "lzma" => {
             "of the codecs that compress, this program reads gzip and zstd alone"
         }
-        "transpose" => "this program reads no transposed chunks",
         _ => "this program does not know this codec",
     }
 }
@@ -181,16 +186,17 @@ impl<'a> CodecList<'a> {
         Some(&codec.metadata)
     }
 
-    // The codec of elements. Refused as `UnsupportedChain`, or as one of its codecs is.
+    // The codec of elements that codecs of the list are. Refused as `UnsupportedChain`, or as one of them is.
     fn element_codec(
         &self,
         alloc: Global,
+        codecs: &[NamedCodec],
         data_type: DataType,
     ) -> Result<ElementCodec, MetadataError>
-        requires named { All IsNamed self.now.codecs.items }
-        ensures read { IfOk result (λ codec. elements_in (listed self.now.codecs.items) ≡ Ok codec) }
+        requires named { All IsNamed codecs.now }
+        ensures read { IfOk result (λ codec. elements_in (listed codecs.now) ≡ Ok codec) }
     {
-        match self.codecs.as_slice() {
+        match codecs {
             [first] if first.name == CodecName::Bytes => {
                 Ok(EitherCodec::First(bytes_codec(alloc, &first.metadata, data_type)?))
             }
@@ -211,6 +217,27 @@ impl<'a> CodecList<'a> {
                 alloc,
                 "only bytes is served here, or bytes and one of crc32c, gzip and zstd behind it, which crc32c may follow",
             )),
+        }
+    }
+
+    // The codec of elements inside a shard of so many axes. Refused as `transpose` before it is, and as `element_codec`.
+    #[tactic(auto, using(crate::proofs::Transposes::arranged_first, crate::proofs::Transposes::arranged_behind))]
+    fn arranged_codec(
+        &self,
+        alloc: Global,
+        data_type: DataType,
+        axes: usize,
+    ) -> Result<ArrangedCodec, MetadataError>
+        requires named { All IsNamed self.now.codecs.items }
+        ensures read { IfOk result (λ codec. arranged_in (listed self.now.codecs.items) ≡ Ok codec) }
+    {
+        match self.codecs.as_slice() {
+            [first, later @ ..] if first.name == CodecName::Transpose => {
+                let order = axis_order(alloc, &first.metadata, axes)?;
+                let codec = self.element_codec(alloc, later, data_type)?;
+                Ok(EitherCodec::Second(TransposeCodec { order, codec }))
+            }
+            codecs => Ok(EitherCodec::First(self.element_codec(alloc, codecs, data_type)?)),
         }
     }
 }
@@ -246,11 +273,12 @@ fn listed_elements(
     values: &[Value],
     place: String,
     data_type: DataType,
-) -> Result<ElementCodec, MetadataError>
-    ensures read { IfOk result (λ codec. elements_in (items_view values.now) ≡ Ok codec) }
+    axes: usize,
+) -> Result<ArrangedCodec, MetadataError>
+    ensures read { IfOk result (λ codec. arranged_in (items_view values.now) ≡ Ok codec) }
 {
     let list = CodecList::named(alloc, values, "codecs", place)?;
-    list.element_codec(alloc, data_type)
+    list.arranged_codec(alloc, data_type, axes)
 }
 
 // The configuration of a shard. Refused as `from_value` refuses, or as `BadField` where a subchunk has other axes.
@@ -295,7 +323,7 @@ fn index_codec_in(
 {
     let list = CodecList::named(alloc, values, "index_codecs", place)?;
     // The numbers of an index are of 64 bits.
-    let codec = list.element_codec(alloc, DataType::UInt64)?;
+    let codec = list.element_codec(alloc, list.codecs.as_slice(), DataType::UInt64)?;
     if is_of_fixed_size(&codec) {
         return Ok(codec);
     }
@@ -331,9 +359,9 @@ fn innermost_shards(
     metadata: &Placed,
     data_type: DataType,
     axes: usize,
-) -> Result<ShardingCodec<ElementCodec, IndexCodec>, MetadataError>
+) -> Result<ShardingCodec<ArrangedCodec, IndexCodec>, MetadataError>
     requires named { Names (view metadata.now.value.now) (codes "sharding_indexed") }
-    ensures read { IfOk result (λ codec. shards_in elements_in (view metadata.now.value.now) ≡ Ok codec) }
+    ensures read { IfOk result (λ codec. shards_in arranged_in (view metadata.now.value.now) ≡ Ok codec) }
 {
     let ShardParts {
         configuration,
@@ -341,7 +369,7 @@ fn innermost_shards(
         index_codec,
     } = shard_parts(alloc, metadata, axes)?;
     let values = configuration.codecs.as_slice();
-    let inner = listed_elements(alloc, values, place, data_type)?;
+    let inner = listed_elements(alloc, values, place, data_type, axes)?;
     let ShardingCodecConfigurationV1 {
         chunk_shape,
         index_location,
@@ -365,7 +393,7 @@ fn served_codec(
         Some(metadata) => Ok(EitherCodec::Second(innermost_shards(
             alloc, metadata, data_type, axes,
         )?)),
-        None => Ok(EitherCodec::First(list.element_codec(alloc, data_type)?)),
+        None => Ok(EitherCodec::First(list.arranged_codec(alloc, data_type, axes)?)),
     }
 }
 

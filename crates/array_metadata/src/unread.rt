@@ -50,7 +50,7 @@ pub fn innermost(values: &[Value]) -> &[Value]
 fn is_element_codec(name: &str) -> bool
     ensures { result ≡ is_element_codec name.now }
 {
-    matches!(name, "bytes" | "crc32c" | "gzip" | "zstd")
+    matches!(name, "bytes" | "crc32c" | "gzip" | "zstd" | "transpose")
 }
 
 // The name of the first codec that elements are not served with.
