@@ -1,7 +1,7 @@
 -- The steps of the calls of the codec `bytes`.
 use Rattle.std.proofs.Common.{◌≡◌, ◌≢◌, ℕ, zero, suc, ◌+◌, ◌*◌, ◌/◌, ◌^◌, ◌<◌, ◌≤◌, Bool, true, false, List, [], ◌∷◌, Option, Some, length, take, drop, map, get_or, reverse, refl, sym, ap, ◌∙◌, arith, below_more}
 use Rattle.std.proofs.Math.Nat.{div-eq_of_eq-mul_left}
-use Rattle.std.proofs.lemmas.List.{length-map, length-reverse}
+use Rattle.std.proofs.lemmas.List.{length-map, length-reverse, drop-drop}
 use Rattle.std.proofs.lemmas.List.Elements.{All-head, All-tail, All-map}
 use Rattle.codec_traits.specs.Refusals.{AreTooLong}
 use Rattle.codec_traits.specs.Encodings.{IsPlain}
@@ -9,6 +9,7 @@ use Rattle.codec_traits.specs.Reads.{cells_at}
 use Rattle.codec_traits.proofs.ReadLemmas.{elements_at, sized_too_long}
 use Rattle.parts_subsets.proofs.SelectionLemmas.{numbers_below}
 use Rattle.std.specs.List.{All, range_with_len, concat}
+use Rattle.std.specs.Simd.{first_chunks}
 use borrow.Rule.Slice.PartMut.{put_mid}
 use Rattle.parts_row_major.specs.Numbering.{count_of, number_of, AllPositive, IsInside}
 use Rattle.parts_arrays.specs.ArraySpec.{ArraySpec, IsArrayOf}
@@ -63,6 +64,14 @@ reversed_more n i k old now part fits e so_far is =
           (written ∙ (this ∙ ap reverse (so_far.rest i (omega arith))));
       rest = λ j le. kept j e (omega arith) ∙ so_far.rest j (omega arith);
     }
+
+-- the chunks of a list are its pieces
+pub chunk_at : (n many i : ℕ) (bytes e : List ℕ) → i < many → get_or (first_chunks n many bytes) i e ≡ piece n bytes i
+chunk_at n zero i bytes e lt = absurd (omega arith)
+chunk_at n (suc many) zero bytes e lt = let none : 0 * n ≡ 0 = omega arith in rw none refl
+chunk_at n (suc many) (suc i) bytes e lt =
+    let more : suc i * n ≡ n + i * n = grind arith in
+    chunk_at n many i (drop n bytes) e (omega arith) ∙ ap (take n) (drop-drop (i * n) n bytes ∙ ap (λ k. drop k bytes) (sym more))
 
 -- bytes whose pieces are those of other bytes reversed
 pub reversed_elements : (n : ℕ) (old new : List ℕ) → IsWhole n old → length new ≡ length old → AreReversed n (length old / n) old new

@@ -27,7 +27,6 @@ pub(crate) struct ElementOrder {
 }
 
 // Reverses the bytes of each element.
-#[inline(always)]
 fn reverse_each(bytes: &mut [u8], size: usize)
     requires { IsWhole size bytes.old }
     ensures { bytes.new ≡ concat (map reverse (fixed_array size bytes.old).elements) }
@@ -38,15 +37,30 @@ fn reverse_each(bytes: &mut [u8], size: usize)
     }
 }
 
-// Reverses the bytes of each element. The sizes of whole numbers are constants to the compiler, which reverses these at once.
+// Reverses the bytes of each element, whose size the compiler knows: it reverses several at once.
+fn reverse_sized<const N: usize>(bytes: &mut [u8])
+    requires some { 0 < N }
+    requires whole { IsWhole N bytes.old }
+    ensures { bytes.new ≡ concat (map reverse (fixed_array N bytes.old).elements) }
+{
+    for i in 0..bytes.len() / N {
+        let from = i * N;
+        let (elements, _) = bytes.as_chunks::<N>();
+        let mut turned = elements[i];
+        turned.reverse();
+        bytes[from..from + N].copy_from_slice(&turned);
+    }
+}
+
+// Reverses the bytes of each element, for the sizes of whole numbers by a constant one.
 fn reverse_elements(bytes: &mut [u8], size: usize)
     requires { IsWhole size bytes.old }
     ensures { bytes.new ≡ concat (map reverse (fixed_array size bytes.old).elements) }
 {
     match size {
-        2 => reverse_each(bytes, 2),
-        4 => reverse_each(bytes, 4),
-        8 => reverse_each(bytes, 8),
+        2 => reverse_sized::<2>(bytes),
+        4 => reverse_sized::<4>(bytes),
+        8 => reverse_sized::<8>(bytes),
         _ => reverse_each(bytes, size),
     }
 }

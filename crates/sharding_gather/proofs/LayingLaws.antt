@@ -48,12 +48,13 @@ module _ (chunks : List (Option Array)) (fill shape sub : List ℕ) (divides : D
   element_at_cell : (k p : ℕ) → k < count_of (grid_of shape sub) → p < count_of sub → element_in chunks fill shape sub (cell_number shape sub k p) ≡ element_at fill (get_or chunks k None) p
   element_at_cell k p lk lp = rw (subchunk_number-cell_number shape sub divides k p lk lp, position_number-cell_number shape sub divides k p lk lp) refl
 
-  -- one subchunk more, end to end with those before it
-  pub appended_more : (kind : DataTypeSize) (k : ℕ) (bytes part more : List ℕ) → drop 1 shape ≡ drop 1 sub → 0 < length shape → 0 < count_of shape → k < count_of (grid_of shape sub)
+  -- one subchunk more, which is one run of the cells, end to end with those before it
+  pub appended_run : (kind : DataTypeSize) (k : ℕ) (bytes part more : List ℕ) → ((p : ℕ) → p < count_of sub → cell_number shape sub k p ≡ k * count_of sub + p)
+      → k < count_of (grid_of shape sub)
       → IsPartOf kind (count_of sub) (get_or chunks k None) → bytes ≡ concat (map (element_in chunks fill shape sub) (range_with_len 0 (k * count_of sub)))
       → part ≡ concat (elements_in fill (count_of sub) (get_or chunks k None)) → more ≡ bytes ++ part
       → more ≡ concat (map (element_in chunks fill shape sub) (range_with_len 0 ((k + 1) * count_of sub)))
-  appended_more kind k bytes part more same axes some lk is_part so_far is grown =
+  appended_run kind k bytes part more run lk is_part so_far is grown =
       let f : ℕ → List ℕ = element_in chunks fill shape sub in
       let positions = count_of sub in
       let o = get_or chunks k None in
@@ -61,7 +62,7 @@ module _ (chunks : List (Option Array)) (fill shape sub : List ℕ) (divides : D
       let last : map f (range_with_len from positions) ≡ elements_in fill positions o =
       ext_get_or [] _ _ (length-map-range_with_len f from positions ∙ sym (length-elements_in kind fill positions o is_part)) (λ p below.
       let lp : p < positions = omega (arith, length-map-range_with_len f from positions) in
-      let cell : cell_number shape sub k p ≡ from + p = sym (number_in-subset_of_subchunk shape sub k p) ∙ (contiguous_number shape sub k p divides same axes some ∙ omega arith) in
+      let cell : cell_number shape sub k p ≡ from + p = run p lp ∙ omega arith in
       get_or-map-range_with_len f from positions p (from + p) [] lp refl
       ∙ (ap f (sym cell) ∙ (element_at_cell k p lk lp ∙ sym (get_or-elements_in fill positions p o lp)))) in
       let split : (k + 1) * positions ≡ k * positions + positions = omega arith in
@@ -69,6 +70,14 @@ module _ (chunks : List (Option Array)) (fill shape sub : List ℕ) (divides : D
       rw (split, range_split 0 (k * positions) positions) (map-append f (range_with_len 0 (k * positions)) (range_with_len from positions) ∙ ap (λ t. map f (range_with_len 0 (k * positions)) ++ t) last) in
       grown ∙ (ap (λ t. t ++ part) so_far ∙ (ap (λ t. concat (map f (range_with_len 0 (k * positions))) ++ t) is
       ∙ (sym (concat-append (map f (range_with_len 0 (k * positions))) (elements_in fill positions o)) ∙ ap concat (sym all))))
+
+  -- the same where all axes but the first are whole
+  pub appended_more : (kind : DataTypeSize) (k : ℕ) (bytes part more : List ℕ) → drop 1 shape ≡ drop 1 sub → 0 < length shape → 0 < count_of shape → k < count_of (grid_of shape sub)
+      → IsPartOf kind (count_of sub) (get_or chunks k None) → bytes ≡ concat (map (element_in chunks fill shape sub) (range_with_len 0 (k * count_of sub)))
+      → part ≡ concat (elements_in fill (count_of sub) (get_or chunks k None)) → more ≡ bytes ++ part
+      → more ≡ concat (map (element_in chunks fill shape sub) (range_with_len 0 ((k + 1) * count_of sub)))
+  appended_more kind k bytes part more same axes some =
+      appended_run kind k bytes part more (λ p lp. sym (number_in-subset_of_subchunk shape sub k p) ∙ contiguous_number shape sub k p divides same axes some)
 
   -- a cell of another subchunk is at no place of this one
   elsewhere : (k i many : ℕ) → k < count_of (grid_of shape sub) → many ≤ count_of sub → subchunk_number shape sub i ≢ k → (p : ℕ) → p < many → cell_number shape sub k p ≢ i

@@ -1,12 +1,13 @@
 -- Numbers of eight bytes each, laid end to end.
-use Rattle.std.proofs.Common.{◌≡◌, ℕ, ◌*◌, ◌/◌, ◌<◌, List, [], ◌∷◌, ◌++◌, length, map, drop, refl, sym, ap, ◌∙◌, arith}
-use Rattle.std.specs.List.{All, concat, flat_map}
+use Rattle.std.proofs.Common.{◌≡◌, ℕ, ◌+◌, ◌*◌, ◌/◌, ◌<◌, ◌≤◌, List, [], ◌∷◌, ◌++◌, length, map, drop, get_or, refl, sym, ap, ◌∙◌, arith, below_more}
+use Rattle.std.specs.List.{All, concat}
 use Rattle.std.specs.Simd.{first_chunks}
-use Rattle.std.proofs.lemmas.List.{take_at, drop_at}
+use Rattle.std.proofs.lemmas.List.{take_at, drop_at, ext_get_or, length-map, get_or-map}
 use Rattle.std.proofs.lemmas.List.Elements.{All-map, All-head, All-rest, All-from_get_or}
 use Rattle.std.proofs.Math.Nat.{div-eq_of_eq-mul_left}
-use Rattle.parts_row_major.specs.Pieces.{pieces}
-use Rattle.parts_row_major.proofs.PieceLaws.{length-concat, concat-pieces, All-pieces}
+use borrow.Rule.Slice.PartMut.{put_mid}
+use Rattle.parts_row_major.specs.Pieces.{piece, pieces}
+use Rattle.parts_row_major.proofs.PieceLaws.{length-concat, concat-pieces, All-pieces, length-pieces, piece_of-pieces, piece_written, piece_kept}
 use Rattle.sharding_format.specs.Index.{element_of_number}
 
 -- lists of one length, laid end to end and cut again
@@ -33,7 +34,26 @@ pub numbers_sized : (numbers : List ℕ) → All (λ e. length e ≡ 8) (map ele
 numbers_sized numbers =
     All-map (λ (e : List ℕ). length e ≡ 8) element_of_number numbers (All-from_get_or (λ n. length (element_of_number n) ≡ 8) numbers 0 (λ k lt. refl))
 
--- lists laid end to end
-pub joined : (xs : List (List ℕ)) → flat_map {X = List ℕ} (λ x. x) xs ≡ concat xs
-joined [] = refl
-joined (x ∷ xs) = ap (λ ys. x ++ ys) (joined xs)
+-- the first numbers are written, eight bytes for each
+abbrev pub AreWritten : (numbers bytes : List ℕ) (many : ℕ) → Type 0
+AreWritten numbers bytes many = (j : ℕ) → j < many → piece 8 bytes j ≡ element_of_number (get_or numbers j 0)
+
+-- one number more
+pub written_more : (numbers now part : List ℕ) (i k : ℕ) → i * 8 + 8 ≤ length now → k ≡ 8 → part ≡ element_of_number (get_or numbers i 0)
+    → AreWritten numbers now i → AreWritten numbers (put_mid (i * 8) k now part) (i + 1)
+written_more numbers now part i k fits e is so_far =
+    let long : length part ≡ 8 = ap length is in
+    below_more (λ j. piece 8 (put_mid (i * 8) k now part) j ≡ element_of_number (get_or numbers j 0)) i
+    (λ j lt. piece_kept 8 i now part fits long k j e (omega arith) ∙ so_far j lt)
+    (piece_written 8 i now part fits long k ∙ is)
+
+-- bytes that are written whole
+pub all_written : (numbers bytes : List ℕ) → length bytes ≡ length numbers * 8 → AreWritten numbers bytes (length numbers)
+    → bytes ≡ concat (map element_of_number numbers)
+all_written numbers bytes long each =
+    let many = length numbers in
+    let same : pieces 8 many bytes ≡ map element_of_number numbers =
+    ext_get_or [] (pieces 8 many bytes) (map element_of_number numbers) (length-pieces 8 many bytes ∙ sym (length-map numbers element_of_number)) (λ j lt.
+    let small : j < many = omega (arith, lt, length-pieces 8 many bytes) in
+    piece_of-pieces 8 many bytes j small ∙ (each j small ∙ sym (get_or-map element_of_number numbers j 0 [] small))) in
+    sym (concat-pieces 8 many bytes long) ∙ ap concat same

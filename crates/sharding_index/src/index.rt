@@ -13,7 +13,7 @@ ghost use Rattle.sharding_format.specs.Laying.{EndsBelow, IsIndexOf};
 ghost use Rattle.sharding_format.specs.declared.slot.Slot.TheVariants.{Bad};
 ghost use Rattle.sharding_index.specs.Indexes.{index_meaning, IsIndexPlan};
 
-use crate::numbers::{array_of_chunks, chunks_of_numbers, numbers_of_array, numbers_of_slots};
+use crate::numbers::{array_of_numbers, bytes_of_numbers, numbers_of_array, numbers_of_slots};
 use crate::offsets::{index_bytes, start_of_data, start_of_index};
 use crate::pieces::{PIECE, read_numbers};
 use codec_traits::{ArrayToBytesCodecTraits, BytesRepresentation};
@@ -273,8 +273,11 @@ impl<X: ArrayToBytesCodecTraits> IndexCodec<'_, X> {
         ensures refused { let index = index_meaning X.meaning self.now.codec.now plan.now.grid in
             IfErr result (RefusedBy (RefusesIndex index (count_of plan.now.grid))) }
     {
-        let chunks = chunks_of_numbers(alloc, numbers)?;
-        let array = array_of_chunks(&chunks);
+        let bytes = bytes_of_numbers(alloc, numbers)?;
+        if self.is_plain(plan) {
+            return Ok(bytes);
+        }
+        let array = array_of_numbers(&bytes, numbers);
         let data_type = DataType::UInt64;
         let index = self.codec.encode(alloc, &array, &plan.shape, &data_type, &plan.fill, options)?;
         Ok(index)

@@ -1,6 +1,6 @@
 // The numbers of an index: from the elements of an array and back, and from slots.
 ghost use Rattle.std.specs.Prelude.{◌≡◌, ◌<◌, ◌*◌, ◌/◌, ◌^◌, ◌++◌, ℕ, IfOk, IfErr, OnOk, map, length, slice_index_or};
-ghost use Rattle.std.specs.List.{All};
+ghost use Rattle.std.specs.List.{All, concat};
 ghost use Rattle.std.specs.Simd.{first_chunks};
 ghost use Rattle.parts_arrays.specs.declared.data_type.DataTypeSize.TheVariants.{Fixed};
 ghost use Rattle.parts_errors.specs.declared.error.CodecError.TheVariants.{OutOfMemory};
@@ -80,23 +80,33 @@ pub(crate) fn numbers_of_slots(
     Ok(numbers)
 }
 
-// The bytes of these numbers, eight of each.
-pub(crate) fn chunks_of_numbers(alloc: Global, numbers: &[u64]) -> Result<Vec<[u8; 8]>, AllocError>
-    ensures { IfOk result (λ chunks. chunks.items ≡ map element_of_number numbers.now) }
+// Writes numbers over bytes, eight for each.
+fn write_numbers(bytes: &mut [u8], numbers: &[u64])
+    requires { length bytes.old ≡ length numbers.now * 8 }
+    ensures { bytes.new ≡ concat (map element_of_number numbers.now) }
 {
-    let mut chunks = Vec::with_capacity(alloc, numbers.len())?;
-    for number in numbers {
-        chunks.push_reserved(number.to_le_bytes());
+    for k in 0..numbers.len() {
+        let from = k * 8;
+        bytes[from..from + 8].copy_from_slice(&numbers[k].to_le_bytes());
     }
-    Ok(chunks)
 }
 
-// The array whose elements these are.
-pub(crate) fn array_of_chunks(chunks: &[[u8; 8]]) -> ArrayBytes<'_>
-    ensures kind { result.kind ≡ Fixed 8 }
-    ensures elements { result.elements ≡ chunks.now }
+// The bytes of these numbers, eight of each, one after the other.
+pub(crate) fn bytes_of_numbers(alloc: Global, numbers: &[u64]) -> Result<Vec<u8>, AllocError>
+    ensures { IfOk result (λ bytes. bytes.items ≡ concat (map element_of_number numbers.now)) }
 {
-    match ArrayBytes::new_flen(CowSlice::Borrowed(chunks.as_flattened()), 8) {
+    let mut bytes = Vec::from_elem(alloc, 0u8, numbers.len() * 8)?;
+    write_numbers(&mut bytes, numbers);
+    Ok(bytes)
+}
+
+// The array whose elements are these numbers, of which the bytes are lent.
+pub(crate) fn array_of_numbers<'a>(bytes: &'a [u8], _numbers: &[u64]) -> ArrayBytes<'a>
+    requires { bytes.now ≡ concat (map element_of_number _numbers.now) }
+    ensures kind { result.kind ≡ Fixed 8 }
+    ensures elements { result.elements ≡ map element_of_number _numbers.now }
+{
+    match ArrayBytes::new_flen(CowSlice::Borrowed(bytes), 8) {
         Some(array) => array,
         None => unreachable!(),
     }

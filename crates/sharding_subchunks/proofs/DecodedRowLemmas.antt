@@ -6,7 +6,7 @@ use Rattle.std.proofs.lemmas.List.{drop-drop, length-take-le, length-drop}
 use Rattle.std.proofs.lemmas.List.FromFn.{get_or-map-range_with_len, length-map-range_with_len}
 use Rattle.parts_row_major.specs.Numbering.{count_of}
 use Rattle.parts_arrays.specs.ArraySpec.{ArraySpec}
-use Rattle.parts_subsets.specs.Grid.{Divides, grid_of}
+use Rattle.parts_subsets.specs.Grid.{Divides, grid_of, cell_number}
 use Rattle.parts_arrays.specs.Arrays.{Array, IsWhole, fixed_array}
 use Rattle.parts_arrays.specs.declared.data_type.DataTypeSize.TheVariants.{Fixed}
 use Rattle.parts_row_major.proofs.PieceLaws.{length-pieces, All-pieces, concat-pieces}
@@ -19,7 +19,7 @@ use Rattle.sharding_format.specs.steps.Decoding.{AreChunks, IsDecoded, IsPartOf,
 use Rattle.sharding_format.specs.declared.slot.Slot.{Slot}
 use Rattle.sharding_format.specs.declared.slot.Slot.TheVariants.{Absent, InRange, Bad}
 use Rattle.sharding_gather.specs.steps.Gathering.{elements_in}
-use Rattle.sharding_gather.proofs.LayingLaws.{appended_more, elements_fit}
+use Rattle.sharding_gather.proofs.LayingLaws.{appended_run, elements_fit}
 use Rattle.sharding_subchunks.specs.steps.DecodedRows.{IsPlainSlot, plain_part, plain_chunks, plain_bytes, AreRowsOfShard, AreGathered}
 
 -- a run, and the bytes after it
@@ -86,19 +86,19 @@ AreChunks-plain n size shape sub b numbers is plain =
     }
 
 -- one subchunk more, end to end with those before it
-pub plain_more : (fill shape sub b numbers : List ℕ) (size k : ℕ) (before after : List ℕ) → Divides sub shape → drop 1 shape ≡ drop 1 sub → 0 < length shape → 0 < count_of shape
-    → k < count_of (grid_of shape sub) → size ≡ count_of sub * length fill → IsPlainSlot (length b) size (slot_at (length b) numbers k)
+pub plain_more : (fill shape sub b numbers : List ℕ) (size k : ℕ) (before after : List ℕ) → Divides sub shape
+    → ((p : ℕ) → p < count_of sub → cell_number shape sub k p ≡ k * count_of sub + p) → k < count_of (grid_of shape sub) → size ≡ count_of sub * length fill → IsPlainSlot (length b) size (slot_at (length b) numbers k)
     → before ≡ concat (map (element_in (plain_chunks (length fill) (count_of sub) b numbers (count_of (grid_of shape sub))) fill shape sub) (range_with_len 0 (k * count_of sub)))
     → after ≡ before ++ plain_bytes fill (count_of sub) b (slot_at (length b) numbers k)
     → after ≡ concat (map (element_in (plain_chunks (length fill) (count_of sub) b numbers (count_of (grid_of shape sub))) fill shape sub) (range_with_len 0 ((k + 1) * count_of sub)))
-plain_more fill shape sub b numbers size k before after divides follow axes some lt is plain so_far grown =
+plain_more fill shape sub b numbers size k before after divides run lt is plain so_far grown =
     let n = length fill in
     let positions = count_of sub in
     let many = count_of (grid_of shape sub) in
     let slot = slot_at (length b) numbers k in
     let chunk = get_or-plain_chunks n positions many b numbers k lt in
-    appended_more (plain_chunks n positions b numbers many) fill shape sub divides (Fixed n) k before (plain_bytes fill positions b slot) after
-    follow axes some lt (rw chunk (IsPartOf-plain n positions size b slot is plain)) so_far
+    appended_run (plain_chunks n positions b numbers many) fill shape sub divides (Fixed n) k before (plain_bytes fill positions b slot) after
+    run lt (rw chunk (IsPartOf-plain n positions size b slot is plain)) so_far
     (rw chunk (concat-plain fill positions size b slot is plain)) grown
 
 -- as many subchunks as there are have as many bytes as the shard's elements

@@ -1,3 +1,4 @@
+pub mod RunLemmas
 pub mod AppendLemmas
 pub mod PlainRowLemmas
 pub mod TargetLemmas

@@ -5,17 +5,15 @@ use Rattle.std.proofs.lemmas.Bool.{false_from_ne_true}
 use Rattle.std.proofs.Math.Seq.{take-add}
 use Rattle.std.proofs.Math.Nat.{div-eq_of_eq-mul_left}
 use Rattle.std.proofs.lemmas.List.{ext_get_or, take_all, drop-drop, length-take-le}
-use Rattle.std.proofs.lemmas.List.FromFn.{get_or-map-range_with_len}
 use Rattle.std.proofs.lemmas.Nat.{row_fits}
 use Rattle.parts_errors.specs.Words.{Written}
 use Rattle.parts_row_major.specs.Numbering.{count_of}
 use Rattle.parts_row_major.specs.Pieces.{piece, pieces}
-use Rattle.parts_subsets.specs.Grid.{Divides, grid_of, subchunk}
+use Rattle.parts_subsets.specs.Grid.{Divides, grid_of, subchunk, cell_number}
 use Rattle.parts_arrays.specs.ArraySpec.{array_spec, IsArrayOf}
 use Rattle.parts_arrays.specs.declared.data_type.DataType.{DataType}
 use Rattle.parts_arrays.specs.Arrays.{IsWhole, fixed_array}
-use Rattle.parts_subsets.proofs.GridLaws.{count-grid, length-subchunk}
-use Rattle.parts_subsets.proofs.FollowLaws.{subchunk_follows}
+use Rattle.parts_subsets.proofs.GridLaws.{count-grid, length-subchunk, get_or-subchunk}
 use Rattle.parts_row_major.proofs.PieceLaws.{length-concat, piece_of-concat, concat-pieces, length-pieces, piece_of-pieces, piece_in_run}
 use Rattle.parts_arrays.proofs.ArrayLaws.{length-piece, whole_from_length}
 use Rattle.parts_arrays.proofs.FillLaws.{pieces_from_shift, shift_from_pieces, all_from_each, each_from_all}
@@ -28,7 +26,6 @@ use Rattle.sharding_format.specs.WriteOrderLaws.{order_below}
 use Rattle.sharding_format.specs.declared.slot.Slot.{Slot}
 use Rattle.sharding_format.specs.declared.slot.Slot.TheVariants.{Absent, InRange}
 use Rattle.sharding_format.proofs.LayingLemmas.{IsStoredUpTo, next_stored, all_stored}
-use Rattle.sharding_layout.specs.Rows.{FollowBy}
 use Rattle.sharding_subchunks.proofs.AppendLemmas.{one_more_after}
 use Rattle.sharding_subchunks.specs.PlainRows.{ArePlainRows}
 
@@ -56,10 +53,10 @@ row_is n many size k bytes is =
     ap (λ i. take (many * n) (drop i bytes)) at ∙ ap (λ s. take s (drop (k * s) bytes)) (sym is)
 
 -- the subchunks of an array that follow one another in it are rows of its bytes
-pub plain_rows : (m : Meaning) (data_type : DataType) (fill shape sub : List ℕ) (a : List (List ℕ)) (bytes : List ℕ) (size positions : ℕ)
-    → IsPlain (array_spec sub data_type fill) m size → FollowBy shape sub positions → Divides sub shape → 0 < count_of shape
+pub plain_rows : (m : Meaning) (data_type : DataType) (fill shape sub : List ℕ) (a : List (List ℕ)) (bytes : List ℕ) (size : ℕ)
+    → IsPlain (array_spec sub data_type fill) m size → ((k p : ℕ) → p < count_of sub → cell_number shape sub k p ≡ k * count_of sub + p) → Divides sub shape → 0 < count_of shape
     → IsArrayOf (array_spec shape data_type fill) a → bytes ≡ concat a → ArePlainRows m.written fill shape sub a bytes size (count_of (grid_of shape sub))
-plain_rows m data_type fill shape sub a bytes size positions plain follow divides some array is =
+plain_rows m data_type fill shape sub a bytes size plain runs divides some array is =
     let n = length fill in
     let many = count_of sub in
     let rows = count_of (grid_of shape sub) in
@@ -77,8 +74,8 @@ plain_rows m data_type fill shape sub a bytes size positions plain follow divide
     ext_get_or [] (subchunk shape sub a k) (pieces n many (piece size bytes k)) (length-subchunk shape sub a k ∙ sym (length-pieces n many (piece size bytes k))) (λ p below.
     let lp : p < many = omega (arith, length-subchunk shape sub a k) in
     let inside : k * many + p < length a = omega (arith, array.counted, grid, row_fits k many rows many lt (omega arith)) in
-    ap (λ es. get_or es p []) (subchunk_follows shape sub a k divides follow.follow follow.axes some)
-    ∙ (get_or-map-range_with_len (λ i. get_or a i []) (k * many) many p (k * many + p) [] lp refl
+    get_or-subchunk shape sub a k p [] lp
+    ∙ (ap (λ i. get_or a i []) (runs k p lp)
     ∙ (sym (piece_of-concat n a (k * many + p) sized inside)
     ∙ (ap (λ b. piece n b (k * many + p)) (sym is)
     ∙ (sym (piece_in_run n (k * many) many p bytes lp)

@@ -7,14 +7,15 @@ use Rattle.parts_errors.specs.Order.{◌or◌then◌, ◌or_as◌then◌, Refuse
 use Rattle.parts_errors.specs.declared.error.CodecError.{CodecError}
 use Rattle.parts_errors.specs.declared.error.CodecError.TheVariants.{OutOfMemory}
 use Rattle.parts_row_major.specs.Numbering.{count_of}
-use Rattle.parts_row_major.specs.Pieces.{piece, IsUpdated}
+use Rattle.parts_row_major.specs.Pieces.{piece, pieces, IsUpdated}
 use Rattle.parts_row_major.specs.Subsets.{Subset, number_in}
 use Rattle.parts_arrays.specs.declared.target.FixedTarget.{FixedTarget}
-use Rattle.parts_arrays.specs.Targets.{target_bytes, target_element_size, target_shape, target_subset, IsWritten}
+use Rattle.parts_arrays.specs.Targets.{target_bytes, target_element_size, target_shape, target_subset, IsWritten, IsPartWritten}
 use Rattle.parts_subsets.specs.Grid.{Divides, grid_of, subchunk_number, position_number, cell_number, subset_of_subchunk}
-use Rattle.parts_row_major.proofs.PieceLaws.{map-map, map_range_same}
+use Rattle.parts_row_major.proofs.PieceLaws.{map-map, map_range_same, piece_of-pieces, length-pieces}
 use Rattle.parts_subsets.proofs.GridLaws.{subchunk_number-below, position_number-below, cell_number-below, cell_number-located, subchunk_number-cell_number, number_in-subset_of_subchunk}
 use Rattle.codec_traits.specs.CellLaws.{all_there-map_some}
+use Rattle.codec_traits.specs.Encodings.{IsPlain}
 use Rattle.codec_traits.specs.Meanings.{Meaning}
 use Rattle.codec_traits.specs.Refusals.{RefusesUnserved, MayRefuseDecode}
 use Rattle.parts_arrays.specs.ArraySpec.{ArraySpec}
@@ -83,6 +84,38 @@ cells_written shape sub k size element old new before after sized shaped by_subs
       inside = λ p lt. ap (piece size after) (sym (number_in-subset_of_subchunk shape sub k p)) ∙ through.inside p lt;
       outside = λ i h. through.outside i (λ p lt e. h p lt (sym (number_in-subset_of_subchunk shape sub k p) ∙ e));
     }
+
+-- elements written at the points of a part of a target's array stand there in its bytes
+part_written_through : (subset position : Subset) (axes : List ℕ) (size : ℕ) (element : ℕ → List ℕ) (old new : FixedTarget) (before after : List ℕ)
+    → target_element_size old ≡ size → target_shape old ≡ axes → position ≡ subset → (target_bytes old).now ≡ before → (target_bytes new).now ≡ after → IsPartWritten old new position element
+    → IsUpdated (count_of subset.shape) (number_in subset axes) (piece size before) element (piece size after)
+part_written_through subset position axes size element old new before after sized shaped by_position first last wrote = rw (← sized, ← shaped, ← first, ← last, ← by_position) wrote.elements
+
+-- where the part is the subset of a subchunk, these are its cells
+pub part_cells_written : (shape sub : List ℕ) (k size : ℕ) (position : Subset) (element : ℕ → List ℕ) (old new : FixedTarget) (before after : List ℕ)
+    → target_element_size old ≡ size → target_shape old ≡ shape → position ≡ subset_of_subchunk shape sub k → (target_bytes old).now ≡ before → (target_bytes new).now ≡ after → IsPartWritten old new position element
+    → IsUpdated (count_of sub) (cell_number shape sub k) (piece size before) element (piece size after)
+part_cells_written shape sub k size position element old new before after sized shaped by_position first last wrote =
+    let through = part_written_through (subset_of_subchunk shape sub k) position shape size element old new before after sized shaped by_position first last wrote in
+    record {
+      inside = λ p lt. ap (piece size after) (sym (number_in-subset_of_subchunk shape sub k p)) ∙ through.inside p lt;
+      outside = λ i h. through.outside i (λ p lt e. h p lt (sym (number_in-subset_of_subchunk shape sub k p) ∙ e));
+    }
+
+-- the slice of a plain codec, copied to where its cells lie
+pub plain_written : (g : ArraySpec) (m : Meaning) (fill b : List ℕ) (offset size : ℕ) (position : ℕ → ℕ) (old new : ℕ → List ℕ)
+    → fill ≡ g.fill → IsPlain g m size → length (slice_at offset size b) ≡ size → IsUpdated (count_of g.shape) position old (piece (length fill) (slice_at offset size b)) new
+    → IsSlotWritten m.cells fill b (InRange offset size) (count_of g.shape) position old new
+plain_written g m fill b offset size position old new same plain long wrote =
+    let part : List ℕ = slice_at offset size b in
+    let n : ℕ = length fill in
+    let all : List (List ℕ) = pieces n (count_of g.shape) part in
+    let is : m.cells part ≡ map Some all = rw same (plain.cells part long) in
+    slice_written m.cells fill b offset size (count_of g.shape) position old new all
+    (ap length is ∙ (length-map all Some ∙ length-pieces n (count_of g.shape) part)) is (record {
+      inside = λ p lt. wrote.inside p lt ∙ sym (piece_of-pieces n (count_of g.shape) part p lt);
+      outside = wrote.outside;
+    })
 
 -- the cells of the subchunks below k stand where they lie; `at` says which element stands at a cell
 pub record IsPutTo (inner_cells : List ℕ → List (Option (List ℕ))) (shape sub fill b index : List ℕ) (k : ℕ) (at : ℕ → List ℕ) : Type 0 where

@@ -13,6 +13,7 @@ mod plain_subset;
 mod plain_target;
 mod read;
 mod requested;
+mod runs;
 mod stored_shard;
 mod subchunks;
 mod subsets;

@@ -1,8 +1,8 @@
 // Subchunks whose elements stand in a shard as they are in memory, decoded straight from its bytes.
-ghost use Rattle.std.specs.Prelude.{◌≡◌, ◌≢◌, ◌+◌, ◌*◌, ◌^◌, ◌<◌, ◌≤◌, ◌++◌, [], IfOk, IfErr, IfSome, OnOk, length, drop, replicate};
+ghost use Rattle.std.specs.Prelude.{◌≡◌, ◌≢◌, ◌+◌, ◌*◌, ◌^◌, ◌<◌, ◌≤◌, ◌++◌, [], IfOk, IfErr, IfSome, OnOk, ℕ, length, replicate};
 ghost use Rattle.std.specs.List.{concat};
 ghost use Rattle.parts_row_major.specs.Numbering.{count_of};
-ghost use Rattle.parts_subsets.specs.Grid.{Divides, grid_of};
+ghost use Rattle.parts_subsets.specs.Grid.{Divides, grid_of, cell_number};
 ghost use Rattle.parts_arrays.specs.ArraySpec.{array_spec};
 ghost use Rattle.parts_arrays.specs.Types.{size_of};
 ghost use Rattle.parts_errors.specs.declared.error.CodecError.TheVariants.{OutOfMemory};
@@ -11,12 +11,12 @@ ghost use Rattle.sharding_subchunks.specs.steps.Inner.{inner_meaning};
 ghost use Rattle.sharding_subchunks.specs.steps.DecodedRows.{IsPlainSlot, plain_bytes, bytes_of_run, AreRowsOfShard, AreGathered};
 
 use crate::held_shard::HeldShard;
+use crate::runs::elements_in_run;
 use codec_traits::ArrayToBytesCodecTraits;
 use parts_arrays::{ArrayBytes, repeated};
 use parts_errors::CodecError;
 use parts_subsets::ChunkShape;
 use sharding_format::{ShardIndex, Slot};
-use sharding_layout::elements_in_row;
 use std::alloc::{AllocError, Global};
 use std::borrow::CowSlice;
 
@@ -124,8 +124,7 @@ fn rows(
     requires fits { count_of _shape.now * length subchunk.now.fill.now < 2 ^ 64 }
     requires divides { Divides _sub.now _shape.now }
     requires some { 0 < count_of _shape.now }
-    requires axes { 0 < length _shape.now }
-    requires contiguous { drop 1 _shape.now ≡ drop 1 _sub.now }
+    requires runs { (k p : ℕ) → p < count_of _sub.now → cell_number _shape.now _sub.now k p ≡ k * count_of _sub.now + p }
     ensures { IfOk result (λ answer. IfSome answer (λ bytes.
         AreRowsOfShard subchunk.now.fill.now _shape.now _sub.now shard.now index.now.numbers.items subchunk.now.size bytes.items)) }
 {
@@ -160,7 +159,7 @@ impl<I: ArrayToBytesCodecTraits> HeldShard<'_, '_, I> {
     {
         let inner = self.subchunks;
         let (shape, sub) = (self.shape, inner.shape);
-        let Some(positions) = elements_in_row(shape, sub) else {
+        let Some(positions) = elements_in_run(shape, sub) else {
             return Ok(None);
         };
         let plain = inner

@@ -9,6 +9,7 @@ ghost use Rattle.sharding_layout.specs.steps.Cutting.{CanBeCut};
 ghost use Rattle.sharding_subchunks.specs.steps.Inner.{spec_of_subchunks, inner_meaning};
 ghost use Rattle.sharding_subchunks.specs.PlainRows.{ArePlainRows};
 
+use crate::runs::elements_in_run;
 use crate::subchunks::Subchunks;
 use codec_traits::ArrayToBytesCodecTraits;
 use parts_arrays::{ArrayBytes, FillValue};
@@ -140,7 +141,7 @@ impl<I: ArrayToBytesCodecTraits> Subchunks<'_, I> {
         Ok(slots)
     }
 
-    /// The subchunks laid out as `store_all_after` does, where they follow one another in the array, as `elements_in_row` tells, and
+    /// The subchunks laid out as `store_all_after` does, where they follow one another in the array, as `elements_in_run` tells, and
     /// the inner codec stores their elements as they are in memory. Else `None`, and nothing is put there. Refused only as out of
     /// memory.
     pub(crate) fn lay_out_rows(
@@ -159,7 +160,7 @@ impl<I: ArrayToBytesCodecTraits> Subchunks<'_, I> {
             cut.now.array.now.elements (drop (length slices.old.items) slices.new.items) slots.items sequence.now (count_of cut.now.grid.now))) }
     {
         let _axes = cut.shape.as_slice();
-        let Some(_places) = cut.in_row else {
+        let Some(_positions) = elements_in_run(cut.shape, self.shape) else {
             return Ok(None);
         };
         let Some(size) = self

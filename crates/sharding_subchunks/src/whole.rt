@@ -1,5 +1,5 @@
 // A whole shard whose elements have one size, decoded subchunk by subchunk to where each lies in one piece of memory.
-ghost use Rattle.std.specs.Prelude.{◌≡◌, ◌+◌, ◌*◌, ◌/◌, ◌^◌, ◌<◌, ℕ, Some, IsTrue, IfOk, IfErr, OnOk, map, length};
+ghost use Rattle.std.specs.Prelude.{◌≡◌, ◌+◌, ◌*◌, ◌/◌, ◌^◌, ◌<◌, ℕ, Some, IsTrue, IfOk, IfErr, IfSome, OnOk, map, length};
 ghost use Rattle.std.specs.List.{range_with_len};
 ghost use Rattle.parts_errors.specs.Order.{done, RefusedBy};
 ghost use Rattle.parts_row_major.specs.Numbering.{count_of};
@@ -7,13 +7,14 @@ ghost use Rattle.parts_row_major.specs.Pieces.{piece, pieces};
 ghost use Rattle.parts_subsets.specs.Grid.{grid_of, cell_number};
 ghost use Rattle.parts_arrays.specs.Types.{size_of};
 ghost use Rattle.parts_arrays.specs.declared.data_type.DataTypeSize.TheVariants.{Fixed};
+ghost use Rattle.codec_traits.specs.Encodings.{IsPlain};
 ghost use Rattle.sharding_format.specs.Index.{slot_at};
 ghost use Rattle.sharding_format.specs.Cells.{indexed_cell};
 ghost use Rattle.sharding_format.specs.DecodeRefusals.{RefusesSubchunk, SubchunkRefusals};
 ghost use Rattle.sharding_format.specs.steps.Decoding.{FitsSlot};
 ghost use Rattle.sharding_format.specs.declared.slot.Slot.TheVariants.{Absent};
 ghost use Rattle.sharding_subchunks.specs.Reads.{HasElementsOf};
-ghost use Rattle.sharding_subchunks.specs.steps.Inner.{inner_meaning};
+ghost use Rattle.sharding_subchunks.specs.steps.Inner.{spec_of_subchunks, inner_meaning};
 ghost use Rattle.sharding_subchunks.specs.steps.Writes.{IsSlotWritten};
 
 use crate::held_shard::HeldShard;
@@ -40,12 +41,13 @@ fn any_absent(index: &ShardIndex) -> bool
 
 impl<I: ArrayToBytesCodecTraits> HeldShard<'_, '_, I> {
     // Decodes the subchunk that a slot names to the cells of its subset, in the shard's elements, which have these bytes; nothing where
-    // it is absent.
+    // it is absent. A slice of as many bytes as a plain one has is copied.
     fn decode_to(
         &self,
         alloc: Global,
         number: u64,
         slot: Slot,
+        plain: Option<u64>,
         grid: &ChunkShape,
         output: &mut [u8],
     ) -> Result<(), CodecError>
@@ -56,6 +58,7 @@ impl<I: ArrayToBytesCodecTraits> HeldShard<'_, '_, I> {
         requires whole { length output.old ≡ count_of self.now.shape.now * length self.now.subchunks.now.fill_value.now }
         requires grid { grid.now ≡ grid_of self.now.shape.now self.now.subchunks.now.shape.now }
         requires below { number < count_of grid.now }
+        requires plain { IfSome plain (IsPlain (spec_of_subchunks self.now.subchunks.now) (inner_meaning I.meaning self.now.subchunks.now)) }
         ensures written { let s = self.now.subchunks.now in let inner = inner_meaning I.meaning s in let size = length s.fill_value.now in
             OnOk result (IsSlotWritten inner.cells s.fill_value.now self.now.bytes.now slot (count_of s.shape.now) (cell_number self.now.shape.now s.shape.now number)
             (piece size output.old) (piece size output.new)) }
@@ -74,6 +77,10 @@ impl<I: ArrayToBytesCodecTraits> HeldShard<'_, '_, I> {
                 };
                 let element = inner.fill_value.as_ne_bytes();
                 let mut target = FixedTarget::over(output, element.len(), axes, &subset);
+                if plain == Some(size) {
+                    target.copy_part(&subset, part);
+                    return Ok(());
+                }
                 match inner.codec.decode_into(
                     alloc,
                     part,
@@ -108,9 +115,13 @@ impl<I: ArrayToBytesCodecTraits> HeldShard<'_, '_, I> {
         let fill = self.subchunks.fill_value.as_ne_bytes();
         let grid = calculate_chunks_per_shard(alloc, self.shape, sub)?;
         let mut whole = room_for(alloc, any_absent(index), self.cells as usize, fill)?;
+        let inner = self.subchunks;
+        let plain = inner
+            .codec
+            .plain_size(inner.shape, inner.data_type, inner.fill_value);
         for k in 0..index.subchunks() {
             let slot = index.slot(k);
-            self.decode_to(alloc, k as u64, slot, &grid, &mut whole)?;
+            self.decode_to(alloc, k as u64, slot, plain, &grid, &mut whole)?;
         }
         Ok(whole)
     }

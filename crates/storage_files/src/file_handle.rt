@@ -8,7 +8,7 @@ mod writes;
 
 use crate::count::Count;
 use crate::interval::interval_of;
-use crate::system::{length_of, open_if_there, read_at};
+use crate::system::{end_of, open_if_there, read_at};
 use parts_errors::CodecError;
 use std::alloc::{AllocError, Global};
 use std::io;
@@ -103,7 +103,9 @@ impl<R: Files> FileHandle<R> {
         ensures { self.new ≡ self.old }
     {
         if self.file.is_none() {
-            self.file = open_if_there(&self.files, self.path.as_str())?;
+            if let Some((file, _)) = open_if_there(&self.files, self.path.as_str())? {
+                self.file = Some(file);
+            }
         }
         Ok(self.file.is_some())
     }
@@ -113,9 +115,9 @@ impl<R: Files> FileHandle<R> {
         ensures { self.new ≡ self.old }
     {
         self.open()?;
-        match &self.file {
+        match &mut self.file {
             Some(file) => {
-                let length = length_of(file)?;
+                let length = end_of(file)?;
                 Ok(Some(length))
             }
             None => Ok(None),

@@ -2,7 +2,6 @@
 use crate::interval::interval_of;
 use crate::system::{open_if_there, read_at};
 use std::io;
-use std::io::{Seek, SeekFrom};
 use std::rt::Files;
 use storage_handles::ByteRange;
 
@@ -15,10 +14,9 @@ pub fn read_file_range<R: Files>(
     room: &mut Vec<u8>,
 ) -> io::Result<Option<u64>> {
     room.clear();
-    let Some(mut file) = open_if_there(files, path)? else {
+    let Some((mut file, length)) = open_if_there(files, path)? else {
         return Ok(None);
     };
-    let length = file.seek(SeekFrom::End(0))?;
     if let Ok(interval) = interval_of(range, length) {
         room.resize(interval.size as usize, 0)?;
         read_at(&mut file, interval.offset, room.as_mut_slice())?;

@@ -7,13 +7,16 @@ use std::io::{ErrorKind, Read, Seek, SeekFrom, Write};
 use std::rt::Files;
 use std::{fs, io};
 
-// The regular file at a path, to be read; none where there is none.
-pub fn open_if_there<R: Files>(files: &R, path: &str) -> io::Result<Option<R::File>> {
+// The regular file at a path, to be read, and how many bytes it holds; none where there is none.
+pub fn open_if_there<R: Files>(files: &R, path: &str) -> io::Result<Option<(R::File, u64)>> {
     if file_length(files, path)?.is_none() {
         return Ok(None);
     }
     match fs::open(files, path) {
-        Ok(file) => Ok(Some(file)),
+        Ok(file) => {
+            let length = length_of(&file)?;
+            Ok(Some((file, length)))
+        }
         Err(error) if error.kind() == ErrorKind::NotFound => Ok(None),
         Err(error) => Err(error),
     }
@@ -22,6 +25,11 @@ pub fn open_if_there<R: Files>(files: &R, path: &str) -> io::Result<Option<R::Fi
 // How many bytes a file holds. Anything but a regular file is refused.
 pub fn length_of<F: OpenFile>(file: &F) -> io::Result<u64> {
     regular_length(&file.metadata()?)
+}
+
+// How many bytes an open regular file holds, for which the system tells nothing else of the file.
+pub fn end_of<F: Seek>(file: &mut F) -> io::Result<u64> {
+    file.seek(SeekFrom::End(0))
 }
 
 // Fills the room with the bytes from an offset on.

@@ -36,7 +36,7 @@ loop-k-preserved c =
       made = added.blank;
       stored_slices = plain_more subchunk.fill.now shape sub shard numbers subchunk.size k
           (c.loop-k.bytes.items ++ bytes_of_run shard c.loop-k.run) (c.add_slot.new.bytes.items ++ bytes_of_run shard c.in-Some.more)
-          c.requires.divides c.requires.contiguous c.requires.axes c.requires.some lt c.requires.size plain so_far.stored_slices
+          c.requires.divides (c.requires.runs k) lt c.requires.size plain so_far.stored_slices
           (rw (c.in-Some.is, slot, c.requires.positions) at added.added);
     }
 

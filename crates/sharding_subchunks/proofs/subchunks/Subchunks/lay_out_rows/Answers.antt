@@ -12,8 +12,8 @@ lay_out_along-requires g c =
     let cut = c.requires.cut in
     let shape = a.cut.now.shape.now in
     let rows = plain_rows (inner_meaning g.I.ArrayToBytesCodecTraits.meaning s) s.data_type.now s.fill_value.now shape s.shape.now a.cut.now.array.now.elements
-    c.in-Some-fixed_bytes.bytes.now c.in-Some-plain_size.size c.in-Some._places
-    c.in-Some-plain_size.ensures (rw c.in-Some.is at cut.in_row) cut.divides (count-positive shape c.as_slice-axes.ensures.positive) cut.array c.in-Some-fixed_bytes.ensures.some in
+    c.in-Some-fixed_bytes.bytes.now c.in-Some-plain_size.size
+    c.in-Some-plain_size.ensures (rw c.in-Some.ensures.positions at c.in-Some.ensures.runs) cut.divides (count-positive shape c.as_slice-axes.ensures.positive) cut.array c.in-Some-fixed_bytes.ensures.some in
     let counted = order_counted (count_of a.cut.now.grid.now) a.sequence.now c.requires.order in
     record { order = rw counted c.requires.order; rows = rw (counted, cut.grid) rows }
 
@@ -24,8 +24,8 @@ lay_out_bytes-requires g c =
     let cut = c.requires.cut in
     let shape = a.cut.now.shape.now in
     let rows = plain_rows (inner_meaning g.I.ArrayToBytesCodecTraits.meaning s) s.data_type.now s.fill_value.now shape s.shape.now a.cut.now.array.now.elements
-    c.in-Some-fixed_bytes.bytes.now c.in-Some-plain_size.size c.in-Some._places
-    c.in-Some-plain_size.ensures (rw c.in-Some.is at cut.in_row) cut.divides (count-positive shape c.as_slice-axes.ensures.positive) cut.array c.in-Some-fixed_bytes.ensures.some in
+    c.in-Some-fixed_bytes.bytes.now c.in-Some-plain_size.size
+    c.in-Some-plain_size.ensures (rw c.in-Some.ensures.positions at c.in-Some.ensures.runs) cut.divides (count-positive shape c.as_slice-axes.ensures.positive) cut.array c.in-Some-fixed_bytes.ensures.some in
     let counted = order_counted (count_of a.cut.now.grid.now) a.sequence.now c.requires.order in
     record { rows = rw (c.len-rows.ensures, counted, cut.grid) rows }
 
