@@ -3,3 +3,8 @@ pub mod ByteCodecs
 pub mod OpaqueCodec
 pub mod OpaqueLaws
 pub mod ReversedParts
+pub mod AxisOrders
+pub mod AxisOrderLaws
+pub mod MovedPoints
+pub mod TransposeCodec
+pub mod TransposeLaws

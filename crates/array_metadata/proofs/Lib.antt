@@ -5,3 +5,4 @@ pub mod Types
 pub mod Lists
 pub mod ShardCodecs
 pub mod SaidBytes
+pub mod TransposedLists

@@ -38,7 +38,7 @@ pub record IsReadAs (text : Bytes) (metadata : ArrayMetadata) : Type 0 where
   pub fill_value : IsFillIn metadata.element_type (member_in (codes "fill_value") text) metadata.fill_value
   pub subchunk : option_and_then shape_in (option_and_then (configured_in (codes "chunk_shape"))
       (option_and_then chunks_in (member_in (codes "codecs") text))) ≡ Some metadata.subchunk
-  pub codecs : option_map (shards_in subchunks_in) (option_and_then chunks_in (member_in (codes "codecs") text))
+  pub codecs : option_map (shards_in (subchunks_in (vec_len metadata.shape))) (option_and_then chunks_in (member_in (codes "codecs") text))
       ≡ Some (Ok metadata.codec)
   pub unread : option_map string_bytes metadata.unread ≡ unread_codec_in (option_and_then chunks_in (member_in (codes "codecs") text))
 

@@ -1,10 +1,9 @@
 -- The codecs that the metadata of an array names.
-use Rattle.std.specs.Prelude.{ℕ, Bool, true, false, Option, Ok, Err, Some, None, codes, bytes_eq, nat_le, if◌then◌else◌, option_and_then, option_map, unwrap_or}
+use Rattle.std.specs.Prelude.{ℕ, Bool, true, false, Option, Ok, Err, Some, None, codes, bytes_eq}
 use Rattle.parts_errors.specs.Words.{Bytes}
 use Rattle.serde_json.specs.Data.{Data, Items, no_items, item}
-use Rattle.serde_json.specs.Find.{get}
-use Rattle.codec_metadata.specs.CreateErrors.{Reading, and_then, or_refused, unsupported_chain, bad_field}
-use Rattle.codec_metadata.specs.Metadata.{codec_of, name_in}
+use Rattle.codec_metadata.specs.CreateErrors.{Reading, and_then, unsupported_chain, bad_field}
+use Rattle.codec_metadata.specs.Metadata.{codec_of}
 use Rattle.codec_metadata.specs.BytesMetadata.{bytes_configured}
 use Rattle.codec_bytes.specs.declared.bytes_codec.Endianness.{Endianness}
 use Rattle.codec_chains.specs.declared.bytes_chain.BytesChain.{BytesChain}
@@ -14,16 +13,22 @@ use Rattle.codec_chains.specs.declared.either_codec.EitherCodec.TheVariants.{Fir
 use Rattle.sharding_codec.specs.declared.codec.ShardingCodec.{ShardingCodec}
 use Rattle.sharding_codec.specs.ShardMetadata.{shard_configured}
 use Rattle.array_codecs.specs.declared.opaque_codec.OpaqueCodec.{OpaqueCodec}
+use Rattle.array_codecs.specs.declared.transpose_codec.TransposeCodec.{TransposeCodec}
 use Rattle.array_metadata.specs.ByteCodecsMetadata.{byte_codecs_in}
+use Rattle.array_metadata.specs.Transposes.{transpose_in, transpose_before, untransposed}
 use Rattle.array_metadata.specs.UnreadCodecs.{sole_shards, innermost, unserved_in, have_names}
 
 -- `bytes` by its byte order, or `bytes` and codecs from bytes to bytes behind it
 abbrev pub Elements : Type 0
 Elements = EitherCodec (Option Endianness) (BytesChain (Option Endianness) ByteCodecs)
 
+-- a codec of elements inside a shard: `transpose` stands before it or not
+abbrev pub Arranged : Type 0
+Arranged = EitherCodec Elements (TransposeCodec Elements)
+
 -- a codec of elements, or of shards once more
 abbrev pub Served : Type 0
-Served = EitherCodec Elements (ShardingCodec Elements Elements)
+Served = EitherCodec Arranged (ShardingCodec Arranged Elements)
 
 -- a codec that is looked into, or one that is not
 abbrev pub Subchunks : Type 0
@@ -41,17 +46,26 @@ elements_in (item d (item e later)) =
     Ok (Second (record { array_to_bytes = bytes; bytes_to_bytes = codecs }))))
 elements_in no_items = Err unsupported_chain
 
+-- the codec of elements inside a shard with this number of axes that a list names, by the metadata of `transpose` before it
+abbrev pub arranged_or : ℕ → Option Data → Reading Elements → Reading Arranged
+arranged_or axes None elements = and_then elements (λ codec. Ok (First codec))
+arranged_or axes (Some d) elements =
+    and_then (transpose_in axes d) (λ order. and_then elements (λ codec. Ok (Second (record { order = order; codec = codec }))))
+
+abbrev pub arranged_in : ℕ → Items → Reading Arranged
+arranged_in axes list = arranged_or axes (transpose_before list) (elements_in (untransposed list))
+
 -- the codec of the name `sharding_indexed`, by how the list of its subchunks' codecs is read
 abbrev pub shards_in : {I : Type 0} → (Items → Reading I) → Data → Reading (ShardingCodec I Elements)
 shards_in inner_in = codec_of (bytes_eq (codes "sharding_indexed")) (λ name. shard_configured inner_in elements_in)
 
 -- the codec that is looked into of subchunks that a list names: of shards where it is such a list, else of elements
-abbrev pub shards_or : Option Data → Reading Elements → Reading Served
-shards_or (Some d) elements = and_then (shards_in elements_in d) (λ shards. Ok (Second shards))
-shards_or None elements = and_then elements (λ codec. Ok (First codec))
+abbrev pub shards_or : ℕ → Option Data → Reading Arranged → Reading Served
+shards_or axes (Some d) elements = and_then (shards_in (arranged_in axes) d) (λ shards. Ok (Second shards))
+shards_or axes None elements = and_then elements (λ codec. Ok (First codec))
 
-abbrev pub served_in : Items → Reading Served
-served_in list = shards_or (sole_shards list) (elements_in list)
+abbrev pub served_in : ℕ → Items → Reading Served
+served_in axes list = shards_or axes (sole_shards list) (arranged_in axes list)
 
 -- the codec of subchunks that a list names: where elements go through a codec that is not served, one that isn't looked into, if each
 -- of these codecs has a name
@@ -60,5 +74,5 @@ served_or None named served = and_then served (λ codec. Ok (First codec))
 served_or (Some name) true served = Ok (Second (record {}))
 served_or (Some name) false served = Err (bad_field (codes "codecs"))
 
-abbrev pub subchunks_in : Items → Reading Subchunks
-subchunks_in list = served_or (unserved_in (innermost list)) (have_names (innermost list)) (served_in list)
+abbrev pub subchunks_in : ℕ → Items → Reading Subchunks
+subchunks_in axes list = served_or (unserved_in (untransposed (innermost list))) (have_names (innermost list)) (served_in axes list)

@@ -3,7 +3,7 @@ use Rattle.std.specs.Prelude.{ℕ, Option, Some, None}
 use Rattle.codec_bytes.specs.declared.bytes_codec.Endianness.{Endianness}
 use Rattle.codec_bytes.specs.declared.bytes_codec.Endianness.TheVariants.{Big, Little}
 use Rattle.codec_chains.specs.declared.either_codec.EitherCodec.TheVariants.{First, Second}
-use Rattle.array_metadata.specs.ArrayCodecs.{Elements, Served, Subchunks}
+use Rattle.array_metadata.specs.ArrayCodecs.{Elements, Arranged, Served, Subchunks}
 use Rattle.array_metadata.specs.ElementTypes.{float_size}
 use Rattle.array_metadata.specs.declared.element_types.ElementType.{ElementType}
 use Rattle.array_metadata.specs.declared.element_types.ElementType.TheVariants.{Complex}
@@ -13,9 +13,13 @@ abbrev pub order_of : Elements → Option Endianness
 order_of (First bytes) = bytes
 order_of (Second chain) = chain.array_to_bytes
 
+abbrev pub arranged_order : Arranged → Option Endianness
+arranged_order (First elements) = order_of elements
+arranged_order (Second transposed) = order_of transposed.codec
+
 abbrev pub served_order : Served → Option Endianness
-served_order (First elements) = order_of elements
-served_order (Second shards) = order_of shards.inner
+served_order (First elements) = arranged_order elements
+served_order (Second shards) = arranged_order shards.inner
 
 abbrev pub subchunks_order : Subchunks → Option Endianness
 subchunks_order (First served) = served_order served

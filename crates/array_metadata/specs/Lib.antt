@@ -8,3 +8,4 @@ pub mod ArrayCodecs
 pub mod CodecNames
 pub mod AcceptedMetadata
 pub mod ByteOrders
+pub mod Transposes

@@ -5,6 +5,7 @@ use Rattle.serde_json.specs.Data.{Data, Items, no_items, item}
 use Rattle.serde_json.specs.Find.{as_array}
 use Rattle.codec_metadata.specs.Metadata.{name_in, is_metadata_member, first_refused, members_in}
 use Rattle.array_fields.specs.MetadataFields.{configured_in}
+use Rattle.array_metadata.specs.Transposes.{untransposed}
 
 -- the metadata of the only codec of a list, where its name is `sharding_indexed`
 abbrev pub sole_shards : Items → Option Data
@@ -27,7 +28,7 @@ elements_or list (Some d) = configured_codecs d
 abbrev pub innermost : Items → Items
 innermost list = elements_or list (sole_shards list)
 
--- the codecs that elements are served with
+-- the codecs that elements are served with, behind `transpose` or without it
 abbrev pub is_element_codec : Bytes → Bool
 is_element_codec name = bytes_eq name (codes "bytes") || bytes_eq name (codes "crc32c") || bytes_eq name (codes "gzip")
     || bytes_eq name (codes "zstd")
@@ -52,4 +53,4 @@ have_names (item d later) = has_name d && have_names later
 -- the name of the first codec that the elements of an array's subchunks go through and are not served with
 abbrev pub unread_codec_in : Option Data → Option Bytes
 unread_codec_in None = None
-unread_codec_in (Some shards) = unserved_in (innermost (configured_codecs shards))
+unread_codec_in (Some shards) = unserved_in (untransposed (innermost (configured_codecs shards)))

@@ -1,8 +1,8 @@
 // The byte order of complex numbers.
 ghost use Rattle.std.specs.Prelude.{◌≡◌};
-ghost use Rattle.array_metadata.specs.ByteOrders.{order_of, subchunks_order, size_if_big, reversed_size};
+ghost use Rattle.array_metadata.specs.ByteOrders.{order_of, arranged_order, subchunks_order, size_if_big, reversed_size};
 
-use crate::codecs::{ElementCodec, InnerCodec, ServedCodec};
+use crate::codecs::{ArrangedCodec, ElementCodec, InnerCodec, ServedCodec};
 use crate::element_types::ElementType;
 use codec_bytes::Endianness;
 use codec_chains::EitherCodec;
@@ -17,13 +17,23 @@ fn order_of(codec: &ElementCodec) -> Option<Endianness>
     }
 }
 
+// The byte order of the codec of elements inside a shard.
+fn arranged_order(codec: &ArrangedCodec) -> Option<Endianness>
+    ensures { result ≡ arranged_order codec.now }
+{
+    match codec {
+        EitherCodec::First(elements) => order_of(elements),
+        EitherCodec::Second(transposed) => order_of(&transposed.codec),
+    }
+}
+
 // The byte order of the codec of subchunks, where they are looked into.
 fn subchunks_order(codec: &InnerCodec) -> Option<Endianness>
     ensures { result ≡ subchunks_order codec.now }
 {
     match codec {
-        EitherCodec::First(ServedCodec::First(elements)) => order_of(elements),
-        EitherCodec::First(ServedCodec::Second(shards)) => order_of(&shards.inner),
+        EitherCodec::First(ServedCodec::First(elements)) => arranged_order(elements),
+        EitherCodec::First(ServedCodec::Second(shards)) => arranged_order(&shards.inner),
         EitherCodec::Second(_) => None,
     }
 }

@@ -6,13 +6,14 @@ ghost use Rattle.serde_json.specs.View.{view, items_view};
 ghost use Rattle.sharding_codec.specs.Configuration.{configuration_in, shape_in};
 ghost use Rattle.sharding_codec.specs.Configurations.{configuration_of};
 ghost use Rattle.array_fields.specs.MetadataFields.{configured_in};
-ghost use Rattle.array_metadata.specs.ArrayCodecs.{bytes_in, elements_in, shards_in, served_in, subchunks_in};
+ghost use Rattle.array_metadata.specs.ArrayCodecs.{bytes_in, elements_in, arranged_in, shards_in, served_in, subchunks_in};
 ghost use Rattle.array_metadata.specs.UnreadCodecs.{sole_shards, chunks_in};
 ghost use Rattle.array_metadata.specs.CodecNames.{codec_name, IsByteCodec, IsNamed, Names, listed, metadata_of};
 
 use crate::byte_codecs::{checked_codec, single_codec};
-use crate::unread::{first_unserved, innermost, test_names};
-use array_codecs::{ByteCodec, ByteCodecs, OpaqueCodec};
+use crate::transposes::{CodecValues, axis_order, codec_values};
+use crate::unread::{first_unserved, innermost, sole_shards as sole_value, test_names};
+use array_codecs::{ByteCodec, ByteCodecs, OpaqueCodec, TransposeCodec};
 use array_fields::{MetadataError, Placed};
 use codec_bytes::BytesCodec;
 use codec_chains::{BytesChain, EitherCodec};
@@ -29,8 +30,11 @@ pub type ElementCodec = EitherCodec<BytesCodec, BytesChain<BytesCodec, ByteCodec
 /// The codec of a shard's index.
 pub type IndexCodec = ElementCodec;
 
+/// The codec of elements inside a shard: `transpose` stands before it or not.
+pub type ArrangedCodec = EitherCodec<ElementCodec, TransposeCodec<ElementCodec>>;
+
 /// The codec of subchunks that are looked into: of elements, or of shards once more.
-pub type ServedCodec = EitherCodec<ElementCodec, ShardingCodec<ElementCodec, IndexCodec>>;
+pub type ServedCodec = EitherCodec<ArrangedCodec, ShardingCodec<ArrangedCodec, IndexCodec>>;
 
 /// The codec of a shard's subchunks, which are looked into or not.
 pub type InnerCodec = EitherCodec<ServedCodec, OpaqueCodec>;
@@ -104,7 +108,7 @@ pub fn unserved(name: &str) -> &'static str {
         "blosc" | "zlib" | "lz4" | "bz2" | "lzma" => {
             "of the codecs that compress, this program reads gzip and zstd alone"
         }
-        "transpose" => "this program reads no transposed chunks",
+        "transpose" => "this program reads transpose inside shards alone, where bytes follows it",
         _ => "this program does not know this codec",
     }
 }
@@ -140,19 +144,21 @@ fn listed_codec<'a>(
 }
 
 impl<'a> CodecList<'a> {
-    // The codecs that values name. Refused as the first that is refused.
+    // The codecs that values name, which stand in their list from a number on. Refused as the first that is refused.
     fn named(
         alloc: Global,
         values: &'a [Value],
         key: &'static str,
         place: String,
+        from: usize,
     ) -> Result<Self, MetadataError>
         ensures values { IfOk result (λ list. listed list.codecs.items ≡ items_view values.now) }
         ensures named { IfOk result (λ list. All IsNamed list.codecs.items) }
     {
         let mut codecs = Vec::new(alloc);
         for (index, value) in values.iter().enumerate() {
-            codecs.push(listed_codec(alloc, value, key, place.as_str(), index)?)?;
+            let number = from.saturating_add(index);
+            codecs.push(listed_codec(alloc, value, key, place.as_str(), number)?)?;
         }
         Ok(CodecList { codecs, place })
     }
@@ -239,17 +245,43 @@ fn bytes_codec(
     Ok(codec)
 }
 
-// The codec of elements that values name. Refused as the first that is refused, or as `UnsupportedChain`.
+// The codec of elements that values name, which stand in their list from a number on. Refused as the first that is refused, or as
+// `UnsupportedChain`.
 fn listed_elements(
     alloc: Global,
     values: &[Value],
     place: String,
+    from: usize,
     data_type: DataType,
 ) -> Result<ElementCodec, MetadataError>
     ensures read { IfOk result (λ codec. elements_in (items_view values.now) ≡ Ok codec) }
 {
-    let list = CodecList::named(alloc, values, "codecs", place)?;
+    let list = CodecList::named(alloc, values, "codecs", place, from)?;
     list.element_codec(alloc, data_type)
+}
+
+// The codec of elements that values name inside a shard with this number of axes, and `transpose` before it. Refused as the first that is
+// refused, or as `UnsupportedChain`.
+fn arranged_codec(
+    alloc: Global,
+    values: &[Value],
+    place: String,
+    data_type: DataType,
+    axes: usize,
+) -> Result<ArrangedCodec, MetadataError>
+    ensures read { IfOk result (λ codec. arranged_in axes (items_view values.now) ≡ Ok codec) }
+{
+    let CodecValues {
+        transpose,
+        elements,
+    } = codec_values(values);
+    let Some(transpose) = transpose else {
+        let codec = listed_elements(alloc, elements, place, 0, data_type)?;
+        return Ok(EitherCodec::First(codec));
+    };
+    let order = axis_order(alloc, transpose, place.as_str(), axes)?;
+    let codec = listed_elements(alloc, elements, place, 1, data_type)?;
+    Ok(EitherCodec::Second(TransposeCodec { order, codec }))
 }
 
 // The configuration of a shard. Refused as `from_value` refuses, or as `BadField` where a subchunk has other axes.
@@ -292,7 +324,7 @@ fn index_codec_in(
 ) -> Result<IndexCodec, MetadataError>
     ensures read { IfOk result (λ codec. elements_in (items_view values.now) ≡ Ok codec) }
 {
-    let list = CodecList::named(alloc, values, "index_codecs", place)?;
+    let list = CodecList::named(alloc, values, "index_codecs", place, 0)?;
     // The numbers of an index are of 64 bits.
     let codec = list.element_codec(alloc, DataType::UInt64)?;
     if is_of_fixed_size(&codec) {
@@ -330,9 +362,9 @@ fn innermost_shards(
     metadata: &Placed,
     data_type: DataType,
     axes: usize,
-) -> Result<ShardingCodec<ElementCodec, IndexCodec>, MetadataError>
+) -> Result<ShardingCodec<ArrangedCodec, IndexCodec>, MetadataError>
     requires named { Names (view metadata.now.value.now) (codes "sharding_indexed") }
-    ensures read { IfOk result (λ codec. shards_in elements_in (view metadata.now.value.now) ≡ Ok codec) }
+    ensures read { IfOk result (λ codec. shards_in (arranged_in axes) (view metadata.now.value.now) ≡ Ok codec) }
 {
     let ShardParts {
         configuration,
@@ -340,7 +372,7 @@ fn innermost_shards(
         index_codec,
     } = shard_parts(alloc, metadata, axes)?;
     let values = configuration.codecs.as_slice();
-    let inner = listed_elements(alloc, values, place, data_type)?;
+    let inner = arranged_codec(alloc, values, place, data_type, axes)?;
     let ShardingCodecConfigurationV1 {
         chunk_shape,
         index_location,
@@ -357,15 +389,19 @@ fn served_codec(
     data_type: DataType,
     axes: usize,
 ) -> Result<ServedCodec, MetadataError>
-    ensures read { IfOk result (λ codec. served_in (items_view values.now) ≡ Ok codec) }
+    ensures read { IfOk result (λ codec. served_in axes (items_view values.now) ≡ Ok codec) }
 {
-    let list = CodecList::named(alloc, values, "codecs", place)?;
-    match list.sole_sharding() {
-        Some(metadata) => Ok(EitherCodec::Second(innermost_shards(
-            alloc, metadata, data_type, axes,
-        )?)),
-        None => Ok(EitherCodec::First(list.element_codec(alloc, data_type)?)),
-    }
+    let Some(value) = sole_value(values) else {
+        let codec = arranged_codec(alloc, values, place, data_type, axes)?;
+        return Ok(EitherCodec::First(codec));
+    };
+    let key = "codecs";
+    let list = place.as_str();
+    let place = format!(in alloc; "{list}[0]")?;
+    let metadata = Placed { value, key, place };
+    let _name = metadata.extension_name(alloc)?;
+    let codec = innermost_shards(alloc, &metadata, data_type, axes)?;
+    Ok(EitherCodec::Second(codec))
 }
 
 // The codec of subchunks, which are not looked into where elements go through a codec that is not served.
@@ -376,10 +412,10 @@ fn inner_codec(
     data_type: DataType,
     axes: usize,
 ) -> Result<InnerCodec, MetadataError>
-    ensures read { IfOk result (λ codec. subchunks_in (items_view values.now) ≡ Ok codec) }
+    ensures read { IfOk result (λ codec. subchunks_in axes (items_view values.now) ≡ Ok codec) }
 {
     let elements = innermost(values);
-    match first_unserved(elements) {
+    match first_unserved(codec_values(elements).elements) {
         Some(_) => {
             test_names(alloc, elements, place.as_str())?;
             Ok(EitherCodec::Second(OpaqueCodec))
@@ -400,7 +436,7 @@ fn shards(
 ) -> Result<ArrayCodec, MetadataError>
     requires named { Names (view metadata.now.value.now) (codes "sharding_indexed") }
     ensures axes { IfOk result (λ codec. length codec.subchunk_shape ≡ axes) }
-    ensures read { IfOk result (λ codec. shards_in subchunks_in (view metadata.now.value.now) ≡ Ok codec) }
+    ensures read { IfOk result (λ codec. shards_in (subchunks_in axes) (view metadata.now.value.now) ≡ Ok codec) }
     ensures shape { IfOk result (λ codec. option_and_then shape_in (configured_in (codes "chunk_shape") (view metadata.now.value.now)) ≡ Some codec.subchunk_shape) }
 {
     let ShardParts {
@@ -431,7 +467,7 @@ pub fn array_codec(
     axes: usize,
 ) -> Result<ArrayCodec, MetadataError>
     ensures axes { IfOk result (λ codec. length codec.subchunk_shape ≡ axes) }
-    ensures read { IfOk result (λ codec. option_map (shards_in subchunks_in) (chunks_in (view codecs.now.value.now)) ≡ Some (Ok codec)) }
+    ensures read { IfOk result (λ codec. option_map (shards_in (subchunks_in axes)) (chunks_in (view codecs.now.value.now)) ≡ Some (Ok codec)) }
     ensures shape { IfOk result (λ codec.
         option_and_then shape_in (option_and_then (configured_in (codes "chunk_shape")) (chunks_in (view codecs.now.value.now))) ≡ Some codec.subchunk_shape) }
 {
@@ -439,7 +475,7 @@ pub fn array_codec(
         return Err(codecs.bad(alloc, "this is no list of codecs"));
     };
     let place = String::from_str(alloc, codecs.place.as_str())?;
-    let list = CodecList::named(alloc, values, "codecs", place)?;
+    let list = CodecList::named(alloc, values, "codecs", place, 0)?;
     match list.sole_sharding() {
         Some(metadata) => shards(alloc, metadata, data_type, axes),
         None => Err(list.refused(

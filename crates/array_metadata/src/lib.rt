@@ -10,10 +10,11 @@ mod floats;
 mod keys;
 mod metadata;
 mod raw_bits;
+mod transposes;
 mod unread;
 
 pub use byte_order::reversed_size;
-pub use codecs::{ArrayCodec, ElementCodec, IndexCodec, InnerCodec, ServedCodec};
+pub use codecs::{ArrangedCodec, ArrayCodec, ElementCodec, IndexCodec, InnerCodec, ServedCodec};
 pub use element_types::ElementType;
 pub use floats::{FloatFormat, half_to_f32};
 pub use keys::{ChunkKeys, KeyEncoding};

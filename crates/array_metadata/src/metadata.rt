@@ -316,7 +316,7 @@ fn codecs_of_cells(
     ensures axes { IfOk result (λ found. length found.subchunk ≡ vec_len cells.now.shape) }
     ensures codec { IfOk result (λ found. found.codec.subchunk_shape ≡ found.subchunk) }
     ensures subchunk_read { IfOk result (λ found. option_and_then shape_in (option_and_then (configured_in (codes "chunk_shape")) (chunks_in (view codecs.now.value.now))) ≡ Some found.subchunk) }
-    ensures read { IfOk result (λ found. option_map (shards_in subchunks_in) (chunks_in (view codecs.now.value.now)) ≡ Some (Ok found.codec)) }
+    ensures read { IfOk result (λ found. option_map (shards_in (subchunks_in (vec_len cells.now.shape))) (chunks_in (view codecs.now.value.now)) ≡ Some (Ok found.codec)) }
     ensures unread { IfOk result (λ found. option_map string_bytes found.unread ≡ unread_codec_in (chunks_in (view codecs.now.value.now))) }
 {
     let part_type = cells.element_type.part_type();
@@ -353,7 +353,7 @@ fn with_codecs(
     ensures subchunk_read { IfOk result (λ metadata.
         option_and_then shape_in (option_and_then (configured_in (codes "chunk_shape")) (option_and_then chunks_in (get (codes "codecs") (view whole.now.value.now)))) ≡ Some metadata.subchunk) }
     ensures codecs_read { IfOk result (λ metadata.
-        option_map (shards_in subchunks_in) (option_and_then chunks_in (get (codes "codecs") (view whole.now.value.now))) ≡ Some (Ok metadata.codec)) }
+        option_map (shards_in (subchunks_in (vec_len metadata.shape))) (option_and_then chunks_in (get (codes "codecs") (view whole.now.value.now))) ≡ Some (Ok metadata.codec)) }
     ensures unread { IfOk result (λ metadata.
         option_map string_bytes metadata.unread ≡ unread_codec_in (option_and_then chunks_in (get (codes "codecs") (view whole.now.value.now)))) }
 {
@@ -397,8 +397,8 @@ impl ArrayMetadata {
     /// nests deeper than is read, has a number past the range of a float, is no object, of another `zarr_format` than 3, of another
     /// `node_type` than `array`, has an unknown member that must be understood, or `storage_transformers`; and then for `shape` (whole
     /// numbers), `data_type` (`bool`, `int8` to `int64`, `uint8` to `uint64`, floats, complex numbers, raw bits or times), `chunk_grid` (`regular`), `chunk_key_encoding` (`default` or `v2`), `fill_value` (an element of the type, or of one that
-    /// is not read any value) and `codecs` (`sharding_indexed` alone, with `bytes`, `bytes` and `crc32c`, `sharding_indexed` once more
-    /// inside, or codecs of other names, which are not looked into) in turn: each with its place, and a sentence that says what is not
+    /// is not read any value) and `codecs` (`sharding_indexed` alone, with `bytes`, `crc32c`, `gzip` or `zstd` behind it, `transpose` before
+    /// it, `sharding_indexed` once more inside, or codecs of other names, which are not looked into) in turn: each with its place, and a sentence that says what is not
     /// served; or as `OutOfMemory`. Where elements go through a codec of another name, their type may have any name.
     pub fn from_text(alloc: Global, text: &str) -> Result<Self, MetadataError>
         ensures served { OnOk result (IsServedText text.now) }

@@ -1,8 +1,11 @@
 // Codecs of elements that are not served, by their names.
-ghost use Rattle.std.specs.Prelude.{◌≡◌, true, OnOk, IfOk, option_map, string_bytes};
+ghost use Rattle.std.specs.Prelude.{◌≡◌, true, Some, OnOk, IfOk, IfSome, codes, option_map, string_bytes};
 ghost use Rattle.serde_json.specs.View.{view, items_view};
+ghost use Rattle.codec_metadata.specs.Metadata.{name_in};
+ghost use Rattle.array_metadata.specs.Transposes.{untransposed};
 ghost use Rattle.array_metadata.specs.UnreadCodecs.{sole_shards, chunks_in, configured_codecs, innermost, is_element_codec, unserved_in, has_name, have_names, unread_codec_in};
 
+use crate::transposes::codec_values;
 use array_fields::{MetadataError, Placed};
 use codec_metadata::metadata_name;
 use serde_json::Value;
@@ -10,8 +13,9 @@ use std::alloc::{AllocError, Global};
 
 // The metadata of the only codec of a list, where it is the sharding codec.
 #[tactic(auto, using(crate::proofs::Lengths::not_sole_items))]
-fn sole_shards(values: &[Value]) -> Option<&Value>
-    ensures { option_map (λ metadata. view metadata.now) result ≡ sole_shards (items_view values.now) }
+pub fn sole_shards(values: &[Value]) -> Option<&Value>
+    ensures sole { option_map (λ metadata. view metadata.now) result ≡ sole_shards (items_view values.now) }
+    ensures named { IfSome result (λ metadata. name_in (view metadata.now) ≡ Some (codes "sharding_indexed")) }
 {
     if values.len() != 1 {
         return None;
@@ -46,7 +50,7 @@ pub fn innermost(values: &[Value]) -> &[Value]
     }
 }
 
-// Whether elements are served with the codec of a name.
+// Whether elements are served with the codec of a name, behind `transpose` or without it.
 fn is_element_codec(name: &str) -> bool
     ensures { result ≡ is_element_codec name.now }
 {
@@ -97,7 +101,8 @@ pub fn unread_codec(alloc: Global, codecs: &Placed) -> Result<Option<String>, Al
     let Some(metadata) = sole_shards(values) else {
         return Ok(None);
     };
-    match first_unserved(innermost(configured_codecs(metadata))) {
+    let elements = innermost(configured_codecs(metadata));
+    match first_unserved(codec_values(elements).elements) {
         Some(name) => Ok(Some(String::from_str(alloc, name)?)),
         None => Ok(None),
     }

@@ -14,7 +14,7 @@ pub returns-clause-read : goal.returns-clause-read
 returns-clause-read c =
     let same : c.in_ok-configuration.field-0.configuration.codecs.items ≡ c.as_slice.result.now =
     grind (arith, c.as_slice.ensures.value, c.in_ok-configuration.configuration-is) in
-    let inner = ap (λ items. subchunks_in (items_view items)) same ∙ c.in_ok-inner.ensures.read in
-    let said = shards_read subchunks_in (view c.args.metadata.now.value.now) _ _ _ c.requires.named c.in_ok-configuration.ensures.read
+    let inner = ap (λ items. subchunks_in c.args.axes (items_view items)) same ∙ c.in_ok-inner.ensures.read in
+    let said = shards_read (subchunks_in c.args.axes) (view c.args.metadata.now.value.now) _ _ _ c.requires.named c.in_ok-configuration.ensures.read
     inner c.in_ok-configuration.ensures.index in
     grind (arith, said, c.new.ensures, c.in_ok-configuration.configuration-is, c.in_ok-configuration.index_codec-is)
