@@ -100,7 +100,7 @@ typedef struct zs_stored {
 
 /* What becomes of an object, beside what zs_told says. Refused: only `room` (64) or `subchunk` (9) is written. */
 typedef struct zs_change {
-    uint64_t room;        /* how many numbers the index has, also where they need room */
+    uint64_t room;        /* how many numbers the index has, also where they need room; of zs_encode how many bytes the object has */
     uint64_t subchunk;    /* whose index entry is bad, the lowest one */
     uint64_t object_size; /* how long the object is then */
     uint32_t kind;        /* ZS_KEEP, ZS_ERASE, ZS_REPLACE or ZS_EXTEND */
@@ -163,6 +163,26 @@ zs_status zs_check(const zs_layout *layout, const zs_stored *stored, uint8_t *ki
 zs_status zs_plan_subset(const zs_layout *layout, uint64_t object_size, const uint64_t *numbers, size_t numbers_count,
                          const zs_subset *subset, uint64_t *plan, size_t plan_room, zs_told *told);
 
+/* A read of listed elements, in any order and also twice: `points` are their coordinates, one after the other. For each subchunk in which one
+ * lies, ascending, a row of three numbers (ZS_ROW_SUBCHUNK, ZS_ROW_OFFSET, ZS_ROW_SIZE), and for each point two numbers: places[2 * i] is the
+ * number of its row, and places[2 * i + 1] the row-major number of the element in the subchunk. Ok: told->room is the count of rows.
+ * ZS_ROOM_TOO_SMALL: told->room is the count of numbers that `rows` must have, at most three for each point. ZS_BAD_INDEX_ENTRY: all is written,
+ * a row with a bad entry as one that is absent; told->room is the count of rows. Refused, in this order, as the layout is; as 5 where `points` and
+ * `places` have other than a number for each axis and two for each point; as 4; as 5 for another count of index numbers; as 64; then 9; or as 1. */
+#define ZS_POINT_ROW 3
+zs_status zs_plan_points(const zs_layout *layout, const zs_stored *stored, const uint64_t *points, size_t points_count, uint64_t *rows,
+                         size_t rows_room, uint64_t *places, size_t places_count, zs_told *told);
+
+/* The same as zs_plan_subset without an index, for the chunks of an array, whose shape need not be divided evenly by that of its chunks: a row for each chunk that
+ * the subset meets, with its row-major number in the grid of chunks in ZS_ROW_SUBCHUNK and ZS_ABSENT as offset and size. Along axis a its
+ * coordinate in the grid, of which its key is made, is (subset->start[a] + row[ZS_ROW_IN_ANSWER(axes) + a]) / chunk_shape[a]. Where chunks are
+ * shards, the subset of a shard to plan is ZS_ROW_IN_SUBCHUNK and ZS_ROW_SHAPE; where they are not, zs_put takes the row with a layout whose
+ * `subchunk_shape` is the chunk's. Ok: told->room is the count of rows. ZS_ROOM_TOO_SMALL: told->room is the count of numbers that `rows` must
+ * have. Refused, in this order, as 3; 6 for an axis of a chunk that is 0; 2 where the chunks have 2^64 elements, or are 2^60; 3, 4, 2; 64; or as
+ * 1. */
+zs_status zs_meet(const uint64_t *shape, size_t shape_axes, const uint64_t *chunk_shape, size_t chunk_axes, const zs_subset *subset,
+                  uint64_t *rows, size_t rows_room, zs_told *told);
+
 /* Puts a row's part of a decoded subchunk into the answer. `decoded` has all elements of the subchunk, in row-major order. The answer is an
  * array of `answer_shape`; a row may be put into another array than its plan's subset, after its "in answer" numbers were moved there. Rows
  * of one plan may be put in any order, and again. Two calls may not run at one time on one answer, also where their rows share no element
@@ -199,6 +219,14 @@ zs_status zs_index_write(const zs_layout *layout, const uint64_t *numbers, size_
  * layout is; as 64; as 5 for another count of sizes; as 2; or as 1. */
 zs_status zs_lay_out(const zs_layout *layout, const uint64_t *sizes, size_t sizes_count, uint64_t *numbers, size_t numbers_room, zs_change *change);
 
+/* The object of such a shard: `encodings` has the bytes of those that are stored, one behind the other in row-major order, and `object` gets
+ * them and the index, which stands before or behind them. change->kind is ZS_REPLACE, also where no subchunk is stored, and change->object_size
+ * and change->room are how long the object is; ZS_ROOM_TOO_SMALL: change->room is, which depends on the layout and the sizes alone: ask with
+ * `encodings` and `object` NULL and 0. Refused, in this order, as the layout is; as 5 for another count of sizes; as 2; as 64; as 5 where the
+ * encodings have other bytes than their sizes say; or as 1. */
+zs_status zs_encode(const zs_layout *layout, const uint64_t *sizes, size_t sizes_count, const uint8_t *encodings, size_t encodings_size,
+                    uint8_t *object, size_t object_room, zs_change *change);
+
 /* The compaction of a shard. ZS_KEEP: index and slices have as many bytes as the object, and `numbers` were not written. ZS_REPLACE: `numbers`
  * get the new index; each slice is copied from where the old index says to where the new one does, in any order, to another object. Slices that
  * share bytes are copied once each. Refused, in this order, as the layout is; as 64; as 5 for another count of old numbers; as 7; as 9 for the
@@ -213,6 +241,13 @@ zs_status zs_compact_plan(const zs_layout *layout, const zs_stored *stored, uint
  * for the lowest entry that does not lie in the data part; as 3, 4; as 5 for another count of sizes; as 2; or as 1. */
 zs_status zs_write_plan(const zs_layout *layout, const zs_stored *stored, const zs_subset *subset, const uint64_t *sizes, size_t sizes_count,
                         uint64_t *numbers, size_t numbers_room, zs_change *change);
+
+/* The elements of a subchunk that the codec `bytes` stored: numbers of `number_size` bytes each, least significant byte first, as zs_put takes
+ * them, or most significant first where `is_big_endian` is not 0. The same call encodes. A number is a component of an element: of a complex
+ * one it has half of its bytes. Refused, in this order, as 12 where a number has no bytes; 15 where `encoded_size` is no multiple of its size; 5
+ * where `elements_size` is another one. */
+zs_status zs_decode_plain(const uint8_t *encoded, size_t encoded_size, uint64_t number_size, uint32_t is_big_endian, uint8_t *elements,
+                          size_t elements_size);
 
 /* Writes the content of a gzip file (RFC 1952), or of a zstd file (RFC 8878), to the front of content; told->room is its length. Refused as 15
  * where the bytes are no such file, as 64 where their content is longer than the room, by any length, and as either where they are damaged

@@ -51,6 +51,8 @@ def _loaded():
         "zs_index_range": [_pointer, ctypes.c_uint64, _pointer],
         "zs_index_read": [_pointer, _pointer, _size, _pointer, _size, _pointer],
         "zs_plan_subset": [_pointer, ctypes.c_uint64, _pointer, _size, _pointer, _pointer, _size, _pointer],
+        "zs_plan_points": [_pointer, _pointer, _pointer, _size, _pointer, _size, _pointer, _size, _pointer],
+        "zs_meet": [_pointer, _size, _pointer, _size, _pointer, _pointer, _size, _pointer],
         "zs_put": [_pointer, _pointer, _size, _pointer, _size, _pointer, _size, _pointer, _size],
         "zs_put_fill": [_pointer, _size, _pointer, _size, _pointer, _size, _pointer, _size],
         "zs_fetch_plan": [_pointer, _size, ctypes.c_uint64, _pointer, _size, _pointer, _size, _pointer],
@@ -58,8 +60,10 @@ def _loaded():
         "zs_index_write": [_pointer, _pointer, _size, _pointer, _size, _pointer],
         "zs_check": [_pointer, _pointer, _pointer, _size, _pointer],
         "zs_lay_out": [_pointer, _pointer, _size, _pointer, _size, _pointer],
+        "zs_encode": [_pointer, _pointer, _size, _pointer, _size, _pointer, _size, _pointer],
         "zs_compact_plan": [_pointer, _pointer, _pointer, _size, _pointer],
         "zs_write_plan": [_pointer, _pointer, _pointer, _pointer, _size, _pointer, _size, _pointer],
+        "zs_decode_plain": [_pointer, _size, ctypes.c_uint64, ctypes.c_uint32, _pointer, _size],
         "zs_gzip_decode": [_pointer, _size, _pointer, _size, _pointer],
         "zs_zstd_decode": [_pointer, _size, _pointer, _size, _pointer],
     }
@@ -124,6 +128,14 @@ def _decoded(call, encoded, size):
     return memoryview(content)[: told.room]
 
 
+def plain_decode(encoded, number_size, *, big_endian):
+    """The elements of numbers that the codec `bytes` stored, each of so many bytes, least significant byte first. It encodes them too."""
+    elements = bytearray(len(memoryview(encoded).cast("B")))
+    with _View(encoded) as data, _View(elements, writable=True) as room:
+        _checked(_library.zs_decode_plain(data.at, data.size, number_size, big_endian, room.at, room.size))
+    return elements
+
+
 def gzip_decode(encoded, size):
     """The content of a gzip file (RFC 1952), of at most `size` bytes."""
     return _decoded(_library.zs_gzip_decode, encoded, size)
@@ -144,6 +156,46 @@ class Row:
     @property
     def is_absent(self):
         return self.offset == ABSENT and self.size == ABSENT
+
+
+class Chunk:
+    """What a subset of an array and one of its chunks have in common: the chunk's coordinates in the grid, the start of the part in the chunk and
+    in the answer, and its shape; and the row of numbers, for `Layout.put` of whole chunks."""
+
+    def __init__(self, numbers, start, chunk_shape):
+        axes, self.row = len(chunk_shape), Row(numbers)
+        self.start, self.in_answer, self.shape = (tuple(numbers[3 + axes * i : 3 + axes * (i + 1)]) for i in range(3))
+        self.coordinates = tuple((first + place) // length for first, place, length in zip(start, self.in_answer, chunk_shape))
+
+    def put(self, elements, answer, shape, element_size):
+        """Puts the part's elements, an array of its shape, into an answer of a shape."""
+        row = Row([*self.row.numbers[:3], *(0 for _ in self.shape), *self.in_answer, *self.shape])
+        Layout(self.shape, self.shape, element_size).put(row, elements, answer, shape)
+
+
+def _rows(call, axes):
+    """The rows that a call writes into a room, which it is asked for first."""
+    told, room = _Told(), _numbers(())
+    status = call(room, told)
+    if status == ROOM_TOO_SMALL:
+        room = (ctypes.c_uint64 * told.room)()
+        status = call(room, told)
+    _checked(status, told)
+    length = 3 + 3 * axes
+    return [room[length * i : length * (i + 1)] for i in range(told.room)]
+
+
+def meet(shape, chunk_shape, start, lengths):
+    """The chunks of an array of a shape that a subset of it meets, ascending by their number in the grid."""
+    axes, chunk_axes, first, many = _numbers(shape), _numbers(chunk_shape), _numbers(start), _numbers(lengths)
+    subset = _Subset(first, len(first), many, len(many))
+
+    def call(room, told):
+        return _library.zs_meet(
+            axes, len(axes), chunk_axes, len(chunk_axes), ctypes.addressof(subset), room, len(room), ctypes.addressof(told)
+        )
+
+    return [Chunk(row, start, chunk_shape) for row in _rows(call, len(shape))]
 
 
 class Change:
@@ -201,21 +253,36 @@ class Layout:
 
     def plan(self, object_size, index, start, shape):
         """The rows of a read of a subset, ascending by their subchunks."""
-        start, shape, told, room = _numbers(start), _numbers(shape), _Told(), _numbers(())
+        start, shape = _numbers(start), _numbers(shape)
         subset = _Subset(start, len(start), shape, len(shape))
 
-        def call():
+        def call(room, told):
             return _library.zs_plan_subset(
                 self._at, object_size, index, len(index), ctypes.addressof(subset), room, len(room), ctypes.addressof(told)
             )
 
-        status = call()
-        if status == ROOM_TOO_SMALL:
-            room = (ctypes.c_uint64 * told.room)()
-            status = call()
-        _checked(status, told)
-        length = 3 + 3 * len(shape)
-        return [Row(room[length * i : length * (i + 1)]) for i in range(told.room)]
+        return [Row(row) for row in _rows(call, len(shape))]
+
+    def plan_points(self, object_size, index, points):
+        """The rows of a read of elements with these coordinates, ascending by their subchunks; and for each element the number of its row, and its
+        own row-major number in the subchunk."""
+        stored, flat = _Stored(object_size, index, len(index)), _numbers([it for point in points for it in point])
+        told, rows, places = _Told(), (ctypes.c_uint64 * (3 * len(points)))(), (ctypes.c_uint64 * (2 * len(points)))()
+        _checked(
+            _library.zs_plan_points(
+                self._at, ctypes.addressof(stored), flat, len(flat), rows, len(rows), places, len(places), ctypes.addressof(told)
+            ),
+            told,
+        )
+        return [Row(rows[3 * i : 3 * i + 3]) for i in range(told.room)], [tuple(places[2 * i : 2 * i + 2]) for i in range(len(points))]
+
+    def read_points(self, fetch, object_size, points, decode, fill_value):
+        """The elements with these coordinates, one after the other. `object_size` is None for a shard without an object."""
+        index, size = self.index(None if object_size is None else fetch(*self.index_range(object_size))), self.element_size
+        rows, places = self.plan_points(object_size or 0, index, points)
+        decoded = [None if row.is_absent else memoryview(decode(fetch(row.offset, row.size))).cast("B") for row in rows]
+        found = (fill_value if decoded[row] is None else decoded[row][size * at : size * (at + 1)] for row, at in places)
+        return b"".join(bytes(it) for it in found)
 
     def put(self, row, decoded, answer, shape):
         """Puts a row's part of a decoded subchunk into an answer of a shape. Threads may call it on one answer."""
@@ -277,6 +344,22 @@ class Layout:
             return _library.zs_lay_out(self._at, sizes, len(sizes), room, len(room), ctypes.addressof(told))
 
         return self._change(call)
+
+    def encode(self, encodings):
+        """The object of a whole shard of encoded subchunks, one of each in row-major order, None where one is all fill value."""
+        sizes = _numbers([ABSENT if it is None else len(memoryview(it).cast("B")) for it in encodings])
+        stored, told = b"".join(it for it in encodings if it is not None), _Change()
+
+        def call(given, room):
+            with _View(given) as source, _View(room, writable=True) as to:
+                return _library.zs_encode(self._at, sizes, len(sizes), source.at, source.size, to.at, to.size, ctypes.addressof(told))
+
+        whole, status = bytearray(), call(b"", bytearray())
+        if status == ROOM_TOO_SMALL:
+            whole = bytearray(told.room)
+            status = call(stored, whole)
+        _checked(status, told)
+        return whole
 
     def compaction(self, object_size, index):
         """The compaction of a shard, and the copies that it takes: from, to and length. Where its kind is KEEP the shard is compact."""

@@ -64,7 +64,7 @@ def header():
     with open(HEADER, encoding="utf-8") as file:
         text = re.sub(r"/\*.*?\*/", " ", file.read(), flags=re.S)
     source = ""
-    for name in ("exports", "decode", "layout"):
+    for name in ("exports", "decode", "encode", "layout"):
         with open(f"{CRATE}/src/{name}.rt", encoding="utf-8") as file:
             source += re.sub(r"//.*", "", file.read())
     prototypes = re.findall(r"^(zs_status|size_t|uint32_t) (zs_\w+)\(([^)]*)\);", text, re.M)
@@ -234,15 +234,16 @@ def test():
         import zarr_sharding
 
         helpers = (points, product, crc32c)
-        stored = list(library_writes.stored_cases(f"{TOP}/crates/test_worked_arrays/data", empty_case, helpers))
+        stored = list(library_writes.stored_cases(f"{TOP}/crates/test_tools/data", empty_case, helpers))
         cases = [Case(seed, *it) for seed, it in enumerate(CASES)] + stored
         reads = sum(try_case(zarr_sharding, folder, case) for case in cases)
         plain = [case for case in cases if case.decode is bytes]
         changes = sum(library_writes.try_writes(zarr_sharding, folder, case, helpers, words_of_case(case)) for case in plain)
-        refused = try_refusals(zarr_sharding) + library_writes.try_hostile(zarr_sharding, TOP)
+        met = try_chunks(zarr_sharding)
+        refused = try_refusals(zarr_sharding) + library_writes.try_encodings(zarr_sharding) + library_writes.try_hostile(zarr_sharding, TOP)
         decoded = library_decodes.try_decodes(zarr_sharding, TOP)
         run(f"{folder}/fuzz", "1", "20000", stdout=subprocess.DEVNULL)
-    print(f"the C library: {reads} subsets read and {changes} objects changed from C and from Python, {refused} refusals, {decoded} decodings, 20000 rounds by chance")
+    print(f"the C library: {reads} subsets read, {met} met by chunks of arrays, and {changes} objects changed from C and from Python, {refused} refusals, {decoded} decodings, 20000 rounds by chance")
     return 0
 
 
@@ -270,8 +271,23 @@ def try_case(zarr_sharding, folder, case):
         layout.read(lambda offset, size: case.object[offset : offset + size], len(case.object), start, lengths, answer, case.decode, case.fill)
         if answer != wanted:
             sys.exit(f"Python: {words}: {answer.hex()}, not {wanted.hex()}")
+        try_points(layout, case)
         try_fetches(layout, case, start, lengths, wanted, gap=case.chance.choice((0, 0, 1, 3, 20, 2**64 - 1)))
     return 25
+
+
+def try_points(layout, case):
+    """Elements in any order, some of them twice."""
+    asked = [tuple(case.chance.randrange(n) for n in case.shape) for _ in range(case.chance.randrange(8))]
+    fetched = []
+
+    def fetch(offset, size):
+        fetched.append((offset, size))
+        return case.object[offset : offset + size]
+
+    found = layout.read_points(fetch, len(case.object), asked, case.decode, case.fill)
+    if found != b"".join(case.elements[it] for it in asked) or len(set(fetched)) < len(fetched):
+        sys.exit(f"elements {asked}: {found.hex()} by {fetched}")
 
 
 def try_fetches(layout, case, start, lengths, wanted, gap):
@@ -295,6 +311,35 @@ def try_fetches(layout, case, start, lengths, wanted, gap):
         sys.exit(f"fetches with gap {gap}: {ranges}, not {merged}")
 
 
+# arrays whose shape no chunk need divide evenly, and the shape of a chunk
+ARRAYS = [((9, 7), (4, 3)), ((5,), (8,)), ((), ()), ((3, 0), (2, 2)), ((4, 6, 5), (2, 4, 5)), ((10, 3), (1, 3))]
+
+
+def try_chunks(zarr_sharding):
+    """Subsets of arrays, put together from the chunks that they meet; all others are missed."""
+    count = 0
+    for seed, (shape, chunk) in enumerate(ARRAYS):
+        chance, element = random.Random(seed), {it: bytes([k & 255, k >> 8]) for k, it in enumerate(points(shape))}
+        layout = zarr_sharding.Layout(chunk, chunk, 2)
+        for _ in range(40):
+            start = [chance.randint(0, n) for n in shape]
+            lengths = [chance.randint(0, n - s) for n, s in zip(shape, start)]
+            inside = [tuple(s + p for s, p in zip(start, it)) for it in points(lengths)]
+            met, answer, again = zarr_sharding.meet(shape, chunk, start, lengths), bytearray(2 * len(inside)), bytearray(2 * len(inside))
+            for part in met:
+                first = [c * n for c, n in zip(part.coordinates, chunk)]
+                whole = [tuple(f + p for f, p in zip(first, it)) for it in points(chunk)]
+                layout.put(part.row, b"".join(element.get(it, b"\xff\xff") for it in whole), answer, lengths)
+                some = [tuple(f + s + p for f, s, p in zip(first, part.start, it)) for it in points(part.shape)]
+                part.put(b"".join(element[it] for it in some), again, lengths, 2)
+            wanted = sorted({tuple(x // n for x, n in zip(it, chunk)) for it in inside})
+            numbers = [sum(c * product(-(-n // m) for n, m in zip(shape[a + 1 :], chunk[a + 1 :])) for a, c in enumerate(it)) for it in wanted]
+            if [it.coordinates for it in met] != wanted or [it.row.subchunk for it in met] != numbers or not answer == again == b"".join(element[it] for it in inside):
+                sys.exit(f"chunks of {shape} in {chunk} that {start} {lengths} meets: {[it.coordinates for it in met]}, not {wanted}")
+            count += 1
+    return count
+
+
 def try_refusals(zarr_sharding):
     layout = zarr_sharding.Layout((4, 4), (2, 2), 1, crc32c=True)
     part, numbers = bytes(4), [2**64 - 1] * 8
@@ -314,6 +359,13 @@ def try_refusals(zarr_sharding):
         (5, None, lambda: layout.put(layout.plan(68, read, (0, 0), (4, 4))[0], part, bytearray(15), (4, 4))),
         (12, None, lambda: layout.put_fill(layout.plan(68, read, (0, 0), (4, 4))[0], b"", bytearray(16), (4, 4))),
         (6, None, lambda: zarr_sharding.Layout((4, 4), (3, 2), 1).index_range(100)), (6, None, lambda: zarr_sharding.Layout((0,), (1,), 1).index_range(100)),
+        (4, None, lambda: layout.plan_points(68, read, [(0, 0), (4, 0)])), (5, None, lambda: layout.plan_points(68, read, [(0, 0), (4,)])),
+        (5, None, lambda: layout.plan_points(68, as_numbers(numbers[:-2]), [(0, 0)])),
+        (9, 2, lambda: layout.plan_points(68, as_numbers([*numbers[:4], 65, 4, 0, numbers[0]]), [(3, 3), (2, 1), (0, 0)])),
+        (3, None, lambda: zarr_sharding.meet((4,), (2, 2), (0,), (1,))), (6, None, lambda: zarr_sharding.meet((4,), (0,), (0,), (1,))),
+        (2, None, lambda: zarr_sharding.meet((2**63, 3), (2**62, 2), (0, 0), (1, 1))), (2, None, lambda: zarr_sharding.meet((2**64 - 1,), (2,), (0,), (1,))),
+        (2, None, lambda: zarr_sharding.meet((2**61,), (1,), (0,), (1,))), (4, None, lambda: zarr_sharding.meet((5,), (2,), (5,), (1,))),
+        (3, None, lambda: zarr_sharding.meet((5,), (2,), (0, 0), (1, 1))),
         (3, None, lambda: zarr_sharding.Layout((4,), (2, 2), 1).index_range(100)), (2, None, lambda: zarr_sharding.Layout((2**63, 2), (1, 1), 1).index_range(100)),
     ]
     entries = as_numbers([*numbers[:2], 0, 4, numbers[0], 5, 65, 4])

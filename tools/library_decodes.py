@@ -59,8 +59,15 @@ def try_decodes(zarr_sharding, top):
     file = packed.compress(b"abcd" * 10) + packed.flush()
     if bytes(zarr_sharding.gzip_decode(file, 50)) != b"abcd" * 10:
         sys.exit("gzip_decode gives another content")
+    for form, numbers in {"B": (1, 2), "h": (-2, 3, 500), "I": (), "q": (-5, 2**40), "d": (1.5, -0.25, 3e300)}.items():
+        size, little, big = struct.calcsize(form), *(struct.pack(f"{order}{len(numbers)}{form}", *numbers) for order in "<>")
+        found = [zarr_sharding.plain_decode(it, size, big_endian=it is big) for it in (little, big)]
+        if found != [little, little] or zarr_sharding.plain_decode(little, size, big_endian=True) != big:
+            sys.exit(f"plain_decode of {numbers}: {found}")
+        tried += 1
     wanted = [
         (64, lambda: zarr_sharding.gzip_decode(file, 39)), (15, lambda: zarr_sharding.gzip_decode(file[:-1], 40)),
+        (12, lambda: zarr_sharding.plain_decode(b"", 0, big_endian=True)), (15, lambda: zarr_sharding.plain_decode(b"abc", 2, big_endian=False)),
         (15, lambda: zarr_sharding.zstd_decode(file, 40)), (15, lambda: zarr_sharding.zstd_decode(b"", 40)),
     ]
     for status, call in wanted:

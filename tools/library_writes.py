@@ -1,5 +1,6 @@
 """Writes and compactions by the C library, from C and from Python, against a shard that is written here by the words of the standard and of
 docs/FORMAT.md; and the objects that nobody wrote as a shard."""
+import ctypes
 import json
 import os
 import re
@@ -136,6 +137,49 @@ def of_file(path):
         return file.read()
 
 
+def try_encode(layout, reference, slices, path, words):
+    """The object of encoded subchunks, some of which are not stored, or none is, from C and from Python."""
+    for some in (slices, [None] * len(slices)):
+        wanted, sizes = reference.whole(some), ",".join(str(ABSENT if it is None else len(it)) for it in some)
+        told = subprocess.run([*words, sizes], input=b"".join(it or b"" for it in some), capture_output=True, check=False)
+        if layout.encode(some) != wanted or told.stdout != f"{REPLACE}\n".encode() or of_file(path) != wanted:
+            sys.exit(f"{words}: another object of {sizes}, {told.stdout} {told.stderr.decode()}")
+
+
+# Shards of four elements of one byte in two subchunks: the flags of the index, the encodings, and the object. The checksum of 32 bytes of 255 is
+# that of RFC 3720, B.4.
+NONE, FIRST = "ff" * 16, "00000000000000000200000000000000"
+OBJECTS = [
+    (0, [b"\5\6", None], "0506" + FIRST + NONE), (1, [None, b"\7"], NONE + "2000000000000000" + "0100000000000000" + "07"),
+    (2, [b"\5\6", b""], "0506" + "0000000000000000" + "0000000000000002" + "0000000000000002" + "0000000000000000"),
+    (4, [None, None], NONE + NONE + "43aba862"), (5, [None, None], NONE + NONE + "43aba862"),
+]
+# the flags, the sizes, how many bytes are given and have room, and the status with the room that is told
+ENCODINGS_REFUSED = [
+    (8, [2], 0, 0, (65, 0)), (0, [2], 1, 0, (5, 0)), (0, [2, ABSENT, 2], 4, 36, (5, 0)), (0, [2**64 - 2, 2], 0, 0, (2, 0)),
+    (0, [2**63, 2**63 - 34], 0, 0, (64, 2**64 - 2)), (0, [2**63, 2**63 - 33], 0, 0, (2, 0)), (0, [2, ABSENT], 2, 33, (64, 34)),
+    (4, [2, ABSENT], 1, 37, (64, 38)), (0, [2, ABSENT], 1, 34, (5, 0)), (1, [2, ABSENT], 3, 50, (5, 0)),
+]
+
+
+def try_encodings(zarr_sharding):
+    for flags, encodings, wanted in OBJECTS:
+        layout = zarr_sharding.Layout((4,), (2,), 1, at_start=flags & 1 > 0, big_endian=flags & 2 > 0, crc32c=flags & 4 > 0)
+        if layout.encode(encodings) != bytes.fromhex(wanted):
+            sys.exit(f"encode: {layout.encode(encodings).hex()}, not {wanted}")
+    for flags, sizes, given, room, wanted in ENCODINGS_REFUSED:
+        layout, told = zarr_sharding.Layout((4,), (2,), 1), zarr_sharding._Change()
+        layout._held.index = flags
+        encodings, object, numbers = bytes(given), bytearray(b"\x55" * room), zarr_sharding._numbers(sizes)
+        with zarr_sharding._View(encodings) as source, zarr_sharding._View(object, writable=True) as to:
+            status = zarr_sharding._library.zs_encode(
+                layout._at, numbers, len(sizes), source.at, source.size, to.at, to.size, ctypes.addressof(told)
+            )
+        if (status, told.room) != wanted or told.object_size or told.kind or object != b"\x55" * room:
+            sys.exit(f"encode {sizes} refused as {status} {told.room}, not as {wanted}")
+    return len(ENCODINGS_REFUSED)
+
+
 def try_writes(zarr_sharding, folder, case, helpers, words):
     """Writes and compactions by chance, one over the other, from C and from Python: each object is the one that is wanted."""
     reference = Reference(case, *helpers)
@@ -146,6 +190,7 @@ def try_writes(zarr_sharding, folder, case, helpers, words):
     if applied(None, laid, layout.pieces(laid, range(len(slices)), slices)) != reference.whole(slices):
         sys.exit(f"{words}: another lay-out")
     data, path, turns = case.object, f"{folder}/changed", 20
+    try_encode(layout, reference, slices, path, [f"{folder}/change_shard", "encode", path, *words])
     for turn in range(turns):
         if turn == turns // 2:
             data = None

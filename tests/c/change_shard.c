@@ -1,6 +1,7 @@
-/* change_shard write|compact FILE SHAPE SUBCHUNK ELEMENT_SIZE INDEX FILL_VALUE [START LENGTHS]: writes standard input, the elements of a subset, into
- * a shard whose subchunks are stored as their elements, or compacts it. An absent file is a shard without an object; a shard of which no subchunk is
- * left is removed. Writes the kind of the change to standard output. Words are those of read_subset. */
+/* change_shard write|compact|encode FILE SHAPE SUBCHUNK ELEMENT_SIZE INDEX FILL_VALUE [START LENGTHS | SIZES]: writes standard input, the elements of
+ * a subset, into a shard whose subchunks are stored as their elements, or compacts it. An absent file is a shard without an object; a shard of which no
+ * subchunk is left is removed. Or makes a file of encoded subchunks of these sizes, which standard input has one behind the other. Writes the kind of
+ * the change to standard output. Words are those of read_subset. */
 #include "shard.h"
 
 static void store(int file, uint64_t offset, const uint8_t *bytes, uint64_t size)
@@ -117,11 +118,38 @@ static void write_subset(const char *path, int file, const zs_layout *layout, co
     free(update), free(plan), free(slices), free(sizes), free(numbers);
 }
 
+static void encode(int file, const zs_layout *layout, uint64_t count, const char *words)
+{
+    uint64_t *sizes = room_for(count, sizeof *sizes), stored = 0;
+    char *end = NULL;
+    for (uint64_t k = 0; k < count; k++, words = end + (*end == ',')) {
+        sizes[k] = strtoull(words, &end, 10);
+        stored += sizes[k] == ZS_ABSENT ? 0 : sizes[k];
+    }
+    uint8_t *encodings = room_for(stored, 1);
+    if (fread(encodings, 1, stored, stdin) != stored)
+        refuse("input", 16);
+    zs_change change;
+    zs_status status = zs_encode(layout, sizes, count, NULL, 0, NULL, 0, &change);
+    if (status != ZS_ROOM_TOO_SMALL)
+        refuse("zs_encode", status);
+    uint8_t *object = room_for(change.room, 1);
+    if ((status = zs_encode(layout, sizes, count, encodings, stored, object, change.room - 1, &change)) != ZS_ROOM_TOO_SMALL || object[0])
+        refuse("zs_encode in less room", status);
+    if ((status = zs_encode(layout, sizes, count, encodings, stored, object, change.room, &change)))
+        refuse("zs_encode", status);
+    store(file, 0, object, change.object_size);
+    if (ftruncate(file, (off_t)change.object_size))
+        refuse("ftruncate", 16);
+    printf("%u\n", change.kind);
+    free(sizes), free(encodings), free(object);
+}
+
 int main(int argc, char **argv)
 {
     uint64_t shard[MOST_AXES], subchunk[MOST_AXES], start[MOST_AXES], shape[MOST_AXES], count = 1, size;
     uint8_t fill_value[MOST_ELEMENT];
-    if (argc < 8)
+    if (argc < 8 || (argc < 9 && strcmp(argv[1], "encode") == 0))
         return 2;
     size_t axes = axes_of(argv[3], shard), fill_size = strlen(argv[7]) / 2;
     zs_layout layout = {shard, axes, subchunk, axes_of(argv[4], subchunk), strtoull(argv[5], NULL, 10), (uint32_t)atoi(argv[6])};
@@ -138,6 +166,12 @@ int main(int argc, char **argv)
     struct stat about;
     if (file < 0 || fstat(file, &about))
         refuse("open", 16);
+    if (strcmp(argv[1], "encode") == 0) {
+        encode(file, &layout, count, argv[8]);
+        free(empty);
+        close(file);
+        return 0;
+    }
     zs_stored stored = {(uint64_t)about.st_size, NULL, 2 * count};
     uint64_t *numbers = NULL, read = 0;
     if (about.st_size > 0) {

@@ -69,6 +69,57 @@ static void puts_of(const zs_layout *layout, const uint64_t *plan, uint64_t rows
     free(answer), free(decoded), free(fill);
 }
 
+/* The chunks of an array that the shape of a shard, made shorter, is: a row for each that the subset meets, whose part lies in the answer. */
+static void meet_of(const zs_layout *layout, const zs_subset *subset)
+{
+    size_t axes = layout->shape_axes, each = ZS_ROW(axes);
+    double chunks = 1; /* at most as many are met, which takes memory */
+    for (size_t a = 0; a < axes && a < layout->subchunk_axes; a++)
+        chunks *= 2 + (double)subset->shape[a] / (double)(layout->subchunk_shape[a] + 1) * 2;
+    if (chunks > 1e4)
+        return;
+    uint64_t *shape = malloc(8 * axes);
+    zs_told told = {0, 0};
+    for (size_t a = 0; a < axes; a++)
+        shape[a] = layout->shape[a] - below(layout->shape[a] < 4 ? layout->shape[a] + 1 : 4);
+    if (note(zs_meet(shape, axes, layout->subchunk_shape, layout->subchunk_axes, subset, NULL, 0, &told)) == ZS_ROOM_TOO_SMALL && told.room < 100000) {
+        size_t room = told.room - (below(9) == 0);
+        uint64_t *rows = malloc(8 * room);
+        if (note(zs_meet(shape, axes, layout->subchunk_shape, layout->subchunk_axes, subset, rows, room, &told)) == 0)
+            for (uint64_t i = 0; i < told.room * axes; i++) {
+                const uint64_t *row = rows + i / axes * each, a = i % axes;
+                if (row[ZS_ROW_IN_ANSWER(axes) + a] + row[ZS_ROW_SHAPE(axes) + a] > subset->shape[a] || row[ZS_ROW_SHAPE(axes) + a] == 0)
+                    exit(5);
+            }
+        free(rows);
+    }
+    free(shape);
+}
+
+/* Points of a shard, and places in buffers of exact size: each is in a subchunk that has a row. */
+static void points_of(const zs_layout *layout, const zs_stored *stored)
+{
+    size_t axes = layout->shape_axes, many = below(6), flat = axes * many, places = 2 * many - (many && below(20) == 0);
+    uint64_t *points = malloc(8 * flat), *place = malloc(8 * places), positions = 1;
+    zs_told told = {0, 0};
+    for (size_t a = 0; a < layout->subchunk_axes; a++)
+        positions *= layout->subchunk_shape[a];
+    for (size_t i = 0; i < flat; i++)
+        points[i] = below(30) && layout->shape[i % axes] ? below(layout->shape[i % axes]) : odd();
+    zs_status status = note(zs_plan_points(layout, stored, points, flat, NULL, 0, place, places, &told));
+    if (status == ZS_ROOM_TOO_SMALL) {
+        size_t room = told.room - (below(9) == 0);
+        uint64_t *rows = malloc(8 * room);
+        status = note(zs_plan_points(layout, stored, points, flat, rows, room, place, places, &told));
+        if (status == 0 || status == ZS_BAD_INDEX_ENTRY)
+            for (size_t i = 0; i < many; i++)
+                if (place[2 * i] >= told.room || place[2 * i + 1] >= positions || rows[ZS_POINT_ROW * place[2 * i]] >= stored->numbers_count / 2)
+                    exit(6);
+        free(rows);
+    }
+    free(points), free(place);
+}
+
 static void fetches_of(const uint64_t *numbers, size_t count)
 {
     size_t slices = count / 2, room = slices - (slices && below(9) == 0);
@@ -84,6 +135,22 @@ static void fetches_of(const uint64_t *numbers, size_t count)
     free(ranges), free(fetches), free(fetch_of);
 }
 
+/* Encodings of any sizes in buffers of exact size, of which one may be a byte short. */
+static void encodings_of(const zs_layout *layout, const uint64_t *sizes, size_t count)
+{
+    zs_change change = {0, 0, 0, 0};
+    uint64_t stored = 0;
+    for (size_t i = 0; i < count; i++)
+        stored += sizes[i] == ZS_ABSENT ? 0 : sizes[i];
+    if (note(zs_encode(layout, sizes, count - (count && below(20) == 0), NULL, 0, NULL, 0, &change)) != ZS_ROOM_TOO_SMALL || change.room > 100000)
+        return;
+    size_t room = change.room - (below(9) == 0), given = stored < 100000 ? stored - (stored && below(9) == 0) : 0;
+    uint8_t *encodings = bytes_of(given), *object = bytes_of(room);
+    if (note(zs_encode(layout, sizes, count, encodings, given, object, room, &change)) == 0 && (given != stored || change.object_size != room))
+        exit(8);
+    free(encodings), free(object);
+}
+
 static void changes_of(const zs_layout *layout, const zs_stored *stored, const zs_subset *subset, uint64_t rows)
 {
     size_t room = stored->numbers_count - (stored->numbers_count && below(20) == 0), count = stored->numbers_count / 2;
@@ -97,6 +164,7 @@ static void changes_of(const zs_layout *layout, const zs_stored *stored, const z
     free(kinds);
     note(zs_compact_plan(layout, stored, numbers, room, &change));
     note(zs_lay_out(layout, sizes, count, numbers, room, &change));
+    encodings_of(layout, sizes, count);
     if (note(zs_write_plan(layout, stored, subset, sizes, rows, numbers, room, &change)) == 0 && change.kind != ZS_ERASE) {
         zs_range range;
         zs_told told;
@@ -107,6 +175,19 @@ static void changes_of(const zs_layout *layout, const zs_stored *stored, const z
         free(index);
     }
     free(numbers), free(sizes);
+}
+
+/* Plain numbers in the other byte order, and back. */
+static void plain_of(void)
+{
+    size_t size = below(40), room = size - (size && below(9) == 0);
+    uint8_t *encoded = bytes_of(size), *elements = bytes_of(room), *again = bytes_of(room);
+    uint64_t number = below(9) ? below(5) : odd();
+    uint32_t order = (uint32_t)below(3);
+    if (note(zs_decode_plain(encoded, size, number, order, elements, room)) == 0
+        && (note(zs_decode_plain(elements, room, number, order, again, room)) || memcmp(again, encoded, size)))
+        exit(7);
+    free(encoded), free(elements), free(again);
 }
 
 int main(int argc, char **argv)
@@ -128,6 +209,8 @@ int main(int argc, char **argv)
         zs_subset subset = {start, axes, lengths, axes};
         zs_range range;
         zs_told told = {0, 0};
+        meet_of(&layout, &subset);
+        plain_of();
         uint64_t size = is_sane ? 400 + below(4000) : odd();
         if (note(zs_index_range(&layout, size, &range)) == 0 && range.size < 20000) {
             size_t count = 2 * (range.size / 16), have = range.size - (below(30) == 0);
@@ -153,6 +236,7 @@ int main(int argc, char **argv)
                     puts_of(&layout, plan, rows, lengths);
                 free(plan);
             }
+            points_of(&layout, &stored);
             fetches_of(numbers, count);
             changes_of(&layout, &stored, &subset, rows);
             free(numbers), free(index);

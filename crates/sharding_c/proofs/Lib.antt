@@ -3,3 +3,5 @@ mod FrontLemmas
 mod PlanRowLemmas
 mod ChangeLemmas
 mod FetchLemmas
+mod PointLemmas
+mod ObjectLemmas

@@ -3,6 +3,10 @@ pub mod Layouts
 pub mod Rows
 pub mod Exports
 pub mod Changes
+pub mod Encodings
 pub mod Fetching
 pub mod Checks
 pub mod Decodings
+pub mod Meetings
+pub mod Points
+pub mod Plain

@@ -1,10 +1,13 @@
-// Subchunks that gzip or zstd compressed, decoded into a room.
+// Subchunks of plain numbers, and those that gzip or zstd compressed, decoded into a room.
 ghost use Rattle.std.specs.Prelude.{◌≡◌, ◌≢◌, ◌≤◌, ◌++◌, length, drop};
 ghost use Rattle.codec_gzip.specs.Gzip.{gunzipped};
 ghost use Rattle.codec_zstd.specs.Frames.{decompressed};
+ghost use Rattle.sharding_c.specs.Plain.{AreReversed, PlainTests};
+ghost use Rattle.sharding_c.specs.Statuses.{IsRefused};
 ghost use Rattle.sharding_c.specs.Decodings.{IsDecoded, IsDecodingRefused, status_of_decoding};
 
 use crate::layout::Told;
+use crate::plain::decode_plain;
 use codec_compression::DecompressError;
 use codec_gzip::gunzip;
 use codec_zstd::unzstd;
@@ -75,5 +78,28 @@ pub extern "C" fn zs_zstd_decode(
             0
         }
         Err(error) => status_of(error),
+    }
+}
+
+/// The elements of a subchunk that the codec `bytes` stored (Zarr V3 codec `bytes`, "endian"): numbers of `number_size` bytes each, stored least
+/// significant byte first, or most significant first where `is_big_endian` is not 0. The same call encodes them. Refused, in this order, as
+/// `WrongElementKind` where a number has no bytes, `Damaged` where the bytes are no whole numbers, and `InvalidNumberOfElements` where the
+/// elements have another length.
+#[unsafe(no_mangle)]
+pub extern "C" fn zs_decode_plain(
+    encoded: &[u8],
+    number_size: u64,
+    is_big_endian: u32,
+    elements: &mut [u8],
+) -> u32
+    ensures little { result ≡ 0 → is_big_endian ≡ 0 → elements.new ≡ encoded.now }
+    ensures big { result ≡ 0 → is_big_endian ≢ 0 → AreReversed number_size encoded.now elements.new }
+    ensures length { length elements.new ≡ length elements.old }
+    ensures kept { result ≢ 0 → elements.new ≡ elements.old }
+    ensures refused { result ≢ 0 → IsRefused (PlainTests number_size (length encoded.now) (length elements.old)) result }
+{
+    match decode_plain(encoded, number_size, is_big_endian != 0, elements) {
+        Ok(()) => 0,
+        Err(refusal) => refusal.status(),
     }
 }

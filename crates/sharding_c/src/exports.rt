@@ -9,6 +9,8 @@ ghost use Rattle.sharding_c.specs.Layouts.{AreIndexNumbers, IsIndex, IsIndexRang
 ghost use Rattle.sharding_c.specs.Rows.{in_answer, in_subchunk};
 ghost use Rattle.sharding_c.specs.Exports.{FillTests, IndexRangeTests, IndexReadTests, IndexWriteTests, IsPlanWritten, PlanTests, PutTests, UpdateTests};
 ghost use Rattle.sharding_c.specs.Checks.{CheckTests, IsChecked};
+ghost use Rattle.sharding_c.specs.Meetings.{IsMeetingWritten, MeetTests};
+ghost use Rattle.sharding_c.specs.Points.{IsListingWritten, PointTests};
 ghost use Rattle.sharding_c.specs.Fetching.{AreFetchesWritten, FetchTests};
 ghost use Rattle.sharding_plans.specs.Puts.{IsFilled, IsPut};
 
@@ -17,7 +19,9 @@ use crate::check::check_index;
 use crate::fetch::fetch_slices;
 use crate::index::{index_range, read_index, write_index};
 use crate::layout::{Change, Layout, Range, Stored, Subset, Told};
+use crate::meet::meet_chunks;
 use crate::plan::plan_subset;
+use crate::points::plan_points;
 use crate::put::{fill_row, put_row, update_row};
 use crate::status::name_of;
 use std::alloc::Global;
@@ -127,6 +131,7 @@ pub extern "C" fn zs_plan_subset(
 ) -> u32
     ensures planned { result ≡ 0 → IsPlanWritten layout.now object_size numbers.now subset.now plan.old plan.new told.new.room None }
     ensures bad { result ≡ 9 → IsPlanWritten layout.now object_size numbers.now subset.now plan.old plan.new told.new.room (Some told.new.subchunk) }
+    ensures told { result ≡ 0 → told.new.subchunk ≡ told.old.subchunk }
     ensures length { length plan.new ≡ length plan.old }
     ensures kept { result ≢ 0 → result ≢ 9 → plan.new ≡ plan.old }
     ensures refused { result ≢ 0 → result ≢ 9 → IsRefusedTelling (PlanTests layout.now numbers.now subset.now (length plan.old)) result told.old told.new }
@@ -141,6 +146,78 @@ pub extern "C" fn zs_plan_subset(
                     9
                 }
             }
+        }
+        Err(refusal) => {
+            refusal.tell(told);
+            refusal.status()
+        }
+    }
+}
+
+/// A read of listed elements, whose coordinates stand one after the other: for each subchunk in which one lies, ascending, a row of its number
+/// and where its slice is; and for each element two numbers of its place: that of its row among these, and its row-major number in the subchunk.
+/// `told.room` is the count of rows, or of the numbers that need room. Where the index entry of such a subchunk is bad the status is 9, and
+/// `told.subchunk` the lowest of their numbers; all is written then. Refused, in this order, as the layout is, as `InvalidNumberOfElements`
+/// where there are other than two numbers of places for each element, `OutOfBounds`, `InvalidNumberOfElements` for the index, and
+/// `RoomTooSmall`; or as `OutOfMemory`.
+#[unsafe(no_mangle)]
+pub extern "C" fn zs_plan_points(
+    alloc: Global,
+    layout: &Layout,
+    stored: &Stored,
+    points: &[u64],
+    rows: &mut [u64],
+    places: &mut [u64],
+    told: &mut Told,
+) -> u32
+    ensures planned { result ≡ 0 → IsListingWritten layout.now stored.now points.now rows.old rows.new places.new told.new.room None }
+    ensures bad { result ≡ 9 → IsListingWritten layout.now stored.now points.now rows.old rows.new places.new told.new.room (Some told.new.subchunk) }
+    ensures told { result ≡ 0 → told.new.subchunk ≡ told.old.subchunk }
+    ensures length { (length rows.new ≡ length rows.old) × (length places.new ≡ length places.old) }
+    ensures kept { result ≢ 0 → result ≢ 9 → (rows.new ≡ rows.old) × (places.new ≡ places.old) }
+    ensures refused { result ≢ 0 → result ≢ 9 → IsRefusedTelling (PointTests layout.now stored.now points.now (length rows.old) (length places.old)) result told.old told.new }
+{
+    match plan_points(alloc, layout, stored, points, rows, places) {
+        Ok(planned) => {
+            told.room = planned.rows;
+            match planned.bad {
+                None => 0,
+                Some(subchunk) => {
+                    told.subchunk = subchunk;
+                    9
+                }
+            }
+        }
+        Err(refusal) => {
+            refusal.tell(told);
+            refusal.status()
+        }
+    }
+}
+
+/// The rows of the chunks of an array that a subset meets: for each the chunk's row-major number in the grid, 2^64 - 1 twice, where its part
+/// starts in the chunk and in the answer, and the part's shape. `told.room` is the count of rows, or of the numbers that need room. Refused, in
+/// this order, as `IncompatibleDimensionality`, `InvalidSubchunkShape` and `TooLarge` for the chunks, as the subset is, as `TooLarge`, and
+/// `RoomTooSmall`; or as `OutOfMemory`.
+#[unsafe(no_mangle)]
+pub extern "C" fn zs_meet(
+    alloc: Global,
+    shape: &[u64],
+    chunk_shape: &[u64],
+    subset: &Subset,
+    rows: &mut [u64],
+    told: &mut Told,
+) -> u32
+    ensures met { result ≡ 0 → IsMeetingWritten shape.now chunk_shape.now subset.now rows.old rows.new told.new.room }
+    ensures told { result ≡ 0 → told.new.subchunk ≡ told.old.subchunk }
+    ensures length { length rows.new ≡ length rows.old }
+    ensures kept { result ≢ 0 → rows.new ≡ rows.old }
+    ensures refused { result ≢ 0 → IsRefusedTelling (MeetTests shape.now chunk_shape.now subset.now (length rows.old)) result told.old told.new }
+{
+    match meet_chunks(alloc, shape, chunk_shape, subset, rows) {
+        Ok(count) => {
+            told.room = count;
+            0
         }
         Err(refusal) => {
             refusal.tell(told);

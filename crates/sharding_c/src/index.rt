@@ -126,8 +126,12 @@ fn bytes_of_numbers(alloc: Global, is_big: bool, numbers: &[u64]) -> Result<Vec<
     Ok(bytes)
 }
 
-// The bytes of an index of these numbers.
-fn index_of_numbers(alloc: Global, flags: u32, numbers: &[u64]) -> Result<Vec<u8>, CodecError>
+/// The bytes of an index of these numbers. Refused only as out of memory.
+pub(crate) fn index_of_numbers(
+    alloc: Global,
+    flags: u32,
+    numbers: &[u64],
+) -> Result<Vec<u8>, CodecError>
     ensures bytes { IfOk result (λ bytes. bytes.items ≡ index_bytes flags numbers.now) }
     ensures refused { IfErr result (λ e. e ≡ OutOfMemory) }
 {

@@ -5,11 +5,15 @@
 mod change;
 mod check;
 mod decode;
+mod encode;
 mod exports;
 mod fetch;
 mod index;
 mod layout;
+mod meet;
+mod plain;
 mod plan;
+mod points;
 mod put;
 mod rows;
 mod status;

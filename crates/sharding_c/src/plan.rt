@@ -19,7 +19,7 @@ pub(crate) struct Planned {
 }
 
 // How many numbers these rows have, or `None` past 2^64.
-fn numbers_of_rows(rows: usize, axes: usize) -> Option<u64>
+pub(crate) fn numbers_of_rows(rows: usize, axes: usize) -> Option<u64>
     ensures { SomeIff result (row_length axes < 2 ^ 64 × rows * row_length axes < 2 ^ 64) (rows * row_length axes) }
 {
     let numbers = (axes as u64).checked_mul(3)?.checked_add(3)?;

@@ -3,4 +3,8 @@ mod PlanLemmas
 pub mod AxesLemmas
 mod FetchLemmas
 mod PackLemmas
+mod EncodeLemmas
 mod WriteLemmas
+mod StoredWriteLemmas
+mod RoundingLemmas
+mod ListedLemmas

@@ -68,7 +68,7 @@ packed_stand location size n len slots numbers good are long small k below =
     (moved_entry len start (present_size slots k) (slots k) (good k below) (omega (arith, long, ends_among slots k n below, start_within location size)) (omega (arith, small)))
 
 -- their numbers have 64 bits
-moved_fits : (start before len : ℕ) (s : Slot) → IsGood s → start + before + slot_size s ≤ len → len < 2 ^ 64
+pub moved_fits : (start before len : ℕ) (s : Slot) → IsGood s → start + before + slot_size s ≤ len → len < 2 ^ 64
     → (offset_number start (moved_slot s before) < 2 ^ 64) × (size_number (moved_slot s before) < 2 ^ 64)
 moved_fits start before len Absent good fits small = (omega arith, omega arith)
 moved_fits start before len (InRange offset size) good fits small = (omega (arith, fits, small), omega (arith, fits, small))
@@ -218,7 +218,7 @@ the_lay_out_law inner index = record {
   laid = λ l array sizes object shard c is written stored. laid_out inner index l array sizes object shard c is written stored;
 }
 
-sized_good : (size : ℕ) → IsGood (slot_of_size size)
+pub sized_good : (size : ℕ) → IsGood (slot_of_size size)
 sized_good size = elim (eqb_tells size absent_number) [ inl same ↦ rw same.0 tt | inr other ↦ rw other.0 tt ]
 
 -- laying out is refused only for its length

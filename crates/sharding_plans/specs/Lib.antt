@@ -4,3 +4,6 @@ pub mod CutLaws
 pub mod Fetches
 pub mod PackedShards
 pub mod WritePlans
+pub mod StoredWrites
+pub mod Chunks
+pub mod ListedPlans

@@ -12,6 +12,7 @@ use Rattle.sharding_format.specs.Cells.{Layout}
 use Rattle.sharding_format.specs.Encoding.{IsStoredAt, IsEncodingBy}
 use Rattle.sharding_format.specs.Compacting.{IsGood, IsCompact, IsCompaction, present_size, compact_size}
 use Rattle.sharding_format.specs.Packing.{slice_of, moved_slot}
+use Rattle.sharding_format.specs.Laying.{whole_shard}
 use Rattle.sharding_format.specs.declared.order.SubchunkWriteOrder.TheVariants.{C}
 use Rattle.sharding_format.specs.declared.slot.Slot.{Slot}
 use Rattle.sharding_format.specs.declared.slot.Slot.TheVariants.{Absent, InRange}
@@ -87,3 +88,18 @@ pub record LayOutLaw (inner index : Meaning) : Type 0 where
       → IsStoredAt inner.written l.fill (λ offset size. Unit {0}) (subchunk l.shape l.sub array k) object
       (slot_at shard.len shard.numbers.items k))
       → IsEncodingBy inner.written index.written l array object shard.numbers.items
+
+-- where the encoding of a subchunk stands among encodings of these sizes, one behind the other; nowhere where it is not stored
+abbrev pub slot_among : List ℕ → ℕ → Slot
+slot_among sizes k = moved_slot (slots_of_sizes sizes k) (present_size (slots_of_sizes sizes) k)
+
+-- Whoever puts encoded subchunks of these sizes one behind the other, and the index of their lay-out before or behind them, has encoded
+-- the array, in order C.
+pub record EncodeLaw (inner index : Meaning) : Type 0 where
+  pub encoded : (l : Layout) (array : Elements) (sizes encodings index_bytes : List ℕ) (shard : PackedShard) → l.order ≡ C
+      → IsPackedShard (place_of l) (count_of (grid_of l.shape l.sub)) (slots_of_sizes sizes) shard
+      → length encodings ≡ present_size (slots_of_sizes sizes) (count_of (grid_of l.shape l.sub))
+      → length index_bytes ≡ l.index_size → index.written (map element_of_number shard.numbers.items) index_bytes
+      → ((k : ℕ) → k < count_of (grid_of l.shape l.sub)
+      → IsStoredAt inner.written l.fill (λ offset size. Unit {0}) (subchunk l.shape l.sub array k) encodings (slot_among sizes k))
+      → IsEncodingBy inner.written index.written l array (whole_shard l.location index_bytes encodings) shard.numbers.items

@@ -3,16 +3,20 @@
 // and decodes, in any order, encodes, and stores.
 #![tactic(auto)]
 
+mod chunks;
 mod fetches;
 mod grid;
+mod listed;
 mod packed;
 mod put;
 mod read_plan;
 mod write_plan;
 
+pub use chunks::PlannedArray;
 pub use fetches::{fetch_of, plan_fetches};
 pub use grid::{IndexNumbers, PlannedShard};
-pub use packed::{IndexPlace, PackedShard, compaction_law, lay_out_law};
+pub use listed::{ListedPlan, listed_law};
+pub use packed::{IndexPlace, PackedShard, compaction_law, encode_law, lay_out_law};
 pub use put::{Part, fill_part, put_law, put_part};
 pub use read_plan::{ReadPart, ReadPlan};
-pub use write_plan::{Outcome, WritePlan};
+pub use write_plan::{Outcome, WritePlan, write_law};

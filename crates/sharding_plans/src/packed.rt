@@ -10,7 +10,7 @@ ghost use Rattle.sharding_format.specs.Compacting.{IsGood, present_size};
 ghost use Rattle.sharding_index.specs.Indexes.{index_meaning};
 ghost use Rattle.sharding_index.specs.steps.Plans.{spec_of};
 ghost use Rattle.sharding_plans.specs.ReadPlans.{HasEntries};
-ghost use Rattle.sharding_plans.specs.PackedShards.{AreGood, CompactionLaw, CompactionRefusals, IsPackedShard, LayOutLaw, LayOutRefusals, slot_of_size, slots_of_sizes};
+ghost use Rattle.sharding_plans.specs.PackedShards.{AreGood, CompactionLaw, CompactionRefusals, EncodeLaw, IsPackedShard, LayOutLaw, LayOutRefusals, slot_of_size, slots_of_sizes};
 
 use crate::grid::{IndexNumbers, PlannedShard};
 use codec_traits::ArrayToBytesCodecTraits;
@@ -147,4 +147,15 @@ pub fn lay_out_law<I: ArrayToBytesCodecTraits, X: ArrayToBytesCodecTraits>(
     _grid: &ChunkShape,
 )
     ensures { LayOutLaw (I.meaning _inner_codec.now (spec_of _spec.now)) (index_meaning X.meaning _index_codec.now _grid.now) }
+{}
+
+/// The law of encoding: whoever puts the encoded subchunks one behind the other, in ascending number, and before or behind them the index of
+/// their lay-out, has encoded the array.
+pub fn encode_law<I: ArrayToBytesCodecTraits, X: ArrayToBytesCodecTraits>(
+    _inner_codec: &I,
+    _spec: &ArraySpecRef,
+    _index_codec: &X,
+    _grid: &ChunkShape,
+)
+    ensures { EncodeLaw (I.meaning _inner_codec.now (spec_of _spec.now)) (index_meaning X.meaning _index_codec.now _grid.now) }
 {}

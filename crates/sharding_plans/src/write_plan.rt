@@ -11,17 +11,21 @@ ghost use Rattle.sharding_format.specs.Encoding.{slot_size};
 ghost use Rattle.sharding_format.specs.Laying.{offset_number, size_number};
 ghost use Rattle.sharding_format.specs.Packing.{moved_slot};
 ghost use Rattle.sharding_index.specs.DataPart.{IsInDataPart};
+ghost use Rattle.sharding_index.specs.Indexes.{index_meaning};
+ghost use Rattle.sharding_index.specs.steps.Plans.{spec_of};
 ghost use Rattle.sharding_layout.specs.Offsets.{offset_after, length_after, index_after};
 ghost use Rattle.sharding_plans.specs.declared.write_plan.Outcome.TheVariants.{Anew, Append};
 ghost use Rattle.sharding_plans.specs.ReadPlans.{HasEntries, IsWithin};
 ghost use Rattle.sharding_plans.specs.PackedShards.{slot_of_size, slots_of_sizes};
+ghost use Rattle.sharding_plans.specs.StoredWrites.{WriteLaw};
 ghost use Rattle.sharding_plans.specs.WritePlans.{AreAbsent, AreOthersAbsent, HasNewEntries, HasRoom, IsOther, AreCleared, HasLength, IsWritePlan, IsWritePlanOf, OpenRefusals, SizeRefusals, WriteRefusals, total_of};
 
 use crate::grid::{IndexNumbers, PlannedShard};
 use crate::packed::{IndexPlace, index_of_sizes};
+use codec_traits::ArrayToBytesCodecTraits;
 use parts_errors::CodecError;
-use parts_subsets::ArraySubset;
-use sharding_format::ShardIndex;
+use parts_subsets::{ArraySubset, ChunkShape};
+use sharding_format::{ArraySpecRef, ShardIndex};
 use sharding_index::check_entries;
 use sharding_layout::{
     CachedIndex, compact_size, fresh_offset, index_offset, length_after, offset_after,
@@ -316,3 +320,14 @@ impl PlannedShard {
         Ok(plan)
     }
 }
+
+/// The law of writes: whoever carries out a plan of a write, with any encodings that the inner codec allows and in any order, has made a write
+/// by the definition of `partial_encode`.
+pub fn write_law<I: ArrayToBytesCodecTraits, X: ArrayToBytesCodecTraits>(
+    _inner_codec: &I,
+    _spec: &ArraySpecRef,
+    _index_codec: &X,
+    _grid: &ChunkShape,
+)
+    ensures { WriteLaw (I.meaning _inner_codec.now (spec_of _spec.now)) (index_meaning X.meaning _index_codec.now _grid.now) }
+{}
