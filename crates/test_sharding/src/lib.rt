@@ -4,6 +4,8 @@
 #[cfg(test)]
 mod chains;
 #[cfg(test)]
+mod chances;
+#[cfg(test)]
 mod compared;
 #[cfg(test)]
 mod counting;
@@ -21,6 +23,14 @@ mod lengths;
 mod nested;
 #[cfg(test)]
 mod options;
+#[cfg(test)]
+mod planned;
+#[cfg(test)]
+mod planned_hostile;
+#[cfg(test)]
+mod planned_reads;
+#[cfg(test)]
+mod planned_rows;
 #[cfg(test)]
 mod plans;
 #[cfg(test)]
