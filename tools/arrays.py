@@ -7,6 +7,7 @@ lengths, present, absent and dead bytes of each shard, which subchunks are damag
 import hashlib
 import json
 import os
+import random
 import re
 import shutil
 import struct
@@ -18,7 +19,8 @@ TOP = os.path.dirname(os.path.dirname(os.path.abspath(__file__)))
 BUILT = f"{TOP}/crates/zarr_shard/out/zarr_shard"
 ARRAYS = f"{TOP}/tests/arrays"
 MOST = 60  # seconds
-SERVED = [["bytes"], ["bytes", "crc32c"], ["bytes", "gzip"], ["bytes", "zstd"], ["bytes", "zstd", "crc32c"], ["sharding_indexed"]]
+SERVED = [["bytes"], ["bytes", "crc32c"], ["bytes", "gzip"], ["bytes", "zstd"], ["bytes", "zstd", "crc32c"], ["transpose", "bytes", "gzip"],
+          ["sharding_indexed"]]
 FORMATS = {"bool": "B", "int8": "b", "uint8": "B", "int16": "h", "uint16": "H", "int32": "i", "uint32": "I", "int64": "q", "uint64": "Q",
            "float32": "f", "float64": "d", "float16": "e", "bfloat16": "H", "numpy.datetime64": "q", "numpy.timedelta64": "q",
            "complex64": "ff", "complex128": "dd"}
@@ -57,6 +59,121 @@ def test_info(program, name, path, shards):
             compare(name, f"info of {key}", lines.get(key), said)
         elif not lines.get(key, "").startswith(f"{shard['length']} bytes, refused: {INDEXES.get(shard['index'], '9 BadIndexEntry')}: "):
             bad.append(f"{name}: info of {key}: {lines.get(key)}")
+
+
+def lines_of(ran):
+    """The objects of an answer that is lines of JSON."""
+    return [json.loads(line) for line in ran[1].decode().splitlines()]
+
+
+def test_lines(program, name, path, shards):
+    """What `info` tells in JSON, at once and in three parts."""
+    told = {line["key"]: line for line in lines_of(run(program, "info", path, "--json")) if line["kind"] == "shard"}
+    compare(name, "shards in JSON", sorted(told), sorted(key for key, shard in shards.items() if shard != "absent"))
+    for key, line in told.items():
+        wanted = shards[key]
+        members = {it: wanted[it] for it in ("present", "absent", "dead")} if wanted["index"] == "ok" else {}
+        compare(name, f"{key} in JSON", {it: line.get(it) for it in members}, members)
+        compare(name, f"length of {key} in JSON", line["bytes"], wanted["length"])
+        compare(name, f"refusal of {key} in JSON", "number" in line, wanted["index"] != "ok")
+    parts = [run(program, "info", path, "--json", "--part", f"{part}/3") for part in (1, 2, 3)]
+    dealt = [line["key"] for part in parts for line in lines_of(part) if line["kind"] == "shard"]
+    compare(name, "shards of three parts", sorted(dealt), sorted(told))
+
+
+def test_map(program, name, path, expected, is_decoded):
+    """The marks of each shard's map, counted."""
+    for key, shard in expected["shards"].items():
+        if shard == "absent" or shard["index"] != "ok":
+            continue
+        out = run(program, "map", path, key)[1].decode()
+        grid = out[out.index("refused\n") + 8 : out.index("0 to z slices")] if "0 to z slices" in out else ""
+        hurt = sum(place == key for place, _, _ in expected["damaged"]) if is_decoded else 0
+        wanted = (shard["present"] - hurt, shard["absent"], hurt)
+        compare(name, f"map of {key}", tuple(grid.count(mark) for mark in "#.x"), wanted)
+
+
+def test_filled(program, name, path, expected):
+    """A read in which what is damaged has the fill value."""
+    status, out, told = run(program, "read", path, "--raw", "--fill-damaged")
+    cells = [expected["fill_value"] if cell is None else cell for cell in expected["cells"]]
+    compare(name, "read with fill values", (status, out), (1, bytes_of(cells, expected["data_type"])))
+    compare(name, "what is filled", told.count(": filled: "), len(expected["damaged"]))
+
+
+def test_copy(program, name, path, shards):
+    """A compacted copy, which leaves the array as it is."""
+    copy = f"{path}.copy"
+    run(program, "compact", path, "--output", copy)
+    for key, shard in shards.items():
+        if shard != "absent":
+            with open(f"{path}/{key}", "rb") as old, open(f"{copy}/{key}", "rb") as new:
+                old, new = old.read(), new.read()
+            compare(name, f"length of {key} behind a copy", len(old), shard["length"])
+            wanted = shard["compacted_sha256"] or hashlib.sha256(old).hexdigest()
+            compare(name, f"{key} copied", hashlib.sha256(new).hexdigest(), wanted)
+    with open(f"{path}/zarr.json", "rb") as old, open(f"{copy}/zarr.json", "rb") as new:
+        compare(name, "zarr.json copied", new.read(), old.read())
+    refused(name, "compact into an array", run(program, "compact", path, "--output", copy))
+
+
+def words(shape):
+    return ",".join(map(str, shape))
+
+
+def test_reshard(program, name, path, expected):
+    """The array in three other layouts, and back to its own: the elements stay."""
+    chunk, part = expected["chunk_shape"], expected["subchunk_shape"]
+    rows = [1] * (len(chunk) - 1) + chunk[-1:]
+    layouts = [
+        ["--subchunk", words(chunk), "--inner", "none", "--index", "start", "--no-crc32c"],
+        ["--shard", words(chunk), "--subchunk", words(rows), "--inner", "zstd", "--order", "morton"],
+        ["--shard", words([3 * size for size in part]), "--subchunk", words(part), "--inner", "gzip", "--index", "end", "--crc32c"],
+        ["--shard", words(chunk), "--subchunk", words(part), "--inner", "crc32c"],
+    ]
+    old = path
+    for number, layout in enumerate(layouts if chunk else layouts[:0]):
+        new = f"{path}.{number}"
+        compare(name, f"reshard {layout}", run(program, "reshard", old, new, *layout)[::2], (0, ""))
+        status, out, told = run(program, "read", new, "--raw")
+        compare(name, f"elements of {layout}", (status, hashlib.sha256(out).hexdigest(), told), (0, expected["raw_sha256"], ""))
+        compare(name, f"comparison of {layout}", run(program, "compare", path, new)[:2], (0, b"no element differs\n"))
+        compare(name, f"check of {layout}", run(program, "check", new)[0], 0)
+        old = new
+
+
+def test_write(program, name, path, expected):
+    """The array made anew by `create` and `write`, and a subset of it written over."""
+    with open(f"{path}/zarr.json", encoding="utf-8") as text:
+        document = json.load(text)
+    shape, new, file = expected["shape"], f"{path}.made", f"{path}.raw"
+    if not isinstance(document["data_type"], str):
+        return
+    shapes = ["--shape", words(shape), "--shard", words(expected["chunk_shape"]), "--subchunk", words(expected["subchunk_shape"])]
+    made = run(program, "create", new, *shapes, "--type", document["data_type"], "--fill", json.dumps(document["fill_value"]))
+    compare(name, "create", made, (0, b"", ""))
+    whole = run(program, "read", path, "--raw")[1]
+    compare(name, "what is to be written", hashlib.sha256(whole).hexdigest(), expected["raw_sha256"])
+    size = len(whole) // max(len(expected["cells"]), 1)
+    write(program, name, new, file, [], whole)
+    compare(name, "what was written", run(program, "compare", path, new), (0, b"no element differs\n", ""))
+    dice = random.Random(name)
+    starts = [dice.randrange(length) if length else 0 for length in shape]
+    ends = [dice.randrange(start, length) + 1 if length else 0 for start, length in zip(starts, shape)]
+    places, cells = numbers(shape, starts, ends), [whole[place * size : (place + 1) * size] for place in range(len(expected["cells"]))]
+    update = [cells[-1 - place] for place in places]
+    subset = ",".join(f"{start}..{end}" for start, end in zip(starts, ends))
+    write(program, name, new, file, [subset] if shape else [], b"".join(update))
+    for place, cell in zip(places, update):
+        cells[place] = cell
+    compare(name, f"elements behind a write of {subset}", run(program, "read", new, "--raw"), (0, b"".join(cells), ""))
+    compare(name, "check of what was written", run(program, "check", new)[::2], (0, ""))
+
+
+def write(program, name, path, file, subset, content):
+    with open(file, "wb") as raw:
+        raw.write(content)
+    compare(name, f"write of {subset}", run(program, "write", path, *subset, "--raw", file)[::2], (0, ""))
 
 
 def test_check(program, name, path, expected, is_decoded):
@@ -176,6 +293,14 @@ def test_array(program, name, folder, expected):
     test_read(program, name, path, expected, is_read)
     if is_read and not expected["damaged"]:
         test_json(program, name, path, expected)
+    elif is_read:
+        test_filled(program, name, path, expected)
+    test_lines(program, name, path, expected["shards"])
+    test_map(program, name, path, expected, is_decoded)
+    test_copy(program, name, path, expected["shards"])
+    if is_read and not expected["damaged"]:
+        test_reshard(program, name, path, expected)
+        test_write(program, name, path, expected)
     test_compact(program, name, path, expected["shards"])
     if not expected["damaged"]:
         test_read(program, name, path, expected, is_read)

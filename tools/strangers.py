@@ -170,6 +170,22 @@ def closed(program, top):
             bad.append(f"read into a closed pipe: status {ran.returncode}, {said!r}")
 
 
+def closed_write(program, top):
+    """A write that nobody reads of any more goes on: each shard is written, and the status is that of what was done."""
+    path, count = f"{top}/unread", 2000
+    array(path, [count], [1], [1])
+    with open(f"{top}/unread.raw", "wb") as file:
+        file.write(bytes(1 + number % 255 for number in range(count)))
+    words = [program, "write", path, "--raw", f"{top}/unread.raw"]
+    with subprocess.Popen(words, stdout=subprocess.PIPE, stderr=subprocess.PIPE) as ran:
+        ran.stdout.close()
+        said = ran.stderr.read()
+        status = ran.wait(MOST)
+    with open(f"{top}/unread.raw", "rb") as file:
+        if status not in (0, -signal.SIGPIPE) or said or cells(program, path) != file.read():
+            bad.append(f"write into a closed pipe: status {status}, {said!r}, or not all shards are written")
+
+
 def cells(program, path):
     return subprocess.run([program, "read", "--raw", path], capture_output=True, timeout=MOST).stdout
 
@@ -199,6 +215,133 @@ def killed(program, top):
             bad.append("a compaction after one that was killed: other cells")
 
 
+def resharded(program, top):
+    """A `reshard` that is killed leaves the old array as it was, and the new one absent or whole; the next one says what is left."""
+    dice, path, size = random.Random(2), f"{top}/old", 16384
+    array(path, [16 * size], [size], [size // 4])
+    for number in range(16):
+        shard(f"{path}/{number}", [dice.randbytes(size // 4) for _ in range(4)], 3)
+    whole, new = cells(program, path), f"{top}/new"
+    layout = ["reshard", path, new, "--shard", str(3 * size), "--subchunk", str(size // 8), "--crc32c"]
+    for time in range(1, 101):
+        with contextlib.suppress(subprocess.TimeoutExpired):
+            subprocess.run([program, *layout], stdout=subprocess.DEVNULL, timeout=time * dice.random() / 800)
+        if os.path.exists(new):
+            if cells(program, new) != whole:
+                bad.append("a reshard that was killed left another array under the name")
+            shutil.rmtree(new)
+        if os.path.exists(f"{new}.partial"):
+            expect([program, *layout], 2, f"{new}.partial: stands there; if no program writes it, remove it")
+            shutil.rmtree(f"{new}.partial")
+        if cells(program, path) != whole:
+            bad.append("a reshard that was killed changed the old array")
+    expect([program, *layout], 0, "6 shards: ")
+    expect([program, *layout], 2, f"{new}: stands there already")
+    expect([program, "compare", path, new], 0, "no element differs")
+    with open(f"{new}/0", "r+b") as file:
+        file.seek(5)
+        file.write(bytes([whole[5] ^ 1]))
+    expect([program, "compare", path, new], 1, f"1 element differs, at: 5\n{whole[5]}\n{whole[5] ^ 1}\n")
+    with open(f"{path}/3", "r+b") as file:
+        file.truncate(40)
+    shutil.rmtree(new)
+    expect([program, *layout], 1, "3: 7 ShardTooShort: the file is shorter than its index")
+    if os.path.exists(new) or os.path.exists(f"{new}.partial"):
+        bad.append("a reshard of a damaged array left something")
+
+
+def written(program, top):
+    """A `write` that is killed leaves each shard as it was or as it is to be, and at most one new file, which is named."""
+    dice, path, size = random.Random(4), f"{top}/written", 4096
+    array(path, [32 * size], [size], [size // 2])
+    for number in range(32):
+        shard(f"{path}/{number}", [dice.randbytes(size // 2), dice.randbytes(size // 2)], 0)
+    old = cells(program, path)
+    for time in range(1, 101):
+        new = dice.randbytes(32 * size)
+        with open(f"{top}/new.raw", "wb") as file:
+            file.write(new)
+        with contextlib.suppress(subprocess.TimeoutExpired):
+            subprocess.run([program, "write", path, "--raw", f"{top}/new.raw"], stdout=subprocess.DEVNULL, timeout=time * dice.random() / 1000)
+        found = cells(program, path)
+        parts = [it[number * size : (number + 1) * size] for it in (old, new, found) for number in range(32)]
+        if len(found) != len(new) or any(parts[64 + number] not in (parts[number], parts[32 + number]) for number in range(32)):
+            bad.append("a write that was killed: a shard is neither as before nor as after")
+        left = [name for name in os.listdir(path) if name.endswith(".replacing")]
+        if len(left) > 1:
+            bad.append(f"a write that was killed: more than one new file: {left}")
+        for name in left:
+            expect([program, "write", path, "--raw", f"{top}/new.raw"], 2, f"{path}/{name}: stands there; if no program writes it, remove it")
+            os.remove(f"{path}/{name}")
+        old = cells(program, path)
+    expect([program, "write", path, "--raw", f"{top}/new.raw"], 0, "32 shards written")
+    if cells(program, path) != new:
+        bad.append("a write: other cells")
+    with open(f"{path}/3", "r+b") as file:
+        file.truncate(20)
+    with open(f"{top}/new.raw", "wb") as file:
+        file.write(bytes(range(10)))
+    expect([program, "write", path, f"{3 * size}..{3 * size + 10}", "--raw", f"{top}/new.raw"], 1, "3: 7 ShardTooShort: the file is shorter")
+    expect([program, "write", path, f"{2 * size}..{2 * size + 11}", "--raw", f"{top}/new.raw"], 2, "has 10 bytes of elements, and 11 are wanted")
+    with open(f"{top}/new.raw", "wb") as file:
+        file.write(new[3 * size : 4 * size])
+    expect([program, "write", path, f"{3 * size}..{4 * size}", "--raw", f"{top}/new.raw"], 0, "1 shard written")
+    if cells(program, path) != new:
+        bad.append("a write of a shard that was damaged: other cells")
+
+
+def compressed(program, top):
+    """Subchunks that `reshard` compresses are gzip files that zlib reads, and no longer than zlib's by more than a tenth and 10 bytes."""
+    dice, count = random.Random(3), MIB // 2
+    words = [dice.randbytes(dice.randrange(2, 9)).hex().encode() for _ in range(500)]
+    contents = {
+        "words": b" ".join(dice.choice(words) for _ in range(count))[:count],
+        "random": dice.randbytes(count),
+        "sevens": b"\7" * count,
+        "numbers": b"".join(struct.pack("<H", (number // 3 + dice.randrange(8)) % 65536) for number in range(count // 2)),
+    }
+    for name, content in contents.items():
+        old = f"{top}/{name}"
+        array(old, [count], [count], [count])
+        shard(f"{old}/0", [content], 0)
+        for part in (256, 4096, count):
+            new = f"{old}.{part}"
+            expect([program, "reshard", old, new, "--subchunk", str(part), "--inner", "gzip"], 0, "1 shard")
+            expect([program, "compare", old, new], 0, "no element differs")
+            with open(f"{new}/0", "rb") as file:
+                whole = file.read()
+            subchunks = count // part
+            index = struct.unpack(f"<{2 * subchunks}Q", whole[-16 * subchunks :])
+            for number in range(0, subchunks, max(1, subchunks // 64)):
+                wanted = content[number * part : (number + 1) * part]
+                offset, size = index[2 * number : 2 * number + 2]
+                if offset == 2**64 - 1:
+                    found, size = bytes(part), 0
+                else:
+                    found = gzip.decompress(whole[offset : offset + size])
+                if found != wanted or size > 1.1 * len(gzip.compress(wanted, 5)) + 10:
+                    bad.append(f"{name} in subchunks of {part}: subchunk {number} has {size} bytes, or zlib reads it otherwise")
+
+
+def told_at_once(program, top):
+    """`check` prints a refusal as it comes: it stands there while a long shard is read."""
+    path = f"{top}/told"
+    array(path, [2 * GIB], [GIB], [GIB // 2])
+    with open(f"{path}/0", "wb") as file:
+        file.write(b"short")
+    with open(f"{path}/1", "wb") as file:
+        file.truncate(GIB)
+        file.seek(0, os.SEEK_END)
+        file.write(struct.pack("<4Q", 0, GIB // 2, GIB // 2, GIB // 2))
+    with subprocess.Popen([program, "check", path], stdout=subprocess.PIPE, text=True) as ran:
+        first = ran.stdout.readline()
+        ran.kill()
+        rest = ran.stdout.read()
+    if not first.startswith("0: 7 ShardTooShort") or rest:
+        bad.append(f"check told {first!r}, and then {rest!r}")
+    shutil.rmtree(path)
+
+
 def expect_small(words, status, most=MOST_MEMORY):
     """Runs a command, which must end with this status and take so little memory."""
     with subprocess.Popen(words, stdout=subprocess.DEVNULL, stderr=subprocess.DEVNULL) as ran:
@@ -223,6 +366,49 @@ def large(program, top):
     os.remove(f"{path}/0")
     os.truncate(f"{path}/zarr.json", GIB)
     expect_small([program, "info", path], 2)
+
+
+def banded(program, top):
+    """An array of 40 MB is read in bands of rows of shards, so that it takes little memory."""
+    path, rows, row = f"{top}/banded", 40, 1_000_000
+    array(path, [rows, row], [1, row], [1, row // 4])
+    line = bytes(number % 251 for number in range(row))
+    for number in range(rows):
+        parts = [line[start : start + row // 4] for start in range(0, row, row // 4)]
+        shard(f"{path}/{number}.0", [bytes([number]) + part[1:] for part in parts], 0)
+    expect_small([program, "read", "--raw", path], 0, 64_000_000)
+
+
+def joined(program, top):
+    """The bands of that array have its elements, in each form; a shard that is damaged in the last
+    band stops the command behind the bands before it."""
+    path, rows, row, whole = f"{top}/banded", 40, 1_000_000, b""
+    line = bytes(number % 251 for number in range(row))
+    for number in range(rows):
+        for start in range(0, row, row // 4):
+            whole += bytes([number]) + line[start + 1 : start + row // 4]
+    if subprocess.run([program, "read", "--raw", path], capture_output=True, timeout=MOST, check=False).stdout != whole:
+        bad.append("read --raw of several bands: other elements")
+    expect([program, "read", "--npy", f"{top}/banded.npy", path], 0, "")
+    with open(f"{top}/banded.npy", "rb") as file:
+        if file.read()[-len(whole) :] != whole:
+            bad.append("read --npy of several bands: other elements")
+    narrow = b"".join(whole[number * row + 249_998 : number * row + 250_003] for number in range(rows))
+    text = "".join(" ".join(map(str, narrow[at : at + 5])) + "\n" for at in range(0, len(narrow), 5))
+    expect([program, "read", path, ":,249998:250003"], 0, text)
+    expect([program, "check", path], 0, "40 shards, 160 subchunks: all sound")
+    large = subprocess.run([program, "read", "--json", path, "17:40"], capture_output=True, timeout=60, check=False).stdout
+    if json.loads(large) != {"cells": list(whole[17 * row :]), "data_type": "uint8", "shape": [23, row]}:
+        bad.append("read --json of several bands: other elements")
+    os.truncate(f"{path}/39.0", 10)
+    ran = subprocess.run([program, "read", "--raw", path], capture_output=True, timeout=MOST, check=False)
+    if ran.returncode != 1 or b"39.0: 7 ShardTooShort" not in ran.stderr or ran.stdout != whole[: 32 * row]:
+        bad.append(f"a read whose last band is refused: status {ran.returncode}, {len(ran.stdout)} bytes, {ran.stderr!r}")
+    expect([program, "read", "--npy", f"{top}/banded.npy", path], 1, "39.0: 7 ShardTooShort")
+    if os.path.exists(f"{top}/banded.npy.replacing") or os.path.getsize(f"{top}/banded.npy") < len(whole):
+        bad.append("a refused read into a file left a new one, or took the old one")
+    array(f"{top}/boundless", [2**62], [1], [1])
+    expect([program, "read", f"{top}/boundless"], 2, "the box has more elements than this program can hold")
 
 
 def indexed(program, top):
@@ -348,8 +534,8 @@ if __name__ == "__main__":
     with tempfile.TemporaryDirectory(prefix="strangers-") as folder:
         shutil.copyfile(built, f"{folder}/zarr_shard")
         os.chmod(f"{folder}/zarr_shard", 0o755)
-        # The last one takes memory of its own, and a command is said to take as much as the process that starts it.
-        for case in (strangers, malformed, closed, killed, large, indexed, bombs, owners, limits, damaged_gzip):
+        # The last three take memory of their own, and a command is said to take as much as the process that starts it.
+        for case in (strangers, malformed, closed, closed_write, killed, resharded, written, told_at_once, large, banded, indexed, bombs, owners, limits, damaged_gzip, compressed, joined):
             case(f"{folder}/zarr_shard", folder)
     print("\n".join(bad) or "each command ended as it must")
     sys.exit(bool(bad))

@@ -1,27 +1,22 @@
 // An array on disk that is open: its metadata, its shards, and their files.
 use crate::refusal::{Place, Refusal};
+use crate::shard_codec::{Planned, ShardCodec, ShardFile};
 use crate::stop::Stop;
 use array_codecs::reversed_parts;
 use array_fields::{LONGEST_TEXT, MetadataError, escaped};
-use array_folder::{ChunkFiles, ChunkGrid, KeyForm, document_length, list_chunks, read_document};
+use array_folder::{
+    ChunkFile, ChunkFiles, ChunkGrid, KeyForm, document_length, list_chunks, read_document,
+};
+use array_grid::ListPart;
 use array_metadata::{ArrayMetadata, KeyEncoding, reversed_size};
-use codec_traits::ArrayToBytesCodecTraits;
-use parts_arrays::{ArrayBytes, FillValue};
-use parts_errors::{CodecError, CodecOptions};
-use parts_subsets::{ArraySubset, ChunkShape};
-use sharding_codec::{ShardingCodec, ShardingPartialDecoder};
-use sharding_format::{SubchunkWriteOrder, calculate_chunks_per_shard, of_stored};
+use parts_arrays::FillValue;
+use parts_errors::CodecError;
+use parts_subsets::ChunkShape;
+use sharding_format::SubchunkWriteOrder;
 use std::alloc::{AllocError, Global};
 use std::borrow::CowSlice;
 use std::rt::Files;
 use storage_files::FileHandle;
-use storage_handles::BytesPartialDecoderTraits;
-
-/// The file of a shard.
-pub type ShardFile<'a, R> = FileHandle<&'a R>;
-
-/// A shard that is opened to be read.
-pub type Decoder<'a, R, I, X> = ShardingPartialDecoder<'a, I, X, ShardFile<'a, R>>;
 
 /// A shard of an array: the key of its chunk, and the chunk's coordinates in the chunk grid.
 #[derive(Debug, Clone, Copy)]
@@ -32,12 +27,12 @@ pub struct Shard<'s> {
 
 /// An array on disk, whose shards are of a codec.
 #[derive(Drop)]
-pub struct Array<'a, R, I, X> {
+pub struct Array<'a, R, C> {
     pub rt: &'a R,
     pub path: &'a str,
     pub metadata: &'a ArrayMetadata,
     /// The codec that the metadata names.
-    pub codec: &'a ShardingCodec<I, X>,
+    pub codec: C,
     pub grid: ChunkGrid,
     /// How many subchunks a shard has along each axis.
     pub subchunks: ChunkShape,
@@ -58,9 +53,9 @@ fn named<T: Drop>(
     }
 }
 
-// Bytes of elements in the other order, where these are complex numbers whose parts are stored most significant byte first; the codecs do
-// not turn them.
-fn turned(
+/// Bytes of elements in the other order, where these are complex numbers whose parts are stored most significant byte first; the codecs do
+/// not turn them. `None` where elements are stored least significant byte first.
+pub fn turned(
     alloc: Global,
     metadata: &ArrayMetadata,
     bytes: &[u8],
@@ -71,15 +66,30 @@ fn turned(
     }
 }
 
-// What the array's `zarr.json`, which has this text, says; the fill value in the order in which elements are stored. Shards are written
-// anew in row-major order.
-fn read_metadata(alloc: Global, text: &str) -> Result<ArrayMetadata, MetadataError> {
+// What an array's `zarr.json`, which has this text, says; the fill value in the order in which elements are stored. Shards are written
+// anew in an order.
+fn read_metadata(
+    alloc: Global,
+    text: &str,
+    order: SubchunkWriteOrder,
+) -> Result<ArrayMetadata, MetadataError> {
     let mut metadata = ArrayMetadata::from_text(alloc, text)?;
-    metadata.codec.order = SubchunkWriteOrder::C;
+    metadata.codec.order = order;
     if let Some(bytes) = turned(alloc, &metadata, metadata.fill_value.as_ne_bytes())? {
         metadata.fill_value = FillValue::new(bytes);
     }
     Ok(metadata)
+}
+
+/// The metadata of an array that is to have a path, by the text of its `zarr.json`, and whose shards are written in an order.
+pub fn described(
+    alloc: Global,
+    path: &str,
+    text: &str,
+    order: SubchunkWriteOrder,
+) -> Result<ArrayMetadata, Stop> {
+    let document = format!(in alloc; "{path}/zarr.json")?;
+    named(alloc, &document, read_metadata(alloc, text, order))
 }
 
 /// The metadata of the array whose folder has this path. How long the text is, is tested before it is read.
@@ -89,118 +99,26 @@ pub fn metadata_of<R: Files + AllocGlobal>(rt: &R, path: &str) -> Result<ArrayMe
     let length = document_length(rt, path, &document)?;
     named(alloc, &document, MetadataError::test_length(length))?;
     let text = read_document(rt, &document, LONGEST_TEXT)?;
-    named(alloc, &document, read_metadata(alloc, &text))
+    let order = SubchunkWriteOrder::C;
+    named(alloc, &document, read_metadata(alloc, &text, order))
 }
 
-// Tests whether a codec serves the shards of an array.
-fn check_served<C: ArrayToBytesCodecTraits>(
+// The files that a part has of a list of them, in its order.
+fn chunks_in(
     alloc: Global,
-    codec: &C,
-    metadata: &ArrayMetadata,
-) -> Result<(), CodecError> {
-    codec.check(
-        alloc,
-        &metadata.shard,
-        &metadata.data_type,
-        &metadata.fill_value,
-    )
-}
-
-// How the shards of an array are cut, where the codec serves them.
-fn subchunks_of<C: ArrayToBytesCodecTraits>(
-    alloc: Global,
-    codec: &C,
-    metadata: &ArrayMetadata,
-) -> Result<ChunkShape, CodecError> {
-    check_served(alloc, codec, metadata)?;
-    calculate_chunks_per_shard(alloc, &metadata.shard, &metadata.subchunk)
-}
-
-// Opens a shard of an array's codec.
-fn opened<'c, I: ArrayToBytesCodecTraits, X: ArrayToBytesCodecTraits, H: BytesPartialDecoderTraits>(
-    alloc: Global,
-    codec: &'c ShardingCodec<I, X>,
-    file: H,
-    metadata: &ArrayMetadata,
-) -> Result<ShardingPartialDecoder<'c, I, X, H>, (H, CodecError)> {
-    let options = CodecOptions::default();
-    codec.partial_decoder(
-        alloc,
-        file,
-        &metadata.shard,
-        &metadata.data_type,
-        &metadata.fill_value,
-        &options,
-    )
-}
-
-/// Reads the elements of a subset of a shard that is open.
-pub fn decode_subset<
-    'd,
-    I: ArrayToBytesCodecTraits,
-    X: ArrayToBytesCodecTraits,
-    H: BytesPartialDecoderTraits,
->(
-    alloc: Global,
-    decoder: &'d mut ShardingPartialDecoder<'_, I, X, H>,
-    subset: &ArraySubset,
-) -> Result<ArrayBytes<'d>, CodecError> {
-    let cells = decoder.partial_decode(alloc, subset, &CodecOptions::default())?;
-    Ok(cells)
-}
-
-// Decodes the bytes of a subchunk, and lets the cells go.
-fn decode_subchunk<I: ArrayToBytesCodecTraits, X>(
-    alloc: Global,
-    codec: &ShardingCodec<I, X>,
-    metadata: &ArrayMetadata,
-    bytes: &[u8],
-) -> Result<(), CodecError> {
-    let decoded = codec.inner.decode(
-        alloc,
-        bytes,
-        &codec.subchunk_shape,
-        &metadata.data_type,
-        &metadata.fill_value,
-        &CodecOptions::default(),
-    );
-    match decoded {
-        Ok(_) => Ok(()),
-        Err(error) => Err(of_stored(error)),
-    }
-}
-
-/// Whether a subchunk of a shard that is open is present. Reads nothing.
-pub fn is_present<
-    I: ArrayToBytesCodecTraits,
-    X: ArrayToBytesCodecTraits,
-    H: BytesPartialDecoderTraits,
->(decoder: &ShardingPartialDecoder<'_, I, X, H>, subchunk: &[u64]) -> Result<bool, CodecError> {
-    Ok(decoder.subchunk_byte_range(subchunk)?.is_some())
-}
-
-/// Reads the bytes of a subchunk of a shard that is open, decodes them, and lets the elements go. Says whether it is present.
-pub fn read_through<
-    I: ArrayToBytesCodecTraits,
-    X: ArrayToBytesCodecTraits,
-    H: BytesPartialDecoderTraits,
->(
-    alloc: Global,
-    decoder: &mut ShardingPartialDecoder<'_, I, X, H>,
-    codec: &ShardingCodec<I, X>,
-    metadata: &ArrayMetadata,
-    subchunk: &[u64],
-) -> Result<bool, CodecError> {
-    match decoder.retrieve_subchunk_encoded(alloc, subchunk)? {
-        Some(bytes) => {
-            decode_subchunk(alloc, codec, metadata, &bytes)?;
-            Ok(true)
+    chunks: Vec<ChunkFile>,
+    part: &ListPart,
+) -> Result<Vec<ChunkFile>, AllocError> {
+    let mut kept = Vec::new(alloc);
+    for (place, chunk) in chunks.into_iter().enumerate() {
+        if part.has(place as u64) {
+            kept.push(chunk)?;
         }
-        None => Ok(false),
     }
+    Ok(kept)
 }
 
-impl<'a, R: Files + AllocGlobal, I, X> Array<'a, R, I, X> {
+impl<'a, R: Files + AllocGlobal, C> Array<'a, R, C> {
     /// The allocator.
     pub fn alloc(&self) -> Global {
         self.rt.alloc()
@@ -239,6 +157,28 @@ impl<'a, R: Files + AllocGlobal, I, X> Array<'a, R, I, X> {
             slashes: self.metadata.keys.slashes,
         };
         Ok(list_chunks(self.rt, self.path, form, &self.grid)?)
+    }
+
+    /// The files of the array's chunks that a part has of their list. What else stands in the folder goes with the first part.
+    pub fn files_in(&self, part: &ListPart) -> Result<ChunkFiles, Stop> {
+        let ChunkFiles {
+            chunks,
+            others,
+            replacing,
+        } = self.files()?;
+        let chunks = chunks_in(self.alloc(), chunks, part)?;
+        if part.is_first() {
+            return Ok(ChunkFiles {
+                chunks,
+                others,
+                replacing,
+            });
+        }
+        Ok(ChunkFiles {
+            chunks,
+            others: 0,
+            replacing: Vec::new(self.alloc()),
+        })
     }
 
     /// The path of the file with this key.
@@ -285,21 +225,16 @@ impl<'a, R: Files + AllocGlobal, I, X> Array<'a, R, I, X> {
     }
 }
 
-impl<'a, R: Files + AllocGlobal, I: ArrayToBytesCodecTraits, X: ArrayToBytesCodecTraits> Array<
-    'a,
-    R,
-    I,
-    X,
-> {
+impl<'a, R: Files + AllocGlobal, C: ShardCodec<ShardFile<'a, R>>> Array<'a, R, C> {
     /// Opens the array whose folder has this path, with its metadata and the codec that this names.
     pub fn open(
         rt: &'a R,
         path: &'a str,
         metadata: &'a ArrayMetadata,
-        codec: &'a ShardingCodec<I, X>,
+        codec: C,
     ) -> Result<Self, Stop> {
         let alloc = rt.alloc();
-        let subchunks = subchunks_of(alloc, codec, metadata)?;
+        let subchunks = codec.subchunks(alloc, metadata)?;
         let grid = ChunkGrid::new(alloc, &metadata.shape, metadata.shard.as_slice())?;
         Ok(Array {
             rt,
@@ -312,17 +247,27 @@ impl<'a, R: Files + AllocGlobal, I: ArrayToBytesCodecTraits, X: ArrayToBytesCode
     }
 
     /// Opens the shard that a file holds, where it is not refused.
-    pub fn decoder(
+    pub fn open_shard(
         &self,
         shard: &Shard<'_>,
         file: ShardFile<'a, R>,
-    ) -> Result<Result<Decoder<'a, R, I, X>, Refusal>, Stop> {
-        match opened(self.alloc(), self.codec, file, self.metadata) {
-            Ok(decoder) => Ok(Ok(decoder)),
+    ) -> Result<Result<C::Open, Refusal>, Stop> {
+        match self.codec.open(self.alloc(), file, self.metadata) {
+            Ok(opened) => Ok(Ok(opened)),
             Err((file, error)) => {
                 let refusal = self.refusal(shard, &file, error, Place::opening(&error))?;
                 Ok(Err(refusal))
             }
         }
+    }
+
+    /// What a compaction does to the shard in a file. Only its index is read.
+    pub fn plan_compaction(
+        &self,
+        file: &mut ShardFile<'a, R>,
+        is_dry: bool,
+    ) -> Result<Planned, CodecError> {
+        self.codec
+            .plan_compaction(self.alloc(), file, &self.metadata.shard, is_dry)
     }
 }

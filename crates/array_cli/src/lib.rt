@@ -1,19 +1,28 @@
-// What the commands over an array on disk share: what stands on a command line, how cells and the progress of a command are
-// written; an array that is open, why a shard of it is refused, and why a command stops.
+// What the commands over an array on disk share: an array that is open, the elements of a subset of it, why a shard is refused, and why
+// a command stops; how elements and the progress of a command are written.
 #![tactic(auto)]
 
 mod arrays;
-mod command_line;
+mod codec_use;
+mod json_line;
 mod progress;
+mod read;
 mod refusal;
+mod shard_codec;
+mod sound;
 mod stop;
 mod text;
 
-pub use arrays::{
-    Array, Decoder, Shard, ShardFile, decode_subset, is_present, metadata_of, read_through,
-};
-pub use command_line::{Form, Work, program, work_of};
+pub use arrays::{Array, Shard, described, metadata_of, turned};
+pub use codec_use::{CodecUse, with_codec};
+pub use json_line::{JsonLine, write_json_text};
 pub use progress::Progress;
+pub use read::{read_array, shards_of};
 pub use refusal::{Place, Refusal};
+pub use shard_codec::{OpenShard, Planned, ShardCodec, ShardEncoder, ShardFile, encode_chunk};
+pub use sound::put_elements;
 pub use stop::{Ending, Stop, written};
-pub use text::{full_name, write_json, write_numbers, write_rows};
+pub use text::{
+    TextRows, begin_json, end_json, full_name, write_json_cell, write_json_cells, write_numbers,
+    write_rows,
+};

@@ -1,6 +1,7 @@
 // How far a command is, as it shows on a terminal.
 ghost use Rattle.std.specs.Prelude.{◌≢◌};
 
+use std::fmt::Display;
 use std::io::Write;
 
 /// Shows how far a command is: a percentage that stands alone on its line, and over which the next one is written. What is
@@ -12,9 +13,12 @@ pub struct Progress<'a, M> {
     shows: bool,
     // the percentage that stands there
     shown: Option<u64>,
+    // which of how many equal parts of the work is done
+    part: u64,
+    parts: u64,
 }
 
-// How many of a hundred so many parts are of so many.
+// What `done` of `of` parts are in percent.
 fn percentage(done: u64, of: u64) -> u64
     requires { of ≢ 0 }
 {
@@ -28,13 +32,23 @@ impl<'a, M: Write> Progress<'a, M> {
             messages,
             shows,
             shown: None,
+            part: 0,
+            parts: 1,
         }
     }
 
-    /// Shows that so many parts are done of so many, where that is another percentage. Of no parts nothing is shown.
+    /// The next steps are those of one of the equal parts of the work, which are counted from 0.
+    pub fn begin_part(&mut self, part: u64, parts: u64) {
+        self.part = part;
+        self.parts = parts.max(1);
+    }
+
+    /// Shows that `done` of `of` parts are done, where that is another percentage. Of no parts nothing is shown.
     pub fn step(&mut self, done: u64, of: u64) {
         if self.shows && of != 0 {
-            self.show(percentage(done, of));
+            let before = self.part.saturating_mul(100);
+            let percent = before.saturating_add(percentage(done, of));
+            self.show(percent.checked_div(self.parts).unwrap_or(100));
         }
     }
 
@@ -44,6 +58,12 @@ impl<'a, M: Write> Progress<'a, M> {
             let _ = write!(self.messages, "\r{percent:3} %");
             self.shown = Some(percent);
         }
+    }
+
+    /// Writes a line on what is filled, under a key and with a reason.
+    pub fn tell_filled<D: Display>(&mut self, key: &str, reason: &D) {
+        self.clear();
+        let _ = writeln!(self.messages, "{key}: filled: {reason}");
     }
 
     /// Blanks the percentage that stands there.

@@ -20,6 +20,8 @@ pub enum Ending {
     Refused,
     /// A part of it could not be done.
     Undone,
+    /// Two arrays differ.
+    Different,
 }
 
 impl Ending {
@@ -29,7 +31,7 @@ impl Ending {
     {
         match self {
             Ending::Done => 0,
-            Ending::Refused => 1,
+            Ending::Refused | Ending::Different => 1,
             Ending::Undone => 2,
         }
     }
@@ -57,13 +59,22 @@ pub enum Stop {
     Closed(Ending),
     /// What the system said of a file or folder. Its path, as each path here, is escaped for a terminal.
     #[error("{path}: {error}")]
-    System { path: String, error: io::Error },
+    System {
+        path: String,
+        error: io::Error,
+    },
     /// A folder in which a new file cannot be made.
     #[error("{path}: no new file can be made in this folder: {error}")]
-    Folder { path: String, error: io::Error },
+    Folder {
+        path: String,
+        error: io::Error,
+    },
     /// Metadata that is refused.
     #[error("{path}: {error}")]
-    Metadata { path: String, error: MetadataError },
+    Metadata {
+        path: String,
+        error: MetadataError,
+    },
     /// An array that the codecs do not serve.
     #[error("the codecs do not serve the array: {0}")]
     Codec(CodecError),
@@ -72,13 +83,43 @@ pub enum Stop {
     Refused(Refusal),
     /// A subchunk that is absent, which has no bytes.
     #[error("{key}: subchunk {number} is absent: all its elements are the fill value")]
-    Absent { key: String, number: u64 },
+    Absent {
+        key: String,
+        number: u64,
+    },
     /// A key that no shard has.
     #[error("no shard of this array has the key {0}")]
     NoShard(String),
+    /// A grid that has too many places to be drawn.
+    #[error("a map has at most {most} places, and this one would have more; name one of its shards")]
+    TooManyPlaces {
+        most: u64,
+    },
+    /// A word that is none of those that it may be.
+    #[error("{0} is none of the words that can stand there")]
+    BadWord(String),
+    /// A file with another number of bytes of elements than are wanted.
+    #[error("{path} has {length} bytes of elements, and {wanted} are wanted")]
+    Length {
+        path: String,
+        length: u64,
+        wanted: u64,
+    },
+    /// A file that is none of NumPy's format with this description of its elements.
+    #[error("{path} is no file of NumPy's format for elements of {wanted}")]
+    Header {
+        path: String,
+        wanted: String,
+    },
+    /// What names no part of the shards.
+    #[error("{0} is no part of the shards, as 2/8 is the second of eight")]
+    NoPart(String),
     /// What is no number of a subchunk.
     #[error("{number} is no number of a subchunk, which are 0 to {last}")]
-    NoSubchunk { number: String, last: u64 },
+    NoSubchunk {
+        number: String,
+        last: u64,
+    },
     /// A subset that is refused.
     #[error("{0}")]
     Box(SubsetError),

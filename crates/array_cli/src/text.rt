@@ -1,6 +1,7 @@
 // Cells as text and as JSON.
 ghost use Rattle.std.specs.Prelude.{◌<◌};
 
+use crate::json_line::write_json_numbers;
 use array_metadata::{ElementType, FloatFormat, half_to_f32};
 use parts_arrays::{DataType, DataTypeSize};
 use std::alloc::{AllocError, Global};
@@ -221,67 +222,118 @@ pub fn write_numbers<W: Write>(out: &mut W, name: &str, numbers: &[u64]) -> io::
     out.write_all(b"\n")
 }
 
-/// Writes cells as text, a row of the last axis a line.
+/// Cells that are written as text piece by piece: a row of the last axis a line, and an empty line between planes of the last two.
+#[derive(Debug, Clone, Copy, PartialEq, Eq)]
+pub struct TextRows {
+    // how many cells a row has, and how many rows a plane, before the next of which an empty line stands
+    row: u64,
+    rows: u64,
+    // how many cells of the row are written, and how many rows of the plane
+    column: u64,
+    line: u64,
+}
+
+impl TextRows {
+    /// The cells of a subset of a shape, of which none is written.
+    pub fn new(shape: &[u64]) -> Self {
+        let (row, rows) = match shape {
+            [] => (1, u64::MAX),
+            [row] | [_, row] => (*row, u64::MAX),
+            [.., rows, row] => (*row, *rows),
+        };
+        TextRows {
+            row,
+            rows,
+            column: 0,
+            line: 0,
+        }
+    }
+
+    // Writes what stands before a cell.
+    fn write_before<W: Write>(&mut self, out: &mut W) -> io::Result<()> {
+        if self.column > 0 {
+            return out.write_all(b" ");
+        }
+        if self.line >= self.rows {
+            self.line = 0;
+            return out.write_all(b"\n");
+        }
+        Ok(())
+    }
+
+    // Writes the end of the row behind a cell, if it is the last one.
+    fn write_behind<W: Write>(&mut self, out: &mut W) -> io::Result<()> {
+        self.column = self.column.saturating_add(1);
+        if self.column < self.row {
+            return Ok(());
+        }
+        self.column = 0;
+        self.line = self.line.saturating_add(1);
+        out.write_all(b"\n")
+    }
+
+    /// Writes the next cells, which have these bytes.
+    pub fn write<W: Write>(
+        &mut self,
+        out: &mut W,
+        element_type: ElementType,
+        bytes: &[u8],
+    ) -> io::Result<()> {
+        for element in bytes.chunks(cell_size(element_type)) {
+            self.write_before(out)?;
+            write_element(out, element_type, element, false)?;
+            self.write_behind(out)?;
+        }
+        Ok(())
+    }
+}
+
+/// Writes cells as text, a row of the last axis a line, and an empty line between planes of the last two.
 pub fn write_rows<W: Write>(
     out: &mut W,
     element_type: ElementType,
     bytes: &[u8],
     shape: &[u64],
 ) -> io::Result<()> {
-    let row = shape.last().copied().unwrap_or(1);
-    let mut column = 0u64;
+    TextRows::new(shape).write(out, element_type, bytes)
+}
+
+/// Writes a cell as JSON does.
+pub fn write_json_cell<W: Write>(
+    out: &mut W,
+    element_type: ElementType,
+    element: &[u8],
+) -> io::Result<()> {
+    write_element(out, element_type, element, true)
+}
+
+/// Begins the elements of a subset as an object of JSON on a line, with the keys in order: its `cells` in row-major order, its
+/// `data_type`, and its `shape`.
+pub fn begin_json<W: Write>(out: &mut W) -> io::Result<()> {
+    out.write_all(b"{\"cells\":[")
+}
+
+/// Writes the next cells of an object of JSON, which have these bytes; they are its first ones, or others stand before them.
+pub fn write_json_cells<W: Write>(
+    out: &mut W,
+    element_type: ElementType,
+    bytes: &[u8],
+    is_first: bool,
+) -> io::Result<()> {
+    let mut before = !is_first;
     for element in bytes.chunks(cell_size(element_type)) {
-        if column > 0 {
-            out.write_all(b" ")?;
+        if before {
+            out.write_all(b",")?;
         }
-        write_element(out, element_type, element, false)?;
-        column = column.saturating_add(1);
-        if column >= row {
-            out.write_all(b"\n")?;
-            column = 0;
-        }
+        before = true;
+        write_json_cell(out, element_type, element)?;
     }
     Ok(())
 }
 
-// Writes cells as a list of JSON.
-fn write_json_cells<W: Write>(
-    out: &mut W,
-    element_type: ElementType,
-    bytes: &[u8],
-) -> io::Result<()> {
-    out.write_all(b"[")?;
-    for (number, element) in bytes.chunks(cell_size(element_type)).enumerate() {
-        if number > 0 {
-            out.write_all(b",")?;
-        }
-        write_element(out, element_type, element, true)?;
-    }
-    out.write_all(b"]")
-}
-
-// Writes numbers as a list of JSON.
-fn write_json_numbers<W: Write>(out: &mut W, numbers: &[u64]) -> io::Result<()> {
-    out.write_all(b"[")?;
-    let mut before = "";
-    for number in numbers {
-        write!(out, "{before}{number}")?;
-        before = ",";
-    }
-    out.write_all(b"]")
-}
-
-/// Writes the elements of a subset as an object of JSON on a line, with the keys in order: its `cells` in row-major order, its
-/// `data_type`, and its `shape`.
-pub fn write_json<W: Write>(
-    out: &mut W,
-    element_type: ElementType,
-    bytes: &[u8],
-    shape: &[u64],
-) -> io::Result<()> {
-    out.write_all(b"{\"cells\":")?;
-    write_json_cells(out, element_type, bytes)?;
-    out.write_all(b",\"data_type\":\"")?;
+/// Ends the object of JSON of a subset of a shape, behind its last cell.
+pub fn end_json<W: Write>(out: &mut W, element_type: ElementType, shape: &[u64]) -> io::Result<()> {
+    out.write_all(b"],\"data_type\":\"")?;
     write_name(out, element_type)?;
     out.write_all(b"\",\"shape\":")?;
     write_json_numbers(out, shape)?;

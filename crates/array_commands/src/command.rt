@@ -2,150 +2,165 @@
 ghost use Rattle.std.specs.Prelude.{◌≤◌, IfOk};
 
 use crate::check::check;
-use crate::compact::compact;
+use crate::command_line::{Scope, Target, Work, program, work_of};
 use crate::extract::extract;
 use crate::npy::save_subset;
-use crate::read::read_array;
+use crate::reading::print_subset;
+use crate::writing_line::array_words;
 use array_cli::{
-    Array, Ending, Form, Progress, Stop, Work, metadata_of, program, work_of, write_json,
-    write_rows, written,
+    Array, CodecUse, Ending, Progress, ShardCodec, ShardFile, Stop, metadata_of, with_codec,
 };
 use array_fields::escaped;
-use array_grid::subset_of;
-use array_info::{info_of_array, info_of_shard, list_nodes};
-use array_metadata::{ArrayMetadata, ElementType};
+use array_grid::{ListPart, subset_of};
+use array_info::{Listing, info_of_array, info_of_shard, list_nodes, map_array, map_shard};
+use array_metadata::ArrayMetadata;
+use array_writing::{Way, compact, compare, create, reshard, write_subset};
 use clap::ArgMatches;
-use codec_traits::ArrayToBytesCodecTraits;
-use parts_subsets::ArraySubset;
-use sharding_codec::ShardingCodec;
 use std::alloc::Global;
 use std::convert::AsStr;
 use std::io;
 use std::io::{BufWriter, Write};
 use std::rt::{Clock, Files};
 
-// Writes cells in a form.
-fn write_cells<W: Write>(
+// Reads the subset that a word names, and writes its elements.
+fn run_read<'a, R: Files + AllocGlobal, C: ShardCodec<ShardFile<'a, R>>, W: Write, M: Write>(
+    array: &Array<'a, R, C>,
+    requested: Option<&str>,
+    target: Target<'_>,
+    fills: bool,
     out: &mut W,
-    form: Form,
-    element_type: ElementType,
-    cells: &[u8],
-    shape: &[u64],
-) -> io::Result<()> {
-    match form {
-        Form::Text => write_rows(out, element_type, cells, shape),
-        Form::Raw => out.write_all(cells),
-        Form::Json => write_json(out, element_type, cells, shape),
+    progress: &mut Progress<'_, M>,
+) -> Result<Ending, Stop> {
+    match target {
+        Target::NumPy(path) => save_subset(array, requested, path, fills, out, progress),
+        Target::Answer(form) => {
+            array.test_read()?;
+            let subset = subset_of(array.alloc(), requested, &array.metadata.shape)?.subset;
+            print_subset(array, &subset, form, fills, out, progress)
+        }
     }
 }
 
-// Reads the elements of a subset, and writes them.
-fn read_and_write<
-    R: Files + AllocGlobal,
-    I: ArrayToBytesCodecTraits,
-    X: ArrayToBytesCodecTraits,
-    W: Write,
-    M: Write,
->(
-    array: &Array<'_, R, I, X>,
-    subset: &ArraySubset,
-    form: Form,
+// Draws an array, or the shard that has a key.
+fn run_map<'a, R: Files + AllocGlobal, C: ShardCodec<ShardFile<'a, R>>, W: Write, M: Write>(
+    array: &Array<'a, R, C>,
+    key: Option<&str>,
+    svg: Option<&str>,
     out: &mut W,
     progress: &mut Progress<'_, M>,
 ) -> Result<Ending, Stop> {
-    let cells = read_array(array, subset, progress)?;
-    progress.clear();
-    let element_type = array.metadata.element_type;
-    let bytes = array.least_first(cells.bytes())?;
-    let wrote = write_cells(out, form, element_type, &bytes, subset.shape());
-    written(wrote, Ending::Done)?;
-    Ok(Ending::Done)
+    match key {
+        Some(key) => map_shard(array, key, svg, out, progress),
+        None => map_array(array, svg, out, progress),
+    }
 }
 
-// Reads the subset that a word names, and writes its elements.
-fn run_read<
-    R: Files + AllocGlobal,
-    I: ArrayToBytesCodecTraits,
-    X: ArrayToBytesCodecTraits,
-    W: Write,
-    M: Write,
->(
-    array: &Array<'_, R, I, X>,
-    requested: Option<&str>,
-    form: Form,
-    out: &mut W,
-    progress: &mut Progress<'_, M>,
-) -> Result<Ending, Stop> {
-    array.test_read()?;
-    let subset = subset_of(array.alloc(), requested, &array.metadata.shape)?.subset;
-    read_and_write(array, &subset, form, out, progress)
+// Which shards a command goes over, and how it tells of them. Refused as `Stop::NoPart` where a word names no part.
+fn listing_of(alloc: Global, scope: Scope<'_>) -> Result<Listing, Stop> {
+    let is_json = scope.is_json;
+    let Some(word) = scope.part else {
+        let part = ListPart::whole();
+        return Ok(Listing { part, is_json });
+    };
+    match ListPart::named(word) {
+        Some(part) => Ok(Listing { part, is_json }),
+        None => Err(Stop::NoPart(escaped(alloc, word)?)),
+    }
+}
+
+// Where compact shards go.
+fn way_of(is_dry: bool, output: Option<&str>) -> Way<'_> {
+    match output {
+        Some(folder) => Way::Copy { folder },
+        None if is_dry => Way::Dry,
+        None => Way::Replace,
+    }
 }
 
 // Does a work, and writes its answer.
 fn run_work<
+    'a,
     R: Files + AllocGlobal + Clock,
-    I: ArrayToBytesCodecTraits,
-    X: ArrayToBytesCodecTraits,
+    C: ShardCodec<ShardFile<'a, R>>,
     W: Write,
     M: Write,
 >(
-    array: &Array<'_, R, I, X>,
+    array: &Array<'a, R, C>,
     work: Work<'_>,
     out: &mut W,
     progress: &mut Progress<'_, M>,
 ) -> Result<Ending, Stop> {
+    let alloc = array.alloc();
     match work {
-        Work::Info => info_of_array(array, out, progress),
-        Work::InfoOfShard { key } => info_of_shard(array, key, out),
-        Work::Check { is_index_alone } => check(array, is_index_alone, out, progress),
+        Work::Info { scope } => info_of_array(array, &listing_of(alloc, scope)?, out, progress),
+        Work::InfoOfShard { key, is_json } => info_of_shard(array, key, is_json, out),
+        Work::Check {
+            is_index_alone,
+            scope,
+        } => check(
+            array,
+            is_index_alone,
+            &listing_of(alloc, scope)?,
+            out,
+            progress,
+        ),
+        Work::Map { key, svg } => run_map(array, key, svg, out, progress),
         Work::Extract { key, number } => extract(array, key, number, out),
-        Work::Read { requested, form } => run_read(array, requested, form, out, progress),
-        Work::Save { requested, path } => save_subset(array, requested, path, out, progress),
-        Work::Compact { is_dry } => compact(array, is_dry, out, progress),
+        Work::Read {
+            requested,
+            target,
+            fills,
+        } => run_read(array, requested, target, fills, out, progress),
+        Work::Write { requested, file } => write_subset(array, requested, file, out, progress),
+        Work::Reshard { path, words } => reshard(array, path, &words, out, progress),
+        Work::Compact {
+            is_dry,
+            output,
+            scope,
+        } => {
+            let way = way_of(is_dry, output);
+            compact(array, way, &listing_of(alloc, scope)?, out, progress)
+        }
     }
 }
 
-// Does a work on an array that is open, and gives the status.
-fn run_opened<
-    R: Files + AllocGlobal + Clock,
-    I: ArrayToBytesCodecTraits,
-    X: ArrayToBytesCodecTraits,
-    W: Write,
-    M: Write,
->(
-    array: &Array<'_, R, I, X>,
-    work: Work<'_>,
-    out: &mut W,
-    progress: &mut Progress<'_, M>,
-) -> Result<u8, Stop>
+// The status of a command that ended so. An answer that nobody reads any more is no error.
+fn status_of(ran: Result<Ending, Stop>) -> Result<u8, Stop>
     ensures { IfOk result (λ status. status ≤ 2) }
 {
-    match run_work(array, work, out, progress) {
+    match ran {
         Ok(ending) | Err(Stop::Closed(ending)) => Ok(ending.status()),
         Err(stop) => Err(stop),
     }
 }
 
-// Opens an array with its metadata and the codec that this names, and does a work.
-fn run_described<
-    R: Files + AllocGlobal + Clock,
-    I: ArrayToBytesCodecTraits,
-    X: ArrayToBytesCodecTraits,
-    W: Write,
-    M: Write,
->(
-    rt: &R,
-    path: &str,
-    metadata: &ArrayMetadata,
-    codec: &ShardingCodec<I, X>,
-    work: Work<'_>,
-    out: &mut W,
-    progress: &mut Progress<'_, M>,
-) -> Result<u8, Stop>
-    ensures { IfOk result (λ status. status ≤ 2) }
-{
-    let array = Array::open(rt, path, metadata, codec)?;
-    run_opened(&array, work, out, progress)
+// A work on an array whose metadata is read.
+#[derive(Drop)]
+struct ArrayWork<'w, 'p, R, W, M> {
+    rt: &'w R,
+    path: &'w str,
+    metadata: &'w ArrayMetadata,
+    work: Work<'w>,
+    out: &'w mut W,
+    progress: &'w mut Progress<'p, M>,
+}
+
+impl<'w, R: Files + AllocGlobal + Clock, W: Write, M: Write> CodecUse<ShardFile<'w, R>>
+    for ArrayWork<'w, '_, R, W, M> {
+    type Answer = Result<Ending, Stop>;
+
+    fn with<C: ShardCodec<ShardFile<'w, R>>>(self, codec: C) -> Result<Ending, Stop> {
+        let ArrayWork {
+            rt,
+            path,
+            metadata,
+            work,
+            out,
+            progress,
+        } = self;
+        let array = Array::open(rt, path, metadata, codec)?;
+        run_work(&array, work, out, progress)
+    }
 }
 
 // Reads the metadata of an array, and does a work.
@@ -155,21 +170,87 @@ fn run_array<R: Files + AllocGlobal + Clock, W: Write, M: Write>(
     work: Work<'_>,
     out: &mut W,
     progress: &mut Progress<'_, M>,
-) -> Result<u8, Stop>
-    ensures { IfOk result (λ status. status ≤ 2) }
-{
-    let metadata = metadata_of(rt, path)?;
-    run_described(rt, path, &metadata, &metadata.codec, work, out, progress)
+) -> Result<Ending, Stop> {
+    let metadata = &metadata_of(rt, path)?;
+    let work = ArrayWork {
+        rt,
+        path,
+        metadata,
+        work,
+        out,
+        progress,
+    };
+    with_codec(metadata, work)
 }
 
-// Lists the arrays below a group.
-fn run_list<R: Files + AllocGlobal, W: Write>(rt: &R, path: &str, out: &mut W) -> Result<u8, Stop>
-    ensures { IfOk result (λ status. status ≤ 2) }
-{
-    match list_nodes(rt, path, out) {
-        Ok(ending) | Err(Stop::Closed(ending)) => Ok(ending.status()),
-        Err(stop) => Err(stop),
+// A comparison of two arrays whose metadata is read.
+#[derive(Drop)]
+struct Comparison<'w, 'p, R, W, M> {
+    rt: &'w R,
+    paths: (&'w str, &'w str),
+    metadata: (&'w ArrayMetadata, &'w ArrayMetadata),
+    out: &'w mut W,
+    progress: &'w mut Progress<'p, M>,
+}
+
+// The same, of which the codec of the first array is known.
+#[derive(Drop)]
+struct HalfComparison<'w, 'p, C, R, W, M> {
+    comparison: Comparison<'w, 'p, R, W, M>,
+    codec: C,
+}
+
+impl<'w, R: Files + AllocGlobal, W: Write, M: Write> CodecUse<ShardFile<'w, R>>
+    for Comparison<'w, '_, R, W, M> {
+    type Answer = Result<Ending, Stop>;
+
+    fn with<C: ShardCodec<ShardFile<'w, R>>>(self, codec: C) -> Result<Ending, Stop> {
+        let metadata = self.metadata.1;
+        let comparison = HalfComparison {
+            comparison: self,
+            codec,
+        };
+        with_codec(metadata, comparison)
     }
+}
+
+impl<'w, C: ShardCodec<ShardFile<'w, R>>, R: Files + AllocGlobal, W: Write, M: Write> CodecUse<
+    ShardFile<'w, R>,
+> for HalfComparison<'w, '_, C, R, W, M> {
+    type Answer = Result<Ending, Stop>;
+
+    fn with<D: ShardCodec<ShardFile<'w, R>>>(self, codec: D) -> Result<Ending, Stop> {
+        let Comparison {
+            rt,
+            paths,
+            metadata,
+            out,
+            progress,
+        } = self.comparison;
+        let one = Array::open(rt, paths.0, metadata.0, self.codec)?;
+        let other = Array::open(rt, paths.1, metadata.1, codec)?;
+        compare(&one, &other, out, progress)
+    }
+}
+
+// Compares the arrays at two paths.
+fn run_compare<R: Files + AllocGlobal, W: Write, M: Write>(
+    rt: &R,
+    paths: (&str, &str),
+    out: &mut W,
+    progress: &mut Progress<'_, M>,
+) -> Result<Ending, Stop> {
+    let one = metadata_of(rt, paths.0)?;
+    let other = metadata_of(rt, paths.1)?;
+    let metadata = (&one, &other);
+    let comparison = Comparison {
+        rt,
+        paths,
+        metadata,
+        out,
+        progress,
+    };
+    with_codec(&one, comparison)
 }
 
 // Does what the words of a command line say.
@@ -187,12 +268,20 @@ fn run_matches<R: Files + AllocGlobal + Clock, W: Write, M: Write>(
     };
     let path = found.get_str("PATH").unwrap_or(".");
     if name == "list" {
-        return run_list(rt, path, out);
+        return status_of(list_nodes(rt, path, out));
+    }
+    if name == "create" {
+        return status_of(create(rt, path, &array_words(found)));
     }
     let mut progress = Progress::new(messages, shows_progress);
-    let ran = run_array(rt, path, work_of(name, found), out, &mut progress);
+    let ran = if name == "compare" {
+        let other = found.get_str("OTHER").unwrap_or("");
+        run_compare(rt, (path, other), out, &mut progress)
+    } else {
+        run_array(rt, path, work_of(name, found), out, &mut progress)
+    };
     progress.clear();
-    ran
+    status_of(ran)
 }
 
 // Writes what is wrong with a command line, of which a word may be the name of a stranger's file.

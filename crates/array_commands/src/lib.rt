@@ -1,13 +1,14 @@
-// The commands over an array on disk whose chunks are shards: whether it is sound, its elements, and its compaction. What it holds,
-// array_info says.
+// The commands over an array on disk whose chunks are shards: whether it is sound, and its elements. What it holds, array_info says; what
+// is written, array_writing.
 #![tactic(auto)]
 
 mod check;
+mod checked;
 mod command;
-mod compact;
+mod command_line;
 mod extract;
 mod npy;
-mod read;
-mod rewriting;
+mod reading;
+mod writing_line;
 
 pub use command::run_command;

@@ -1,47 +1,18 @@
 // A subset of an array as a file of NumPy's format.
-use crate::read::read_array;
-use crate::rewriting::{begin, tell_owner};
-use array_cli::{Array, Ending, Progress, Stop, full_name};
-use array_fields::escaped;
-use array_folder::{npy_beside, npy_header, write_npy};
+use crate::reading::{Sink, read_bands};
+use array_cli::{Array, Ending, Progress, ShardCodec, ShardFile, Stop, full_name};
+use array_folder::{npy_beside, npy_header};
 use array_grid::{Requested, subset_of};
-use codec_traits::ArrayToBytesCodecTraits;
+use array_info::begin_new;
+use std::alloc::Global;
 use std::io;
-use std::io::{ErrorKind, Write};
+use std::io::Write;
 use std::rt::Files;
-
-// Why a new file is not begun where another one stands.
-fn busy() -> io::Error {
-    io::Error::new(
-        ErrorKind::AlreadyExists,
-        "stands there; if no program writes it, remove it",
-    )
-}
-
-// Makes the file at a path of a header and cells.
-fn save<R: Files + AllocGlobal, I, X, W: Write>(
-    array: &Array<'_, R, I, X>,
-    path: &str,
-    beside: &str,
-    header: &[u8],
-    cells: &[u8],
-    out: &mut W,
-) -> Result<(), Stop> {
-    let shown = escaped(array.alloc(), path)?;
-    let Some(new) = begin(array, path, beside)? else {
-        return Err(Stop::system(array.alloc(), beside, busy()));
-    };
-    // a line that nobody reads stops nothing
-    let _ = tell_owner(out, &shown, &new);
-    match write_npy(new, header, cells) {
-        Ok(()) => Ok(()),
-        Err(error) => Err(Stop::system(array.alloc(), path, error)),
-    }
-}
+use storage_files::Replacement;
 
 // The header of a file of NumPy's format, to be at a path, which has the elements that are requested.
-fn header_of<R: Files + AllocGlobal, I, X>(
-    array: &Array<'_, R, I, X>,
+fn header_of<R: Files + AllocGlobal, C>(
+    array: &Array<'_, R, C>,
     requested: &Requested,
     path: &str,
 ) -> Result<Vec<u8>, Stop> {
@@ -51,46 +22,78 @@ fn header_of<R: Files + AllocGlobal, I, X>(
     Ok(npy_header(alloc, path, &name, &shape)?)
 }
 
-// Reads what is requested, and makes the file at a path of it.
-fn save_requested<
-    R: Files + AllocGlobal,
-    I: ArrayToBytesCodecTraits,
-    X: ArrayToBytesCodecTraits,
-    W: Write,
-    M: Write,
->(
-    array: &Array<'_, R, I, X>,
+// A new file of a path, into which elements are written.
+#[derive(Drop)]
+struct NewFile<'n, R: Files> {
+    alloc: Global,
+    file: Replacement<R>,
+    path: &'n str,
+}
+
+impl<R: Files> NewFile<'_, R> {
+    // Writes bytes behind those that are there.
+    fn write(&mut self, bytes: &[u8]) -> Result<(), Stop> {
+        match self.file.write(bytes) {
+            Ok(()) => Ok(()),
+            Err(error) => Err(Stop::system(self.alloc, self.path, error)),
+        }
+    }
+}
+
+impl<R: Files> Sink for NewFile<'_, R> {
+    fn put(&mut self, bytes: &[u8], _ending: Ending) -> Result<(), Stop> {
+        self.write(bytes)
+    }
+}
+
+// Puts a new file in its place once all is written, or leaves nothing of it.
+fn end_file<R: Files + Drop>(
+    new: NewFile<'_, R>,
+    wrote: Result<Ending, Stop>,
+) -> Result<Ending, Stop> {
+    let NewFile { alloc, file, path } = new;
+    if wrote.is_err() {
+        file.abandon();
+        return wrote;
+    }
+    let finished: io::Result<()> = file.finish();
+    match finished {
+        Ok(()) => wrote,
+        Err(error) => Err(Stop::system(alloc, path, error)),
+    }
+}
+
+// Reads what is requested, and writes it into a new file behind a header.
+fn fill<'a, R: Files + AllocGlobal, C: ShardCodec<ShardFile<'a, R>>, M: Write>(
+    array: &Array<'a, R, C>,
     requested: &Requested,
-    path: &str,
-    beside: &str,
-    out: &mut W,
+    fills: bool,
+    header: &[u8],
+    new: &mut NewFile<'_, &'a R>,
     progress: &mut Progress<'_, M>,
 ) -> Result<Ending, Stop> {
-    let header = header_of(array, requested, path)?;
-    let cells = read_array(array, &requested.subset, progress)?;
-    progress.clear();
-    let bytes = array.least_first(cells.bytes())?;
-    save(array, path, beside, &header, &bytes, out)?;
-    Ok(Ending::Done)
+    new.write(header)?;
+    read_bands(array, &requested.subset, fills, new, progress)
 }
 
 /// Reads a subset, and makes a file of NumPy's format of it, which has no axis that is named by one coordinate. A file of that
 /// name is replaced once the new one is whole. Where the path is refused nothing is read.
-pub fn save_subset<
-    R: Files + AllocGlobal,
-    I: ArrayToBytesCodecTraits,
-    X: ArrayToBytesCodecTraits,
-    W: Write,
-    M: Write,
->(
-    array: &Array<'_, R, I, X>,
+pub fn save_subset<'a, R: Files + AllocGlobal, C: ShardCodec<ShardFile<'a, R>>, W: Write, M: Write>(
+    array: &Array<'a, R, C>,
     requested: Option<&str>,
     path: &str,
+    fills: bool,
     out: &mut W,
     progress: &mut Progress<'_, M>,
 ) -> Result<Ending, Stop> {
     array.test_read()?;
-    let requested = subset_of(array.alloc(), requested, &array.metadata.shape)?;
+    let alloc = array.alloc();
+    let requested = subset_of(alloc, requested, &array.metadata.shape)?;
     let beside = npy_beside(array.rt, path)?;
-    save_requested(array, &requested, path, &beside, out, progress)
+    let header = header_of(array, &requested, path)?;
+    let file = begin_new(array, path, &beside, out)?;
+    let mut new = NewFile { alloc, file, path };
+    let wrote = fill(array, &requested, fills, &header, &mut new, progress);
+    progress.clear();
+    end_file(new, wrote)
 }

@@ -1,19 +1,25 @@
 // Which subset of an array is requested, and which shards it overlaps: which cell of which shard stands where.
 #![tactic(auto)]
 
+mod bands;
 mod cells;
 mod grid;
+mod list_part;
 mod parsing;
 mod parts;
 mod picking;
+mod shared;
 mod subsets;
 mod touched;
 mod words;
 
+pub use bands::Bands;
 pub use cells::SubsetCells;
 pub use grid::ShardGrid;
+pub use list_part::ListPart;
 pub use parsing::parse;
 pub use parts::{ShardPart, ShardParts};
 pub use picking::{Requested, resolve};
+pub use shared::{SharedElements, shared_elements};
 pub use subsets::{SubsetError, subset_of};
 pub use words::{Position, Word};

@@ -2,13 +2,21 @@
 use array_cli::{Array, Shard, Stop};
 use array_fields::escaped;
 use array_folder::{ChunkFiles, age_of};
+use array_grid::ListPart;
 use std::io;
 use std::io::Write;
 use std::rt::{Clock, Files};
 
+/// Which shards of an array a command goes over, and whether it tells of them in lines of JSON.
+#[derive(Drop)]
+pub struct Listing {
+    pub part: ListPart,
+    pub is_json: bool,
+}
+
 /// The shard of an array that has a key, among the files of its chunks. Refused as `Stop::NoShard` where none has it.
-pub fn shard_of<'s, R: Files + AllocGlobal, I, X>(
-    array: &Array<'_, R, I, X>,
+pub fn shard_of<'s, R: Files + AllocGlobal, C>(
+    array: &Array<'_, R, C>,
     files: &'s ChunkFiles,
     key: &str,
 ) -> Result<Shard<'s>, Stop> {
@@ -24,8 +32,8 @@ pub fn shard_of<'s, R: Files + AllocGlobal, I, X>(
 }
 
 // Writes a line for the new file with a key, which stands beside a shard.
-fn write_replacing<R: Files + AllocGlobal + Clock, I, X, W: Write>(
-    array: &Array<'_, R, I, X>,
+fn write_replacing<R: Files + AllocGlobal + Clock, C, W: Write>(
+    array: &Array<'_, R, C>,
     out: &mut W,
     key: &str,
 ) -> io::Result<()> {
@@ -38,8 +46,8 @@ fn write_replacing<R: Files + AllocGlobal + Clock, I, X, W: Write>(
 
 /// Writes what stands in an array's folder besides its shards: a line for each new file that stands beside a shard, and how
 /// many other files there are. Refused as the writer refuses.
-pub fn write_folder<R: Files + AllocGlobal + Clock, I, X, W: Write>(
-    array: &Array<'_, R, I, X>,
+pub fn write_folder<R: Files + AllocGlobal + Clock, C, W: Write>(
+    array: &Array<'_, R, C>,
     out: &mut W,
     files: &ChunkFiles,
 ) -> io::Result<()> {

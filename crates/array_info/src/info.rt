@@ -1,17 +1,14 @@
 // What an array on disk holds, and its shards.
-use crate::folder::write_folder;
-use crate::index_info::{index_info, index_range, index_size, whole_index};
+use crate::folder::{Listing, write_folder};
+use crate::index_info::{index_info, index_range};
+use crate::json;
 use array_cli::{
-    Array, Ending, Place, Progress, Refusal, Shard, ShardFile, Stop, write_numbers, write_rows,
-    written,
+    Array, Ending, Place, Progress, Refusal, Shard, ShardCodec, ShardFile, Stop, write_numbers,
+    write_rows, written,
 };
 use array_folder::{ChunkFile, ChunkFiles, Counted, FolderFiles, IndexInfo, info_of};
 use array_metadata::ArrayMetadata;
-use codec_traits::ArrayToBytesCodecTraits;
 use parts_errors::CodecError;
-use parts_subsets::ChunkShape;
-use sharding_codec::ShardingCodec;
-use std::alloc::Global;
 use std::io;
 use std::io::Write;
 use std::rt::{Clock, Files};
@@ -25,28 +22,28 @@ pub struct ShardInfo {
     pub index: Result<IndexInfo, Refusal>,
 }
 
-// What is known of all shards.
+/// What is known of all shards.
 #[derive(Debug, Clone, Copy, PartialEq, Eq)]
-struct Sums {
-    shards: u64,
-    bytes: u64,
-    present: u64,
-    absent: u64,
-    dead: u64,
-    refused: u64,
+pub struct Sums {
+    pub shards: u64,
+    pub bytes: u64,
+    pub present: u64,
+    pub absent: u64,
+    pub dead: u64,
+    pub refused: u64,
 }
 
 // The longest index, in bytes, that is read at once.
 const LONGEST_AT_ONCE: u64 = 65_536;
 
 // What the index of a shard says, which has these bytes, or why it is refused.
-fn index_of<R: Files + AllocGlobal, I, X: ArrayToBytesCodecTraits>(
-    array: &Array<'_, R, I, X>,
+fn index_of<'a, R: Files + AllocGlobal, C: ShardCodec<ShardFile<'a, R>>>(
+    array: &Array<'a, R, C>,
     shard: &Shard<'_>,
     bytes: &[u8],
     length: u64,
 ) -> Result<Result<IndexInfo, Refusal>, Stop> {
-    match index_info(array.alloc(), array.codec, &array.subchunks, bytes, length) {
+    match index_info(array, bytes, length) {
         Ok(info) => Ok(Ok(info)),
         Err(CodecError::OutOfMemory) => Err(Stop::OutOfMemory),
         Err(error) => Ok(Err(array.refusal_at(shard, error, Place::opening(&error))?)),
@@ -54,13 +51,13 @@ fn index_of<R: Files + AllocGlobal, I, X: ArrayToBytesCodecTraits>(
 }
 
 // What is known of a shard, whose index has a size and is read at once; nothing where its file is gone.
-fn read_at_once<R: Files + AllocGlobal, I, X: ArrayToBytesCodecTraits>(
-    array: &Array<'_, R, I, X>,
+fn read_at_once<'a, R: Files + AllocGlobal, C: ShardCodec<ShardFile<'a, R>>>(
+    array: &Array<'a, R, C>,
     shard: &Shard<'_>,
     size: u64,
     files: &mut FolderFiles<'_, R>,
 ) -> Result<Option<ShardInfo>, Stop> {
-    let range = index_range(array.codec.location, size);
+    let range = index_range(array.codec.index_location(), size);
     match files.read(shard.key, range) {
         Ok(Some((length, bytes))) => {
             let index = index_of(array, shard, bytes, length)?;
@@ -72,26 +69,25 @@ fn read_at_once<R: Files + AllocGlobal, I, X: ArrayToBytesCodecTraits>(
 }
 
 // The length of the shard in a file and what its index says, which has a size and is read in pieces; nothing where there is no file.
-fn info_in_pieces<I, X: ArrayToBytesCodecTraits, H: BytesPartialDecoderTraits>(
-    alloc: Global,
-    codec: &ShardingCodec<I, X>,
-    shape: &ChunkShape,
+fn info_in_pieces<'a, R: Files + AllocGlobal, C: ShardCodec<ShardFile<'a, R>>>(
+    array: &Array<'a, R, C>,
     size: u64,
-    file: &mut H,
+    file: &mut ShardFile<'a, R>,
 ) -> Result<Option<(u64, Result<IndexInfo, CodecError>)>, CodecError> {
     let Some(length) = file.len()? else {
         return Ok(None);
     };
-    let info = match whole_index(alloc, codec, shape, file, length) {
-        Ok(mut index) => info_of(&mut index.numbers, codec.location, size, length),
+    let (codec, shape) = (array.codec, &array.metadata.shard);
+    let info = match codec.read_index(array.alloc(), file, length, shape) {
+        Ok(mut index) => info_of(&mut index.numbers, codec.index_location(), size, length),
         Err(error) => Err(error),
     };
     Ok(Some((length, info)))
 }
 
 // What is known of a shard in a file, which has a length and whose index says this or is refused so.
-fn known<'a, R: Files + AllocGlobal, I, X>(
-    array: &Array<'a, R, I, X>,
+fn known<'a, R: Files + AllocGlobal, C>(
+    array: &Array<'a, R, C>,
     shard: &Shard<'_>,
     file: &ShardFile<'a, R>,
     length: u64,
@@ -105,14 +101,13 @@ fn known<'a, R: Files + AllocGlobal, I, X>(
 }
 
 // What is known of a shard, whose index has a size and is read in pieces; nothing where its file is gone.
-fn read_in_pieces<R: Files + AllocGlobal, I, X: ArrayToBytesCodecTraits>(
-    array: &Array<'_, R, I, X>,
+fn read_in_pieces<'a, R: Files + AllocGlobal, C: ShardCodec<ShardFile<'a, R>>>(
+    array: &Array<'a, R, C>,
     shard: &Shard<'_>,
     size: u64,
 ) -> Result<Option<ShardInfo>, Stop> {
     let mut file = array.file(shard.key)?;
-    let shape = &array.metadata.shard;
-    match info_in_pieces(array.alloc(), array.codec, shape, size, &mut file) {
+    match info_in_pieces(array, size, &mut file) {
         Ok(Some((length, read))) => Ok(Some(known(array, shard, &file, length, read)?)),
         Ok(None) => Ok(None),
         Err(error) => Err(Stop::Refused(array.refusal(shard, &file, error, Place::Shard)?)),
@@ -120,8 +115,8 @@ fn read_in_pieces<R: Files + AllocGlobal, I, X: ArrayToBytesCodecTraits>(
 }
 
 // What is known of the shards in these files, whose indexes have a size; nothing of one whose file is gone.
-fn listed<R: Files + AllocGlobal, I, X: ArrayToBytesCodecTraits, M: Write>(
-    array: &Array<'_, R, I, X>,
+fn listed<'a, R: Files + AllocGlobal, C: ShardCodec<ShardFile<'a, R>>, M: Write>(
+    array: &Array<'a, R, C>,
     chunks: &[ChunkFile],
     size: u64,
     progress: &mut Progress<'_, M>,
@@ -276,9 +271,9 @@ fn write_sums<W: Write>(out: &mut W, sums: &Sums) -> io::Result<()> {
 }
 
 // Writes what the metadata says, how many shards are there, a line for each, what else stands in the folder, and the sums.
-fn write_info<R: Files + AllocGlobal + Clock, I, X, W: Write>(
+fn write_info<R: Files + AllocGlobal + Clock, C, W: Write>(
     out: &mut W,
-    array: &Array<'_, R, I, X>,
+    array: &Array<'_, R, C>,
     files: &ChunkFiles,
     shards: &[Option<ShardInfo>],
     sums: &Sums,
@@ -292,18 +287,65 @@ fn write_info<R: Files + AllocGlobal + Clock, I, X, W: Write>(
     write_sums(out, sums)
 }
 
+// Writes a line of JSON for each shard.
+fn write_shard_lines<W: Write>(
+    out: &mut W,
+    files: &ChunkFiles,
+    shards: &[Option<ShardInfo>],
+) -> io::Result<()> {
+    for (file, shard) in files.chunks.iter().zip(shards) {
+        if let Some(shard) = shard {
+            json::write_shard(out, &file.key, shard)?;
+        }
+    }
+    Ok(())
+}
+
+// Writes the same as lines of JSON.
+fn write_info_lines<R: Files + AllocGlobal, C, W: Write>(
+    out: &mut W,
+    array: &Array<'_, R, C>,
+    files: &ChunkFiles,
+    shards: &[Option<ShardInfo>],
+    sums: &Sums,
+) -> io::Result<()> {
+    let unread = array.unread()?;
+    let possible = array.grid.count(array.alloc())?;
+    let unread = unread.as_ref().map(String::as_str);
+    json::write_array(out, array.metadata, &possible, unread)?;
+    write_shard_lines(out, files, shards)?;
+    json::write_folder_lines(out, files)?;
+    json::write_sums(out, sums)
+}
+
+/// What is known of the shards in these files; nothing of one whose file is gone. Of each only the index is read. Refused as
+/// `info_of_array` is.
+pub fn known_shards<'a, R: Files + AllocGlobal, C: ShardCodec<ShardFile<'a, R>>, M: Write>(
+    array: &Array<'a, R, C>,
+    files: &ChunkFiles,
+    progress: &mut Progress<'_, M>,
+) -> Result<Vec<Option<ShardInfo>>, Stop> {
+    let size = array.codec.index_size(array.alloc(), &array.subchunks)?;
+    listed(array, &files.chunks, size, progress)
+}
+
 /// Writes what the metadata says, and what is known of the shards that are there. Of each only the index is read; a shard that is
 /// refused has a line that says why. Refused, in this order, as `Stop::Codec` where the index has no fixed size, as `Stop::System`
 /// where the folder or a file is not read, and as `Stop::Output` or `Stop::Closed` where the answer is not taken.
 pub fn info_of_array<
+    'a,
     R: Files + AllocGlobal + Clock,
-    I: ArrayToBytesCodecTraits,
-    X: ArrayToBytesCodecTraits,
+    C: ShardCodec<ShardFile<'a, R>>,
     W: Write,
     M: Write,
->(array: &Array<'_, R, I, X>, out: &mut W, progress: &mut Progress<'_, M>) -> Result<Ending, Stop> {
-    let size = index_size(array.alloc(), &array.codec.index_codec, &array.subchunks)?;
-    let files = array.files()?;
+>(
+    array: &Array<'a, R, C>,
+    listing: &Listing,
+    out: &mut W,
+    progress: &mut Progress<'_, M>,
+) -> Result<Ending, Stop> {
+    let size = array.codec.index_size(array.alloc(), &array.subchunks)?;
+    let files = array.files_in(&listing.part)?;
     let shards = listed(array, &files.chunks, size, progress)?;
     progress.clear();
     let sums = Sums::of(&shards);
@@ -312,6 +354,11 @@ pub fn info_of_array<
     } else {
         Ending::Refused
     };
-    written(write_info(out, array, &files, &shards, &sums), ending)?;
+    let wrote = if listing.is_json {
+        write_info_lines(out, array, &files, &shards, &sums)
+    } else {
+        write_info(out, array, &files, &shards, &sums)
+    };
+    written(wrote, ending)?;
     Ok(ending)
 }

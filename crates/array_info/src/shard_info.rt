@@ -1,15 +1,12 @@
 // Where the subchunks of one shard lie in its file.
 use crate::folder::shard_of;
-use crate::index_info::{index_size, whole_index};
 use crate::info::{ShardInfo, write_shard};
-use array_cli::{Array, Ending, Place, Stop, written};
+use crate::json;
+use array_cli::{Array, Ending, JsonLine, Place, ShardCodec, ShardFile, Stop, written};
 use array_fields::escaped;
 use array_folder::{DeadBytes, IndexInfo, index_interval, info_of, slice_of};
-use codec_traits::ArrayToBytesCodecTraits;
 use parts_errors::CodecError;
 use parts_row_major::unravel_index;
-use parts_subsets::ChunkShape;
-use sharding_codec::ShardingCodec;
 use sharding_format::ShardingIndexLocation;
 use std::alloc::Global;
 use std::io;
@@ -48,21 +45,33 @@ impl Layout {
             length,
         })
     }
+
+    // What is known of the shard.
+    fn known(&self) -> ShardInfo {
+        ShardInfo {
+            length: self.length,
+            index: Ok(self.info),
+        }
+    }
+
+    // The bytes of the file, of which the dead ones are asked for.
+    fn dead_bytes(&self) -> DeadBytes<'_> {
+        DeadBytes::new(&self.sorted, self.info.present, self.index, self.length)
+    }
 }
 
 // Where the subchunks of the shard in a file lie, whose index has a size; `None` where there is no file.
-fn layout_of<I, X: ArrayToBytesCodecTraits, H: BytesPartialDecoderTraits>(
-    alloc: Global,
-    codec: &ShardingCodec<I, X>,
-    shape: &ChunkShape,
+fn layout_of<'a, R: Files + AllocGlobal, C: ShardCodec<ShardFile<'a, R>>>(
+    array: &Array<'a, R, C>,
     size: u64,
-    file: &mut H,
+    file: &mut ShardFile<'a, R>,
 ) -> Result<Option<Layout>, CodecError> {
     let Some(length) = file.len()? else {
         return Ok(None);
     };
-    let index = whole_index(alloc, codec, shape, file, length)?;
-    let layout = Layout::new(alloc, index.numbers, codec.location, size, length)?;
+    let (alloc, codec) = (array.alloc(), array.codec);
+    let index = codec.read_index(alloc, file, length, &array.metadata.shard)?;
+    let layout = Layout::new(alloc, index.numbers, codec.index_location(), size, length)?;
     Ok(Some(layout))
 }
 
@@ -123,6 +132,52 @@ fn write_dead<W: Write>(out: &mut W, mut bytes: DeadBytes<'_>) -> io::Result<()>
     Ok(())
 }
 
+// Writes a line of JSON for a range of bytes, which has a number if it is a subchunk.
+fn write_range_line<W: Write>(
+    out: &mut W,
+    kind: &str,
+    (start, end): (u64, u64),
+    number: Option<u64>,
+) -> io::Result<()> {
+    let mut line = JsonLine::new(out, kind)?;
+    if let Some(number) = number {
+        line.number("number", number)?;
+    }
+    line.each(&[("offset", start), ("size", end.saturating_sub(start))])?;
+    line.end()
+}
+
+// Writes a line of JSON for each subchunk that is present.
+fn write_subchunk_lines<W: Write>(out: &mut W, layout: &Layout) -> io::Result<()> {
+    for (number, entry) in layout.numbers.chunks(2).enumerate() {
+        if let [offset, size] = entry
+            && let Some(bytes) = slice_of(*offset, *size, layout.length)
+        {
+            write_range_line(out, "subchunk", bytes, Some(number as u64))?;
+        }
+    }
+    Ok(())
+}
+
+// Writes a line of JSON for each range of dead bytes.
+fn write_dead_lines<W: Write>(out: &mut W, mut bytes: DeadBytes<'_>) -> io::Result<()> {
+    for _ in 0..bytes.steps() {
+        let (start, end) = bytes.pass();
+        if start < end {
+            write_range_line(out, "dead", (start, end), None)?;
+        }
+    }
+    Ok(())
+}
+
+// Writes what the index of a shard says, as lines of JSON.
+fn write_layout_lines<W: Write>(out: &mut W, key: &str, layout: &Layout) -> io::Result<()> {
+    json::write_shard(out, key, &layout.known())?;
+    write_subchunk_lines(out, layout)?;
+    write_range_line(out, "index", layout.index, None)?;
+    write_dead_lines(out, layout.dead_bytes())
+}
+
 // Writes what the index of a shard says, as a table.
 fn write_layout<W: Write>(
     out: &mut W,
@@ -131,38 +186,30 @@ fn write_layout<W: Write>(
     layout: &Layout,
     subchunks: &[u64],
 ) -> io::Result<()> {
-    let known = ShardInfo {
-        length: layout.length,
-        index: Ok(layout.info),
-    };
-    write_shard(out, key, &known)?;
+    write_shard(out, key, &layout.known())?;
     out.write_all(b"subchunk          offset            size             end  coordinates\n")?;
     write_subchunks(out, alloc, layout, subchunks)?;
     write_bytes(out, "index", layout.index)?;
     out.write_all(b"\n")?;
-    let (present, index) = (layout.info.present, layout.index);
-    write_dead(
-        out,
-        DeadBytes::new(&layout.sorted, present, index, layout.length),
-    )
+    write_dead(out, layout.dead_bytes())
 }
 
 /// Writes which bytes of a shard, by its key, each subchunk that is present takes, which ones its index, and which are dead. Only the
 /// index is read. Refused, in this order, as `Stop::Codec` where the index has no fixed size, as `Stop::System` where the folder is not
 /// read, as `Stop::NoShard` where no shard has the key, as `Stop::System` or `Stop::Refused` where its index is not read, and as
 /// `Stop::Output` or `Stop::Closed` where the answer is not taken.
-pub fn info_of_shard<R: Files + AllocGlobal, I, X: ArrayToBytesCodecTraits, W: Write>(
-    array: &Array<'_, R, I, X>,
+pub fn info_of_shard<'a, R: Files + AllocGlobal, C: ShardCodec<ShardFile<'a, R>>, W: Write>(
+    array: &Array<'a, R, C>,
     key: &str,
+    is_json: bool,
     out: &mut W,
 ) -> Result<Ending, Stop> {
     let alloc = array.alloc();
-    let size = index_size(alloc, &array.codec.index_codec, &array.subchunks)?;
+    let size = array.codec.index_size(alloc, &array.subchunks)?;
     let files = array.files()?;
     let shard = shard_of(array, &files, key)?;
     let mut file = array.file(shard.key)?;
-    let shape = &array.metadata.shard;
-    let layout = match layout_of(alloc, array.codec, shape, size, &mut file) {
+    let layout = match layout_of(array, size, &mut file) {
         Ok(Some(layout)) => layout,
         Ok(None) => return Err(Stop::NoShard(escaped(alloc, key)?)),
         Err(error) => {
@@ -171,9 +218,11 @@ pub fn info_of_shard<R: Files + AllocGlobal, I, X: ArrayToBytesCodecTraits, W: W
         }
     };
     let subchunks = array.subchunks.as_slice();
-    written(
-        write_layout(out, alloc, shard.key, &layout, subchunks),
-        Ending::Done,
-    )?;
+    let wrote = if is_json {
+        write_layout_lines(out, shard.key, &layout)
+    } else {
+        write_layout(out, alloc, shard.key, &layout, subchunks)
+    };
+    written(wrote, Ending::Done)?;
     Ok(Ending::Done)
 }

@@ -38,10 +38,24 @@ pub fn told_with(alloc: Global, members: &str) -> Result<String, AllocError> {
     told(alloc, text.as_str())
 }
 
+// The codecs of the array of two axes whose subchunks have this list of codecs.
+fn members_inside(alloc: Global, codecs: &str) -> Result<String, AllocError> {
+    format!(in alloc;
+        r#""codecs": [{{"name": "sharding_indexed", "configuration": {{"chunk_shape": [2, 2], "codecs": {codecs}, "index_codecs": [{{"name": "bytes", "configuration": {{"endian": "big"}}}}]}}}}]"#
+    )
+}
+
 // What is told of the array of two axes whose subchunks have this list of codecs.
 pub fn told_inside(alloc: Global, codecs: &str) -> Result<String, AllocError> {
-    let members = format!(in alloc;
-        r#""codecs": [{{"name": "sharding_indexed", "configuration": {{"chunk_shape": [2, 2], "codecs": {codecs}, "index_codecs": [{{"name": "bytes", "configuration": {{"endian": "big"}}}}]}}}}]"#
-    )?;
-    told_with(alloc, members.as_str())
+    told_with(alloc, members_inside(alloc, codecs)?.as_str())
+}
+
+// The first codec of this list that is not served, where its subchunks are not looked into, or why the metadata is refused.
+pub fn unread_inside(alloc: Global, codecs: &str) -> Result<String, AllocError> {
+    let members = members_inside(alloc, codecs)?;
+    let text = format!(in alloc; "{{{ARRAY}, {members}}}")?;
+    match ArrayMetadata::from_text(alloc, text.as_str()) {
+        Ok(metadata) => format!(in alloc; "{}", metadata.unread.as_deref().unwrap_or("")),
+        Err(error) => format!(in alloc; "{error}"),
+    }
 }

@@ -1,6 +1,6 @@
 // Metadata of arrays that is read.
 use crate::compared::same;
-use crate::examples::{told_inside, told_with};
+use crate::examples::{told_inside, told_with, unread_inside};
 
 // The arrays: start of the index and big endian elements, an axis of no cells, no axes, times, and one byte for each element.
 const ARRAYS: &[(&str, &str)] = &[
@@ -129,6 +129,31 @@ const INNER_CODECS: &[&str] = &[
     r#"[{"name": "sharding_indexed", "configuration": {"chunk_shape": [1, 2],
         "codecs": [{"name": "bytes", "configuration": {"endian": "little"}}, {"name": "crc32c", "configuration": {}}],
         "index_codecs": [{"name": "bytes", "configuration": {"endian": "little"}}]}}]"#,
+    r#"[{"name": "transpose", "configuration": {"order": [1, 0]}}, {"name": "bytes", "configuration": {"endian": "big"}}]"#,
+    r#"[{"name": "transpose", "configuration": {"order": [0, 1]}}, {"name": "bytes", "configuration": {"endian": "little"}},
+        {"name": "gzip", "configuration": {"level": 5}}, {"name": "crc32c"}]"#,
+    r#"[{"name": "sharding_indexed", "configuration": {"chunk_shape": [1, 2],
+        "codecs": [{"name": "transpose", "configuration": {"order": [1, 0]}}, {"name": "bytes", "configuration": {"endian": "little"}}],
+        "index_codecs": [{"name": "bytes", "configuration": {"endian": "little"}}]}}]"#,
+];
+
+// Codecs of subchunks that are not looked into, and the first that is not served: `transpose` is where `bytes` does not follow it.
+const UNREAD_CODECS: &[(&str, &str)] = &[
+    (r#"["transpose"]"#, "transpose"),
+    (
+        r#"[{"name": "transpose", "configuration": {"order": [1, 0]}}, "vlen-utf8"]"#,
+        "transpose",
+    ),
+    (r#"["transpose", "transpose", "bytes"]"#, "transpose"),
+    (
+        r#"[{"name": "transpose", "configuration": {"order": [1, 0]}}, {"name": "sharding_indexed"}]"#,
+        "transpose",
+    ),
+    (r#"["bytes", "transpose"]"#, "transpose"),
+    (
+        r#"[{"name": "transpose", "configuration": {"order": [1, 0]}}, "bytes", "blosc"]"#,
+        "blosc",
+    ),
 ];
 
 #[test]
@@ -172,5 +197,13 @@ fn inner_codecs_are_read(rt: HostRuntime) {
     for codecs in INNER_CODECS {
         let told = told_inside(rt.alloc(), codecs).expect(&rt, "refused");
         same(&rt, told.as_str(), "[8, 8] [4, 4] [2, 2] [7, 0] c/8/8");
+    }
+}
+
+#[test]
+fn other_codecs_are_not_looked_into(rt: HostRuntime) {
+    for (codecs, name) in UNREAD_CODECS {
+        let unread = unread_inside(rt.alloc(), codecs).expect(&rt, "refused");
+        same(&rt, unread.as_str(), *name);
     }
 }

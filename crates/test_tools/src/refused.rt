@@ -197,6 +197,10 @@ const MEMBERS: &[(&str, &str)] = &[
         "5 UnsupportedChain: in codecs: only arrays whose chunks are shards are read: codecs is sharding_indexed alone",
     ),
     (
+        r#""codecs": ["transpose", {"name": "sharding_indexed"}]"#,
+        "2 UnsupportedCodec transpose: in codecs[0]: this program reads transpose inside shards alone, where bytes follows it",
+    ),
+    (
         r#""codecs": ["sharding_indexed"]"#,
         "3 MissingField configuration: in codecs[0]: the key configuration is missing",
     ),
@@ -314,6 +318,46 @@ const INNER_CODECS: &[(&str, &str)] = &[
             "codecs": [{"name": "bytes", "configuration": {"endian": "little"}}],
             "index_codecs": [{"name": "bytes", "configuration": {"endian": "little"}}, {"name": "gzip", "configuration": {"level": 1}}]}}]"#,
         "5 UnsupportedChain: in codecs[0].configuration.codecs[0].configuration.index_codecs: the encoding of an index has a fixed length: bytes, or bytes and crc32c behind it",
+    ),
+    (
+        r#"["transpose", {"name": "bytes", "configuration": {"endian": "little"}}]"#,
+        "3 MissingField configuration: in codecs[0].configuration.codecs[0]: the key configuration is missing",
+    ),
+    (
+        r#"[{"name": "transpose", "order": [1, 0]}, {"name": "bytes", "configuration": {"endian": "little"}}]"#,
+        "4 BadField order: in codecs[0].configuration.codecs[0]: the key is not known, or its value has another form",
+    ),
+    (
+        r#"[{"name": "transpose", "configuration": {}}, {"name": "bytes", "configuration": {"endian": "little"}}]"#,
+        "3 MissingField order: in codecs[0].configuration.codecs[0].configuration: the key order is missing",
+    ),
+    (
+        r#"[{"name": "transpose", "configuration": {"order": [1, 0], "axes": 2}}, {"name": "bytes", "configuration": {"endian": "little"}}]"#,
+        "4 BadField axes: in codecs[0].configuration.codecs[0].configuration: the key is not known",
+    ),
+    (
+        r#"[{"name": "transpose", "configuration": {"order": "F"}}, {"name": "bytes", "configuration": {"endian": "little"}}]"#,
+        "4 BadField order: in codecs[0].configuration.codecs[0].configuration.order: this is no list of whole numbers",
+    ),
+    (
+        r#"[{"name": "transpose", "configuration": {"order": [-1, 0]}}, {"name": "bytes", "configuration": {"endian": "little"}}]"#,
+        "4 BadField order: in codecs[0].configuration.codecs[0].configuration.order: this is no list of whole numbers from 0 to 2^64 - 1",
+    ),
+    (
+        r#"[{"name": "transpose", "configuration": {"order": [0, 1, 2]}}, {"name": "bytes", "configuration": {"endian": "little"}}]"#,
+        "4 BadField order: in codecs[0].configuration.codecs[0].configuration.order: an order has other than one number for each axis",
+    ),
+    (
+        r#"[{"name": "transpose", "configuration": {"order": [1, 1]}}, {"name": "bytes", "configuration": {"endian": "little"}}]"#,
+        "4 BadField order: in codecs[0].configuration.codecs[0].configuration.order: an order names each axis once, from 0 on",
+    ),
+    (
+        r#"[{"name": "transpose", "configuration": {"order": [1, 2]}}, {"name": "bytes", "configuration": {"endian": "little"}}]"#,
+        "4 BadField order: in codecs[0].configuration.codecs[0].configuration.order: an order names each axis once, from 0 on",
+    ),
+    (
+        r#"[{"name": "transpose", "configuration": {"order": [1, 0]}}, {"name": "bytes"}]"#,
+        "3 MissingField endian: in codecs[0].configuration.codecs[1]: elements of more than one byte have no byte order",
     ),
 ];
 

@@ -1,68 +1,18 @@
 // A compact shard that is written in the place of a shard's file.
 use array_cli::{Array, Place, Shard, ShardFile, Stop};
-use array_info::whole_index;
-use codec_traits::ArrayToBytesCodecTraits;
-use parts_errors::{CodecError, CodecOptions};
-use parts_subsets::ChunkShape;
-use sharding_codec::ShardingCodec;
+use array_info::{begin, tell_owner};
+use parts_errors::CodecError;
 use sharding_format::ShardingIndexLocation;
-use sharding_layout::{CompactionPlan, compact_size};
+use sharding_layout::CompactionPlan;
 use std::alloc::Global;
 use std::io;
-use std::io::{ErrorKind, Write};
+use std::io::Write;
 use std::rt::Files;
-use storage_files::{Replacement, folder_of};
+use storage_files::Replacement;
 use storage_handles::{ByteRange, BytesPartialDecoderTraits, read_range};
 
 // How many bytes of a slice are held at once.
 const PIECE: usize = 1_048_576;
-
-/// What a compaction does to a shard.
-#[derive(Drop)]
-pub enum Planned {
-    /// Nothing: there is no file, or the shard is compact.
-    Nothing,
-    /// It would make it longer, by these bytes.
-    Longer(u64),
-    /// It saves bytes, by a plan, which a dry run does not make.
-    Saves {
-        bytes: u64,
-        plan: Option<CompactionPlan>,
-    },
-}
-
-/// What a compaction does to the shard in a file. Only its index is read, and is in memory once until a plan is made.
-pub fn plan_of<I, X: ArrayToBytesCodecTraits, H: BytesPartialDecoderTraits>(
-    alloc: Global,
-    codec: &ShardingCodec<I, X>,
-    shape: &ChunkShape,
-    file: &mut H,
-    is_dry: bool,
-) -> Result<Planned, CodecError> {
-    let Some(length) = file.len()? else {
-        return Ok(Planned::Nothing);
-    };
-    let interval = codec.index_interval(alloc, length, shape)?;
-    let index = whole_index(alloc, codec, shape, file, length)?;
-    let compacted = compact_size(&index, interval.size)?;
-    if compacted == length {
-        return Ok(Planned::Nothing);
-    }
-    if compacted > length {
-        return Ok(Planned::Longer(compacted - length));
-    }
-    let bytes = length - compacted;
-    if is_dry {
-        return Ok(Planned::Saves { bytes, plan: None });
-    }
-    match codec.plan_compaction_of_index(alloc, index, shape, &CodecOptions::default())? {
-        Some(plan) => Ok(Planned::Saves {
-            bytes,
-            plan: Some(plan),
-        }),
-        None => Ok(Planned::Nothing),
-    }
-}
 
 // Why a compact shard is not written: what was said of the old file, or of the new one.
 #[derive(Debug, Clone, Copy)]
@@ -129,13 +79,28 @@ fn copy_slices<H: BytesPartialDecoderTraits, R: Files>(
     Ok(())
 }
 
-// Writes what a plan says to the new file.
+// Appends all bytes of an old file to the new one.
+fn copy_file<H: BytesPartialDecoderTraits, R: Files>(
+    alloc: Global,
+    old: &mut H,
+    new: &mut Replacement<R>,
+) -> Result<(), Failure> {
+    match old.len()? {
+        Some(length) => copy_slice(alloc, old, 0, length, new),
+        None => Err(Failure::Old(CodecError::Fault)),
+    }
+}
+
+// Writes what a plan says to the new file; without a plan what the old one has.
 fn write_plan<H: BytesPartialDecoderTraits, R: Files>(
     alloc: Global,
     old: &mut H,
-    plan: &CompactionPlan,
+    plan: Option<&CompactionPlan>,
     new: &mut Replacement<R>,
 ) -> Result<(), Failure> {
+    let Some(plan) = plan else {
+        return copy_file(alloc, old, new);
+    };
     match plan.index_location() {
         ShardingIndexLocation::Start => {
             new.write(plan.index())?;
@@ -148,11 +113,12 @@ fn write_plan<H: BytesPartialDecoderTraits, R: Files>(
     }
 }
 
-// Writes what a plan says to the new file, and puts it in the place of the old one. Where that is refused the old one stands.
+// Writes what a plan says, or without a plan what the old file has, to the new file, and puts it in its place. Where that is refused,
+// what stood there stands.
 fn carry_out<H: BytesPartialDecoderTraits, R: Files + Drop>(
     alloc: Global,
     old: &mut H,
-    plan: &CompactionPlan,
+    plan: Option<&CompactionPlan>,
     mut new: Replacement<R>,
 ) -> Result<(), Failure> {
     match write_plan(alloc, old, plan, &mut new) {
@@ -164,38 +130,9 @@ fn carry_out<H: BytesPartialDecoderTraits, R: Files + Drop>(
     }
 }
 
-/// The new file of a path, or `None` where one stands there already.
-pub fn begin<'a, R: Files + AllocGlobal, I, X>(
-    array: &Array<'a, R, I, X>,
-    path: &str,
-    beside: &str,
-) -> Result<Option<Replacement<&'a R>>, Stop> {
-    match Replacement::begin(array.alloc(), array.rt, path) {
-        Ok(replacement) => Ok(Some(replacement)),
-        Err(error) if error.kind() == ErrorKind::AlreadyExists => Ok(None),
-        Err(error) => Err(Stop::folder(array.alloc(), folder_of(beside), error)),
-    }
-}
-
-/// Tells where a new file has not the owner and the group of the old one.
-pub fn tell_owner<R: Files, W: Write>(
-    out: &mut W,
-    key: &str,
-    replacement: &Replacement<R>,
-) -> io::Result<()> {
-    if replacement.keeps_owner() {
-        return Ok(());
-    }
-    writeln!(
-        out,
-        "{key}: this program may not give its new file the owner and group of the old one"
-    )?;
-    out.flush()
-}
-
 // Why a shard was not replaced.
-fn stop_of<'a, R: Files + AllocGlobal, I, X>(
-    array: &Array<'a, R, I, X>,
+fn stop_of<'a, R: Files + AllocGlobal, C>(
+    array: &Array<'a, R, C>,
     shard: &Shard<'_>,
     old: &ShardFile<'a, R>,
     beside: &str,
@@ -210,27 +147,17 @@ fn stop_of<'a, R: Files + AllocGlobal, I, X>(
     }
 }
 
-// The new file of a shard, or `None` where one stands there already.
-fn begin_shard<'a, R: Files + AllocGlobal, I, X>(
-    array: &Array<'a, R, I, X>,
-    shard: &Shard<'_>,
-    beside: &str,
-) -> Result<Option<Replacement<&'a R>>, Stop> {
-    let path = array.path_of(shard.key)?;
-    begin(array, &path, beside)
-}
-
-/// Puts what a plan says in the place of a shard's file, by a new file that stands at the path `beside` until it is whole; or
-/// says that a file stands there already.
-pub fn replace<'a, R: Files + AllocGlobal, I, X, W: Write>(
-    array: &Array<'a, R, I, X>,
+/// Puts what a plan says, or without a plan the shard as it is, at a path, by a new file that stands at the path `beside` until it is
+/// whole; or says that a file stands there already.
+pub fn replace<'a, R: Files + AllocGlobal, C, W: Write>(
+    array: &Array<'a, R, C>,
     shard: &Shard<'_>,
     old: &mut ShardFile<'a, R>,
-    beside: &str,
-    plan: &CompactionPlan,
+    (path, beside): (&str, &str),
+    plan: Option<&CompactionPlan>,
     out: &mut W,
 ) -> Result<bool, Stop> {
-    let Some(new) = begin_shard(array, shard, beside)? else {
+    let Some(new) = begin(array, path, beside)? else {
         return Ok(false);
     };
     // a line that nobody reads stops nothing

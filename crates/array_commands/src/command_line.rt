@@ -1,4 +1,8 @@
 // The command line.
+use crate::writing_line::{
+    compare_command, create_command, elements_file, layout_words, reshard_command, write_command,
+};
+use array_writing::{ElementsFile, LayoutWords};
 use clap::{Arg, ArgAction, ArgMatches, Command};
 use std::alloc::{AllocError, Global};
 
@@ -10,34 +14,66 @@ pub enum Form {
     Raw,
 }
 
+/// Where cells are written: in a form to the answer, or into a file of NumPy's format, which has a path.
+#[derive(Debug, Clone, Copy, PartialEq, Eq)]
+pub enum Target<'a> {
+    Answer(Form),
+    NumPy(&'a str),
+}
+
+/// Over which shards a command goes, and how it tells of them.
+#[derive(Debug, Clone, Copy, PartialEq, Eq)]
+pub struct Scope<'a> {
+    /// A part of the list of shards, as `2/8`; all of them where it is `None`.
+    pub part: Option<&'a str>,
+    /// Whether it writes lines of JSON.
+    pub is_json: bool,
+}
+
 /// What is done with an array.
 #[derive(Debug, Clone, Copy, PartialEq, Eq)]
 pub enum Work<'a> {
-    Info,
+    Info {
+        scope: Scope<'a>,
+    },
     InfoOfShard {
         key: &'a str,
+        is_json: bool,
     },
     Check {
         is_index_alone: bool,
+        scope: Scope<'a>,
     },
     Extract {
         key: &'a str,
         number: &'a str,
     },
+    Map {
+        key: Option<&'a str>,
+        svg: Option<&'a str>,
+    },
     Read {
         requested: Option<&'a str>,
-        form: Form,
+        target: Target<'a>,
+        fills: bool,
     },
-    Save {
+    Write {
         requested: Option<&'a str>,
+        file: ElementsFile<'a>,
+    },
+    Reshard {
         path: &'a str,
+        words: LayoutWords<'a>,
     },
     Compact {
         is_dry: bool,
+        output: Option<&'a str>,
+        scope: Scope<'a>,
     },
 }
 
-fn path_argument<'a>(alloc: Global) -> Arg<'a> {
+/// The folder of an array.
+pub fn path_argument<'a>(alloc: Global) -> Arg<'a> {
     Arg::new(alloc, "PATH")
         .required(true)
         .help("The folder of the array, in which its zarr.json lies")
@@ -45,6 +81,20 @@ fn path_argument<'a>(alloc: Global) -> Arg<'a> {
 
 fn key_argument<'a>(alloc: Global) -> Arg<'a> {
     Arg::new(alloc, "KEY").help("The key of the shard, as c/0/3")
+}
+
+// Of a command that tells of shards.
+fn lines_flag<'a>(alloc: Global) -> Arg<'a> {
+    Arg::new(alloc, "json")
+        .long("json")
+        .action(ArgAction::SetTrue)
+        .help("Lines of JSON: an object for each shard, with its kind")
+}
+
+fn part_option<'a>(alloc: Global) -> Arg<'a> {
+    Arg::new(alloc, "part").long("part").value_name("K/N").help(
+        "Only the K-th of N parts of the shards, which are dealt out in turn",
+    )
 }
 
 fn info_command<'a>(alloc: Global) -> Result<Command<'a>, AllocError> {
@@ -56,7 +106,9 @@ fn info_command<'a>(alloc: Global) -> Result<Command<'a>, AllocError> {
             "Example: zarr_shard info weather/temperature\nWith KEY only of this shard, and where in its file each subchunk lies.",
         )
         .arg(path_argument(alloc))?
-        .arg(key_argument(alloc))
+        .arg(key_argument(alloc))?
+        .arg(lines_flag(alloc))?
+        .arg(part_option(alloc).conflicts_with("KEY")?)
 }
 
 fn index_flag<'a>(alloc: Global) -> Arg<'a> {
@@ -75,7 +127,28 @@ fn check_command<'a>(alloc: Global) -> Result<Command<'a>, AllocError> {
             "Example: zarr_shard check weather/temperature\nA line has the shard's key, the number and name of the refusal, and where and why.",
         )
         .arg(path_argument(alloc))?
-        .arg(index_flag(alloc))
+        .arg(index_flag(alloc))?
+        .arg(lines_flag(alloc))?
+        .arg(part_option(alloc))
+}
+
+fn svg_option<'a>(alloc: Global) -> Arg<'a> {
+    Arg::new(alloc, "svg").long("svg").value_name("FILE").help(
+        "A picture of the format SVG, written in place of an answer",
+    )
+}
+
+fn map_command<'a>(alloc: Global) -> Result<Command<'a>, AllocError> {
+    Command::new(alloc, "map")
+        .about(
+            "Draws which shards of the array are there, or the subchunks of a shard and the bytes of its file",
+        )
+        .after_help(
+            "Example: zarr_shard map weather/temperature c/0/3\nOf a shard each subchunk that is present is decoded.",
+        )
+        .arg(path_argument(alloc))?
+        .arg(key_argument(alloc))?
+        .arg(svg_option(alloc))
 }
 
 fn number_argument<'a>(alloc: Global) -> Arg<'a> {
@@ -93,8 +166,8 @@ fn extract_command<'a>(alloc: Global) -> Result<Command<'a>, AllocError> {
         .arg(number_argument(alloc))
 }
 
-// A subset may begin with a number from the end, as -1,0..2.
-fn subset_argument<'a>(alloc: Global) -> Arg<'a> {
+/// A subset, which may begin with a number from the end, as -1,0..2.
+pub fn subset_argument<'a>(alloc: Global) -> Arg<'a> {
     Arg::new(alloc, "BOX").allow_hyphen_values(true).help(
         "A word for each axis, with commas, as 0..2,3..5; without it the whole array",
     )
@@ -126,6 +199,13 @@ fn npy_option<'a>(alloc: Global) -> Result<Arg<'a>, AllocError> {
         .conflicts_with("raw")
 }
 
+fn fill_flag<'a>(alloc: Global) -> Arg<'a> {
+    Arg::new(alloc, "fill-damaged")
+        .long("fill-damaged")
+        .action(ArgAction::SetTrue)
+        .help("Fill values for what is refused, which is told on standard error; status 1 then")
+}
+
 // The command `read`, and what it reads.
 fn boxed_command<'a>(alloc: Global) -> Result<Command<'a>, AllocError> {
     Command::new(alloc, "read")
@@ -142,7 +222,8 @@ fn read_command<'a>(alloc: Global) -> Result<Command<'a>, AllocError> {
     boxed_command(alloc)?
         .arg(json_flag(alloc))?
         .arg(raw)?
-        .arg(npy)
+        .arg(npy)?
+        .arg(fill_flag(alloc))
 }
 
 fn dry_flag<'a>(alloc: Global) -> Arg<'a> {
@@ -152,12 +233,24 @@ fn dry_flag<'a>(alloc: Global) -> Arg<'a> {
         .help("Says what would be saved, and writes no file")
 }
 
+fn output_option<'a>(alloc: Global) -> Result<Arg<'a>, AllocError> {
+    Arg::new(alloc, "output")
+        .long("output")
+        .value_name("DIR")
+        .help("Leaves the array as it is, and writes another one into this folder")
+        .conflicts_with("dry-run")?
+        .conflicts_with("part")
+}
+
 fn compact_command<'a>(alloc: Global) -> Result<Command<'a>, AllocError> {
     Command::new(alloc, "compact")
         .about("Puts a compact shard in the place of each that has dead bytes")
         .after_help("Example: zarr_shard compact --dry-run weather/temperature")
         .arg(path_argument(alloc))?
-        .arg(dry_flag(alloc))
+        .arg(dry_flag(alloc))?
+        .arg(output_option(alloc)?)?
+        .arg(lines_flag(alloc))?
+        .arg(part_option(alloc))
 }
 
 fn list_command<'a>(alloc: Global) -> Result<Command<'a>, AllocError> {
@@ -173,8 +266,8 @@ fn list_command<'a>(alloc: Global) -> Result<Command<'a>, AllocError> {
         )
 }
 
-// The version of the program, and the line of the kit that proves it.
-const VERSION: &str = "0.1.0 (rattle-kit-13b logic dac8208d650f15bf)";
+// The version of the program, and the logic in which it is proved.
+const VERSION: &str = "0.1.0 (logic dac8208d650f15bf)";
 
 // The program without its commands.
 fn bare_program<'a>(alloc: Global) -> Command<'a> {
@@ -201,9 +294,14 @@ pub fn program<'a>(alloc: Global) -> Result<Command<'a>, AllocError> {
     let program = with(bare_program(alloc), list_command(alloc))?;
     let program = with(program, info_command(alloc))?;
     let program = with(program, check_command(alloc))?;
+    let program = with(program, map_command(alloc))?;
     let program = with(program, read_command(alloc))?;
     let program = with(program, extract_command(alloc))?;
-    with(program, compact_command(alloc))
+    let program = with(program, compact_command(alloc))?;
+    let program = with(program, create_command(alloc))?;
+    let program = with(program, write_command(alloc))?;
+    let program = with(program, reshard_command(alloc))?;
+    with(program, compare_command(alloc))
 }
 
 // How the cells that a command reads are to be written.
@@ -217,23 +315,36 @@ fn form_of(matches: &ArgMatches<'_>) -> Form {
     }
 }
 
+// Over which shards a command goes, and how it tells of them.
+fn scope_of<'a>(matches: &ArgMatches<'a>) -> Scope<'a> {
+    Scope {
+        part: matches.get_str("part"),
+        is_json: matches.get_flag("json"),
+    }
+}
+
 // What the command `info` does.
 fn telling<'a>(matches: &ArgMatches<'a>) -> Work<'a> {
+    let scope = scope_of(matches);
     match matches.get_str("KEY") {
-        Some(key) => Work::InfoOfShard { key },
-        None => Work::Info,
+        Some(key) => Work::InfoOfShard {
+            key,
+            is_json: scope.is_json,
+        },
+        None => Work::Info { scope },
     }
 }
 
 // What the command `read` does.
 fn reading<'a>(matches: &ArgMatches<'a>) -> Work<'a> {
-    let requested = matches.get_str("BOX");
-    match matches.get_str("npy") {
-        Some(path) => Work::Save { requested, path },
-        None => Work::Read {
-            requested,
-            form: form_of(matches),
-        },
+    let target = match matches.get_str("npy") {
+        Some(path) => Target::NumPy(path),
+        None => Target::Answer(form_of(matches)),
+    };
+    Work::Read {
+        requested: matches.get_str("BOX"),
+        target,
+        fills: matches.get_flag("fill-damaged"),
     }
 }
 
@@ -242,14 +353,29 @@ pub fn work_of<'a>(name: &str, matches: &ArgMatches<'a>) -> Work<'a> {
     match name {
         "check" => Work::Check {
             is_index_alone: matches.get_flag("index"),
+            scope: scope_of(matches),
         },
         "extract" => Work::Extract {
             key: matches.get_str("KEY").unwrap_or(""),
             number: matches.get_str("NUMBER").unwrap_or(""),
         },
+        "map" => Work::Map {
+            key: matches.get_str("KEY"),
+            svg: matches.get_str("svg"),
+        },
         "read" => reading(matches),
+        "write" => Work::Write {
+            requested: matches.get_str("BOX"),
+            file: elements_file(matches),
+        },
+        "reshard" => Work::Reshard {
+            path: matches.get_str("DST").unwrap_or(""),
+            words: layout_words(matches),
+        },
         "compact" => Work::Compact {
             is_dry: matches.get_flag("dry-run"),
+            output: matches.get_str("output"),
+            scope: scope_of(matches),
         },
         _ => telling(matches),
     }

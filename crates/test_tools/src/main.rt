@@ -15,6 +15,37 @@ mod closed;
 mod disk;
 mod steps;
 
+// Tests of arrays on disk, their metadata and their shards, of subsets on a command line, of files of NumPy's format, and of scripts whose
+// reader or writer fails.
+#[cfg(test)]
+mod byte_parts;
+#[cfg(test)]
+mod compared;
+#[cfg(test)]
+mod escapes;
+#[cfg(test)]
+mod examples;
+#[cfg(test)]
+mod faults;
+#[cfg(test)]
+mod limits;
+#[cfg(test)]
+mod list_parts;
+#[cfg(test)]
+mod messages;
+#[cfg(test)]
+mod metadata;
+#[cfg(test)]
+mod npy;
+#[cfg(test)]
+mod refused;
+#[cfg(test)]
+mod shards;
+#[cfg(test)]
+mod subsets;
+#[cfg(test)]
+mod transposes;
+
 use crate::closed::Closed;
 use crate::disk::Disk;
 use crate::steps::{link, set_length, set_mode, write_bytes, write_permissions};

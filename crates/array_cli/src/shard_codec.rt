@@ -1,0 +1,482 @@
+// The codec of an array's shards, by what commands do with it: the traits have no more than these calls, so that commands need none of
+// its laws.
+ghost use Rattle.std.specs.Prelude.{◌≡◌, ◌*◌, IfOk, MatchOption, length};
+ghost use Rattle.std.specs.List.{All};
+ghost use Rattle.parts_arrays.specs.ArraySpec.{array_spec};
+ghost use Rattle.parts_row_major.specs.Numbering.{count_of};
+ghost use Rattle.parts_subsets.specs.Grid.{grid_of};
+
+use array_metadata::ArrayMetadata;
+use codec_traits::{ArrayToBytesCodecTraits, BytesRepresentation};
+use parts_arrays::{ArrayBytes, DataType, FillValue, FixedTarget};
+use parts_errors::{CodecError, CodecOptions};
+use parts_subsets::{ArraySubset, ChunkShape};
+use sharding_codec::{ShardingCodec, ShardingPartialDecoder};
+use sharding_format::{
+    ShardIndex, ShardingIndexLocation, calculate_chunks_per_shard, of_stored, sharding_index_shape,
+};
+use sharding_layout::{CompactionPlan, compact_size};
+use std::alloc::Global;
+use std::rt::Files;
+use storage_files::FileHandle;
+use storage_handles::{ByteRange, BytesPartialDecoderTraits, Interval};
+
+/// The file of a shard.
+pub type ShardFile<'a, R> = FileHandle<&'a R>;
+
+/// What a compaction does to a shard.
+#[derive(Drop)]
+pub enum Planned {
+    /// Nothing: there is no file, or the shard is compact.
+    Nothing,
+    /// It would make it longer, by these bytes.
+    Longer(u64),
+    /// It saves bytes, by a plan, which a dry run does not make.
+    Saves {
+        bytes: u64,
+        plan: Option<CompactionPlan>,
+    },
+}
+
+/// A shard that is opened to be read. A subchunk is named by its coordinates among those of the shard.
+pub trait OpenShard<F> {
+    /// Reads the elements of a subset, of an array with this metadata: their bytes, in row-major order of the subset.
+    fn read_subset(
+        &mut self,
+        alloc: Global,
+        metadata: &ArrayMetadata,
+        subset: &ArraySubset,
+    ) -> Result<Vec<u8>, CodecError>;
+
+    /// Where the bytes of a subchunk stand; `None` where it is absent. Reads nothing.
+    fn byte_range(&self, subchunk: &[u64]) -> Result<Option<ByteRange>, CodecError>;
+
+    /// The bytes of a subchunk as they are stored; `None` where it is absent.
+    fn stored_bytes(
+        &mut self,
+        alloc: Global,
+        subchunk: &[u64],
+    ) -> Result<Option<Vec<u8>>, CodecError>;
+
+    /// Reads the bytes of a subchunk of an array with this metadata, decodes them, and lets the elements go. Says whether it is present.
+    fn test_subchunk(
+        &mut self,
+        alloc: Global,
+        metadata: &ArrayMetadata,
+        subchunk: &[u64],
+    ) -> Result<bool, CodecError>;
+
+    /// Gives the file back.
+    fn close(self) -> F;
+}
+
+/// What encodes the shards of an array.
+pub trait ShardEncoder {
+    /// The bytes of a shard that has these elements, in row-major order, or `None` where each of them is the fill value, as
+    /// `encode_chunk` says.
+    fn encode(
+        &self,
+        alloc: Global,
+        elements: &ArrayBytes,
+        metadata: &ArrayMetadata,
+    ) -> Result<Option<Vec<u8>>, CodecError>;
+}
+
+/// The codec of an array's shards.
+pub trait ShardCodec<F>: Copy + ShardEncoder {
+    /// A shard of this codec that is open.
+    type Open: OpenShard<F>;
+
+    /// How many subchunks the shards of an array have along each axis, where the codec serves them.
+    fn subchunks(self, alloc: Global, metadata: &ArrayMetadata) -> Result<ChunkShape, CodecError>;
+
+    /// Opens the shard that a file holds; where it is refused, the file is given back.
+    fn open(
+        self,
+        alloc: Global,
+        file: F,
+        metadata: &ArrayMetadata,
+    ) -> Result<Self::Open, (F, CodecError)>;
+
+    /// How many bytes the index of a shard with these subchunks along each axis has. Refused as `VariableIndexSize` where that is not
+    /// fixed.
+    fn index_size(self, alloc: Global, subchunks: &ChunkShape) -> Result<u64, CodecError>;
+
+    /// Whether the index stands at the start or at the end.
+    fn index_location(self) -> ShardingIndexLocation;
+
+    /// Which bytes of a shard of a length and a shape are its index.
+    fn index_interval(
+        self,
+        alloc: Global,
+        length: u64,
+        shape: &ChunkShape,
+    ) -> Result<Interval, CodecError>;
+
+    /// The numbers of an index, which has these bytes.
+    fn decode_index(
+        self,
+        alloc: Global,
+        bytes: &[u8],
+        subchunks: &ChunkShape,
+    ) -> Result<Vec<u64>, CodecError>;
+
+    /// The index of the shard of a shape that a file of a length holds. Only the index is read, a long one in pieces.
+    fn read_index(
+        self,
+        alloc: Global,
+        file: &mut F,
+        length: u64,
+        shape: &ChunkShape,
+    ) -> Result<ShardIndex, CodecError>;
+
+    /// What a compaction does to the shard of a shape in a file. Only its index is read, and is in memory once until a plan is made.
+    fn plan_compaction(
+        self,
+        alloc: Global,
+        file: &mut F,
+        shape: &ChunkShape,
+        is_dry: bool,
+    ) -> Result<Planned, CodecError>;
+}
+
+/// A shard of the codec `sharding_indexed` that is open.
+#[derive(Drop)]
+pub struct OpenedShard<
+    'a,
+    I: ArrayToBytesCodecTraits,
+    X: ArrayToBytesCodecTraits,
+    H: BytesPartialDecoderTraits,
+> {
+    decoder: ShardingPartialDecoder<'a, I, X, H>,
+    codec: &'a ShardingCodec<I, X>,
+}
+
+// Tests whether a codec serves the shards of an array.
+fn check_served<C: ArrayToBytesCodecTraits>(
+    alloc: Global,
+    codec: &C,
+    metadata: &ArrayMetadata,
+) -> Result<(), CodecError> {
+    codec.check(
+        alloc,
+        &metadata.shard,
+        &metadata.data_type,
+        &metadata.fill_value,
+    )
+}
+
+// Opens a shard of an array's codec.
+fn opened<'c, I: ArrayToBytesCodecTraits, X: ArrayToBytesCodecTraits, H: BytesPartialDecoderTraits>(
+    alloc: Global,
+    codec: &'c ShardingCodec<I, X>,
+    file: H,
+    metadata: &ArrayMetadata,
+) -> Result<ShardingPartialDecoder<'c, I, X, H>, (H, CodecError)> {
+    let options = CodecOptions::default();
+    codec.partial_decoder(
+        alloc,
+        file,
+        &metadata.shard,
+        &metadata.data_type,
+        &metadata.fill_value,
+        &options,
+    )
+}
+
+// Decodes the bytes of a subchunk, and lets the elements go.
+fn decode_subchunk<I: ArrayToBytesCodecTraits, X>(
+    alloc: Global,
+    codec: &ShardingCodec<I, X>,
+    metadata: &ArrayMetadata,
+    bytes: &[u8],
+) -> Result<(), CodecError> {
+    let decoded = codec.inner.decode(
+        alloc,
+        bytes,
+        &codec.subchunk_shape,
+        &metadata.data_type,
+        &metadata.fill_value,
+        &CodecOptions::default(),
+    );
+    match decoded {
+        Ok(_) => Ok(()),
+        Err(error) => Err(of_stored(error)),
+    }
+}
+
+// Room for the elements of a subset, which have a size.
+fn room_of(alloc: Global, subset: &ArraySubset, size: usize) -> Result<Vec<u8>, CodecError> {
+    let Some(count) = subset.num_elements() else {
+        return Err(CodecError::TooLarge);
+    };
+    match count.checked_mul(size as u64) {
+        Some(length) => Ok(vec![in alloc; 0u8; length as usize]?),
+        None => Err(CodecError::TooLarge),
+    }
+}
+
+// Reads the elements of a subset of a shard that is open, which have a size.
+fn read_in<I: ArrayToBytesCodecTraits, X: ArrayToBytesCodecTraits, H: BytesPartialDecoderTraits>(
+    alloc: Global,
+    decoder: &mut ShardingPartialDecoder<'_, I, X, H>,
+    subset: &ArraySubset,
+    size: usize,
+) -> Result<Vec<u8>, CodecError> {
+    let mut bytes = room_of(alloc, subset, size)?;
+    let whole = ArraySubset::new_with_shape(alloc, Vec::from_slice(alloc, subset.shape())?)?;
+    let Some(mut target) = FixedTarget::new(&mut bytes, size, subset.shape(), &whole) else {
+        return Err(CodecError::InvalidNumberOfElements);
+    };
+    decoder.partial_decode_into(alloc, subset, &mut target, &CodecOptions::default())?;
+    Ok(bytes)
+}
+
+// The bytes of a subchunk of a shard that is open.
+fn stored_in<I: ArrayToBytesCodecTraits, X: ArrayToBytesCodecTraits, H: BytesPartialDecoderTraits>(
+    alloc: Global,
+    decoder: &mut ShardingPartialDecoder<'_, I, X, H>,
+    subchunk: &[u64],
+) -> Result<Option<Vec<u8>>, CodecError> {
+    match decoder.retrieve_subchunk_encoded(alloc, subchunk)? {
+        Some(bytes) => Ok(Some(bytes.into_owned(alloc)?)),
+        None => Ok(None),
+    }
+}
+
+// Decodes the bytes of a subchunk of a shard that is open.
+fn test_in<I: ArrayToBytesCodecTraits, X: ArrayToBytesCodecTraits, H: BytesPartialDecoderTraits>(
+    alloc: Global,
+    decoder: &mut ShardingPartialDecoder<'_, I, X, H>,
+    codec: &ShardingCodec<I, X>,
+    metadata: &ArrayMetadata,
+    subchunk: &[u64],
+) -> Result<bool, CodecError> {
+    match decoder.retrieve_subchunk_encoded(alloc, subchunk)? {
+        Some(bytes) => {
+            decode_subchunk(alloc, codec, metadata, &bytes)?;
+            Ok(true)
+        }
+        None => Ok(false),
+    }
+}
+
+// How long the index of a shard with these subchunks along each axis is.
+fn index_representation<X: ArrayToBytesCodecTraits>(
+    alloc: Global,
+    codec: &X,
+    subchunks: &ChunkShape,
+) -> Result<BytesRepresentation, CodecError> {
+    let shape = sharding_index_shape(alloc, subchunks)?;
+    let absent = FillValue::from_number(alloc, u64::MAX)?;
+    codec.encoded_representation(alloc, &shape, &DataType::UInt64, &absent)
+}
+
+// The index of the shard that is an object of a length.
+fn whole_index<I, X: ArrayToBytesCodecTraits, H: BytesPartialDecoderTraits>(
+    alloc: Global,
+    codec: &ShardingCodec<I, X>,
+    shape: &ChunkShape,
+    object: &mut H,
+    len: u64,
+) -> Result<ShardIndex, CodecError>
+    ensures { IfOk result (λ index. length index.numbers.items ≡ 2 * count_of (grid_of shape.now codec.now.subchunk_shape)) }
+{
+    let whole = Interval {
+        offset: 0,
+        size: len,
+    };
+    codec.read_index(alloc, object, whole, shape, &CodecOptions::default())
+}
+
+/// The bytes of a chunk that has these elements, in row-major order, or `None` where each of them is the fill value: then it has no file
+/// (Zarr V3 core, "Chunk keys"). Refused as the codec's `encode` refuses.
+pub fn encode_chunk<C: ArrayToBytesCodecTraits>(
+    alloc: Global,
+    codec: &C,
+    elements: &ArrayBytes,
+    metadata: &ArrayMetadata,
+) -> Result<Option<Vec<u8>>, CodecError>
+    ensures { let m = C.meaning codec.now (array_spec metadata.now.shard metadata.now.data_type metadata.now.fill_value) in
+        IfOk result (λ chunk. MatchOption chunk (All (λ element. element ≡ metadata.now.fill_value) elements.now.elements)
+        (λ bytes. m.written elements.now.elements bytes.items)) }
+{
+    if elements.is_fill_value(&metadata.fill_value) {
+        return Ok(None);
+    }
+    let (shard, data_type) = (&metadata.shard, &metadata.data_type);
+    let options = CodecOptions::default();
+    let bytes = codec.encode(
+        alloc,
+        elements,
+        shard,
+        data_type,
+        &metadata.fill_value,
+        &options,
+    )?;
+    Ok(Some(bytes))
+}
+
+// What a compaction does to the shard in a file.
+fn plan_of<I, X: ArrayToBytesCodecTraits, H: BytesPartialDecoderTraits>(
+    alloc: Global,
+    codec: &ShardingCodec<I, X>,
+    shape: &ChunkShape,
+    file: &mut H,
+    is_dry: bool,
+) -> Result<Planned, CodecError> {
+    let Some(length) = file.len()? else {
+        return Ok(Planned::Nothing);
+    };
+    let interval = codec.index_interval(alloc, length, shape)?;
+    let index = whole_index(alloc, codec, shape, file, length)?;
+    let compacted = compact_size(&index, interval.size)?;
+    if compacted == length {
+        return Ok(Planned::Nothing);
+    }
+    if compacted > length {
+        return Ok(Planned::Longer(compacted - length));
+    }
+    let bytes = length - compacted;
+    if is_dry {
+        return Ok(Planned::Saves { bytes, plan: None });
+    }
+    match codec.plan_compaction_of_index(alloc, index, shape, &CodecOptions::default())? {
+        Some(plan) => Ok(Planned::Saves {
+            bytes,
+            plan: Some(plan),
+        }),
+        None => Ok(Planned::Nothing),
+    }
+}
+
+impl<
+    'a,
+    I: ArrayToBytesCodecTraits,
+    X: ArrayToBytesCodecTraits,
+    H: BytesPartialDecoderTraits,
+> OpenShard<H> for OpenedShard<'a, I, X, H> {
+    fn read_subset(
+        &mut self,
+        alloc: Global,
+        metadata: &ArrayMetadata,
+        subset: &ArraySubset,
+    ) -> Result<Vec<u8>, CodecError> {
+        let size = metadata.fill_value.as_ne_bytes().len();
+        read_in(alloc, &mut self.decoder, subset, size)
+    }
+
+    fn byte_range(&self, subchunk: &[u64]) -> Result<Option<ByteRange>, CodecError> {
+        self.decoder.subchunk_byte_range(subchunk)
+    }
+
+    fn stored_bytes(
+        &mut self,
+        alloc: Global,
+        subchunk: &[u64],
+    ) -> Result<Option<Vec<u8>>, CodecError> {
+        stored_in(alloc, &mut self.decoder, subchunk)
+    }
+
+    fn test_subchunk(
+        &mut self,
+        alloc: Global,
+        metadata: &ArrayMetadata,
+        subchunk: &[u64],
+    ) -> Result<bool, CodecError> {
+        test_in(alloc, &mut self.decoder, self.codec, metadata, subchunk)
+    }
+
+    fn close(self) -> H {
+        self.decoder.close()
+    }
+}
+
+impl<I: ArrayToBytesCodecTraits, X: ArrayToBytesCodecTraits> ShardEncoder for &ShardingCodec<I, X> {
+    fn encode(
+        &self,
+        alloc: Global,
+        elements: &ArrayBytes,
+        metadata: &ArrayMetadata,
+    ) -> Result<Option<Vec<u8>>, CodecError> {
+        encode_chunk(alloc, *self, elements, metadata)
+    }
+}
+
+impl<
+    'a,
+    I: ArrayToBytesCodecTraits,
+    X: ArrayToBytesCodecTraits,
+    H: BytesPartialDecoderTraits,
+> ShardCodec<H> for &'a ShardingCodec<I, X> {
+    type Open = OpenedShard<'a, I, X, H>;
+
+    fn subchunks(self, alloc: Global, metadata: &ArrayMetadata) -> Result<ChunkShape, CodecError> {
+        check_served(alloc, self, metadata)?;
+        calculate_chunks_per_shard(alloc, &metadata.shard, &metadata.subchunk)
+    }
+
+    fn open(
+        self,
+        alloc: Global,
+        file: H,
+        metadata: &ArrayMetadata,
+    ) -> Result<OpenedShard<'a, I, X, H>, (H, CodecError)> {
+        match opened(alloc, self, file, metadata) {
+            Ok(decoder) => Ok(OpenedShard {
+                decoder,
+                codec: self,
+            }),
+            Err(refused) => Err(refused),
+        }
+    }
+
+    fn index_size(self, alloc: Global, subchunks: &ChunkShape) -> Result<u64, CodecError> {
+        match index_representation(alloc, &self.index_codec, subchunks)? {
+            BytesRepresentation::FixedSize(size) => Ok(size),
+            _ => Err(CodecError::VariableIndexSize),
+        }
+    }
+
+    fn index_location(self) -> ShardingIndexLocation {
+        self.location
+    }
+
+    fn index_interval(
+        self,
+        alloc: Global,
+        length: u64,
+        shape: &ChunkShape,
+    ) -> Result<Interval, CodecError> {
+        ShardingCodec::index_interval(self, alloc, length, shape)
+    }
+
+    fn decode_index(
+        self,
+        alloc: Global,
+        bytes: &[u8],
+        subchunks: &ChunkShape,
+    ) -> Result<Vec<u64>, CodecError> {
+        ShardingCodec::decode_index(self, alloc, bytes, subchunks, &CodecOptions::default())
+    }
+
+    fn read_index(
+        self,
+        alloc: Global,
+        file: &mut H,
+        length: u64,
+        shape: &ChunkShape,
+    ) -> Result<ShardIndex, CodecError> {
+        whole_index(alloc, self, shape, file, length)
+    }
+
+    fn plan_compaction(
+        self,
+        alloc: Global,
+        file: &mut H,
+        shape: &ChunkShape,
+        is_dry: bool,
+    ) -> Result<Planned, CodecError> {
+        plan_of(alloc, self, shape, file, is_dry)
+    }
+}

@@ -1,0 +1,129 @@
+// Elements that are written as they are read, band by band.
+use crate::command_line::Form;
+use array_cli::{
+    Array, Ending, Progress, ShardCodec, ShardFile, Stop, TextRows, begin_json, end_json,
+    read_array, write_json_cells, written,
+};
+use array_grid::Bands;
+use array_metadata::ElementType;
+use parts_errors::CodecError;
+use parts_subsets::ArraySubset;
+use std::io;
+use std::io::Write;
+use std::rt::Files;
+
+// The most bytes of elements that are read.
+const MOST_BYTES: u64 = 1 << 40;
+
+/// Where the elements of a subset go, least significant byte first.
+pub trait Sink {
+    /// Takes the bytes of the next elements, of a command that ends so as far as it has come.
+    fn put(&mut self, bytes: &[u8], ending: Ending) -> Result<(), Stop>;
+}
+
+// Tests that the elements of a subset, of a size, are no more than are read.
+fn test_size(subset: &ArraySubset, size: u64) -> Result<(), Stop> {
+    let mut bytes = size;
+    for count in subset.shape() {
+        bytes = bytes.saturating_mul(*count);
+    }
+    let is_empty = subset.shape().iter().any(|count| *count == 0);
+    if bytes > MOST_BYTES && !is_empty {
+        return Err(Stop::TooLarge);
+    }
+    Ok(())
+}
+
+/// Reads the elements of a subset, with fill values for what is refused if `fills`, and hands them on, in row-major order: those of a band at a time, so that memory is that of a band.
+/// Refused as `Stop::TooLarge` where they have more than 2^40 bytes, and as `read_array` refuses; then the bands before are handed
+/// on.
+pub fn read_bands<'a, R: Files + AllocGlobal, C: ShardCodec<ShardFile<'a, R>>, S: Sink, M: Write>(
+    array: &Array<'a, R, C>,
+    subset: &ArraySubset,
+    fills: bool,
+    sink: &mut S,
+    progress: &mut Progress<'_, M>,
+) -> Result<Ending, Stop> {
+    let size = array.metadata.fill_value.as_ne_bytes().len() as u64;
+    test_size(subset, size)?;
+    let bands = Bands::new(subset, &array.metadata.shard, size);
+    let mut ending = Ending::Done;
+    for number in 0..bands.len() {
+        progress.begin_part(number, bands.len());
+        let Some(band) = bands.band(array.alloc(), number)? else {
+            return Err(CodecError::OutOfBounds.into());
+        };
+        let (cells, ended) = read_array(array, &band, fills, progress)?;
+        if ended != Ending::Done {
+            ending = ended;
+        }
+        progress.clear();
+        sink.put(&array.least_first(cells.bytes())?, ending)?;
+    }
+    Ok(ending)
+}
+
+// Elements that are written to an answer in a form.
+#[derive(Drop)]
+struct Printed<'o, W> {
+    out: &'o mut W,
+    form: Form,
+    element_type: ElementType,
+    rows: TextRows,
+    // whether none is written yet
+    is_first: bool,
+}
+
+impl<W: Write> Printed<'_, W> {
+    // Writes the next elements.
+    fn write(&mut self, bytes: &[u8]) -> io::Result<()> {
+        match self.form {
+            Form::Text => self.rows.write(self.out, self.element_type, bytes),
+            Form::Raw => self.out.write_all(bytes),
+            Form::Json => {
+                if self.is_first {
+                    begin_json(self.out)?;
+                }
+                write_json_cells(self.out, self.element_type, bytes, self.is_first)
+            }
+        }
+    }
+}
+
+impl<W: Write> Sink for Printed<'_, W> {
+    fn put(&mut self, bytes: &[u8], ending: Ending) -> Result<(), Stop> {
+        let wrote = self.write(bytes);
+        self.is_first = false;
+        written(wrote, ending)
+    }
+}
+
+/// Reads the elements of a subset, and writes them in a form to an answer.
+pub fn print_subset<
+    'a,
+    R: Files + AllocGlobal,
+    C: ShardCodec<ShardFile<'a, R>>,
+    W: Write,
+    M: Write,
+>(
+    array: &Array<'a, R, C>,
+    subset: &ArraySubset,
+    form: Form,
+    fills: bool,
+    out: &mut W,
+    progress: &mut Progress<'_, M>,
+) -> Result<Ending, Stop> {
+    let element_type = array.metadata.element_type;
+    let mut printed = Printed {
+        out,
+        form,
+        element_type,
+        rows: TextRows::new(subset.shape()),
+        is_first: true,
+    };
+    let ending = read_bands(array, subset, fills, &mut printed, progress)?;
+    if form == Form::Json {
+        written(end_json(printed.out, element_type, subset.shape()), ending)?;
+    }
+    Ok(ending)
+}

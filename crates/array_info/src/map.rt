@@ -1,0 +1,276 @@
+// A map of an array's shards, or of the subchunks of one shard.
+use crate::drawing::{
+    Drawn, Mark, ShardMap, SliceOrder, ending_of, write_array_map, write_shard_map,
+};
+use crate::folder::shard_of;
+use crate::info::{ShardInfo, known_shards};
+use crate::new_file::save_bytes;
+use crate::picture::{write_array_picture, write_shard_picture};
+use crate::subchunks::check_subchunk;
+use array_cli::{
+    Array, Ending, OpenShard, Place, Progress, Shard, ShardCodec, ShardFile, Stop, written,
+};
+use array_fields::escaped;
+use array_folder::ChunkFiles;
+use parts_errors::CodecError;
+use parts_row_major::{ravel_indices, unravel_index};
+use parts_subsets::ChunkShape;
+use sharding_format::SubchunkWriteOrder;
+use sharding_layout::SubchunkSequence;
+use std::alloc::{AllocError, Global};
+use std::io::Write;
+use std::rt::Files;
+use storage_handles::{ByteRange, BytesPartialDecoderTraits};
+
+// How many places a map has at most.
+const MOST_PLACES: u64 = 65_536;
+
+// How many places a grid has, where a map of it is drawn.
+fn places_of(counts: &[u64]) -> Result<u64, Stop> {
+    let mut places = 1u64;
+    for count in counts {
+        places = places.saturating_mul(*count);
+    }
+    if places > MOST_PLACES {
+        return Err(Stop::TooManyPlaces { most: MOST_PLACES });
+    }
+    Ok(places)
+}
+
+// The first byte of a slice, and the one behind its last.
+fn bytes_of(range: ByteRange) -> (u64, u64) {
+    match range {
+        ByteRange::FromStart(offset, size) => { (offset, offset.saturating_add(size.unwrap_or(0))) }
+        ByteRange::Suffix(size) => (0, size),
+    }
+}
+
+// What a subchunk is that has a slice: refused where it does not decode. Refused where it could not be read.
+fn mark_of(decoded: Result<bool, CodecError>) -> Result<Mark, CodecError> {
+    match decoded {
+        Ok(_) => Ok(Mark::Present),
+        Err(error) if matches!(error, CodecError::Fault | CodecError::OutOfMemory) => Err(error),
+        Err(_) => Ok(Mark::Refused),
+    }
+}
+
+// A subchunk of a shard that is open: where its slice lies, and whether it decodes where its codec is served.
+fn drawn_at<'a, R: Files + AllocGlobal, C, S: OpenShard<ShardFile<'a, R>>>(
+    array: &Array<'a, R, C>,
+    opened: &mut S,
+    number: u64,
+    subchunk: &[u64],
+) -> Result<Drawn, CodecError> {
+    match opened.byte_range(subchunk) {
+        Ok(Some(range)) => {
+            let is_index_alone = array.metadata.unread.is_some();
+            let decoded = check_subchunk(array, is_index_alone, opened, number);
+            Ok(Drawn {
+                mark: mark_of(decoded)?,
+                bytes: Some(bytes_of(range)),
+            })
+        }
+        Ok(None) => Ok(Drawn::without_bytes(Mark::Absent)),
+        Err(CodecError::BadIndexEntry { .. }) => Ok(Drawn::without_bytes(Mark::Refused)),
+        Err(error) => Err(error),
+    }
+}
+
+// Adds the subchunk of a shard that has a number.
+fn draw_next<'a, R: Files + AllocGlobal, C, S: OpenShard<ShardFile<'a, R>>>(
+    array: &Array<'a, R, C>,
+    opened: &mut S,
+    number: u64,
+    drawn: &mut Vec<Drawn>,
+) -> Result<(), CodecError> {
+    let alloc = array.alloc();
+    if let Some(subchunk) = unravel_index(alloc, number, array.subchunks.as_slice())? {
+        drawn.push(drawn_at(array, opened, number, &subchunk)?)?;
+    }
+    Ok(())
+}
+
+// The subchunks of a shard that is open.
+fn draw_each<'a, R: Files + AllocGlobal, C, S: OpenShard<ShardFile<'a, R>>, M: Write>(
+    array: &Array<'a, R, C>,
+    opened: &mut S,
+    count: u64,
+    progress: &mut Progress<'_, M>,
+) -> Result<Vec<Drawn>, CodecError> {
+    let mut drawn: Vec<Drawn> = Vec::new(array.alloc());
+    for number in 0..count {
+        progress.step(number, count);
+        draw_next(array, opened, number, &mut drawn)?;
+    }
+    Ok(drawn)
+}
+
+// Whether slices begin in the file in the order of a sequence of subchunks.
+fn follows(drawn: &[Drawn], sequence: &SubchunkSequence) -> bool {
+    let mut reached = 0;
+    for position in 0..sequence.len() {
+        let number = sequence.number_at(position);
+        if let Some(
+            Drawn {
+                mark: _,
+                bytes: Some((start, _)),
+            },
+        ) = drawn.get(number as usize)
+        {
+            if *start < reached {
+                return false;
+            }
+            reached = *start;
+        }
+    }
+    true
+}
+
+// The order in which the slices of a shard lie in its file.
+fn order_of(
+    alloc: Global,
+    drawn: &[Drawn],
+    subchunks: &ChunkShape,
+) -> Result<SliceOrder, AllocError> {
+    let Some(count) = subchunks.num_elements() else {
+        return Ok(SliceOrder::Another);
+    };
+    let ascending = SubchunkSequence::new(alloc, SubchunkWriteOrder::C, subchunks, count)?;
+    if follows(drawn, &ascending) {
+        return Ok(SliceOrder::RowMajor);
+    }
+    let morton = SubchunkSequence::new(alloc, SubchunkWriteOrder::Morton, subchunks, count)?;
+    if follows(drawn, &morton) {
+        return Ok(SliceOrder::Morton);
+    }
+    Ok(SliceOrder::Another)
+}
+
+// The map of a shard that is open.
+fn map_of<'a, R: Files + AllocGlobal, C: ShardCodec<ShardFile<'a, R>>, M: Write>(
+    array: &Array<'a, R, C>,
+    opened: &mut C::Open,
+    length: u64,
+    count: u64,
+    progress: &mut Progress<'_, M>,
+) -> Result<ShardMap, CodecError> {
+    let alloc = array.alloc();
+    let index = array
+        .codec
+        .index_interval(alloc, length, &array.metadata.shard)?;
+    let subchunks = draw_each(array, opened, count, progress)?;
+    let order = order_of(alloc, &subchunks, &array.subchunks)?;
+    Ok(ShardMap {
+        length,
+        index: (index.offset, index.offset.saturating_add(index.size)),
+        subchunks,
+        order,
+    })
+}
+
+// The map of the shard in a file, which has as many subchunks.
+fn map_of_file<'a, R: Files + AllocGlobal, C: ShardCodec<ShardFile<'a, R>>, M: Write>(
+    array: &Array<'a, R, C>,
+    shard: &Shard<'_>,
+    mut file: ShardFile<'a, R>,
+    count: u64,
+    progress: &mut Progress<'_, M>,
+) -> Result<ShardMap, Stop> {
+    let length = match file.len() {
+        Ok(Some(length)) => length,
+        Ok(None) => return Err(Stop::NoShard(escaped(array.alloc(), shard.key)?)),
+        Err(error) => {
+            return Err(Stop::Refused(array.refusal(shard, &file, error, Place::Shard)?));
+        }
+    };
+    let mut opened = match array.open_shard(shard, file)? {
+        Ok(opened) => opened,
+        Err(refusal) => return Err(Stop::Refused(refusal)),
+    };
+    let map = map_of(array, &mut opened, length, count, progress);
+    let file = opened.close();
+    match map {
+        Ok(map) => Ok(map),
+        Err(error) => Err(Stop::Refused(array.refusal(shard, &file, error, Place::Shard)?)),
+    }
+}
+
+/// Draws the subchunks of a shard by its key, and the bytes of its file: as text, or as a picture in a file of the format SVG. Each
+/// subchunk that is present is decoded, where its codec is served. Refused, in this order, as `Stop::TooManyPlaces` where a shard has
+/// more than 65,536 subchunks, as `Stop::System` where the folder is not read, as `Stop::NoShard` where no shard has the key, as
+/// `Stop::System` or `Stop::Refused` where its index is not read, and where the drawing is not taken.
+pub fn map_shard<'a, R: Files + AllocGlobal, C: ShardCodec<ShardFile<'a, R>>, W: Write, M: Write>(
+    array: &Array<'a, R, C>,
+    key: &str,
+    svg: Option<&str>,
+    out: &mut W,
+    progress: &mut Progress<'_, M>,
+) -> Result<Ending, Stop> {
+    let count = places_of(array.subchunks.as_slice())?;
+    let files = array.files()?;
+    let shard = shard_of(array, &files, key)?;
+    let map = map_of_file(array, &shard, array.file(shard.key)?, count, progress)?;
+    progress.clear();
+    let grid = array.subchunks.as_slice();
+    let ending = ending_of(&map.marks(array.alloc())?);
+    match svg {
+        Some(path) => {
+            let mut picture: Vec<u8> = Vec::new(array.alloc());
+            write_shard_picture(&mut picture, shard.key, &map, grid)?;
+            save_bytes(array, path, &picture, out)?;
+        }
+        None => written(
+            write_shard_map(out, array.alloc(), shard.key, &map, grid),
+            ending,
+        )?,
+    }
+    Ok(ending)
+}
+
+// What stands at each place of the chunk grid.
+fn marks_of<R: Files + AllocGlobal, C>(
+    array: &Array<'_, R, C>,
+    files: &ChunkFiles,
+    shards: &[Option<ShardInfo>],
+    places: u64,
+) -> Result<Vec<Mark>, AllocError> {
+    let mut marks = vec![in array.alloc(); Mark::Absent; places as usize]?;
+    for (file, shard) in files.chunks.iter().zip(shards) {
+        let number = ravel_indices(&file.coordinates, array.grid.counts());
+        if let (Some(shard), Some(number)) = (shard, number)
+            && let Some(mark) = marks.get_mut(number as usize)
+        {
+            *mark = match &shard.index {
+                Ok(_) => Mark::Present,
+                Err(_) => Mark::Refused,
+            };
+        }
+    }
+    Ok(marks)
+}
+
+/// Draws which shards of an array are there, and which have an index that is refused, as text or as a picture in a file of the format
+/// SVG. Refused, in this order, as `Stop::TooManyPlaces` where there could be more than 65,536 shards, and as `info` is.
+pub fn map_array<'a, R: Files + AllocGlobal, C: ShardCodec<ShardFile<'a, R>>, W: Write, M: Write>(
+    array: &Array<'a, R, C>,
+    svg: Option<&str>,
+    out: &mut W,
+    progress: &mut Progress<'_, M>,
+) -> Result<Ending, Stop> {
+    let places = places_of(array.grid.counts())?;
+    let files = array.files()?;
+    let shards = known_shards(array, &files, progress)?;
+    progress.clear();
+    let marks = marks_of(array, &files, &shards, places)?;
+    let ending = ending_of(&marks);
+    let counts = array.grid.counts();
+    match svg {
+        Some(path) => {
+            let mut picture: Vec<u8> = Vec::new(array.alloc());
+            write_array_picture(&mut picture, &marks, counts)?;
+            save_bytes(array, path, &picture, out)?;
+        }
+        None => written(write_array_map(out, &marks, counts), ending)?,
+    }
+    Ok(ending)
+}

@@ -1,0 +1,88 @@
+// A new file that is put at a path once it is whole.
+use array_cli::{Array, Stop};
+use array_fields::escaped;
+use array_folder::{npy_beside, write_npy};
+use std::io;
+use std::io::{ErrorKind, Write};
+use std::rt::Files;
+use storage_files::{Replacement, folder_of};
+
+/// The new file of a path, or `None` where one stands there already.
+pub fn begin<'a, R: Files + AllocGlobal, C>(
+    array: &Array<'a, R, C>,
+    path: &str,
+    beside: &str,
+) -> Result<Option<Replacement<&'a R>>, Stop> {
+    match Replacement::begin(array.alloc(), array.rt, path) {
+        Ok(replacement) => Ok(Some(replacement)),
+        Err(error) if error.kind() == ErrorKind::AlreadyExists => Ok(None),
+        Err(error) => Err(Stop::folder(array.alloc(), folder_of(beside), error)),
+    }
+}
+
+/// Tells where a new file has not the owner and the group of the old one.
+pub fn tell_owner<R: Files, W: Write>(
+    out: &mut W,
+    key: &str,
+    replacement: &Replacement<R>,
+) -> io::Result<()> {
+    if replacement.keeps_owner() {
+        return Ok(());
+    }
+    writeln!(
+        out,
+        "{key}: this program may not give its new file the owner and group of the old one"
+    )?;
+    out.flush()
+}
+
+// Why a new file is not begun where another one stands.
+fn busy() -> io::Error {
+    io::Error::new(
+        ErrorKind::AlreadyExists,
+        "stands there; if no program writes it, remove it",
+    )
+}
+
+/// The new file of a path, which is refused where one stands there already. A line says so where it has not the owner of the old one.
+pub fn begin_new<'a, R: Files + AllocGlobal, C, W: Write>(
+    array: &Array<'a, R, C>,
+    path: &str,
+    beside: &str,
+    out: &mut W,
+) -> Result<Replacement<&'a R>, Stop> {
+    let shown = escaped(array.alloc(), path)?;
+    let Some(new) = begin(array, path, beside)? else {
+        return Err(Stop::system(array.alloc(), beside, busy()));
+    };
+    // a line that nobody reads stops nothing
+    let _ = tell_owner(out, &shown, &new);
+    Ok(new)
+}
+
+/// Makes the file at a path of a header and what follows it. A file of that name is replaced once the new one is whole.
+pub fn save<R: Files + AllocGlobal, C, W: Write>(
+    array: &Array<'_, R, C>,
+    path: &str,
+    beside: &str,
+    header: &[u8],
+    rest: &[u8],
+    out: &mut W,
+) -> Result<(), Stop> {
+    let new = begin_new(array, path, beside, out)?;
+    match write_npy(new, header, rest) {
+        Ok(()) => Ok(()),
+        Err(error) => Err(Stop::system(array.alloc(), path, error)),
+    }
+}
+
+/// Makes a file at a path of bytes. A file of that name is replaced once the new one is whole.
+pub fn save_bytes<R: Files + AllocGlobal, C, W: Write>(
+    array: &Array<'_, R, C>,
+    path: &str,
+    bytes: &[u8],
+    out: &mut W,
+) -> Result<(), Stop> {
+    let beside = npy_beside(array.rt, path)?;
+    save(array, path, &beside, &[], bytes, out)
+}

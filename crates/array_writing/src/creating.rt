@@ -1,0 +1,112 @@
+// A new array that has no shard yet.
+use crate::layout::{LayoutWords, list_of, new_document, order_of};
+use crate::new_folder::{begin_folder, end_folder, test_served};
+use array_cli::{Ending, Stop, described};
+use array_fields::escaped;
+use serde_json::Value;
+use sharding_format::SubchunkWriteOrder;
+use std::alloc::Global;
+use std::fs;
+use std::rt::Files;
+
+/// What a new array is, by the words of a command line.
+#[derive(Debug, Clone, Copy, PartialEq, Eq)]
+pub struct ArrayWords<'a> {
+    /// The shapes of the array, of a shard and of a subchunk, as `512,512`.
+    pub shape: &'a str,
+    pub shard: &'a str,
+    pub subchunk: &'a str,
+    /// The name of the data type, as `uint16`.
+    pub data_type: &'a str,
+    /// The fill value, as it stands in metadata, or as a text of it; the zero of the data type where it is `None`.
+    pub fill: Option<&'a str>,
+    /// How shards are laid out.
+    pub layout: LayoutWords<'a>,
+}
+
+// A word of a command line as a text of JSON. Refused as `Stop::BadWord` where it has other characters than those of names and numbers.
+fn text_of(alloc: Global, word: &str) -> Result<String, Stop> {
+    let is_plain = word.bytes().all(|byte| byte.is_ascii_alphanumeric()
+        || matches!(byte, b'_' | b'-' | b'+' | b'.'));
+    if !is_plain {
+        return Err(Stop::BadWord(escaped(alloc, word)?));
+    }
+    Ok(format!(in alloc; "\"{word}\"")?)
+}
+
+// The zero of a data type, in the form that metadata has (Zarr V3 core, "Fill value list").
+fn zero_of(data_type: &str) -> &'static str {
+    match data_type {
+        "bool" => "false",
+        "complex64" | "complex128" => "[0,0]",
+        _ => "0",
+    }
+}
+
+// A fill value, in the form that metadata has.
+fn fill_text(alloc: Global, word: Option<&str>, data_type: &str) -> Result<String, Stop> {
+    let Some(word) = word else {
+        return Ok(String::from_str(alloc, zero_of(data_type))?);
+    };
+    match Value::from_str(alloc, word) {
+        Ok(_) => Ok(String::from_str(alloc, word)?),
+        Err(error) if error.is_memory() => Err(Stop::OutOfMemory),
+        Err(_) => text_of(alloc, word),
+    }
+}
+
+// The `zarr.json` of a new array, whose shards are laid out as no word says otherwise.
+fn plain_document(alloc: Global, words: &ArrayWords<'_>) -> Result<String, Stop> {
+    let shape = list_of(alloc, words.shape)?;
+    let shard = list_of(alloc, words.shard)?;
+    let subchunk = list_of(alloc, words.subchunk)?;
+    let data_type = text_of(alloc, words.data_type)?;
+    let fill = fill_text(alloc, words.fill, words.data_type)?;
+    let bytes = "{\"name\":\"bytes\",\"configuration\":{\"endian\":\"little\"}}";
+    let codecs = format!(in alloc;
+        "[{{\"name\":\"sharding_indexed\",\"configuration\":{{\"chunk_shape\":{subchunk},\"codecs\":[{bytes}],\"index_codecs\":[{bytes},{{\"name\":\"crc32c\"}}],\"index_location\":\"end\"}}}}]"
+    )?;
+    let grid = format!(in alloc;
+        "{{\"name\":\"regular\",\"configuration\":{{\"chunk_shape\":{shard}}}}}"
+    )?;
+    let keys = "{\"name\":\"default\",\"configuration\":{\"separator\":\"/\"}}";
+    Ok(format!(in alloc;
+        "{{\"zarr_format\":3,\"node_type\":\"array\",\"shape\":{shape},\"data_type\":{data_type},\"chunk_grid\":{grid},\"chunk_key_encoding\":{keys},\"fill_value\":{fill},\"codecs\":{codecs},\"attributes\":{{}}}}"
+    )?)
+}
+
+// The `zarr.json` of a new array. Refused as `Stop::BadWord`, as `Stop::Metadata`, and where the codecs do not serve it.
+fn document_of<R: Files + AllocGlobal>(
+    rt: &R,
+    path: &str,
+    words: &ArrayWords<'_>,
+) -> Result<String, Stop> {
+    let alloc = rt.alloc();
+    let order = order_of(alloc, words.layout.order)?;
+    let plain = plain_document(alloc, words)?;
+    let metadata = described(alloc, path, &plain, SubchunkWriteOrder::C)?;
+    let document = new_document(alloc, &words.layout, &plain, &metadata)?;
+    let metadata = described(alloc, path, &document, order)?;
+    test_served(rt, path, &metadata)?;
+    Ok(document)
+}
+
+/// Makes an array in a folder that is not there yet, by its `zarr.json` alone: all of its elements are the fill value. It is written
+/// beside itself, with `.partial` behind its name, and renamed once it is whole. Refused, in this order, as `Stop::BadWord` where a
+/// word is none of those that it may be, as `Stop::Metadata` and `Stop::Codec` where no array is so, and as `Stop::System` where the
+/// folder is there already or cannot be made; nothing is left then.
+pub fn create<R: Files + AllocGlobal>(
+    rt: &R,
+    path: &str,
+    words: &ArrayWords<'_>,
+) -> Result<Ending, Stop> {
+    let document = document_of(rt, path, words)?;
+    let beside = format!(in rt.alloc(); "{path}.partial")?;
+    begin_folder(rt, path, &beside)?;
+    let ended = end_folder(rt, path, &beside, &document);
+    if ended.is_err() {
+        let _ = fs::remove_dir_all(rt, &beside);
+    }
+    ended?;
+    Ok(Ending::Done)
+}

@@ -1,0 +1,212 @@
+// Two arrays, compared element by element.
+use crate::chunks::{chunks_of, elements_of};
+use array_cli::{
+    Array, Ending, Progress, ShardCodec, ShardFile, Stop, read_array, write_numbers, write_rows,
+    written,
+};
+use array_metadata::ElementType;
+use parts_row_major::unravel_index;
+use parts_subsets::ArraySubset;
+use std::alloc::Global;
+use std::io;
+use std::io::Write;
+use std::rt::Files;
+
+// What was found of two arrays.
+#[derive(Drop)]
+struct Differences {
+    count: u64,
+    // of the first element that differs: its coordinates, and as what it stands in either array
+    first: Option<(Vec<u64>, Vec<u8>, Vec<u8>)>,
+}
+
+// The coordinates of the element of a subset with a number.
+fn coordinates_of(alloc: Global, subset: &ArraySubset, number: u64) -> Result<Vec<u64>, Stop> {
+    let mut coordinates = Vec::new(alloc);
+    if let Some(steps) = unravel_index(alloc, number, subset.shape())? {
+        for (start, step) in subset.start().iter().zip(&steps) {
+            coordinates.push(start.saturating_add(*step))?;
+        }
+    }
+    Ok(coordinates)
+}
+
+impl Differences {
+    // Adds an element that differs.
+    fn add(
+        &mut self,
+        alloc: Global,
+        subset: &ArraySubset,
+        number: u64,
+        elements: (&[u8], &[u8]),
+    ) -> Result<(), Stop> {
+        if self.first.is_none() {
+            let coordinates = coordinates_of(alloc, subset, number)?;
+            let one = Vec::from_slice(alloc, elements.0)?;
+            let other = Vec::from_slice(alloc, elements.1)?;
+            self.first = Some((coordinates, one, other));
+        }
+        self.count = self.count.saturating_add(1);
+        Ok(())
+    }
+
+    // Adds the elements of a subset that differ, each of a size.
+    fn add_all(
+        &mut self,
+        alloc: Global,
+        subset: &ArraySubset,
+        size: usize,
+        cells: (&[u8], &[u8]),
+    ) -> Result<(), Stop> {
+        if cells.0 == cells.1 {
+            return Ok(());
+        }
+        let size = size.max(1);
+        let pairs = cells.0.chunks(size).zip(cells.1.chunks(size));
+        for (number, (one, other)) in pairs.enumerate() {
+            if one != other {
+                self.add(alloc, subset, number as u64, (one, other))?;
+            }
+        }
+        Ok(())
+    }
+}
+
+// Adds what differs in the chunk at these coordinates of the first array's grid.
+fn add_chunk<
+    'a,
+    R: Files + AllocGlobal,
+    C: ShardCodec<ShardFile<'a, R>>,
+    D: ShardCodec<ShardFile<'a, R>>,
+>(
+    one: &Array<'a, R, C>,
+    other: &Array<'a, R, D>,
+    coordinates: &[u64],
+    found: &mut Differences,
+) -> Result<(), Stop> {
+    let (alloc, metadata) = (one.alloc(), one.metadata);
+    let Some(subset) = elements_of(alloc, coordinates, &metadata.shard, &metadata.shape)? else {
+        return Ok(());
+    };
+    let mut silent: Vec<u8> = Vec::new(alloc);
+    let mut progress = Progress::new(&mut silent, false);
+    let (first, _) = read_array(one, &subset, false, &mut progress)?;
+    let (second, _) = read_array(other, &subset, false, &mut progress)?;
+    let size = metadata.fill_value.as_ne_bytes().len();
+    let first = one.least_first(first.bytes())?;
+    let second = other.least_first(second.bytes())?;
+    found.add_all(alloc, &subset, size, (&first, &second))
+}
+
+// The chunks of the first array's grid in which elements may differ: those that either has elements of, or all where they have other
+// fill values.
+fn chunks_of_both<R: Files + AllocGlobal, C, D>(
+    one: &Array<'_, R, C>,
+    other: &Array<'_, R, D>,
+) -> Result<Vec<Vec<u64>>, Stop> {
+    let chunk = &one.metadata.shard;
+    if one.metadata.fill_value != other.metadata.fill_value {
+        return all_chunks(one.alloc(), one.grid.counts());
+    }
+    let mut chunks = chunks_of(one, chunk)?;
+    for coordinates in chunks_of(other, chunk)? {
+        chunks.push(coordinates)?;
+    }
+    chunks.sort_unstable();
+    chunks.dedup();
+    Ok(chunks)
+}
+
+// The coordinates of all places of a grid.
+fn all_chunks(alloc: Global, counts: &[u64]) -> Result<Vec<Vec<u64>>, Stop> {
+    let mut many = 1u64;
+    for count in counts {
+        many = many.saturating_mul(*count);
+    }
+    let mut chunks: Vec<Vec<u64>> = Vec::new(alloc);
+    for number in 0..many {
+        if let Some(coordinates) = unravel_index(alloc, number, counts)? {
+            chunks.push(coordinates)?;
+        }
+    }
+    Ok(chunks)
+}
+
+// The differences of two arrays of a shape and a type.
+fn found_in<
+    'a,
+    R: Files + AllocGlobal,
+    C: ShardCodec<ShardFile<'a, R>>,
+    D: ShardCodec<ShardFile<'a, R>>,
+    M: Write,
+>(
+    one: &Array<'a, R, C>,
+    other: &Array<'a, R, D>,
+    progress: &mut Progress<'_, M>,
+) -> Result<Differences, Stop> {
+    let chunks = chunks_of_both(one, other)?;
+    let mut found = Differences {
+        count: 0,
+        first: None,
+    };
+    for (number, coordinates) in chunks.iter().enumerate() {
+        progress.step(number as u64, chunks.len() as u64);
+        add_chunk(one, other, coordinates, &mut found)?;
+    }
+    Ok(found)
+}
+
+// Writes how many elements differ, and the first of them.
+fn write_differences<W: Write>(
+    out: &mut W,
+    element_type: ElementType,
+    found: &Differences,
+) -> io::Result<()> {
+    let Some((coordinates, one, other)) = &found.first else {
+        return writeln!(out, "no element differs");
+    };
+    match found.count {
+        1 => out.write_all(b"1 element differs,")?,
+        count => write!(out, "{count} elements differ, the first one")?,
+    }
+    write_numbers(out, " at", coordinates)?;
+    write_rows(out, element_type, one, &[])?;
+    write_rows(out, element_type, other, &[])
+}
+
+/// Compares two arrays element by element, and writes how many elements differ, and of the first one its coordinates and what it is in
+/// either array. Where shapes or data types differ, it says so instead. Only the chunks that one of the arrays has are read, unless their
+/// fill values differ.
+pub fn compare<
+    'a,
+    R: Files + AllocGlobal,
+    C: ShardCodec<ShardFile<'a, R>>,
+    D: ShardCodec<ShardFile<'a, R>>,
+    W: Write,
+    M: Write,
+>(
+    one: &Array<'a, R, C>,
+    other: &Array<'a, R, D>,
+    out: &mut W,
+    progress: &mut Progress<'_, M>,
+) -> Result<Ending, Stop> {
+    one.test_read()?;
+    other.test_read()?;
+    if one.metadata.shape != other.metadata.shape {
+        written(out.write_all(b"the shapes differ\n"), Ending::Different)?;
+        return Ok(Ending::Different);
+    }
+    let element_type = one.metadata.element_type;
+    if element_type != other.metadata.element_type {
+        written(out.write_all(b"the data types differ\n"), Ending::Different)?;
+        return Ok(Ending::Different);
+    }
+    let found = found_in(one, other, progress)?;
+    progress.clear();
+    let ending = match found.count {
+        0 => Ending::Done,
+        _ => Ending::Different,
+    };
+    written(write_differences(out, element_type, &found), ending)?;
+    Ok(ending)
+}

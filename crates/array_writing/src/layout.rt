@@ -1,0 +1,191 @@
+// How an array is laid out anew, and its metadata then.
+use array_cli::Stop;
+use array_fields::escaped;
+use array_metadata::ArrayMetadata;
+use serde_json::Value;
+use sharding_format::{ShardingIndexLocation, SubchunkWriteOrder};
+use std::alloc::{AllocError, Global};
+
+/// How an array is laid out anew, by the words of a command line. What is `None` stays as it is.
+#[derive(Debug, Clone, Copy, PartialEq, Eq)]
+pub struct LayoutWords<'a> {
+    /// The shapes of a shard and of a subchunk, as `512,512`.
+    pub shard: Option<&'a str>,
+    pub subchunk: Option<&'a str>,
+    /// Where the index stands: `start` or `end`.
+    pub index: Option<&'a str>,
+    /// Whether `crc32c` is behind the index.
+    pub is_checked: Option<bool>,
+    /// The codec behind `bytes` inside a shard: `none`, `crc32c`, `gzip` or `zstd`.
+    pub inner: Option<&'a str>,
+    /// In which order the subchunks are written: `c` or `morton`.
+    pub order: Option<&'a str>,
+}
+
+/// Numbers of a command line as a list of JSON. Refused as `Stop::BadWord` where a word is no list of numbers.
+pub fn list_of(alloc: Global, word: &str) -> Result<String, Stop> {
+    let is_list = word
+        .bytes()
+        .all(|byte| byte.is_ascii_digit() || byte == b',');
+    if !is_list {
+        return Err(Stop::BadWord(escaped(alloc, word)?));
+    }
+    Ok(format!(in alloc; "[{word}]")?)
+}
+
+// A shape as a list of JSON.
+fn shape_text(alloc: Global, word: Option<&str>, shape: &[u64]) -> Result<String, Stop> {
+    if let Some(word) = word {
+        return list_of(alloc, word);
+    }
+    let mut text = String::from_str(alloc, "[")?;
+    let mut before = "";
+    for count in shape {
+        text.push_str(format!(in alloc; "{before}{count}")?.as_str())?;
+        before = ",";
+    }
+    text.push(']')?;
+    Ok(text)
+}
+
+// The metadata of a codec behind `bytes`, with a comma before it.
+fn behind_bytes(name: &str) -> Option<&'static str> {
+    match name {
+        "none" => Some(""),
+        "crc32c" => Some(",{\"name\":\"crc32c\"}"),
+        "gzip" => Some(",{\"name\":\"gzip\",\"configuration\":{\"level\":5}}"),
+        "zstd" => Some(",{\"name\":\"zstd\",\"configuration\":{\"level\":0,\"checksum\":false}}"),
+        _ => None,
+    }
+}
+
+// The first codec of a list, and its name.
+fn first_of(list: Option<&Value>) -> Option<(&Value, &str)> {
+    let codec = list?.get(0)?;
+    let name = codec.get("name")?.as_str()?;
+    Some((codec, name))
+}
+
+// The codec `bytes` of a list, or one of little endian where the list does not begin with one.
+fn bytes_text(alloc: Global, list: Option<&Value>) -> Result<String, AllocError> {
+    match first_of(list) {
+        Some((codec, "bytes")) => codec.to_string(alloc),
+        _ => String::from_str(
+            alloc,
+            "{\"name\":\"bytes\",\"configuration\":{\"endian\":\"little\"}}",
+        ),
+    }
+}
+
+// The codecs inside a shard as a list of JSON.
+fn inner_text(alloc: Global, word: Option<&str>, old: Option<&Value>) -> Result<String, Stop> {
+    let Some(word) = word else {
+        return match old {
+            Some(list) => Ok(list.to_string(alloc)?),
+            None => Ok(String::from_str(alloc, "[]")?),
+        };
+    };
+    let Some(behind) = behind_bytes(word) else {
+        return Err(Stop::BadWord(escaped(alloc, word)?));
+    };
+    let bytes = bytes_text(alloc, old)?;
+    Ok(format!(in alloc; "[{bytes}{behind}]")?)
+}
+
+// The codecs of an index as a list of JSON.
+fn index_text(
+    alloc: Global,
+    is_checked: Option<bool>,
+    old: Option<&Value>,
+) -> Result<String, AllocError> {
+    let behind = match (is_checked, old) {
+        (None, Some(list)) => return list.to_string(alloc),
+        (None | Some(false), _) => "",
+        (Some(true), _) => ",{\"name\":\"crc32c\"}",
+    };
+    let bytes = bytes_text(alloc, old)?;
+    format!(in alloc; "[{bytes}{behind}]")
+}
+
+// Where an index stands, in the words of metadata.
+fn location_text(
+    alloc: Global,
+    word: Option<&str>,
+    old: ShardingIndexLocation,
+) -> Result<&'static str, Stop> {
+    match (word, old) {
+        (Some("start"), _) | (None, ShardingIndexLocation::Start) => Ok("start"),
+        (Some("end"), _) | (None, ShardingIndexLocation::End) => Ok("end"),
+        (Some(word), _) => Err(Stop::BadWord(escaped(alloc, word)?)),
+    }
+}
+
+// The value of `codecs` in a new layout.
+fn codecs_text(
+    alloc: Global,
+    words: &LayoutWords<'_>,
+    document: &Value,
+    metadata: &ArrayMetadata,
+) -> Result<String, Stop> {
+    let chunk = shape_text(alloc, words.subchunk, metadata.subchunk.as_slice())?;
+    let inner = inner_text(
+        alloc,
+        words.inner,
+        document.pointer("/codecs/0/configuration/codecs"),
+    )?;
+    let index = index_text(
+        alloc,
+        words.is_checked,
+        document.pointer("/codecs/0/configuration/index_codecs"),
+    )?;
+    let location = location_text(alloc, words.index, metadata.codec.location)?;
+    Ok(format!(in alloc;
+        "[{{\"name\":\"sharding_indexed\",\"configuration\":{{\"chunk_shape\":{chunk},\"codecs\":{inner},\"index_codecs\":{index},\"index_location\":\"{location}\"}}}}]"
+    )?)
+}
+
+/// The `zarr.json` of an array that is laid out anew, from the one of the array as it is: all other members stay. Refused as
+/// `Stop::BadWord` where a word is none of those that it may be.
+pub fn new_document(
+    alloc: Global,
+    words: &LayoutWords<'_>,
+    text: &str,
+    metadata: &ArrayMetadata,
+) -> Result<String, Stop> {
+    let mut document = parsed(alloc, text)?;
+    let codecs = parsed(alloc, &codecs_text(alloc, words, &document, metadata)?)?;
+    let shard = shape_text(alloc, words.shard, metadata.shard.as_slice())?;
+    let shard = parsed(alloc, &shard)?;
+    put(&mut document, "/codecs", codecs);
+    put(
+        &mut document,
+        "/chunk_grid/configuration/chunk_shape",
+        shard,
+    );
+    Ok(document.to_string(alloc)?)
+}
+
+/// The order in which subchunks are written. Refused as `Stop::BadWord`.
+pub fn order_of(alloc: Global, word: Option<&str>) -> Result<SubchunkWriteOrder, Stop> {
+    match word {
+        None | Some("c") => Ok(SubchunkWriteOrder::C),
+        Some("morton") => Ok(SubchunkWriteOrder::Morton),
+        Some(word) => Err(Stop::BadWord(escaped(alloc, word)?)),
+    }
+}
+
+// The value of a text that is JSON.
+fn parsed(alloc: Global, text: &str) -> Result<Value, Stop> {
+    match Value::from_str(alloc, text) {
+        Ok(value) => Ok(value),
+        Err(error) if error.is_memory() => Err(Stop::OutOfMemory),
+        Err(_) => Err(Stop::BadWord(escaped(alloc, text)?)),
+    }
+}
+
+// Puts a value in the place of what stands at a path.
+fn put(document: &mut Value, path: &str, value: Value) {
+    if let Some(place) = document.pointer_mut(path) {
+        *place = value;
+    }
+}

@@ -1,0 +1,128 @@
+// The folder of a new array, which stands beside its path until it is whole.
+use array_cli::{Array, CodecUse, ShardCodec, ShardEncoder, ShardFile, Stop, with_codec};
+use array_metadata::ArrayMetadata;
+use parts_arrays::ArrayBytes;
+use parts_errors::CodecError;
+use std::io::ErrorKind;
+use std::rt::Files;
+use std::{fs, io};
+use storage_files::Replacement;
+
+// Makes a file of bytes, with its folder.
+fn save<R: Files + AllocGlobal>(rt: &R, path: &str, bytes: &[u8]) -> io::Result<()> {
+    let mut file = Replacement::begin(rt.alloc(), rt, path)?;
+    match file.write(bytes) {
+        Ok(()) => file.finish(),
+        Err(error) => {
+            file.abandon();
+            Err(error)
+        }
+    }
+}
+
+/// Makes a file of bytes under a key of a folder.
+pub fn put<R: Files + AllocGlobal>(
+    rt: &R,
+    folder: &str,
+    key: &str,
+    bytes: &[u8],
+) -> Result<(), Stop> {
+    let path = format!(in rt.alloc(); "{folder}/{key}")?;
+    match save(rt, &path, bytes) {
+        Ok(()) => Ok(()),
+        Err(error) => Err(Stop::system(rt.alloc(), &path, error)),
+    }
+}
+
+/// Begins the folder of a new array, which stands beside the one that it will be. Refused where either stands there.
+pub fn begin_folder<R: Files + AllocGlobal>(rt: &R, path: &str, beside: &str) -> Result<(), Stop> {
+    let alloc = rt.alloc();
+    if fs::symlink_metadata(rt, path).is_ok() {
+        let error = io::Error::new(ErrorKind::AlreadyExists, "stands there already");
+        return Err(Stop::system(alloc, path, error));
+    }
+    match fs::create_dir(rt, beside) {
+        Ok(()) => Ok(()),
+        Err(error) if error.kind() == ErrorKind::AlreadyExists => {
+            let words = "stands there; if no program writes it, remove it";
+            let error = io::Error::new(ErrorKind::AlreadyExists, words);
+            Err(Stop::system(alloc, beside, error))
+        }
+        Err(error) => Err(Stop::system(alloc, beside, error)),
+    }
+}
+
+/// Puts the folder of a new array at its path, with its `zarr.json`, which is the last file.
+pub fn end_folder<R: Files + AllocGlobal>(
+    rt: &R,
+    path: &str,
+    beside: &str,
+    document: &str,
+) -> Result<(), Stop> {
+    put(rt, beside, "zarr.json", document.as_bytes())?;
+    match rt.rename(beside, path) {
+        Ok(()) => Ok(()),
+        Err(error) => Err(Stop::system(rt.alloc(), path, error)),
+    }
+}
+
+// The test of a new array.
+#[derive(Drop)]
+struct NewArrayTest<'t, R> {
+    rt: &'t R,
+    path: &'t str,
+    metadata: &'t ArrayMetadata,
+}
+
+impl<'t, R: Files + AllocGlobal> CodecUse<ShardFile<'t, R>> for NewArrayTest<'t, R> {
+    type Answer = Result<(), Stop>;
+
+    fn with<C: ShardCodec<ShardFile<'t, R>>>(self, codec: C) -> Result<(), Stop> {
+        let array = Array::open(self.rt, self.path, self.metadata, codec)?;
+        array.test_read()
+    }
+}
+
+/// Tests that the codecs that metadata names serve a new array, and that its elements are read.
+pub fn test_served<R: Files + AllocGlobal>(
+    rt: &R,
+    path: &str,
+    metadata: &ArrayMetadata,
+) -> Result<(), Stop> {
+    with_codec(metadata, NewArrayTest { rt, path, metadata })
+}
+
+// The elements of a shard that is to be encoded.
+#[derive(Drop)]
+struct Unencoded<'t, 'e, R> {
+    rt: &'t R,
+    elements: &'t ArrayBytes<'e>,
+    metadata: &'t ArrayMetadata,
+}
+
+impl<'t, R: Files + AllocGlobal> CodecUse<ShardFile<'t, R>> for Unencoded<'t, '_, R> {
+    type Answer = Result<Option<Vec<u8>>, CodecError>;
+
+    fn with<C: ShardCodec<ShardFile<'t, R>>>(
+        self,
+        codec: C,
+    ) -> Result<Option<Vec<u8>>, CodecError> {
+        codec.encode(self.rt.alloc(), self.elements, self.metadata)
+    }
+}
+
+/// The bytes of a shard of a new array that has these elements, by the codec that its metadata names, as `encode_chunk` says.
+pub fn encoded<R: Files + AllocGlobal>(
+    rt: &R,
+    elements: &ArrayBytes,
+    metadata: &ArrayMetadata,
+) -> Result<Option<Vec<u8>>, CodecError> {
+    with_codec(
+        metadata,
+        Unencoded {
+            rt,
+            elements,
+            metadata,
+        },
+    )
+}
