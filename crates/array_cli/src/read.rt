@@ -1,5 +1,6 @@
 // The elements of a subset of an array.
 use crate::arrays::{Array, Shard};
+use crate::parallel::{ShardWork, run_in_parallel};
 use crate::progress::Progress;
 use crate::refusal::{Place, Refusal};
 use crate::shard_codec::{OpenShard, ShardCodec, ShardFile};
@@ -11,6 +12,10 @@ use parts_row_major::unravel_index;
 use parts_subsets::ArraySubset;
 use std::io::Write;
 use std::rt::Files;
+use std::thread::Threads;
+
+// How many parts of a subset each thread is given at a time.
+const PARTS_OF_A_THREAD: u64 = 64;
 
 // What is read so far.
 #[derive(Drop)]
@@ -238,6 +243,14 @@ pub fn shards_of<R: Files + AllocGlobal, C>(array: &Array<'_, R, C>) -> Result<S
     }
 }
 
+// The parts of a subset, and the shards in which they lie.
+#[derive(Clone, Copy)]
+struct PartsOfSubset<'p> {
+    requested: &'p ArraySubset,
+    grid: &'p ShardGrid,
+    parts: &'p ShardParts<'p>,
+}
+
 // Reads the elements of the parts of a subset.
 fn read_parts<'a, R: Files + AllocGlobal, C: ShardCodec<ShardFile<'a, R>>, M: Write>(
     array: &Array<'a, R, C>,
@@ -252,6 +265,74 @@ fn read_parts<'a, R: Files + AllocGlobal, C: ShardCodec<ShardFile<'a, R>>, M: Wr
         if let Some(read) = read_numbered(array, grid, parts, number)? {
             put_read(array, requested, read, answer, progress)?;
         }
+    }
+    Ok(())
+}
+
+// Parts of a subset that are read side by side, whose numbers begin with one.
+#[derive(Drop)]
+struct SomeParts<'s, 'a, R, C> {
+    array: &'s Array<'a, R, C>,
+    parts: PartsOfSubset<'s>,
+    first: u64,
+}
+
+impl<'a, R: Files + AllocGlobal + Sync, C: ShardCodec<ShardFile<'a, R>> + Sync> ShardWork
+    for SomeParts<'_, 'a, R, C> {
+    type Answer = Result<Option<PartRead>, Stop>;
+
+    fn run(&self, number: u64) -> Result<Option<PartRead>, Stop> {
+        let PartsOfSubset { grid, parts, .. } = self.parts;
+        read_numbered(self.array, grid, parts, self.first.saturating_add(number))
+    }
+}
+
+// Puts parts that were read into the answer, as far as none is refused.
+fn put_reads<'a, R: Files + AllocGlobal, C: ShardCodec<ShardFile<'a, R>>, M: Write>(
+    array: &Array<'a, R, C>,
+    requested: &ArraySubset,
+    reads: Vec<Result<Option<PartRead>, Stop>>,
+    answer: &mut Answer,
+    progress: &mut Progress<'_, M>,
+) -> Result<(), Stop> {
+    for read in reads {
+        if let Some(read) = read? {
+            put_read(array, requested, read, answer, progress)?;
+        }
+    }
+    Ok(())
+}
+
+// Reads the elements of the parts of a subset by several threads, some parts at a time.
+fn read_parts_in_parallel<
+    'a,
+    R: Files + AllocGlobal + Threads + Sync,
+    C: ShardCodec<ShardFile<'a, R>> + Sync,
+    M: Write,
+>(
+    array: &Array<'a, R, C>,
+    parts: PartsOfSubset<'_>,
+    threads: u64,
+    answer: &mut Answer,
+    progress: &mut Progress<'_, M>,
+) -> Result<(), Stop> {
+    let all = parts.parts.len();
+    let at_once = threads.saturating_mul(PARTS_OF_A_THREAD);
+    let mut first = 0u64;
+    for _ in 0..all {
+        if first >= all {
+            break;
+        }
+        progress.step(first, all);
+        let count = at_once.min(all.saturating_sub(first));
+        let some = SomeParts {
+            array,
+            parts,
+            first,
+        };
+        let reads = run_in_parallel(array.rt, array.alloc(), count, threads, &some)?;
+        put_reads(array, parts.requested, reads, answer, progress)?;
+        first = first.saturating_add(count);
     }
     Ok(())
 }
@@ -283,5 +364,35 @@ pub fn read_array<'a, R: Files + AllocGlobal, C: ShardCodec<ShardFile<'a, R>>, M
     let mut answer = Answer::new(fills);
     let parts = grid.parts(array.alloc(), requested)?;
     read_parts(array, requested, &grid, &parts, &mut answer, progress)?;
+    ended(array, requested, answer)
+}
+
+/// The elements of a subset as `read_array` gives them, whose parts are read by `threads` threads; the refusal is that of the first part
+/// that is refused, whichever thread is first.
+pub fn read_in_parallel<
+    'a,
+    R: Files + AllocGlobal + Threads + Sync,
+    C: ShardCodec<ShardFile<'a, R>> + Sync,
+    M: Write,
+>(
+    array: &Array<'a, R, C>,
+    requested: &ArraySubset,
+    fills: bool,
+    threads: u64,
+    progress: &mut Progress<'_, M>,
+) -> Result<(SubsetCells, Ending), Stop> {
+    let grid = shards_of(array)?;
+    let mut answer = Answer::new(fills);
+    let parts = grid.parts(array.alloc(), requested)?;
+    if threads > 1 && parts.len() > 1 {
+        let parts = PartsOfSubset {
+            requested,
+            grid: &grid,
+            parts: &parts,
+        };
+        read_parts_in_parallel(array, parts, threads, &mut answer, progress)?;
+    } else {
+        read_parts(array, requested, &grid, &parts, &mut answer, progress)?;
+    }
     ended(array, requested, answer)
 }

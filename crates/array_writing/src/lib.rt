@@ -3,7 +3,7 @@
 #![tactic(auto)]
 
 mod chunks;
-mod compaction;
+mod compact;
 mod creating;
 mod differences;
 mod elements;
@@ -13,7 +13,7 @@ mod new_folder;
 mod rewriting;
 mod subset_writing;
 
-pub use compaction::{Way, compact};
+pub use compact::{Way, compact};
 pub use creating::{ArrayWords, create};
 pub use differences::compare;
 pub use elements::ElementsFile;

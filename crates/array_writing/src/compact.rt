@@ -1,0 +1,399 @@
+// The compaction of an array's shards.
+use crate::rewriting::replace;
+use array_cli::{
+    Array, Ending, JsonLine, Place, Planned, Progress, Refusal, Shard, ShardCodec, ShardFile, Stop,
+    written,
+};
+use array_fields::{LONGEST_TEXT, escaped};
+use array_folder::{ChunkFiles, age_of, read_document};
+use array_info::{Listing, put_refusal, save};
+use sharding_layout::CompactionPlan;
+use std::io::{ErrorKind, Write};
+use std::rt::{Clock, Files};
+use std::{fs, io};
+use storage_files::path_beside;
+
+// How shards are compacted.
+#[derive(Debug, Clone, Copy)]
+struct Rule<'r> {
+    // whether no file is written
+    is_dry: bool,
+    // the folder to which shards are written; where it is `None` they are replaced
+    folder: Option<&'r str>,
+    // whether a line of JSON is written for each shard
+    is_json: bool,
+}
+
+/// Where compact shards go.
+#[derive(Debug, Clone, Copy, PartialEq, Eq)]
+pub enum Way<'w> {
+    /// In the place of the shards.
+    Replace,
+    /// Nowhere: it is only told what would be saved.
+    Dry,
+    /// To the folder of another array, which is not there yet.
+    Copy { folder: &'w str },
+}
+
+impl<'w> Way<'w> {
+    // The folder of another array.
+    fn folder(self) -> Option<&'w str> {
+        match self {
+            Way::Copy { folder } => Some(folder),
+            Way::Replace | Way::Dry => None,
+        }
+    }
+}
+
+/// What was gained, and what was not done.
+#[derive(Debug, Clone, Copy, PartialEq, Eq)]
+pub struct Gained {
+    /// Shards that were not compact.
+    pub shards: u64,
+    /// Their dead bytes.
+    pub bytes: u64,
+    /// Whether a shard is refused.
+    pub is_refused: bool,
+    /// Whether a shard could not be replaced.
+    pub is_undone: bool,
+}
+
+impl Gained {
+    /// Nothing.
+    pub fn nothing() -> Self {
+        Gained {
+            shards: 0,
+            bytes: 0,
+            is_refused: false,
+            is_undone: false,
+        }
+    }
+
+    // One shard more.
+    fn add(&mut self, bytes: u64) {
+        self.shards = self.shards.saturating_add(1);
+        self.bytes = self.bytes.saturating_add(bytes);
+    }
+
+    // How a command ends that gained this.
+    fn ending(&self) -> Ending {
+        if self.is_undone {
+            Ending::Undone
+        } else if self.is_refused {
+            Ending::Refused
+        } else {
+            Ending::Done
+        }
+    }
+}
+
+// What became of a shard.
+#[derive(Drop)]
+enum Outcome {
+    // It is compact.
+    Compact,
+    // Its dead bytes.
+    Saved(u64),
+    // How many bytes more it would have.
+    Longer(u64),
+    Refused(Refusal),
+    // A new file stands at this path already.
+    Busy(String),
+}
+
+// The path at which the new file of a path stands until it is whole.
+fn beside_of<R: Files + AllocGlobal, C>(
+    array: &Array<'_, R, C>,
+    path: &str,
+) -> Result<String, Stop> {
+    match path_beside(array.alloc(), array.rt, path) {
+        Ok(beside) => Ok(beside),
+        Err(error) => Err(Stop::system(array.alloc(), path, error)),
+    }
+}
+
+// Compacts a shard by a plan to save these bytes, if no new file stands beside it. Without a plan no file is written.
+fn put<'a, R: Files + AllocGlobal, C, W: Write>(
+    array: &Array<'a, R, C>,
+    shard: &Shard<'_>,
+    file: &mut ShardFile<'a, R>,
+    bytes: u64,
+    plan: Option<&CompactionPlan>,
+    out: &mut W,
+) -> Result<Outcome, Stop> {
+    let path = array.path_of(shard.key)?;
+    let beside = beside_of(array, &path)?;
+    let is_free = match plan {
+        Some(_) => replace(array, shard, file, (&path, &beside), plan, out)?,
+        None => fs::symlink_metadata(array.rt, &beside).is_err(),
+    };
+    Ok(if is_free {
+        Outcome::Saved(bytes)
+    } else {
+        Outcome::Busy(beside)
+    })
+}
+
+// What a compaction makes of the shard in a file: its plan, if it has one, and what is said of it.
+fn plan_and_outcome<'a, R: Files + AllocGlobal, C: ShardCodec<ShardFile<'a, R>>>(
+    array: &Array<'a, R, C>,
+    shard: &Shard<'_>,
+    file: &mut ShardFile<'a, R>,
+) -> Result<(Option<CompactionPlan>, Outcome), Stop> {
+    match array.plan_compaction(file, false) {
+        Ok(Planned::Nothing) => Ok((None, Outcome::Compact)),
+        Ok(Planned::Longer(longer)) => Ok((None, Outcome::Longer(longer))),
+        Ok(Planned::Saves { bytes, plan }) => Ok((plan, Outcome::Saved(bytes))),
+        Err(error) => {
+            let refusal = array.refusal(shard, file, error, Place::opening(&error))?;
+            Ok((None, Outcome::Refused(refusal)))
+        }
+    }
+}
+
+// Writes a shard to another folder: compacted, or as it is where that would not make it shorter or where it is refused.
+fn copy_to<'a, R: Files + AllocGlobal, C: ShardCodec<ShardFile<'a, R>>, W: Write>(
+    array: &Array<'a, R, C>,
+    shard: &Shard<'_>,
+    file: &mut ShardFile<'a, R>,
+    folder: &str,
+    out: &mut W,
+) -> Result<Outcome, Stop> {
+    let key = shard.key;
+    let path = format!(in array.alloc(); "{folder}/{key}")?;
+    let beside = beside_of(array, &path)?;
+    let (plan, outcome) = plan_and_outcome(array, shard, file)?;
+    if replace(array, shard, file, (&path, &beside), plan.as_ref(), out)? {
+        Ok(outcome)
+    } else {
+        Ok(Outcome::Busy(beside))
+    }
+}
+
+// Compacts the shard in a file.
+fn compact_file<'a, R: Files + AllocGlobal, C: ShardCodec<ShardFile<'a, R>>, W: Write>(
+    array: &Array<'a, R, C>,
+    shard: &Shard<'_>,
+    file: &mut ShardFile<'a, R>,
+    is_dry: bool,
+    out: &mut W,
+) -> Result<Outcome, Stop> {
+    match array.plan_compaction(file, is_dry) {
+        Ok(Planned::Nothing) => Ok(Outcome::Compact),
+        Ok(Planned::Longer(longer)) => Ok(Outcome::Longer(longer)),
+        Ok(Planned::Saves { bytes, plan }) => put(array, shard, file, bytes, plan.as_ref(), out),
+        Err(error) => {
+            let refusal = array.refusal(shard, file, error, Place::opening(&error))?;
+            Ok(Outcome::Refused(refusal))
+        }
+    }
+}
+
+// Writes that a shard is not compacted, since a new file stands at a path.
+fn write_busy<R: Files + AllocGlobal + Clock, W: Write>(
+    rt: &R,
+    out: &mut W,
+    key: &str,
+    path: &str,
+) -> io::Result<()> {
+    let age = age_of(rt, path);
+    let path = escaped(rt.alloc(), path)?;
+    writeln!(
+        out,
+        "{key}: not compacted: {path} stands there{age}: a compaction writes it, or was stopped and left it; if none runs, remove it"
+    )
+}
+
+// Writes what became of a shard, but of one that is compact.
+fn write_outcome<R: Files + AllocGlobal + Clock, W: Write>(
+    rt: &R,
+    out: &mut W,
+    key: &str,
+    outcome: &Outcome,
+) -> io::Result<()> {
+    match outcome {
+        Outcome::Compact => Ok(()),
+        Outcome::Saved(saved) => writeln!(out, "{key}: {saved} bytes saved"),
+        Outcome::Longer(longer) => {
+            writeln!(
+                out,
+                "{key}: {longer} bytes longer if compacted: overlapping slices"
+            )
+        }
+        Outcome::Refused(refusal) => {
+            let reason = refusal.reason();
+            writeln!(out, "{key}: refused: {reason}")
+        }
+        Outcome::Busy(path) => write_busy(rt, out, key, path),
+    }
+}
+
+// Writes a line of JSON for a shard of which this became.
+fn write_outcome_line<W: Write>(out: &mut W, key: &str, outcome: &Outcome) -> io::Result<()> {
+    let mut line = JsonLine::new(out, "shard")?;
+    line.text("key", key)?;
+    match outcome {
+        Outcome::Compact => line.number("saved", 0)?,
+        Outcome::Saved(saved) => line.number("saved", *saved)?,
+        Outcome::Longer(longer) => line.number("longer", *longer)?,
+        Outcome::Refused(refusal) => put_refusal(&mut line, refusal)?,
+        Outcome::Busy(path) => line.text("new_file", path)?,
+    }
+    line.end()
+}
+
+// Writes a line of JSON for what was gained, of as many shards as there are.
+fn write_sum_line<W: Write>(out: &mut W, gained: &Gained, all: u64) -> io::Result<()> {
+    let mut line = JsonLine::new(out, "sum")?;
+    line.each(&[
+        ("saved", gained.bytes),
+        ("compacted", gained.shards),
+        ("shards", all),
+    ])?;
+    line.end()
+}
+
+// Compacts a shard, and says what became of it.
+fn outcome_of<'a, R: Files + AllocGlobal, C: ShardCodec<ShardFile<'a, R>>, W: Write>(
+    array: &Array<'a, R, C>,
+    shard: &Shard<'_>,
+    rule: &Rule<'_>,
+    out: &mut W,
+) -> Result<Outcome, Stop> {
+    let mut file = array.file(shard.key)?;
+    match rule.folder {
+        Some(folder) => copy_to(array, shard, &mut file, folder, out),
+        None => compact_file(array, shard, &mut file, rule.is_dry, out),
+    }
+}
+
+// Compacts a shard, and writes a line where it is not compact.
+fn compact_one<
+    'a,
+    R: Files + AllocGlobal + Clock,
+    C: ShardCodec<ShardFile<'a, R>>,
+    W: Write,
+    M: Write,
+>(
+    array: &Array<'a, R, C>,
+    shard: &Shard<'_>,
+    rule: &Rule<'_>,
+    out: &mut W,
+    gained: &mut Gained,
+    progress: &mut Progress<'_, M>,
+) -> Result<(), Stop> {
+    let outcome = outcome_of(array, shard, rule, out)?;
+    match &outcome {
+        Outcome::Saved(saved) => gained.add(*saved),
+        Outcome::Refused(_) => gained.is_refused = true,
+        Outcome::Busy(_) => gained.is_undone = true,
+        Outcome::Compact | Outcome::Longer(_) => {}
+    }
+    if rule.is_json || !matches!(outcome, Outcome::Compact) {
+        progress.clear();
+    }
+    let wrote = if rule.is_json {
+        write_outcome_line(out, shard.key, &outcome)
+    } else {
+        write_outcome(array.rt, out, shard.key, &outcome)
+    };
+    written(wrote, gained.ending())
+}
+
+// Compacts the shards in these files, and writes a line for each that is not compact.
+fn compact_all<
+    'a,
+    R: Files + AllocGlobal + Clock,
+    C: ShardCodec<ShardFile<'a, R>>,
+    W: Write,
+    M: Write,
+>(
+    array: &Array<'a, R, C>,
+    files: &ChunkFiles,
+    rule: &Rule<'_>,
+    out: &mut W,
+    progress: &mut Progress<'_, M>,
+) -> Result<Gained, Stop> {
+    let all = files.chunks.len() as u64;
+    let mut gained = Gained::nothing();
+    for (number, file) in files.chunks.iter().enumerate() {
+        progress.step(number as u64, all);
+        let shard = Shard {
+            key: &file.key,
+            coordinates: &file.coordinates,
+        };
+        compact_one(array, &shard, rule, out, &mut gained, progress)?;
+    }
+    progress.clear();
+    Ok(gained)
+}
+
+// Tests that a folder does not hold an array or a group yet.
+fn test_no_array<R: Files + AllocGlobal, C>(
+    array: &Array<'_, R, C>,
+    folder: &str,
+) -> Result<(), Stop> {
+    let alloc = array.alloc();
+    let path = format!(in alloc; "{folder}/zarr.json")?;
+    if fs::symlink_metadata(array.rt, &path).is_err() {
+        return Ok(());
+    }
+    let error = io::Error::new(ErrorKind::AlreadyExists, "stands there already");
+    Err(Stop::system(alloc, &path, error))
+}
+
+// Copies the metadata of an array to another folder, which is an array's from then on.
+fn copy_metadata<R: Files + AllocGlobal, C, W: Write>(
+    array: &Array<'_, R, C>,
+    folder: &str,
+    out: &mut W,
+) -> Result<(), Stop> {
+    let alloc = array.alloc();
+    let text = read_document(array.rt, &array.path_of("zarr.json")?, LONGEST_TEXT)?;
+    let path = format!(in alloc; "{folder}/zarr.json")?;
+    let beside = beside_of(array, &path)?;
+    save(array, &path, &beside, text.as_bytes(), &[], out)
+}
+
+/// Compacts each shard that a part has, and writes a line for each that is not compact and how many bytes were saved in all. As a copy,
+/// each shard is written to the folder of another array, also one that is compact or refused, and the metadata last, once every shard
+/// is there.
+pub fn compact<
+    'a,
+    R: Files + AllocGlobal + Clock,
+    C: ShardCodec<ShardFile<'a, R>>,
+    W: Write,
+    M: Write,
+>(
+    array: &Array<'a, R, C>,
+    way: Way<'_>,
+    listing: &Listing,
+    out: &mut W,
+    progress: &mut Progress<'_, M>,
+) -> Result<Ending, Stop> {
+    if let Way::Copy { folder } = way {
+        test_no_array(array, folder)?;
+    }
+    let files = array.files_in(&listing.part)?;
+    let all = files.chunks.len();
+    let rule = Rule {
+        is_dry: way == Way::Dry,
+        folder: way.folder(),
+        is_json: listing.is_json,
+    };
+    let gained = compact_all(array, &files, &rule, out, progress)?;
+    let Gained { bytes, shards, .. } = gained;
+    let wrote = if rule.is_json {
+        write_sum_line(out, &gained, all as u64)
+    } else {
+        writeln!(out, "{bytes} bytes saved in {shards} of {all} shards")
+    };
+    written(wrote, gained.ending())?;
+    // a copy that has not every shard becomes no array
+    if let Way::Copy { folder } = way
+        && !gained.is_undone
+    {
+        copy_metadata(array, folder, out)?;
+    }
+    Ok(gained.ending())
+}
