@@ -18,8 +18,9 @@ use std::alloc::Global;
 use std::thread::Threads;
 
 impl<I: ArrayToBytesCodecTraits + Sync, X: ArrayToBytesCodecTraits + Sync> ShardingCodec<I, X> {
-    /// As `encode`, by workers where the options' concurrent target is above 1: each encodes subchunks of its own, after it
-    /// passed the gate with the number of the subchunk. Otherwise this thread encodes them in ascending order, and the gate
+    /// As `encode`, by workers where the options' concurrent target is above 1 and the inner codec doesn't store elements as they
+    /// are in memory (`plain_size`): each encodes subchunks of its own, after it passed the gate with the number of the subchunk.
+    /// Otherwise this thread encodes them in ascending order, which for elements as they are in memory is no slower, and the gate
     /// isn't called. Whichever worker is first, the shard and the refusals are those of `encode`: refused as `check` refuses,
     /// then as `WrongElementKind`, `InvalidNumberOfElements`, as the inner codec refuses the lowest refused subchunk
     /// (`CannotEncode`, `TooLarge`), as `TooLarge` where the shard would reach `usize::MAX` bytes, and as the index codec
@@ -56,8 +57,9 @@ impl<I: ArrayToBytesCodecTraits + Sync, X: ArrayToBytesCodecTraits + Sync> Shard
         encode_by_workers(rt, alloc, &borrowed!(self), bytes, &spec, gate, options)
     }
 
-    /// As `decode`, by workers where the options' concurrent target is above 1: each decodes subchunks of its own, after it
-    /// passed the gate with the number of the subchunk. Otherwise this thread decodes them in ascending order, and the gate
+    /// As `decode`, by workers where the options' concurrent target is above 1 and the inner codec doesn't store elements as they
+    /// are in memory (`plain_size`): each decodes subchunks of its own, after it passed the gate with the number of the subchunk.
+    /// Otherwise this thread decodes them in ascending order, which for elements as they are in memory is no slower, and the gate
     /// isn't called. Whichever worker is first, the array and the refusals are those of `decode`: refused as `check` refuses,
     /// then as `ShardTooShort`, as `Damaged` where the index does not decode, as the lowest refused subchunk is
     /// (`BadIndexEntry` with its number, `Damaged`, `TooLarge`), and as `TooLarge` where the lengths of the cells pass

@@ -78,8 +78,25 @@ fn encode_planned_by_workers<
     Ok(shard)
 }
 
-/// As `encode`, by workers where the options' concurrent target is above 1: each encodes subchunks of its own, after it
-/// passed the gate with the number of the subchunk. Otherwise this call is `encode`, and the gate isn't called. Whichever
+// Whether this thread does all: where no other one is asked for, or the inner codec stores elements as they are in memory. Their
+// subchunks would only be copied once more by workers, who make each apart.
+fn is_serial<I: ArrayToBytesCodecTraits, X>(
+    sharding: &Sharding<I, X>,
+    spec: &ArraySpecRef,
+    options: &CodecOptions,
+) -> bool {
+    if options.concurrent_target() <= 1 {
+        return true;
+    }
+    sharding
+        .inner
+        .plain_size(sharding.subchunk_shape, spec.data_type, spec.fill_value)
+        .is_some()
+}
+
+/// As `encode`, by workers where the options' concurrent target is above 1 and the inner codec doesn't store elements as they
+/// are in memory (`plain_size`): each encodes subchunks of its own, after it passed the gate with the number of the subchunk.
+/// Otherwise this call is `encode`, which for elements as they are in memory is no slower, and the gate isn't called. Whichever
 /// worker is first, the shard and the refusals are those of `encode`: refused as `check` refuses,
 /// then as `WrongElementKind`, `InvalidNumberOfElements`, as the inner codec refuses the lowest refused subchunk
 /// (`CannotEncode`, `TooLarge`), as `TooLarge` where the shard would reach `usize::MAX` bytes, and as the index codec
@@ -111,7 +128,7 @@ pub fn encode_by_workers<
         m.serves or_as RefusesUnserved m then
         m.encode_refusals bytes.now)) }
 {
-    if options.concurrent_target() <= 1 {
+    if is_serial(sharding, spec, options) {
         return sharding.encode(
             alloc,
             bytes,
@@ -130,8 +147,9 @@ pub fn encode_by_workers<
     encode_planned_by_workers(rt, alloc, sharding, bytes, &planned, gate)
 }
 
-/// As `decode`, by workers where the options' concurrent target is above 1: each decodes subchunks of its own, after it
-/// passed the gate with the number of the subchunk. Otherwise this call is `decode`, and the gate isn't called. Whichever
+/// As `decode`, by workers where the options' concurrent target is above 1 and the inner codec doesn't store elements as they
+/// are in memory (`plain_size`): each decodes subchunks of its own, after it passed the gate with the number of the subchunk.
+/// Otherwise this call is `decode`, which for elements as they are in memory is no slower, and the gate isn't called. Whichever
 /// worker is first, the array and the refusals are those of `decode`: refused as `check` refuses,
 /// then as `ShardTooShort`, as `Damaged` where the index does not decode, as the lowest refused subchunk is
 /// (`BadIndexEntry` with its number, `Damaged`, `TooLarge`), and as `TooLarge` where the lengths of the cells pass
@@ -163,7 +181,7 @@ pub fn decode_by_workers<
         m.serves or_as RefusesUnserved m then
         m.decode_refusals bytes.now)) }
 {
-    if options.concurrent_target() <= 1 {
+    if is_serial(sharding, spec, options) {
         return sharding.decode(
             alloc,
             bytes,

@@ -71,6 +71,18 @@ impl Shards {
         Shards::new(rt, alloc, axes, sub, DataType::UInt16, &[0, 0])
     }
 
+    // Cells of two bytes, which are stored in the other byte order.
+    pub(crate) fn of_turned_pairs<R: Abort>(
+        rt: &R,
+        alloc: Global,
+        axes: &[u64],
+        sub: &[u64],
+    ) -> Self {
+        let mut shards = Shards::of_pairs(rt, alloc, axes, sub);
+        shards.codec.inner = BytesCodec::big();
+        shards
+    }
+
     pub(crate) fn encoded(&self, alloc: Global, array: &ArrayBytes) -> Result<Vec<u8>, CodecError> {
         let options = CodecOptions::default();
         self.codec.encode(
