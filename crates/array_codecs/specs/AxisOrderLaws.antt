@@ -62,7 +62,7 @@ order_undone order h = undone_from order (inverse_of order) (length-inverse_of o
 pub inverse_undone : (order : List ℕ) → is_order order ≡ true → IsUndone (inverse_of order) order
 inverse_undone order h =
     undone_from (inverse_of order) order (sym (length-inverse_of order)) (λ i lt. both_right _ _ (each_place order i h (omega
-        (arith, length-inverse_of order))))
+    (arith, length-inverse_of order))))
 
 pub order_permutation : (order : List ℕ) → is_order order ≡ true → IsPermutation order
 order_permutation order h = record { inverse = inverse_of order; undone = order_undone order h; undoes = inverse_undone order h }
@@ -82,7 +82,7 @@ pub permuted_inside : (order inverse point shape : List ℕ) → IsUndone order 
     → IsInside (permuted order point) (permuted order shape)
 permuted_inside order inverse point shape undone axes inside =
     all_zip_from_each (λ x axis. x < axis) (permuted order point) (permuted order shape) (length-permuted order point
-        ∙ sym (length-permuted order shape)) (λ k lt.
+    ∙ sym (length-permuted order shape)) (λ k lt.
     let place : k < length order = omega (arith, length-permuted order point) in
     rw (permuted_at order point k place, permuted_at order shape k place)
     (below_axis point shape (get_or order k 0) inside (omega (arith, undone.within k place))))
@@ -97,14 +97,14 @@ permuted_back order inverse numbers undone axes =
     let place : i < length inverse = omega (arith, long) in
     let at : get_or inverse i 0 < length order = omega (arith, undone.within i place) in
     permuted_at inverse (permuted order numbers) i place ∙ (permuted_at order numbers (get_or inverse i 0) at
-        ∙ ap (λ axis. get_or numbers axis 0) (undone.back i place)))
+    ∙ ap (λ axis. get_or numbers axis 0) (undone.back i place)))
 
 -- the number of an element in the transposed array is one of its numbers
 pub moved_below : (order inverse shape : List ℕ) (i : ℕ) → IsUndone order inverse → length shape ≡ length order → i < count_of shape
     → number_moved order shape i < count_of (permuted order shape)
 moved_below order inverse shape i undone axes lt =
     number_below (permuted order (point_of i shape)) (permuted order shape) (permuted_inside order inverse
-        (point_of i shape) shape undone axes (point_inside i shape lt))
+    (point_of i shape) shape undone axes (point_inside i shape lt))
 
 -- and the inverse leads back
 pub moved_back : (order inverse shape : List ℕ) (i : ℕ) → IsUndone order inverse → IsUndone inverse order → length shape ≡ length order
@@ -114,9 +114,9 @@ moved_back order inverse shape i undone undoes axes lt =
     let point = point_of i shape in
     let inside = permuted_inside order inverse point shape undone axes (point_inside i shape lt) in
     let there : point_of (number_moved order shape i) (permuted order shape) ≡ permuted order point =
-        point_of-number_of (permuted order point) (permuted order shape) inside in
+    point_of-number_of (permuted order point) (permuted order shape) inside in
     let again : permuted inverse (permuted order point) ≡ point = permuted_back order inverse point undoes (length-point_of i shape
-        ∙ axes) in
+    ∙ axes) in
     let shape_again : permuted inverse (permuted order shape) ≡ shape = permuted_back order inverse shape undoes axes in
     ap (λ q. number_of (permuted inverse q) (permuted inverse (permuted order shape))) there
     ∙ (ap (λ q. number_of q (permuted inverse (permuted order shape))) again
@@ -160,8 +160,8 @@ count_at_least order inverse shape undone undoes axes =
     let from = number_moved inverse (permuted order shape) q in
     let below : from < count_of shape = moved_from_below order inverse shape q undone undoes axes lt in
     let here : get_or moved from 0 ≡ q =
-        get_or-map-range_with_len (number_moved order shape) 0 (count_of shape) from from 0 below (omega arith)
-            ∙ moved_forth order inverse shape q undone undoes axes lt in
+    get_or-map-range_with_len (number_moved order shape) 0 (count_of shape) from from 0 below (omega arith)
+    ∙ moved_forth order inverse shape q undone undoes axes lt in
     list_any_at (eqb q) moved from 0 (omega (arith, long)) (eq-eqb q (get_or moved from 0) (sym here))) in
     omega (arith, long, most)
 
@@ -198,7 +198,7 @@ transposed_back order inverse shape absent cells undone undoes axes counted =
     let below : i < count_of shape = omega (arith, length-transposed order shape absent other) in
     transposed_at order shape absent other i below
     ∙ (transposed_at inverse (permuted order shape) absent cells (number_moved order shape i)
-        (moved_below order inverse shape i undone axes below)
+    (moved_below order inverse shape i undone axes below)
     ∙ ap (λ n. get_or cells n absent) (moved_back order inverse shape i undone undoes axes below)))
 
 -- cells that are all there are transposed as their elements
@@ -213,7 +213,7 @@ transposed_there order inverse shape elements undone axes counted =
     ext_get_or None cells (map Some turned) (long ∙ (sym as_long ∙ sym (length-map turned Some))) (λ i lt.
     let below : i < count_of shape = omega (arith, long) in
     let moved : number_moved order shape i < length elements =
-        omega (arith, counted, moved_below order inverse shape i undone axes below) in
+    omega (arith, counted, moved_below order inverse shape i undone axes below) in
     transposed_at order shape None (map Some elements) i below
     ∙ (get_or-map Some elements (number_moved order shape i) [] None moved
     ∙ (ap Some (sym (transposed_at order shape [] elements i below)) ∙ sym (get_or-map Some turned i [] None (omega (arith, as_long))))))

@@ -18,7 +18,7 @@ use Rattle.array_codecs.specs.TransposeCodec.{TransposeServes, transposed_spec, 
 pub transposed_array : (order : List ℕ) (shape : List ℕ) (g h : ArraySpec) (elements : Elements) → IsPermutation order
     → length shape ≡ length order
     → g.shape ≡ permuted order shape → h.shape ≡ shape → h.data_type ≡ g.data_type → IsArrayOf g elements
-        → IsArrayOf h (transposed order shape [] elements)
+    → IsArrayOf h (transposed order shape [] elements)
 transposed_array order shape g h elements permutation axes from to kind array =
     let fits : Bytes → Type 0 = FitsKind (size_of h.data_type) in
     let long : length (transposed order shape [] elements) ≡ count_of shape = length-transposed order shape [] elements in
@@ -37,11 +37,11 @@ module _ (order : List ℕ) (m : Meaning) (g : ArraySpec) where
       → IsArrayOf (transposed_spec order g) (encoded_elements order g elements)
   encoded_array elements permutation axes array =
       let long : length (permuted order g.shape) ≡ length (inverse_of order) = length-permuted order g.shape
-          ∙ sym (length-inverse_of order) in
+      ∙ sym (length-inverse_of order) in
       let again : permuted (inverse_of order) (permuted order g.shape) ≡ g.shape =
-          permuted_back order (inverse_of order) g.shape (inverse_undone order permutation) axes in
+      permuted_back order (inverse_of order) g.shape (inverse_undone order permutation) axes in
       transposed_array (inverse_of order) (permuted order g.shape) g (transposed_spec order g) elements
-          (inverse_permutation order permutation) long (sym again) refl refl array
+      (inverse_permutation order permutation) long (sym again) refl refl array
 
   module _ (law : IsLawful (transposed_spec order g) m) where
     cell_fitting : (b : Bytes) (i : ℕ) → TransposeServes order m g → i < count_of g.shape
@@ -58,7 +58,7 @@ module _ (order : List ℕ) (m : Meaning) (g : ArraySpec) where
         let undoes = inverse_undone order s.permutation in
         let inner = encoded_array a s.permutation s.axes array in
         let cells : m.cells b ≡ map Some (encoded_elements order g a) =
-            law.written_cells (encoded_elements order g a) b s.inner inner written in
+        law.written_cells (encoded_elements order g a) b s.inner inner written in
         ap (transposed order g.shape None) cells
         ∙ (transposed_there order (inverse_of order) g.shape (encoded_elements order g a) undone s.axes inner.counted
         ∙ ap (map Some) (transposed_back order (inverse_of order) g.shape [] a undone undoes s.axes array.counted))
