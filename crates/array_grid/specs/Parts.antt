@@ -19,6 +19,12 @@ pub record IsPartAt (array : ShardedArray) (subset : Subset) (count position : �
   pub here : slice_index shards position ≡ part.shard
   pub meets : IsSubchunkOverlap (whole_shards array.shape array.shard) array.shard subset part.shard part.in_shard part.in_subset
 
+-- a subset meets so many shards: those in which a cell of it lies
+pub record MeetsShards (array : ShardedArray) (subset : Subset) (count : ℕ) : Type 0 where
+  pub shards : List ℕ
+  pub touched : AreTouched (whole_shards array.shape array.shard) array.shard subset shards
+  pub counted : length shards ≡ count
+
 -- a subset of an array, and in how many shards a cell of it lies
 pub record SubsetInArray : Type 0 where
   pub array : ShardedArray

@@ -5,7 +5,7 @@ ghost use Rattle.parts_row_major.specs.Numbering.{count_of};
 ghost use Rattle.parts_row_major.specs.Subsets.{IsSubset, LiesIn};
 ghost use Rattle.parts_subsets.specs.Touched.{IsTouchedSubset};
 ghost use Rattle.parts_errors.specs.declared.error.CodecError.TheVariants.{OutOfMemory};
-ghost use Rattle.array_grid.specs.Parts.{IsPartAt, SubsetRefusals};
+ghost use Rattle.array_grid.specs.Parts.{IsPartAt, MeetsShards, SubsetRefusals};
 
 use crate::grid::ShardGrid;
 use parts_errors::CodecError;
@@ -83,6 +83,7 @@ impl ShardGrid {
     ) -> Result<ShardParts<'a>, CodecError>
         ensures same_array { IfOk result (λ parts. parts.array ≡ self.now) }
         ensures same_subset { IfOk result (λ parts. parts.subset ≡ subset.now) }
+        ensures counted { IfOk result (λ parts. MeetsShards self.now subset.now parts.count) }
         ensures served { OnOk result (LiesIn subset.now self.now.shape) }
         ensures refused { IfErr result (RefusedBy (SubsetRefusals subset.now self.now.shape)) }
     {

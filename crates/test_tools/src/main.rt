@@ -18,6 +18,8 @@ mod steps;
 // Tests of arrays on disk, their metadata and their shards, of subsets on a command line, of files of NumPy's format, and of scripts whose
 // reader or writer fails.
 #[cfg(test)]
+mod array_stores;
+#[cfg(test)]
 mod byte_parts;
 #[cfg(test)]
 mod compared;

@@ -1,0 +1,5 @@
+pub mod StoredLemmas
+pub mod PlaceLemmas
+pub mod ReadLemmas
+pub mod NumberedLemmas
+pub mod UpdateLemmas

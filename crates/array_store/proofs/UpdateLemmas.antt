@@ -1,0 +1,57 @@
+-- A chunk whose elements are read, changed in a subset, and encoded.
+use Rattle.std.proofs.Common.{◌≡◌, ℕ, zero, suc, ◌+◌, ◌<◌, List, [], ◌∷◌, Option, Some, None, length, get_or, replicate, refl, sym, subst, ap, ◌∙◌, arith}
+use Rattle.parts_errors.specs.Words.{Bytes, CellsOf, Elements}
+use Rattle.parts_row_major.specs.Numbering.{count_of, number_of, point_of, zip_with}
+use Rattle.parts_row_major.specs.Pieces.{piece, pieces, IsUpdated}
+use Rattle.parts_row_major.specs.Subsets.{Subset, LiesIn, number_in}
+use Rattle.parts_row_major.proofs.NumberingLaws.{number_of-point_of, length-point_of}
+use Rattle.parts_row_major.proofs.PieceLaws.{length-pieces, number_in_below, piece_of-pieces}
+use Rattle.array_grid.specs.Cells.{CellsOfSubset}
+use Rattle.array_store.specs.ArrayElements.{cell_of}
+use Rattle.array_store.specs.ChunkWrites.{AreUpdated}
+use Rattle.array_store.specs.steps.Reading.{IsPartPut}
+
+zeros : (n : ℕ) (xs : List ℕ) → length xs ≡ n → zip_with ◌+◌ (replicate n 0) xs ≡ xs
+zeros zero [] same = refl
+zeros zero (x ∷ xs) same = absurd (omega (arith, same))
+zeros (suc n) [] same = absurd (omega (arith, same))
+zeros (suc n) (x ∷ xs) same = let first : 0 + x ≡ x = omega arith in rw (first, zeros n xs (omega (arith, same))) refl
+
+-- a point of a whole chunk has its own number
+pub whole_number : (chunk : List ℕ) (p : ℕ) → p < count_of chunk → number_in (record { start = replicate (length chunk) 0; shape = chunk }) chunk p ≡ p
+whole_number chunk p below =
+    ap (λ point. number_of point chunk) (zeros (length chunk) (point_of p chunk) (length-point_of p chunk)) ∙ number_of-point_of p chunk below
+
+-- the elements of a chunk that has been read as a whole, where the fill value stood
+pub whole_read : (cells : CellsOf) (fill : Bytes) (object : Option Bytes) (chunk : List ℕ) (old new : CellsOfSubset) → old.shape ≡ chunk
+    → ((p : ℕ) → p < count_of chunk → piece old.element_size old.bytes p ≡ fill)
+    → IsPartPut cells object chunk (record { start = replicate (length chunk) 0; shape = chunk }) (record { start = replicate (length chunk) 0; shape = chunk }) old new
+    → (p : ℕ) → p < count_of chunk → cell_of cells fill object p ≡ Some (piece old.element_size new.bytes p)
+whole_read cells fill None chunk old new around blank same p below = ap Some (sym (blank p below) ∙ ap (λ c. piece old.element_size c.bytes p) (sym same))
+whole_read cells fill (Some bytes) chunk old new around blank put p below =
+    let own = whole_number chunk p below in
+    let there : number_in (record { start = replicate (length chunk) 0; shape = chunk }) old.shape p ≡ p =
+    ap (λ shape. number_in (record { start = replicate (length chunk) 0; shape = chunk }) shape p) around ∙ own in
+    ap (λ n. get_or (cells bytes) n None) (sym own) ∙ sym (put.inside p below) ∙ ap (λ n. Some (piece old.element_size new.bytes n)) there
+
+-- the elements of a chunk that are changed in a subset of it
+pub updated_elements : (chunk : List ℕ) (in_chunk : Subset) (update : ℕ → Bytes) (before : ℕ → Option Bytes) (size many : ℕ) (old new : Bytes)
+    → ((p : ℕ) → p < count_of chunk → before p ≡ Some (piece size old p))
+    → IsUpdated (count_of in_chunk.shape) (number_in in_chunk chunk) (piece size old) update (piece size new)
+    → ((r : ℕ) → r < count_of in_chunk.shape → number_in in_chunk chunk r < count_of chunk)
+    → length (pieces size many new) ≡ count_of chunk → AreUpdated chunk in_chunk update before (pieces size many new)
+updated_elements chunk in_chunk update before size many old new was wrote within counted =
+    let all : many ≡ count_of chunk = sym (length-pieces size many new) ∙ counted in
+    record {
+      counted = counted;
+      inside = λ r few. piece_of-pieces size many new (number_in in_chunk chunk r) (omega (arith, within r few, all)) ∙ wrote.inside r few;
+      outside = λ p few off. was p few ∙ ap Some (sym (wrote.outside p off) ∙ sym (piece_of-pieces size many new p (omega (arith, few, all))));
+    }
+
+pub updated_array : (chunk : List ℕ) (in_chunk : Subset) (update : ℕ → Bytes) (before : ℕ → Option Bytes) (size many : ℕ) (old new : Bytes) (elements : Elements)
+    → elements ≡ pieces size many new → ((p : ℕ) → p < count_of chunk → before p ≡ Some (piece size old p))
+    → IsUpdated (count_of in_chunk.shape) (number_in in_chunk chunk) (piece size old) update (piece size new)
+    → LiesIn in_chunk chunk → length elements ≡ count_of chunk → AreUpdated chunk in_chunk update before elements
+updated_array chunk in_chunk update before size many old new elements is was wrote lies counted =
+    subst (λ (xs : Elements). AreUpdated chunk in_chunk update before xs) (sym is)
+    (updated_elements chunk in_chunk update before size many old new was wrote (λ r few. number_in_below in_chunk chunk r lies few) (ap length (sym is) ∙ counted))

@@ -1,0 +1,38 @@
+-- What a write of a whole chunk leaves.
+use Rattle.std.specs.Prelude.{◌≡◌, ◌<◌, ◌⊎◌, ℕ, IsTrue, List, [], Option, Some, None, length, slice_index_or, string_bytes}
+use Rattle.parts_errors.specs.Words.{Bytes, Elements, Written}
+use Rattle.parts_errors.specs.declared.error.CodecError.{CodecError}
+use Rattle.parts_errors.specs.declared.error.CodecError.TheVariants.{OutOfMemory, Fault}
+use Rattle.parts_row_major.specs.Numbering.{count_of}
+use Rattle.parts_row_major.specs.Subsets.{Subset, number_in}
+use Rattle.parts_subsets.specs.Laws.{IsElsewhere}
+use Rattle.array_store.specs.Stores.{StoreState}
+use Rattle.array_store.specs.declared.error.ArrayError.{ArrayError}
+use Rattle.array_store.specs.declared.error.ArrayError.TheVariants.{Whole, Chunk}
+
+-- an object is there, and is an encoding of the elements
+abbrev pub HoldsEncoding : Written → Elements → Option Bytes → Type 0
+HoldsEncoding written elements None = ⊥
+HoldsEncoding written elements (Some bytes) = written elements bytes
+
+-- the elements of a chunk after a write into a subset of it: the written ones in the subset, and elsewhere what the chunk had
+pub record AreUpdated (chunk : List ℕ) (in_chunk : Subset) (update : ℕ → Bytes) (old : ℕ → Option Bytes) (new : Elements) : Type 0 where
+  pub counted : length new ≡ count_of chunk
+  pub inside : (r : ℕ) → r < count_of in_chunk.shape → slice_index_or new (number_in in_chunk chunk r) [] ≡ update r
+  pub outside : (p : ℕ) → p < count_of chunk → IsElsewhere in_chunk chunk p → old p ≡ Some (slice_index_or new p [])
+
+-- a chunk of such elements is encoded in an object, which is there
+pub record IsUpdatedObject (written : Written) (chunk : List ℕ) (in_chunk : Subset) (update : ℕ → Bytes) (old : ℕ → Option Bytes)
+    (object : Option Bytes) : Type 0 where
+  pub elements : Elements
+  pub updated : AreUpdated chunk in_chunk update old elements
+  pub encoded : HoldsEncoding written elements object
+
+-- a refusal that is no fault leaves what stands under a key
+abbrev pub IsKeptUnlessFault : StoreState → StoreState → Bytes → CodecError → Type 0
+IsKeptUnlessFault old new key e = (e ≡ Fault) ⊎ (IsTrue old.transparent → new.contents key ≡ old.contents key)
+
+-- a refusal of a write under a chunk's key: for memory before there is a key, or with the key
+abbrev pub IsChunkRefusal : StoreState → StoreState → Bytes → ArrayError → Type 0
+IsChunkRefusal old new key (Whole e) = (e ≡ OutOfMemory) × (IsTrue old.transparent → new.contents key ≡ old.contents key)
+IsChunkRefusal old new key (Chunk named e) = (string_bytes named ≡ key) × IsKeptUnlessFault old new key e

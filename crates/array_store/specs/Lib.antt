@@ -1,0 +1,5 @@
+pub mod Stores
+pub mod ChunkKeys
+pub mod ArrayElements
+pub mod ChunkWrites
+pub mod steps

@@ -1,0 +1,51 @@
+// A store whose objects are files.
+ghost use Rattle.std.specs.Prelude.{false, None};
+
+use crate::store::Store;
+use parts_errors::CodecError;
+use std::alloc::{AllocError, Global};
+use std::rt::Files;
+use storage_files::FileHandle;
+use storage_handles::BytesPartialEncoderTraits;
+
+/// Objects that are the files of a folder: the key is the path from there (Zarr V3, "File system store"). It is not transparent. Files
+/// are read, replaced and removed as `FileHandle` says: whoever reads a file meanwhile finds the old object or the new one.
+#[derive(Drop)]
+pub struct FileStore<'a, R> {
+    files: &'a R,
+    path: String,
+}
+
+impl<'a, R: Files> FileStore<'a, R> {
+    /// The objects in the folder of this path, which need not be there.
+    pub fn new(alloc: Global, files: &'a R, path: &str) -> Result<Self, AllocError> {
+        Ok(FileStore {
+            files,
+            path: String::from_str(alloc, path)?,
+        })
+    }
+
+    // A handle over the file of a key.
+    fn handle(&self, alloc: Global, key: &str) -> Result<FileHandle<&'a R>, AllocError> {
+        let path = format!(in alloc; "{}/{key}", self.path)?;
+        FileHandle::new(alloc, self.files, &path)
+    }
+}
+
+impl<'a, R: Files> Store for FileStore<'a, R> {
+    type Handle = FileHandle<&'a R>;
+
+    ghost state = { λ store. record { transparent = false; contents = λ key. None } };
+
+    fn open(&self, alloc: Global, key: &str) -> Result<FileHandle<&'a R>, CodecError> {
+        Ok(self.handle(alloc, key)?)
+    }
+
+    fn put(&mut self, alloc: Global, key: &str, bytes: Vec<u8>) -> Result<(), CodecError> {
+        self.handle(alloc, key)?.replace(alloc, &bytes)
+    }
+
+    fn erase(&mut self, alloc: Global, key: &str) -> Result<(), CodecError> {
+        self.handle(alloc, key)?.erase()
+    }
+}

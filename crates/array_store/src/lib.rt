@@ -1,0 +1,22 @@
+// An array over a store of objects by their keys: subsets of it read and written, chunk by chunk.
+#![tactic(auto)]
+
+mod array;
+mod chunks;
+mod error;
+mod file_store;
+mod format;
+mod keys;
+mod memory_store;
+mod part;
+mod read;
+mod store;
+mod updates;
+
+pub use array::Array;
+pub use error::ArrayError;
+pub use file_store::FileStore;
+pub use format::ArrayFormat;
+pub use keys::{ChunkKeys, KeyEncoding};
+pub use memory_store::MemoryStore;
+pub use store::Store;

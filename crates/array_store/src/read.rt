@@ -1,0 +1,149 @@
+// A subset of an array that is read chunk by chunk.
+ghost use Rattle.std.specs.Prelude.{◌≡◌, ◌<◌, ◌^◌, ℕ, Some, IsTrue, IfOk, OnOk, List, length, slice_index};
+ghost use Rattle.std.specs.List.{All};
+ghost use Rattle.parts_row_major.specs.Numbering.{count_of, point_of};
+ghost use Rattle.parts_row_major.specs.Pieces.{piece};
+ghost use Rattle.parts_row_major.specs.Subsets.{LiesIn, point_in};
+ghost use Rattle.parts_subsets.specs.Grid.{grid_of};
+ghost use Rattle.parts_subsets.specs.Touched.{AreTouched};
+ghost use Rattle.parts_arrays.specs.Types.{size_of};
+ghost use Rattle.parts_arrays.specs.declared.data_type.DataTypeSize.TheVariants.{Fixed};
+ghost use Rattle.array_grid.specs.Shards.{whole_shards};
+ghost use Rattle.array_grid.specs.Parts.{IsPartAt};
+ghost use Rattle.array_store.specs.ArrayElements.{AreElementsAt, chunk_spec, element_at, object_of};
+ghost use Rattle.array_store.specs.steps.Reading.{IsPartPut, IsChunkRead, AreReadTo, chunk_at};
+
+use crate::array::Array;
+use crate::error::ArrayError;
+use crate::part::read_part;
+use crate::store::Store;
+use array_grid::{ShardGrid, ShardPart, ShardParts, SubsetCells};
+use codec_traits::ArrayToBytesCodecTraits;
+use parts_arrays::DataTypeSize;
+use parts_errors::CodecError;
+use parts_subsets::ArraySubset;
+use std::alloc::Global;
+
+impl<S: Store, C: ArrayToBytesCodecTraits> Array<'_, S, C> {
+    // Reads the part of a subset that lies in the chunk of a key, and puts its elements among those of the subset.
+    pub(crate) fn put_part(
+        &self,
+        alloc: Global,
+        key: &str,
+        in_chunk: &ArraySubset,
+        in_subset: &ArraySubset,
+        cells: &mut SubsetCells,
+    ) -> Result<(), CodecError>
+        ensures same_size { cells.new.element_size ≡ cells.old.element_size }
+        ensures same_shape { cells.new.shape ≡ cells.old.shape }
+        ensures put { let m = C.meaning self.now.codec.now (chunk_spec self.now.format) in
+            OnOk result (IsTrue (S.state self.now.store).transparent
+            → IsPartPut m.cells ((S.state self.now.store).contents key.now) self.now.format.chunk.now in_chunk.now in_subset.now cells.old cells.new) }
+    {
+        let mut handle = self.store.open(alloc, key)?;
+        match read_part(alloc, self.codec, &mut handle, &self.format, in_chunk)? {
+            Some(found) => cells.put(in_subset, &found),
+            None => Ok(()),
+        }
+    }
+
+    // Reads the part of a subset that lies in a chunk of a grid.
+    fn read_chunk(
+        &self,
+        alloc: Global,
+        grid: &ShardGrid,
+        part: &ShardPart,
+        cells: &mut SubsetCells,
+    ) -> Result<(), ArrayError>
+        ensures same_size { cells.new.element_size ≡ cells.old.element_size }
+        ensures same_shape { cells.new.shape ≡ cells.old.shape }
+        ensures read { let m = C.meaning self.now.codec.now (chunk_spec self.now.format) in
+            OnOk result (IsTrue (S.state self.now.store).transparent
+            → IsPartPut m.cells (object_of (S.state self.now.store).contents self.now.format (point_of part.now.shard (grid_of (whole_shards grid.now.shape grid.now.shard) grid.now.shard))) self.now.format.chunk.now part.now.in_shard part.now.in_subset cells.old cells.new) }
+    {
+        let Some(coordinates) = grid.coordinates(alloc, part.shard)? else {
+            return Err(CodecError::OutOfBounds.into());
+        };
+        let key = self.format.keys.key_of(alloc, &coordinates)?;
+        match self.put_part(alloc, &key, &part.in_shard, &part.in_subset, cells) {
+            Ok(()) => Ok(()),
+            Err(error) => Err(ArrayError::Chunk { key, error }),
+        }
+    }
+
+    // Reads the part of a subset with this number, of which the parts are.
+    fn read_numbered(
+        &self,
+        alloc: Global,
+        grid: &ShardGrid,
+        parts: &ShardParts,
+        number: u64,
+        cells: &mut SubsetCells,
+    ) -> Result<(), ArrayError>
+        requires grid { grid.now ≡ record { shape = self.now.format.shape.now; shard = self.now.format.chunk.now } }
+        requires array { parts.now.array ≡ record { shape = self.now.format.shape.now; shard = self.now.format.chunk.now } }
+        requires axes { length self.now.format.shape.now ≡ length self.now.format.chunk.now }
+        requires inside { LiesIn parts.now.subset self.now.format.shape.now }
+        requires around { cells.old.shape ≡ parts.now.subset.shape }
+        requires number { number < parts.now.count }
+        ensures same_size { cells.new.element_size ≡ cells.old.element_size }
+        ensures same_shape { cells.new.shape ≡ cells.old.shape }
+        ensures read { let f = self.now.format in let subset = parts.now.subset in let whole = whole_shards f.shape.now f.chunk.now in
+            OnOk result (IsTrue (S.state self.now.store).transparent → (touched : List ℕ) → AreTouched whole f.chunk.now subset touched
+            → IsChunkRead (λ q. element_at (S.state self.now.store).contents f (C.meaning self.now.codec.now (chunk_spec f)).cells (point_in subset q)) (chunk_at whole f.chunk.now subset)
+            f.fill_value.now (count_of subset.shape) (slice_index touched number) (piece cells.old.element_size cells.old.bytes) (piece cells.old.element_size cells.new.bytes)) }
+    {
+        let _axes = self.format.chunk.as_slice();
+        let Some(part) = parts.part(alloc, number)? else {
+            unreachable!()
+        };
+        self.read_chunk(alloc, grid, &part, cells)?;
+        Ok(())
+    }
+
+    // Reads the parts of a subset, among elements that are all the fill value.
+    fn read_parts(
+        &self,
+        alloc: Global,
+        grid: &ShardGrid,
+        parts: &ShardParts,
+        cells: &mut SubsetCells,
+    ) -> Result<(), ArrayError>
+        requires grid { grid.now ≡ record { shape = self.now.format.shape.now; shard = self.now.format.chunk.now } }
+        requires array { parts.now.array ≡ record { shape = self.now.format.shape.now; shard = self.now.format.chunk.now } }
+        requires axes { length self.now.format.shape.now ≡ length self.now.format.chunk.now }
+        requires inside { LiesIn parts.now.subset self.now.format.shape.now }
+        requires around { cells.old.shape ≡ parts.now.subset.shape }
+        requires blank { (q : ℕ) → q < count_of parts.now.subset.shape → piece cells.old.element_size cells.old.bytes q ≡ self.now.format.fill_value.now }
+        ensures same_size { cells.new.element_size ≡ cells.old.element_size }
+        ensures same_shape { cells.new.shape ≡ cells.old.shape }
+        ensures read { let f = self.now.format in let subset = parts.now.subset in let whole = whole_shards f.shape.now f.chunk.now in
+            OnOk result (IsTrue (S.state self.now.store).transparent → (touched : List ℕ) → AreTouched whole f.chunk.now subset touched → length touched ≡ parts.now.count
+            → AreReadTo (λ q. element_at (S.state self.now.store).contents f (C.meaning self.now.codec.now (chunk_spec f)).cells (point_in subset q)) (chunk_at whole f.chunk.now subset)
+            f.fill_value.now (count_of subset.shape) touched parts.now.count (piece cells.old.element_size cells.new.bytes)) }
+    {
+        for number in 0..parts.len() {
+            self.read_numbered(alloc, grid, parts, number, cells)?;
+        }
+        Ok(())
+    }
+
+    /// The elements of a subset: each the element of the chunk in which it lies, as the codec says of the chunk's object, and the fill
+    /// value where the store has no object of the chunk's key. Refused, in this order, as `ShardGrid::new`, as `ShardGrid::parts` and as
+    /// `SubsetCells::new` refuse; and then, with its key, for the first chunk, in the order of the grid, whose handle or codec refuses, or
+    /// whose elements are not of the size of the fill value.
+    pub fn read(&self, alloc: Global, subset: &ArraySubset) -> Result<SubsetCells, ArrayError>
+        ensures shape { IfOk result (λ cells. cells.shape ≡ subset.now.shape) }
+        ensures size { IfOk result (λ cells. cells.element_size ≡ length self.now.format.fill_value.now) }
+        ensures inside { OnOk result (LiesIn subset.now self.now.format.shape.now) }
+        ensures elements { let f = self.now.format in
+            IfOk result (λ cells. IsTrue (S.state self.now.store).transparent
+            → AreElementsAt (element_at (S.state self.now.store).contents f (C.meaning self.now.codec.now (chunk_spec f)).cells) subset.now cells) }
+    {
+        let grid = ShardGrid::new(alloc, self.format.shape, self.format.chunk)?;
+        let parts = grid.parts(alloc, subset)?;
+        let mut cells = SubsetCells::new(alloc, subset, self.format.fill_value)?;
+        self.read_parts(alloc, &grid, &parts, &mut cells)?;
+        Ok(cells)
+    }
+}
