@@ -5,10 +5,10 @@ use crate::stop::Stop;
 use array_codecs::reversed_parts;
 use array_fields::{LONGEST_TEXT, MetadataError, escaped};
 use array_folder::{
-    ChunkFile, ChunkFiles, ChunkGrid, KeyForm, document_length, list_chunks, read_document,
+    ChunkFile, ChunkFiles, ChunkGrid, document_length, list_chunks, read_document,
 };
 use array_grid::ListPart;
-use array_metadata::{ArrayMetadata, KeyEncoding, reversed_size};
+use array_metadata::{ArrayMetadata, reversed_size};
 use parts_arrays::FillValue;
 use parts_errors::CodecError;
 use parts_subsets::ChunkShape;
@@ -152,11 +152,8 @@ impl<'a, R: Files + AllocGlobal, C> Array<'a, R, C> {
 
     /// The files of the array's chunks.
     pub fn files(&self) -> Result<ChunkFiles, Stop> {
-        let form = KeyForm {
-            begins_with_c: self.metadata.keys.encoding == KeyEncoding::Default,
-            slashes: self.metadata.keys.slashes,
-        };
-        Ok(list_chunks(self.rt, self.path, form, &self.grid)?)
+        let keys = self.metadata.keys;
+        Ok(list_chunks(self.rt, self.path, keys, &self.grid)?)
     }
 
     /// The files of the array's chunks that a part has of their list. What else stands in the folder goes with the first part.

@@ -1,7 +1,8 @@
 // The files of an array's chunks, as they are listed in its folder.
 use crate::chunk_grid::ChunkGrid;
 use crate::error::FolderError;
-use crate::names::{KeyForm, Level, levels_of};
+use crate::names::{Level, levels_of};
+use array_grid::ChunkKeys;
 use std::alloc::{AllocError, Global};
 use std::io::Read;
 use std::rt::Files;
@@ -180,11 +181,11 @@ fn list_level<R: Files + AllocGlobal>(
 pub fn list_chunks<R: Files + AllocGlobal>(
     rt: &R,
     path: &str,
-    form: KeyForm,
+    keys: ChunkKeys,
     grid: &ChunkGrid,
 ) -> Result<ChunkFiles, FolderError> {
     let alloc = rt.alloc();
-    let levels = levels_of(alloc, form, grid.counts())?;
+    let levels = levels_of(alloc, keys, grid.counts())?;
     let whole = ChunkFile {
         coordinates: Vec::new(alloc),
         key: String::new(alloc),

@@ -21,5 +21,4 @@ pub use error::FolderError;
 pub use folder_files::FolderFiles;
 pub use index_info::{DeadBytes, IndexInfo, index_interval, info_of, slice_of};
 pub use members::list_members;
-pub use names::KeyForm;
 pub use npy::{npy_beside, npy_header, write_npy};

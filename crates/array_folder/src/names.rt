@@ -1,13 +1,6 @@
 // The names of the files of chunks, and of the folders that they lie in.
+use array_grid::{ChunkKeys, KeyEncoding};
 use std::alloc::{AllocError, Global};
-
-/// How the key of a chunk is made (Zarr V3 core, "Chunk key encoding"): whether it begins with `c`, as in the encoding
-/// `default` and not in `v2`, and whether `/` stands between its parts, else `.`.
-#[derive(Debug, Clone, Copy, PartialEq, Eq)]
-pub struct KeyForm {
-    pub begins_with_c: bool,
-    pub slashes: bool,
-}
 
 // The names in a folder that are parts of keys: so much text, and behind it a coordinate for each count, which it is below,
 // with `.` between.
@@ -86,23 +79,23 @@ fn push_axes<'a>(levels: &mut Vec<Level<'a>>, counts: &'a [u64]) -> Result<(), A
 /// The folders that the keys of chunks in a grid go through: the array's own folder first, and last that of the files.
 pub fn levels_of<'a>(
     alloc: Global,
-    form: KeyForm,
+    keys: ChunkKeys,
     counts: &'a [u64],
 ) -> Result<Vec<Level<'a>>, AllocError> {
     let mut levels: Vec<Level<'a>> = Vec::new(alloc);
-    match (form.begins_with_c, form.slashes, counts.is_empty()) {
-        (true, _, true) => levels.push(Level { text: "c", counts })?,
-        (false, _, true) => levels.push(Level { text: "0", counts })?,
-        (true, false, _) => levels.push(Level { text: "c.", counts })?,
-        (false, false, _) => levels.push(Level { text: "", counts })?,
-        (true, true, _) => {
+    match (keys.encoding, keys.slashes, counts.is_empty()) {
+        (KeyEncoding::Default, _, true) => levels.push(Level { text: "c", counts })?,
+        (KeyEncoding::V2, _, true) => levels.push(Level { text: "0", counts })?,
+        (KeyEncoding::Default, false, _) => levels.push(Level { text: "c.", counts })?,
+        (KeyEncoding::V2, false, _) => levels.push(Level { text: "", counts })?,
+        (KeyEncoding::Default, true, _) => {
             levels.push(Level {
                 text: "c",
                 counts: &[],
             })?;
             push_axes(&mut levels, counts)?;
         }
-        (false, true, _) => push_axes(&mut levels, counts)?,
+        (KeyEncoding::V2, true, _) => push_axes(&mut levels, counts)?,
     }
     Ok(levels)
 }

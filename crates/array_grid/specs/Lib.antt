@@ -3,3 +3,4 @@ pub mod Parts
 pub mod Cells
 pub mod Subsets
 pub mod ListParts
+pub mod ChunkKeys

@@ -4,6 +4,7 @@
 mod bands;
 mod cells;
 mod grid;
+mod keys;
 mod list_part;
 mod parsing;
 mod parts;
@@ -16,6 +17,7 @@ mod words;
 pub use bands::Bands;
 pub use cells::SubsetCells;
 pub use grid::ShardGrid;
+pub use keys::{ChunkKeys, KeyEncoding};
 pub use list_part::ListPart;
 pub use parsing::parse;
 pub use parts::{ShardPart, ShardParts};

@@ -10,7 +10,8 @@ use Rattle.parts_arrays.specs.Types.{size_of, HasElements}
 use Rattle.parts_arrays.specs.declared.data_type.DataTypeSize.TheVariants.{Fixed}
 use Rattle.sharding_codec.specs.Configuration.{shape_in}
 use Rattle.array_fields.specs.MetadataFields.{member_in, configured_in, whole_number_in, whole_numbers_in, is_understood}
-use Rattle.array_metadata.specs.KeyEncodings.{encoding_name, default_separator, separator_text}
+use Rattle.array_grid.specs.ChunkKeys.{separator_of}
+use Rattle.array_metadata.specs.KeyEncodings.{encoding_name, default_separator}
 use Rattle.array_metadata.specs.FillValues.{IsFillIn}
 use Rattle.array_metadata.specs.ArrayCodecs.{shards_in, subchunks_in}
 use Rattle.array_metadata.specs.ElementTypes.{IsTypeIn, carrier}
@@ -34,7 +35,7 @@ pub record IsReadAs (text : Bytes) (metadata : ArrayMetadata) : Type 0 where
       ≡ Some metadata.shard
   pub encoding : option_and_then name_in (member_in (codes "chunk_key_encoding") text) ≡ Some (encoding_name metadata.keys.encoding)
   pub separator : unwrap_or (option_and_then as_str (option_and_then (configured_in (codes "separator"))
-      (member_in (codes "chunk_key_encoding") text))) (default_separator metadata.keys.encoding) ≡ separator_text metadata.keys.slashes
+      (member_in (codes "chunk_key_encoding") text))) (default_separator metadata.keys.encoding) ≡ separator_of metadata.keys.slashes
   pub fill_value : IsFillIn metadata.element_type (member_in (codes "fill_value") text) metadata.fill_value
   pub subchunk : option_and_then shape_in (option_and_then (configured_in (codes "chunk_shape"))
       (option_and_then chunks_in (member_in (codes "codecs") text))) ≡ Some metadata.subchunk

@@ -1,8 +1,8 @@
 -- What the metadata says of the keys of chunks.
-use Rattle.std.specs.Prelude.{Bool, true, false, codes}
+use Rattle.std.specs.Prelude.{codes}
 use Rattle.parts_errors.specs.Words.{Bytes}
-use Rattle.array_metadata.specs.declared.keys.KeyEncoding.{KeyEncoding}
-use Rattle.array_metadata.specs.declared.keys.KeyEncoding.TheVariants.{Default, V2}
+use Rattle.array_grid.specs.declared.keys.KeyEncoding.{KeyEncoding}
+use Rattle.array_grid.specs.declared.keys.KeyEncoding.TheVariants.{Default, V2}
 
 -- the name of an encoding
 abbrev pub encoding_name : KeyEncoding → Bytes
@@ -13,8 +13,3 @@ encoding_name V2 = codes "v2"
 abbrev pub default_separator : KeyEncoding → Bytes
 default_separator Default = codes "/"
 default_separator V2 = codes "."
-
--- the separator of keys
-abbrev pub separator_text : Bool → Bytes
-separator_text true = codes "/"
-separator_text false = codes "."

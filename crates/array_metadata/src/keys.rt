@@ -1,59 +1,22 @@
-// The names of the files of chunks.
+// The keys of chunks that the metadata names.
 ghost use Rattle.std.specs.Prelude.{◌≡◌, Some, IfOk, option_and_then, option_map, unwrap_or, codes};
 ghost use Rattle.serde_json.specs.Find.{as_str};
 ghost use Rattle.serde_json.specs.View.{view};
 ghost use Rattle.codec_metadata.specs.Metadata.{name_in};
 ghost use Rattle.array_fields.specs.MetadataFields.{configured_in};
-ghost use Rattle.array_metadata.specs.KeyEncodings.{encoding_name, default_separator, separator_text};
+ghost use Rattle.array_grid.specs.ChunkKeys.{separator_of};
+ghost use Rattle.array_metadata.specs.KeyEncodings.{encoding_name, default_separator};
 
 use array_fields::{MetadataError, Placed, escaped};
-use std::alloc::{AllocError, Global};
-
-/// How a chunk's key is made (Zarr V3 core, "Chunk key encoding").
-#[derive(Debug, Clone, Copy, PartialEq, Eq)]
-pub enum KeyEncoding {
-    /// `c`, and behind it each coordinate behind a separator.
-    Default,
-    /// The coordinates with a separator between; `0` where there are none.
-    V2,
-}
-
-/// The keys of the chunks of an array.
-#[derive(Debug, Clone, Copy, PartialEq, Eq)]
-pub struct ChunkKeys {
-    pub encoding: KeyEncoding,
-    /// Whether the separator is `/`; else it is `.`.
-    pub slashes: bool,
-}
-
-impl ChunkKeys {
-    /// The key of the chunk with these coordinates in the chunk grid: `c/0/1`, `c.0.1`, `0/1` or `0.1`; without axes `c` or `0`.
-    pub fn key_of(&self, alloc: Global, coordinates: &[u64]) -> Result<String, AllocError> {
-        let separator = if self.slashes { "/" } else { "." };
-        let mut key = match self.encoding {
-            KeyEncoding::Default => String::from_str(alloc, "c")?,
-            KeyEncoding::V2 => String::new(alloc),
-        };
-        for axis in 0..coordinates.len() {
-            if !key.is_empty() {
-                key.push_str(separator)?;
-            }
-            let number = coordinates[axis];
-            key.push_str(format!(in alloc; "{number}")?.as_str())?;
-        }
-        if key.is_empty() {
-            key.push_str("0")?;
-        }
-        Ok(key)
-    }
-}
+use array_grid::{ChunkKeys, KeyEncoding};
+use std::alloc::Global;
 
 // The keys that a chunk key encoding names, `default` or `v2`, by the separator that it gives. Refused as `BadField`.
 pub fn keys_in(alloc: Global, named: &Placed) -> Result<ChunkKeys, MetadataError>
     ensures encoding { IfOk result (λ keys. name_in (view named.now.value.now) ≡ Some (encoding_name keys.encoding)) }
     ensures separator { IfOk result (λ keys.
         unwrap_or (option_and_then as_str (configured_in (codes "separator") (view named.now.value.now))) (default_separator keys.encoding)
-        ≡ separator_text keys.slashes) }
+        ≡ separator_of keys.slashes) }
 {
     let name = named.extension_name(alloc)?;
     let encoding = match name {
@@ -76,7 +39,7 @@ pub fn keys_in(alloc: Global, named: &Placed) -> Result<ChunkKeys, MetadataError
 
 // Whether the separator that a configuration gives is `/`; `None` where it gives none. Refused as `BadField`.
 fn separator_in(alloc: Global, named: &Placed) -> Result<Option<bool>, MetadataError>
-    ensures { IfOk result (λ slashes. option_and_then as_str (configured_in (codes "separator") (view named.now.value.now)) ≡ option_map separator_text slashes) }
+    ensures { IfOk result (λ slashes. option_and_then as_str (configured_in (codes "separator") (view named.now.value.now)) ≡ option_map separator_of slashes) }
 {
     let Some(configuration) = named.member(alloc, "configuration")? else {
         return Ok(None);

@@ -17,5 +17,4 @@ pub use byte_order::reversed_size;
 pub use codecs::{ArrangedCodec, ArrayCodec, ElementCodec, IndexCodec, InnerCodec, ServedCodec};
 pub use element_types::ElementType;
 pub use floats::{FloatFormat, half_to_f32};
-pub use keys::{ChunkKeys, KeyEncoding};
 pub use metadata::{ArrayMetadata, MOST_AXES, TypeText};

@@ -18,9 +18,10 @@ ghost use Rattle.parts_arrays.specs.declared.data_type.DataTypeSize.TheVariants.
 use crate::codecs::{ArrayCodec, InnerCodec, ServedCodec, array_codec, unserved};
 use crate::element_types::{ElementType, element_type_in, unread_type};
 use crate::fill::fill_value_in;
-use crate::keys::{ChunkKeys, keys_in};
+use crate::keys::keys_in;
 use crate::unread::unread_codec;
 use array_fields::{MetadataError, Placed, escaped, escaped_whole, value_in};
+use array_grid::ChunkKeys;
 use codec_metadata::PluginCreateError;
 use parts_arrays::{DataType, FillValue};
 use parts_subsets::ChunkShape;

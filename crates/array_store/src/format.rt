@@ -1,5 +1,5 @@
 // What the metadata of an array says of its elements and its chunks.
-use crate::keys::ChunkKeys;
+use array_grid::ChunkKeys;
 use parts_arrays::{DataType, FillValue};
 use parts_subsets::ChunkShape;
 

@@ -5,7 +5,7 @@ ghost use Rattle.parts_row_major.specs.Pieces.{piece};
 ghost use Rattle.parts_row_major.specs.Subsets.{LiesIn};
 ghost use Rattle.parts_arrays.specs.Arrays.{element_of};
 ghost use Rattle.array_store.specs.ArrayElements.{cell_of, chunk_spec};
-ghost use Rattle.array_store.specs.ChunkKeys.{chunk_key};
+ghost use Rattle.array_grid.specs.ChunkKeys.{chunk_key};
 ghost use Rattle.array_store.specs.ChunkWrites.{IsUpdatedObject, IsKeptUnlessFault, IsChunkRefusal};
 ghost use Rattle.array_store.specs.Stores.{AreKept};
 

@@ -1,6 +1,7 @@
 // A subset that lies in four chunks, of which two are there: three rows of four elements of one byte, in chunks of two rows of two. The
 // sharding codec encodes them, by subchunks of one row; the fill value is 9.
-use array_store::{Array, ArrayFormat, ChunkKeys, KeyEncoding, MemoryStore};
+use array_grid::{ChunkKeys, KeyEncoding};
+use array_store::{Array, ArrayFormat, MemoryStore};
 use std::alloc::Global;
 use std::borrow::CowSlice;
 use std::process::Abort;
