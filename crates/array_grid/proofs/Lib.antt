@@ -2,3 +2,4 @@ pub mod RoundingLemmas
 pub mod PutLemmas
 pub mod PartLemmas
 pub mod PickLemmas
+pub mod KeyLemmas

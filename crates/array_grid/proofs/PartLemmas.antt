@@ -1,7 +1,9 @@
 -- The shards that a subset meets, one after the other.
 use Rattle.std.proofs.Common.{◌≡◌, ℕ, ◌<◌, ◌^◌, List, length, get_or, ap, arith}
 use Rattle.std.proofs.lemmas.List.FromFn.{get_or-map-range_with_len, length-map-range_with_len}
-use Rattle.parts_row_major.specs.Numbering.{count_of}
+use Rattle.parts_row_major.specs.Numbering.{count_of, HasPoint}
+use Rattle.parts_row_major.proofs.PieceLaws.{number_in_below}
+use Rattle.parts_subsets.specs.Grid.{grid_of}
 use Rattle.parts_row_major.specs.Subsets.{Subset, IsSubset, LiesIn, number_in, numbers_in}
 use Rattle.parts_subsets.specs.Touched.{Touches, AreTouched, IsTouchedSubset}
 use Rattle.parts_subsets.proofs.TouchedLaws.{touched_lies_in, are_touched}
@@ -30,6 +32,12 @@ module _ (shape shard whole grid : List ℕ) (shards : ℕ) (i : IsSharded shape
 
   pub met_at : (position : ℕ) → position < count_of touched.shape → get_or (numbers_in touched grid) position 0 ≡ number_in touched grid position
   met_at position below = get_or-map-range_with_len (number_in touched grid) 0 (count_of touched.shape) position position 0 below (omega arith)
+
+  -- each of them is in the grid
+  pub met_has : (position number : ℕ) → position < count_of touched.shape → number ≡ number_in touched grid position → HasPoint number (grid_of whole shard)
+  met_has position number below is =
+      let small = number_in_below touched grid position met_in_grid.0 below in
+      rw (is, ← i.cut) (small, met_in_grid.1)
 
   -- each of them is touched
   pub met_touched : (position number : ℕ) → position < count_of touched.shape → number ≡ number_in touched grid position → Touches whole shard subset number

@@ -2,8 +2,9 @@
 use Rattle.std.specs.Prelude.{◌≡◌, ℕ, List, length, slice_index}
 use Rattle.parts_errors.specs.Words.{Refusals}
 use Rattle.parts_errors.specs.Order.{◌or◌then◌, done}
-use Rattle.parts_row_major.specs.Numbering.{count_of}
+use Rattle.parts_row_major.specs.Numbering.{count_of, point_of, HasPoint}
 use Rattle.parts_row_major.specs.Subsets.{Subset, IsSubset, LiesIn}
+use Rattle.parts_subsets.specs.Grid.{grid_of}
 use Rattle.parts_subsets.specs.Touched.{AreTouched, IsTouchedSubset}
 use Rattle.parts_errors.specs.declared.error.CodecError.TheVariants.{IncompatibleDimensionality, OutOfBounds}
 use Rattle.sharding_gather.specs.SubchunkOverlaps.{IsSubchunkOverlap}
@@ -11,12 +12,14 @@ use Rattle.array_grid.specs.Shards.{ShardedArray, whole_shards}
 use Rattle.array_grid.specs.declared.parts.ShardPart.{ShardPart}
 
 -- a part of a subset in one of the shards in which a cell of the subset lies, of a count of them: the one with a place among
--- these, in ascending order, and in it the cells that both have; cells are numbered as in the array's shape rounded up to whole shards
+-- these, in ascending order, its coordinates in the grid, and in it the cells that both have; cells are numbered as in the array's shape rounded up to whole shards
 pub record IsPartAt (array : ShardedArray) (subset : Subset) (count position : ℕ) (part : ShardPart) : Type 0 where
   pub shards : List ℕ
   pub touched : AreTouched (whole_shards array.shape array.shard) array.shard subset shards
   pub counted : length shards ≡ count
   pub here : slice_index shards position ≡ part.shard
+  pub coordinates : HasPoint part.shard (grid_of (whole_shards array.shape array.shard) array.shard)
+      × (part.coordinates.items ≡ point_of part.shard (grid_of (whole_shards array.shape array.shard) array.shard))
   pub meets : IsSubchunkOverlap (whole_shards array.shape array.shard) array.shard subset part.shard part.in_shard part.in_subset
 
 -- a subset meets so many shards: those in which a cell of it lies

@@ -82,6 +82,7 @@ impl ShardGrid {
     pub fn new(alloc: Global, shape: &[u64], shard: &ChunkShape) -> Result<Self, CodecError>
         ensures grid { IfOk result (λ grid. grid ≡ record { shape = shape.now; shard = shard.now }) }
         ensures served { OnOk result ((length shape.now ≡ length shard.now) × (count_of (whole_shards shape.now shard.now) < 2 ^ 64)) }
+        ensures axes { OnOk result (All (λ axis. axis < 2 ^ 64) (whole_shards shape.now shard.now)) }
         ensures refused { IfErr result (RefusedBy (ShardingRefusals shape.now shard.now)) }
     {
         let whole = ChunkShape::from_positive(whole_axes(alloc, shape, shard.as_slice())?);

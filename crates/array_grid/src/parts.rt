@@ -14,11 +14,12 @@ use sharding_gather::{SubchunkOverlap, subchunk_overlap};
 use std::alloc::Global;
 use std::marker::Model;
 
-/// The cells that a subset of an array and one of its shards both have: the number of the shard, where they lie in it, and
-/// where they lie in the subset, as either counts from its start.
+/// The cells that a subset of an array and one of its shards both have: the number of the shard, its coordinates in the grid,
+/// where the cells lie in it, and where they lie in the subset, as either counts from its start.
 #[derive(Drop)]
 pub struct ShardPart {
     pub shard: u64,
+    pub coordinates: Vec<u64>,
     pub in_shard: ArraySubset,
     pub in_subset: ArraySubset,
 }
@@ -62,6 +63,9 @@ impl ShardGrid {
         ensures refused { IfErr result (λ e. e ≡ OutOfMemory) }
     {
         let shard = touched.number_at(position, self.grid.as_slice());
+        let Some(coordinates) = self.coordinates(alloc, shard)? else {
+            unreachable!()
+        };
         let overlap = subchunk_overlap(alloc, shard, subset, &self.grid, &self.whole, &self.shard)?;
         let SubchunkOverlap {
             in_subchunk,
@@ -69,6 +73,7 @@ impl ShardGrid {
         } = overlap;
         Ok(ShardPart {
             shard,
+            coordinates,
             in_shard: in_subchunk,
             in_subset,
         })

@@ -31,7 +31,7 @@ module _ (contents : Bytes → Option Bytes) (format : ArrayFormat) (cells : Cel
   inside = lies_in_whole subset format.shape.now format.chunk.now whole refl same some lies
 
   -- an element by its chunk's number and its place there
-  element_of_chunk : (k q : ℕ) → q < count_of subset.shape → chunk_at whole format.chunk.now subset q ≡ k
+  pub element_of_chunk : (k q : ℕ) → q < count_of subset.shape → chunk_at whole format.chunk.now subset q ≡ k
       → element_at contents format cells (point_in subset q)
       ≡ cell_of cells format.fill_value.now (object_of contents format (point_of k (grid_of whole format.chunk.now))) (position_number whole format.chunk.now (number_in subset whole q))
   unfolding element_at
@@ -43,17 +43,14 @@ module _ (contents : Bytes → Option Bytes) (format : ArrayFormat) (cells : Cel
 
   pub numbered : (number count : ℕ) (part : ShardPart) (old new : CellsOfSubset) (touched : List ℕ) → number < count → old.shape ≡ subset.shape
       → IsPartAt (record { shape = format.shape.now; shard = format.chunk.now }) subset count number part → AreTouched whole format.chunk.now subset touched
-      → IsPartPut cells (object_of contents format (point_of part.shard (grid_of whole format.chunk.now))) format.chunk.now part.in_shard part.in_subset old new
+      → IsPartPut cells (object_of contents format part.coordinates.items) format.chunk.now part.in_shard part.in_subset old new
       → IsChunkRead (λ q. element_at contents format cells (point_in subset q)) (chunk_at whole format.chunk.now subset) format.fill_value.now (count_of subset.shape) (get_or touched number 0)
       (piece old.element_size old.bytes) (piece old.element_size new.bytes)
   numbered number count part old new touched below around at are put =
       let one : at.shards ≡ touched = touched_same whole format.chunk.now subset at.shards touched at.touched are in
       let here : part.shard ≡ get_or touched number 0 = sym at.here ∙ ap (λ xs. get_or xs number 0) one in
-      let touches = at.touched.touched number (omega (arith, below, at.counted)) in
-      let small : part.shard < count_of (grid_of whole format.chunk.now) =
-      rw (← at.here, ← touches.2) (subchunk_number-below whole format.chunk.now divides (number_in subset whole touches.0) (number_in_below subset whole touches.0 inside touches.1)) in
-      let read = chunk_read cells format.fill_value.now whole format.chunk.now subset part.shard part.in_shard part.in_subset old new divides inside small at.meets around
+      let read = chunk_read cells format.fill_value.now whole format.chunk.now subset part.shard part.in_shard part.in_subset old new divides inside at.coordinates.0.0 at.meets around
       (object_of contents format (point_of part.shard (grid_of whole format.chunk.now))) (λ q. element_at contents format cells (point_in subset q))
-      (piece old.element_size old.bytes) (piece old.element_size new.bytes) put (element_of_chunk part.shard) (λ q. refl) (λ q. refl) in
+      (piece old.element_size old.bytes) (piece old.element_size new.bytes) (rw (at.coordinates.1) at put) (element_of_chunk part.shard) (λ q. refl) (λ q. refl) in
       subst (λ k. IsChunkRead (λ q. element_at contents format cells (point_in subset q)) (chunk_at whole format.chunk.now subset) format.fill_value.now (count_of subset.shape) k
       (piece old.element_size old.bytes) (piece old.element_size new.bytes)) here read

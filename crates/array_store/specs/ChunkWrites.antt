@@ -1,19 +1,20 @@
 -- What a write of a whole chunk leaves.
-use Rattle.std.specs.Prelude.{◌≡◌, ◌<◌, ◌⊎◌, ℕ, IsTrue, List, [], Option, Some, None, length, slice_index_or, string_bytes}
-use Rattle.parts_errors.specs.Words.{Bytes, Elements, Written}
+use Rattle.std.specs.Prelude.{◌≡◌, ◌<◌, ◌⊎◌, ℕ, IsTrue, List, [], Option, Some, None, length, map, slice_index_or, string_bytes}
+use Rattle.parts_errors.specs.Words.{Bytes, Elements}
 use Rattle.parts_errors.specs.declared.error.CodecError.{CodecError}
 use Rattle.parts_errors.specs.declared.error.CodecError.TheVariants.{OutOfMemory, Fault}
 use Rattle.parts_row_major.specs.Numbering.{count_of}
 use Rattle.parts_row_major.specs.Subsets.{Subset, number_in}
 use Rattle.parts_subsets.specs.Laws.{IsElsewhere}
+use Rattle.codec_traits.specs.Meanings.{Meaning}
 use Rattle.array_store.specs.Stores.{StoreState}
 use Rattle.array_store.specs.declared.error.ArrayError.{ArrayError}
 use Rattle.array_store.specs.declared.error.ArrayError.TheVariants.{Whole, Chunk}
 
--- an object is there, and is an encoding of the elements
-abbrev pub HoldsEncoding : Written → Elements → Option Bytes → Type 0
-HoldsEncoding written elements None = ⊥
-HoldsEncoding written elements (Some bytes) = written elements bytes
+-- an object is there, is an encoding of the elements, and stands for them
+abbrev pub HoldsEncoding : Meaning → Elements → Option Bytes → Type 0
+HoldsEncoding m elements None = ⊥
+HoldsEncoding m elements (Some bytes) = m.written elements bytes × (m.cells bytes ≡ map Some elements)
 
 -- the elements of a chunk after a write into a subset of it: the written ones in the subset, and elsewhere what the chunk had
 pub record AreUpdated (chunk : List ℕ) (in_chunk : Subset) (update : ℕ → Bytes) (old : ℕ → Option Bytes) (new : Elements) : Type 0 where
@@ -22,11 +23,11 @@ pub record AreUpdated (chunk : List ℕ) (in_chunk : Subset) (update : ℕ → B
   pub outside : (p : ℕ) → p < count_of chunk → IsElsewhere in_chunk chunk p → old p ≡ Some (slice_index_or new p [])
 
 -- a chunk of such elements is encoded in an object, which is there
-pub record IsUpdatedObject (written : Written) (chunk : List ℕ) (in_chunk : Subset) (update : ℕ → Bytes) (old : ℕ → Option Bytes)
+pub record IsUpdatedObject (m : Meaning) (chunk : List ℕ) (in_chunk : Subset) (update : ℕ → Bytes) (old : ℕ → Option Bytes)
     (object : Option Bytes) : Type 0 where
   pub elements : Elements
   pub updated : AreUpdated chunk in_chunk update old elements
-  pub encoded : HoldsEncoding written elements object
+  pub encoded : HoldsEncoding m elements object
 
 -- a refusal that is no fault leaves what stands under a key
 abbrev pub IsKeptUnlessFault : StoreState → StoreState → Bytes → CodecError → Type 0

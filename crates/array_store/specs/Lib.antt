@@ -1,4 +1,5 @@
 pub mod Stores
 pub mod ArrayElements
 pub mod ChunkWrites
+pub mod ArrayWrites
 pub mod steps

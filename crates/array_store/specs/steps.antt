@@ -1,2 +1,3 @@
 -- What the steps of this crate say of one another: no public clause reaches it.
 pub mod Reading
+pub mod Writing

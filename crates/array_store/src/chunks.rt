@@ -26,7 +26,7 @@ impl<S: Store, C: ArrayToBytesCodecTraits> Array<'_, S, C> {
         ensures same_codec { self.new.codec ≡ self.old.codec }
         ensures others { AreKept (S.state self.old.store) (S.state self.new.store) key.now }
         ensures written { let m = C.meaning self.old.codec.now (chunk_spec self.old.format) in
-            OnOk result (IsTrue (S.state self.old.store).transparent → HoldsEncoding m.written elements.now.elements ((S.state self.new.store).contents key.now)) }
+            OnOk result (IsTrue (S.state self.old.store).transparent → HoldsEncoding m elements.now.elements ((S.state self.new.store).contents key.now)) }
         ensures array { OnOk result (IsArrayOf (chunk_spec self.old.format) elements.now.elements) }
         ensures kept { IfErr result (IsKeptUnlessFault (S.state self.old.store) (S.state self.new.store) key.now) }
     {
@@ -55,7 +55,7 @@ impl<S: Store, C: ArrayToBytesCodecTraits> Array<'_, S, C> {
         ensures others { AreKept (S.state self.old.store) (S.state self.new.store) (chunk_key self.old.format.keys coordinates.now) }
         ensures written { let f = self.old.format in let m = C.meaning self.old.codec.now (chunk_spec f) in
             OnOk result (IsTrue (S.state self.old.store).transparent
-            → HoldsEncoding m.written elements.now.elements ((S.state self.new.store).contents (chunk_key f.keys coordinates.now))) }
+            → HoldsEncoding m elements.now.elements ((S.state self.new.store).contents (chunk_key f.keys coordinates.now))) }
         ensures refused { IfErr result (IsChunkRefusal (S.state self.old.store) (S.state self.new.store) (chunk_key self.old.format.keys coordinates.now)) }
     {
         let key = self.format.keys.key_of(alloc, coordinates)?;

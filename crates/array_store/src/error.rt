@@ -14,6 +14,15 @@ pub enum ArrayError {
     Chunk { key: String, error: CodecError },
 }
 
+/// Why a write of a subset is refused, and how far it came.
+#[derive(Debug, Drop, Error)]
+#[error("{error}")]
+pub struct WriteError {
+    /// The chunks that were written before, by their numbers in the chunk grid: the first of those that the subset meets, ascending.
+    pub written: Vec<u64>,
+    pub error: ArrayError,
+}
+
 impl From<CodecError> for ArrayError {
     ghost use Rattle.std.specs.Prelude.{◌≡◌};
     ghost use Rattle.array_store.specs.declared.error.ArrayError.TheVariants.{Whole};

@@ -11,9 +11,10 @@ mod part;
 mod read;
 mod store;
 mod updates;
+mod writes;
 
 pub use array::Array;
-pub use error::ArrayError;
+pub use error::{ArrayError, WriteError};
 pub use file_store::FileStore;
 pub use format::ArrayFormat;
 pub use memory_store::MemoryStore;

@@ -51,7 +51,6 @@ impl<S: Store, C: ArrayToBytesCodecTraits> Array<'_, S, C> {
     fn read_chunk(
         &self,
         alloc: Global,
-        grid: &ShardGrid,
         part: &ShardPart,
         cells: &mut SubsetCells,
     ) -> Result<(), ArrayError>
@@ -59,12 +58,9 @@ impl<S: Store, C: ArrayToBytesCodecTraits> Array<'_, S, C> {
         ensures same_shape { cells.new.shape ≡ cells.old.shape }
         ensures read { let m = C.meaning self.now.codec.now (chunk_spec self.now.format) in
             OnOk result (IsTrue (S.state self.now.store).transparent
-            → IsPartPut m.cells (object_of (S.state self.now.store).contents self.now.format (point_of part.now.shard (grid_of (whole_shards grid.now.shape grid.now.shard) grid.now.shard))) self.now.format.chunk.now part.now.in_shard part.now.in_subset cells.old cells.new) }
+            → IsPartPut m.cells (object_of (S.state self.now.store).contents self.now.format part.now.coordinates.items) self.now.format.chunk.now part.now.in_shard part.now.in_subset cells.old cells.new) }
     {
-        let Some(coordinates) = grid.coordinates(alloc, part.shard)? else {
-            return Err(CodecError::OutOfBounds.into());
-        };
-        let key = self.format.keys.key_of(alloc, &coordinates)?;
+        let key = self.format.keys.key_of(alloc, &part.coordinates)?;
         match self.put_part(alloc, &key, &part.in_shard, &part.in_subset, cells) {
             Ok(()) => Ok(()),
             Err(error) => Err(ArrayError::Chunk { key, error }),
@@ -75,12 +71,10 @@ impl<S: Store, C: ArrayToBytesCodecTraits> Array<'_, S, C> {
     fn read_numbered(
         &self,
         alloc: Global,
-        grid: &ShardGrid,
         parts: &ShardParts,
         number: u64,
         cells: &mut SubsetCells,
     ) -> Result<(), ArrayError>
-        requires grid { grid.now ≡ record { shape = self.now.format.shape.now; shard = self.now.format.chunk.now } }
         requires array { parts.now.array ≡ record { shape = self.now.format.shape.now; shard = self.now.format.chunk.now } }
         requires axes { length self.now.format.shape.now ≡ length self.now.format.chunk.now }
         requires inside { LiesIn parts.now.subset self.now.format.shape.now }
@@ -97,7 +91,7 @@ impl<S: Store, C: ArrayToBytesCodecTraits> Array<'_, S, C> {
         let Some(part) = parts.part(alloc, number)? else {
             unreachable!()
         };
-        self.read_chunk(alloc, grid, &part, cells)?;
+        self.read_chunk(alloc, &part, cells)?;
         Ok(())
     }
 
@@ -105,11 +99,9 @@ impl<S: Store, C: ArrayToBytesCodecTraits> Array<'_, S, C> {
     fn read_parts(
         &self,
         alloc: Global,
-        grid: &ShardGrid,
         parts: &ShardParts,
         cells: &mut SubsetCells,
     ) -> Result<(), ArrayError>
-        requires grid { grid.now ≡ record { shape = self.now.format.shape.now; shard = self.now.format.chunk.now } }
         requires array { parts.now.array ≡ record { shape = self.now.format.shape.now; shard = self.now.format.chunk.now } }
         requires axes { length self.now.format.shape.now ≡ length self.now.format.chunk.now }
         requires inside { LiesIn parts.now.subset self.now.format.shape.now }
@@ -123,7 +115,7 @@ impl<S: Store, C: ArrayToBytesCodecTraits> Array<'_, S, C> {
             f.fill_value.now (count_of subset.shape) touched parts.now.count (piece cells.old.element_size cells.new.bytes)) }
     {
         for number in 0..parts.len() {
-            self.read_numbered(alloc, grid, parts, number, cells)?;
+            self.read_numbered(alloc, parts, number, cells)?;
         }
         Ok(())
     }
@@ -143,7 +135,7 @@ impl<S: Store, C: ArrayToBytesCodecTraits> Array<'_, S, C> {
         let grid = ShardGrid::new(alloc, self.format.shape, self.format.chunk)?;
         let parts = grid.parts(alloc, subset)?;
         let mut cells = SubsetCells::new(alloc, subset, self.format.fill_value)?;
-        self.read_parts(alloc, &grid, &parts, &mut cells)?;
+        self.read_parts(alloc, &parts, &mut cells)?;
         Ok(cells)
     }
 }

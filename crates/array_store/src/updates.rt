@@ -49,7 +49,7 @@ impl<S: Store, C: ArrayToBytesCodecTraits> Array<'_, S, C> {
         ensures others { AreKept (S.state self.old.store) (S.state self.new.store) key.now }
         ensures written { let f = self.old.format in let m = C.meaning self.old.codec.now (chunk_spec f) in
             OnOk result (IsTrue (S.state self.old.store).transparent
-            → IsUpdatedObject m.written f.chunk.now in_chunk.now (element_of elements.now) (cell_of m.cells f.fill_value.now ((S.state self.old.store).contents key.now)) ((S.state self.new.store).contents key.now)) }
+            → IsUpdatedObject m f.chunk.now in_chunk.now (element_of elements.now) (cell_of m.cells f.fill_value.now ((S.state self.old.store).contents key.now)) ((S.state self.new.store).contents key.now)) }
         ensures kept { IfErr result (IsKeptUnlessFault (S.state self.old.store) (S.state self.new.store) key.now) }
     {
         let mut cells = self.old_elements(alloc, key)?;
@@ -79,7 +79,7 @@ impl<S: Store, C: ArrayToBytesCodecTraits> Array<'_, S, C> {
         ensures others { AreKept (S.state self.old.store) (S.state self.new.store) (chunk_key self.old.format.keys coordinates.now) }
         ensures written { let f = self.old.format in let m = C.meaning self.old.codec.now (chunk_spec f) in let key = chunk_key f.keys coordinates.now in
             OnOk result (IsTrue (S.state self.old.store).transparent
-            → IsUpdatedObject m.written f.chunk.now in_chunk.now (element_of elements.now) (cell_of m.cells f.fill_value.now ((S.state self.old.store).contents key)) ((S.state self.new.store).contents key)) }
+            → IsUpdatedObject m f.chunk.now in_chunk.now (element_of elements.now) (cell_of m.cells f.fill_value.now ((S.state self.old.store).contents key)) ((S.state self.new.store).contents key)) }
         ensures refused { IfErr result (IsChunkRefusal (S.state self.old.store) (S.state self.new.store) (chunk_key self.old.format.keys coordinates.now)) }
     {
         let key = self.format.keys.key_of(alloc, coordinates)?;

@@ -1,6 +1,6 @@
 use Rattle.std.proofs.Common.{◌∙◌, sym}
 use Rattle.parts_row_major.specs.Subsets.{numbers_in}
-use Rattle.array_grid.proofs.PartLemmas.{inside_whole, met_in_grid, met_touched, met, met_counted, met_at}
+use Rattle.array_grid.proofs.PartLemmas.{inside_whole, met_in_grid, met_touched, met_has, met, met_counted, met_at}
 use Rattle.array_grid.proofs.grid.ShardGrid.part_at.Goals as goal
 
 pub number_at-shard-requires-clause-inside : goal.number_at-shard-requires-clause-inside
@@ -30,6 +30,18 @@ subchunk_overlap-requires-clause-touches c =
     (rw (← c.self.view_is) at c.requires.inside) (rw (← c.self.view_is) at c.requires.touched)
     c.args.position _ c.requires.position (rw c.as_slice.ensures.value at c.number_at-shard.ensures.value)
 
+pub unreachable-requires : goal.unreachable-requires
+unreachable-requires c =
+    let s = c.self.inside in
+    let i = c.self.invariant in
+    let a = c.args in
+    let lies = rw (← c.self.view_is) at c.requires.inside in
+    let touched = rw (← c.self.view_is) at c.requires.touched in
+    let value = rw c.as_slice.ensures.value at c.number_at-shard.ensures.value in
+    (rw c.in_default.is at c.in_ok-coordinates.ensures)
+    (rw (← c.self.view_is, ← i.rounded)
+    (met_has s.shape.items s.shard s.whole s.grid s.len c.self.invariant a.subset.now a.touched.now c.requires.well_formed lies touched a.position _ c.requires.position value))
+
 pub returns-clause-part : goal.returns-clause-part
 returns-clause-part c =
     let s = c.self.inside in
@@ -43,5 +55,6 @@ returns-clause-part c =
       touched = rw (← c.self.view_is, ← i.rounded) (met s.shape.items s.shard s.whole s.grid s.len i a.subset.now a.touched.now c.requires.well_formed lies touched);
       counted = met_counted s.shape.items s.shard s.whole s.grid s.len i a.subset.now a.touched.now c.requires.well_formed lies touched;
       here = met_at s.shape.items s.shard s.whole s.grid s.len i a.subset.now a.touched.now c.requires.well_formed lies touched a.position c.requires.position ∙ sym value;
+      coordinates = rw c.in-Some.is at c.in_ok-coordinates.ensures;
       meets = rw (← c.self.view_is, ← i.rounded) c.in_ok-overlap.ensures.meets;
     }
