@@ -1,11 +1,12 @@
 -- A subset that is written chunk by chunk.
-use Rattle.std.proofs.Common.{◌≡◌, ◌≢◌, ℕ, ◌+◌, ◌<◌, ◌^◌, IsTrue, List, [], ◌∷◌, ◌++◌, Option, Some, inl, inr, length, get_or, refl, sym, ap, subst, ◌∙◌, arith}
+use Rattle.std.proofs.Common.{◌≡◌, ◌≢◌, ℕ, ◌+◌, ◌<◌, ◌^◌, IsTrue, List, [], ◌∷◌, ◌++◌, Option, Some, Result, Ok, Err, IfErr, inl, inr, length, get_or, refl, sym, ap, subst, ◌∙◌, arith}
 use Rattle.std.proofs.lemmas.Bool.{cases_eq}
 use Rattle.std.proofs.lemmas.Grind.{get_or_default_zero}
 use Rattle.std.proofs.lemmas.List.{get_or_append_left, length-append}
 use Rattle.std.proofs.lemmas.List.Elements.{Contains-append_left, Contains-append_right, Contains-append_cases}
 use Rattle.std.proofs.Math.Seq.{get_or-append_seam}
 use Rattle.std.specs.List.{All, Contains}
+use Rattle.std.specs.Result.{IsErrAnd}
 use Rattle.parts_errors.specs.Words.{Bytes, CellsOf}
 use Rattle.parts_row_major.specs.Numbering.{AllPositive, count_of, IsInside, point_of}
 use Rattle.parts_row_major.specs.Subsets.{Subset, LiesIn, number_in, point_in}
@@ -21,6 +22,11 @@ use Rattle.array_store.specs.declared.error.ArrayError.{ArrayError}
 use Rattle.array_store.specs.declared.format.ArrayFormat.{ArrayFormat}
 use Rattle.array_store.specs.steps.Writing.{whole_of, touched_key, AreOtherChunksKept, IsChunkWritten, AreWrittenTo, AreStoppedAt}
 use Rattle.array_store.proofs.WriteLemmas.{divides, inside, point_within, chunk_of_number, coordinates_of_chunk, other_key, element_kept}
+
+-- a refusal that `?` passes on
+pub passed_error : {T : Type 0} (r : Result T ArrayError) (e : ArrayError) (P : ArrayError → Type 0) → IsErrAnd r (λ x. x ≡ e) → P e → IfErr r P
+passed_error (Ok x) e P is h = tt
+passed_error (Err x) e P is h = subst P (sym is) h
 
 -- a list with one more number
 pub listed_more : (xs ys : List ℕ) (n i : ℕ) → ((j : ℕ) → j < length xs → get_or ys j 0 ≡ get_or xs j 0) → get_or ys (length xs) 0 ≡ n → i < length (xs ++ n ∷ [])
@@ -75,7 +81,7 @@ module _ (format : ArrayFormat) (subset : Subset) (update : ℕ → Bytes) where
 module _ (format : ArrayFormat) (m : Meaning) (subset : Subset) (same : length format.shape.now ≡ length format.chunk.now)
     (some : AllPositive format.chunk.now) (lies : LiesIn subset format.shape.now) (small : All (λ axis. axis < 2 ^ 64) (whole_of format))
     (touched : List ℕ) (are : AreTouched (whole_of format) format.chunk.now subset touched) where
-  within : (q : ℕ) → q < count_of subset.shape → IsInside (point_in subset q) (whole_of format)
+  pub within : (q : ℕ) → q < count_of subset.shape → IsInside (point_in subset q) (whole_of format)
   within = point_within format m subset same some lies small
 
   -- a point of the subset lies in the chunk with a place
