@@ -3,7 +3,7 @@ use Rattle.std.proofs.Common.{◌≡◌, ℕ, zero, suc, ◌+◌, ◌-◌, ◌/�
 use Rattle.std.proofs.lemmas.Nat.{mod-mul-add}
 use Rattle.std.proofs.Math.Nat.{div-add-mod, mul_comm}
 use Rattle.std.specs.List.{AllZip}
-use Rattle.parts_row_major.specs.Numbering.{AllPositive, count_of, zip_with}
+use Rattle.parts_row_major.specs.Numbering.{AllPositive, count_of, IsInside, zip_with}
 use Rattle.parts_row_major.specs.Subsets.{Subset, LiesIn}
 use Rattle.parts_subsets.specs.Grid.{Divides, grid_of}
 use Rattle.parts_subsets.proofs.GridLaws.{count-grid, at_least, count-positive}
@@ -41,6 +41,16 @@ ends_within_whole (e ∷ ends) [] shard same some within = elim within [ ]
 ends_within_whole (e ∷ ends) (n ∷ shape) [] same some within = absurd (omega (arith, same))
 ends_within_whole (e ∷ ends) (n ∷ shape) (p ∷ shard) same some within =
     (omega (arith, within.0, rounded_fits n p (some 0 0 (omega arith))), ends_within_whole ends shape shard (omega (arith, same)) (λ j e under. some (suc j) e (omega (arith, under))) within.1)
+
+-- a coordinate inside a shape is inside it rounded up
+pub inside_whole : (point shape shard : List ℕ) → length shape ≡ length shard → AllPositive shard → IsInside point shape → IsInside point (whole_shards shape shard)
+inside_whole [] [] [] same some within = tt
+inside_whole [] [] (p ∷ shard) same some within = absurd (omega (arith, same))
+inside_whole [] (n ∷ shape) shard same some within = elim within [ ]
+inside_whole (x ∷ point) [] shard same some within = elim within [ ]
+inside_whole (x ∷ point) (n ∷ shape) [] same some within = absurd (omega (arith, same))
+inside_whole (x ∷ point) (n ∷ shape) (p ∷ shard) same some within =
+    (omega (arith, within.0, rounded_fits n p (some 0 0 (omega arith))), inside_whole point shape shard (omega (arith, same)) (λ j e under. some (suc j) e (omega (arith, under))) within.1)
 
 -- a shape rounded up is divided by the shards that it was rounded up to
 pub made_divided : (shape shard slice whole axes : List ℕ) → slice ≡ shard → axes ≡ whole_shards shape slice → whole ≡ axes → length shape ≡ length slice → AllPositive shard

@@ -1,5 +1,5 @@
 -- A subset that is written chunk by chunk.
-use Rattle.std.proofs.Common.{◌≡◌, ◌≢◌, ℕ, ◌+◌, ◌<◌, ◌^◌, IsTrue, List, [], ◌∷◌, ◌++◌, Option, Some, Result, Ok, Err, IfErr, inl, inr, length, get_or, refl, sym, ap, subst, ◌∙◌, arith}
+use Rattle.std.proofs.Common.{◌≡◌, ◌≢◌, ℕ, ◌+◌, ◌<◌, ◌^◌, IsTrue, List, [], ◌∷◌, ◌++◌, Option, Some, Result, Ok, Err, IfErr, OnOk, inl, inr, length, get_or, refl, sym, ap, subst, ◌∙◌, arith}
 use Rattle.std.proofs.lemmas.Bool.{cases_eq}
 use Rattle.std.proofs.lemmas.Grind.{get_or_default_zero}
 use Rattle.std.proofs.lemmas.List.{get_or_append_left, length-append}
@@ -16,8 +16,9 @@ use Rattle.parts_subsets.specs.Touched.{AreTouched}
 use Rattle.parts_subsets.proofs.GridLaws.{subchunk_number-below}
 use Rattle.codec_traits.specs.Meanings.{Meaning}
 use Rattle.array_grid.specs.ChunkKeys.{chunk_key}
+use Rattle.array_grid.proofs.RoundingLemmas.{inside_whole}
 use Rattle.array_store.specs.ArrayElements.{element_at}
-use Rattle.array_store.specs.ArrayWrites.{IsFaultAt, key_at, chunk_number}
+use Rattle.array_store.specs.ArrayWrites.{IsArrayWritten, IsFaultAt, IsWriteStopped, key_at, chunk_number}
 use Rattle.array_store.specs.declared.error.ArrayError.{ArrayError}
 use Rattle.array_store.specs.declared.format.ArrayFormat.{ArrayFormat}
 use Rattle.array_store.specs.steps.Writing.{whole_of, touched_key, AreOtherChunksKept, IsChunkWritten, AreWrittenTo, AreStoppedAt}
@@ -27,6 +28,14 @@ use Rattle.array_store.proofs.WriteLemmas.{divides, inside, point_within, chunk_
 pub passed_error : {T : Type 0} (r : Result T ArrayError) (e : ArrayError) (P : ArrayError → Type 0) → IsErrAnd r (λ x. x ≡ e) → P e → IfErr r P
 passed_error (Ok x) e P is h = tt
 passed_error (Err x) e P is h = subst P (sym is) h
+
+pub both_ok : {T E : Type 0} {P Q R : Type 0} (r : Result T E) → OnOk r P → OnOk r Q → (P → Q → R) → OnOk r R
+both_ok (Ok x) p q f = f p q
+both_ok (Err x) p q f = tt
+
+pub told_err : {T E : Type 0} {P Q : E → Type 0} (r : Result T E) → IfErr r P → ((e : E) → P e → Q e) → IfErr r Q
+told_err (Ok x) p f = tt
+told_err (Err x) p f = f x p
 
 -- a list with one more number
 pub listed_more : (xs ys : List ℕ) (n i : ℕ) → ((j : ℕ) → j < length xs → get_or ys j 0 ≡ get_or xs j 0) → get_or ys (length xs) 0 ≡ n → i < length (xs ++ n ∷ [])
@@ -140,3 +149,32 @@ module _ (format : ArrayFormat) (m : Meaning) (subset : Subset) (same : length f
     left = λ point here apart sound.
         element_kept format m subset same some lies small mid new m.cells point (kept (key_at format point) sound) ∙ before.left point here apart;
   }
+
+  -- all chunks have been written
+  pub all_written : (update : ℕ → Bytes) (written : List ℕ) (old new : List ℕ → Option Bytes) → length written ≡ length touched
+      → ((i : ℕ) → i < length written → get_or touched i 0 ≡ get_or written i 0) → AreWrittenTo format subset update written old new
+      → IsArrayWritten old new format.shape.now subset update
+  all_written update written old new counted listed to = record {
+    inside = λ q few. to.done q few (all_touched written counted listed q few);
+    outside = λ point here apart. to.left point (inside_whole point format.shape.now format.chunk.now same some here) (λ q few there. apart q few);
+  }
+
+  -- a refusal, as a caller sees it
+  pub told : (update : ℕ → Bytes) (written : List ℕ) (error : ArrayError) (old new : Bytes → Option Bytes)
+      → ((xs : List ℕ) → AreTouched (whole_of format) format.chunk.now subset xs → (i : ℕ) → i < length written → get_or xs i 0 ≡ get_or written i 0)
+      → AreStoppedAt format subset update written error (element_at old format m.cells) (element_at new format m.cells)
+      → IsWriteStopped format m.cells subset update written error old new
+  told update written error old new listed at = record {
+    first = listed;
+    inside = at.done;
+    outside = λ point here apart sound. at.left point (inside_whole point format.shape.now format.chunk.now same some here) apart sound;
+  }
+
+-- a refusal before a chunk was written
+pub told_before : (format : ArrayFormat) (cells : CellsOf) (subset : Subset) (update : ℕ → Bytes) (error : ArrayError) (contents : Bytes → Option Bytes)
+    → IsWriteStopped format cells subset update [] error contents contents
+told_before format cells subset update error contents = record {
+  first = λ touched are i few. absurd (omega (arith, few));
+  inside = λ q few there. absurd (omega (arith, there.1));
+  outside = λ point here apart sound. refl;
+}

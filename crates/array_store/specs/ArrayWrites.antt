@@ -13,7 +13,6 @@ use Rattle.array_store.specs.ArrayElements.{element_at}
 use Rattle.array_store.specs.Stores.{StoreState}
 use Rattle.array_store.specs.declared.error.ArrayError.{ArrayError}
 use Rattle.array_store.specs.declared.error.ArrayError.TheVariants.{Whole, Chunk}
-use Rattle.array_store.specs.declared.error.WriteError.{WriteError}
 use Rattle.array_store.specs.declared.format.ArrayFormat.{ArrayFormat}
 
 -- the key of the chunk in which a point of an array lies
@@ -43,12 +42,12 @@ IsFaultAt (Chunk named e) key = (e ≡ Fault) × (string_bytes named ≡ key)
 
 -- an array after a write that was refused: the elements stand in the chunks that are listed, the first of those that the subset meets;
 -- elsewhere stands what stood there, save in a chunk that is named with a fault
-pub record IsWriteStopped (format : ArrayFormat) (cells : CellsOf) (subset : Subset) (update : ℕ → Bytes) (stop : WriteError)
-    (old new : Bytes → Option Bytes) : Type 0 where
+pub record IsWriteStopped (format : ArrayFormat) (cells : CellsOf) (subset : Subset) (update : ℕ → Bytes) (written : List ℕ)
+    (error : ArrayError) (old new : Bytes → Option Bytes) : Type 0 where
   pub first : (touched : List ℕ) → AreTouched (whole_shards format.shape.now format.chunk.now) format.chunk.now subset touched
-      → (i : ℕ) → i < length stop.written.items → slice_index touched i ≡ slice_index stop.written.items i
-  pub inside : (q : ℕ) → q < count_of subset.shape → Contains stop.written.items (chunk_number format (point_in subset q))
+      → (i : ℕ) → i < length written → slice_index touched i ≡ slice_index written i
+  pub inside : (q : ℕ) → q < count_of subset.shape → Contains written (chunk_number format (point_in subset q))
       → element_at new format cells (point_in subset q) ≡ Some (update q)
   pub outside : (point : List ℕ) → IsInside point format.shape.now
-      → ((q : ℕ) → q < count_of subset.shape → Contains stop.written.items (chunk_number format (point_in subset q)) → point ≢ point_in subset q)
-      → ¬ IsFaultAt stop.error (key_at format point) → element_at new format cells point ≡ element_at old format cells point
+      → ((q : ℕ) → q < count_of subset.shape → Contains written (chunk_number format (point_in subset q)) → point ≢ point_in subset q)
+      → ¬ IsFaultAt error (key_at format point) → element_at new format cells point ≡ element_at old format cells point

@@ -94,22 +94,48 @@ impl<S: Store, C: ArrayToBytesCodecTraits> Array<'_, S, C> {
         subset: &ArraySubset,
         elements: &ArrayBytes,
         written: &mut Vec<u64>,
-    ) -> Result<(), ArrayError> {
+    ) -> Result<(), ArrayError>
+        requires none { written.old.items ≡ [] }
+        ensures same_format { self.new.format ≡ self.old.format }
+        ensures same_codec { self.new.codec ≡ self.old.codec }
+        ensures same_store { (S.state self.new.store).transparent ≡ (S.state self.old.store).transparent }
+        ensures others { IsTrue (S.state self.old.store).transparent → AreOthersKept self.old.format subset.now (S.state self.old.store) (S.state self.new.store) }
+        ensures inside { OnOk result (LiesIn subset.now self.old.format.shape.now) }
+        ensures elements { let f = self.old.format in let cells = (C.meaning self.old.codec.now (chunk_spec f)).cells in
+            OnOk result (IsTrue (S.state self.old.store).transparent
+            → IsArrayWritten (element_at (S.state self.old.store).contents f cells) (element_at (S.state self.new.store).contents f cells) f.shape.now subset.now (element_of elements.now)) }
+        ensures stopped { let f = self.old.format in let cells = (C.meaning self.old.codec.now (chunk_spec f)).cells in
+            IfErr result (λ e. IsTrue (S.state self.old.store).transparent
+            → IsWriteStopped f cells subset.now (element_of elements.now) written.new.items e (S.state self.old.store).contents (S.state self.new.store).contents) }
+    {
+        let _axes = self.format.chunk.as_slice();
         let grid = ShardGrid::new(alloc, self.format.shape, self.format.chunk)?;
         let parts = grid.parts(alloc, subset)?;
         self.write_parts(alloc, &parts, subset, elements, written)
     }
 
     /// Writes elements into a subset, in row-major order of it: then they stand at the points of the subset, and elsewhere what stood
-    /// there. Refused, in this order, as `ShardGrid::new` and as `ShardGrid::parts` refuse; and then for the first chunk, in the order of
-    /// the grid, for which `extract_array_subset` refuses the elements or `write_in_chunk` the chunk. Such a refusal lists the chunks
-    /// that were written before; no chunk behind is touched.
+    /// there; under each key of another chunk the store holds what it held. Refused, in this order, as `ShardGrid::new` and as
+    /// `ShardGrid::parts` refuse; and then for the first chunk, in the order of the grid, for which `extract_array_subset` refuses the
+    /// elements, or `write_in_chunk` the chunk. Such a refusal lists the chunks that were written before; no chunk behind is touched.
     pub fn write(
         &mut self,
         alloc: Global,
         subset: &ArraySubset,
         elements: &ArrayBytes,
-    ) -> Result<(), WriteError> {
+    ) -> Result<(), WriteError>
+        ensures same_format { self.new.format ≡ self.old.format }
+        ensures same_codec { self.new.codec ≡ self.old.codec }
+        ensures same_store { (S.state self.new.store).transparent ≡ (S.state self.old.store).transparent }
+        ensures others { IsTrue (S.state self.old.store).transparent → AreOthersKept self.old.format subset.now (S.state self.old.store) (S.state self.new.store) }
+        ensures inside { OnOk result (LiesIn subset.now self.old.format.shape.now) }
+        ensures elements { let f = self.old.format in let cells = (C.meaning self.old.codec.now (chunk_spec f)).cells in
+            OnOk result (IsTrue (S.state self.old.store).transparent
+            → IsArrayWritten (element_at (S.state self.old.store).contents f cells) (element_at (S.state self.new.store).contents f cells) f.shape.now subset.now (element_of elements.now)) }
+        ensures stopped { let f = self.old.format in let cells = (C.meaning self.old.codec.now (chunk_spec f)).cells in
+            IfErr result (λ stop. IsTrue (S.state self.old.store).transparent
+            → IsWriteStopped f cells subset.now (element_of elements.now) stop.written.items stop.error (S.state self.old.store).contents (S.state self.new.store).contents) }
+    {
         let mut written = Vec::new(alloc);
         match self.write_listed(alloc, subset, elements, &mut written) {
             Ok(()) => Ok(()),

@@ -43,7 +43,7 @@ loop-place-preserved g c =
     let r = c.requires.parts in
     let i = c.loop-place.invariant in
     let more : c.loop-place.place < length r.met.shards = omega (arith, r.met.counted, c.loop-place-test.true, c.len-place-end.ensures) in
-    let all : c.push.new.self.items ≡ c.loop-place.written.items ++ c.in_ok-number.number ∷ [] = c.in-Ok.ensures.items ∙ ap (λ xs. xs ++ c.in_ok-number.number ∷ []) c.reserve.ensures.items in
+    let all : c.push.new.self.items ≡ c.loop-place.written.items ++ c.in_ok-number.number ∷ [] = rw c.reserve.ensures.items at c.in-Ok.ensures.items in
     record {
       same_format = c.write_part.ensures.same_format ∙ i.same_format;
       same_codec = c.write_part.ensures.same_codec ∙ i.same_codec;
