@@ -1,5 +1,5 @@
 -- A subset that is written chunk by chunk.
-use Rattle.std.proofs.Common.{◌≡◌, ◌≢◌, ℕ, ◌+◌, ◌<◌, ◌^◌, IsTrue, List, [], ◌∷◌, ◌++◌, Option, Some, Result, Ok, Err, IfErr, OnOk, inl, inr, length, get_or, refl, sym, ap, subst, ◌∙◌, arith}
+use Rattle.std.proofs.Common.{◌≡◌, ◌≢◌, ℕ, ◌+◌, ◌<◌, ◌≤◌, ◌^◌, IsTrue, List, [], ◌∷◌, ◌++◌, Option, Some, Result, Ok, Err, IfErr, OnOk, inl, inr, length, get_or, refl, sym, ap, subst, ◌∙◌, arith}
 use Rattle.std.proofs.lemmas.Bool.{cases_eq}
 use Rattle.std.proofs.lemmas.Grind.{get_or_default_zero}
 use Rattle.std.proofs.lemmas.List.{get_or_append_left, length-append}
@@ -22,6 +22,7 @@ use Rattle.array_store.specs.ArrayWrites.{IsArrayWritten, IsFaultAt, IsWriteStop
 use Rattle.array_store.specs.declared.error.ArrayError.{ArrayError}
 use Rattle.array_store.specs.declared.format.ArrayFormat.{ArrayFormat}
 use Rattle.array_store.specs.steps.Writing.{whole_of, touched_key, AreOtherChunksKept, IsChunkWritten, AreWrittenTo, AreStoppedAt}
+use Rattle.array_store.proofs.PlaceLemmas.{touched_same}
 use Rattle.array_store.proofs.WriteLemmas.{divides, inside, point_within, chunk_of_number, coordinates_of_chunk, other_key, element_kept}
 
 -- a refusal that `?` passes on
@@ -160,21 +161,14 @@ module _ (format : ArrayFormat) (m : Meaning) (subset : Subset) (same : length f
   }
 
   -- a refusal, as a caller sees it
-  pub told : (update : ℕ → Bytes) (written : List ℕ) (error : ArrayError) (old new : Bytes → Option Bytes)
+  pub told : (update : ℕ → Bytes) (written : List ℕ) (error : ArrayError) (old new : Bytes → Option Bytes) → length written ≤ length touched
       → ((xs : List ℕ) → AreTouched (whole_of format) format.chunk.now subset xs → (i : ℕ) → i < length written → get_or xs i 0 ≡ get_or written i 0)
       → AreStoppedAt format subset update written error (element_at old format m.cells) (element_at new format m.cells)
       → IsWriteStopped format m.cells subset update written error old new
-  told update written error old new listed at = record {
-    first = listed;
+  told update written error old new few listed at = record {
+    first = λ xs same_ones.
+        let one : xs ≡ touched = touched_same (whole_of format) format.chunk.now subset xs touched same_ones are in
+        (omega (arith, few, ap length one), listed xs same_ones);
     inside = at.done;
     outside = λ point here apart sound. at.left point (inside_whole point format.shape.now format.chunk.now same some here) apart sound;
   }
-
--- a refusal before a chunk was written
-pub told_before : (format : ArrayFormat) (cells : CellsOf) (subset : Subset) (update : ℕ → Bytes) (error : ArrayError) (contents : Bytes → Option Bytes)
-    → IsWriteStopped format cells subset update [] error contents contents
-told_before format cells subset update error contents = record {
-  first = λ touched are i few. absurd (omega (arith, few));
-  inside = λ q few there. absurd (omega (arith, there.1));
-  outside = λ point here apart sound. refl;
-}

@@ -1,5 +1,5 @@
 -- What a write of a subset leaves of an array.
-use Rattle.std.specs.Prelude.{◌≡◌, ◌≢◌, ◌<◌, ℕ, IsTrue, List, Option, Some, length, slice_index, string_bytes}
+use Rattle.std.specs.Prelude.{◌≡◌, ◌≢◌, ◌<◌, ◌≤◌, ℕ, IsTrue, List, Option, Some, length, slice_index, string_bytes}
 use Rattle.std.specs.List.{Contains}
 use Rattle.parts_errors.specs.Words.{Bytes, CellsOf}
 use Rattle.parts_errors.specs.declared.error.CodecError.TheVariants.{Fault}
@@ -45,7 +45,7 @@ IsFaultAt (Chunk named e) key = (e ≡ Fault) × (string_bytes named ≡ key)
 pub record IsWriteStopped (format : ArrayFormat) (cells : CellsOf) (subset : Subset) (update : ℕ → Bytes) (written : List ℕ)
     (error : ArrayError) (old new : Bytes → Option Bytes) : Type 0 where
   pub first : (touched : List ℕ) → AreTouched (whole_shards format.shape.now format.chunk.now) format.chunk.now subset touched
-      → (i : ℕ) → i < length written → slice_index touched i ≡ slice_index written i
+      → (length written ≤ length touched) × ((i : ℕ) → i < length written → slice_index touched i ≡ slice_index written i)
   pub inside : (q : ℕ) → q < count_of subset.shape → Contains written (chunk_number format (point_in subset q))
       → element_at new format cells (point_in subset q) ≡ Some (update q)
   pub outside : (point : List ℕ) → IsInside point format.shape.now

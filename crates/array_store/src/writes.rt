@@ -1,5 +1,5 @@
 // Elements that are written into a subset of an array, chunk by chunk.
-ghost use Rattle.std.specs.Prelude.{◌≡◌, ◌<◌, [], ℕ, List, IsTrue, IfOk, IfErr, OnOk, length, slice_index};
+ghost use Rattle.std.specs.Prelude.{◌≡◌, ◌<◌, ◌≤◌, [], ℕ, List, IsTrue, IfOk, IfErr, OnOk, length, slice_index};
 ghost use Rattle.parts_row_major.specs.Subsets.{LiesIn};
 ghost use Rattle.parts_subsets.specs.Touched.{AreTouched};
 ghost use Rattle.parts_arrays.specs.Arrays.{element_of};
@@ -69,6 +69,7 @@ impl<S: Store, C: ArrayToBytesCodecTraits> Array<'_, S, C> {
         ensures others { IsTrue (S.state self.old.store).transparent → AreOthersKept self.old.format subset.now (S.state self.old.store) (S.state self.new.store) }
         ensures listed { (touched : List ℕ) → AreTouched (whole_of self.old.format) self.old.format.chunk.now subset.now touched
             → (i : ℕ) → i < length written.new.items → slice_index touched i ≡ slice_index written.new.items i }
+        ensures few { length written.new.items ≤ parts.now.count }
         ensures all { OnOk result (length written.new.items ≡ parts.now.count) }
         ensures done { let f = self.old.format in let cells = (C.meaning self.old.codec.now (chunk_spec f)).cells in
             OnOk result (IsTrue (S.state self.old.store).transparent

@@ -1,7 +1,7 @@
 // A subset that lies in four chunks, of which two are there: three rows of four elements of one byte, in chunks of two rows of two. The
 // sharding codec encodes them, by subchunks of one row; the fill value is 9.
 use array_grid::{ChunkKeys, KeyEncoding};
-use array_store::{Array, ArrayFormat, MemoryStore};
+use array_store::{Array, ArrayError, ArrayFormat, MemoryStore, Store};
 use std::alloc::Global;
 use std::borrow::CowSlice;
 use std::process::Abort;
@@ -43,11 +43,41 @@ fn write<R: Abort>(
         .expect(rt, "refused");
 }
 
-// Ends the test where the subset of the last two rows and the columns 1 and 2 has other elements.
-fn read_back<R: Abort>(rt: &R, alloc: Global, array: &Array<'_, MemoryStore, Codec>, want: &[u8]) {
-    let subset = ArraySubset::from_ranges(alloc, &[1..3, 1..3]).expect(rt, "refused");
-    let cells = array.read(alloc, &subset).expect(rt, "refused");
+// The subset of the last two rows and the columns 1 and 2, which meets all four chunks.
+fn middle<R: Abort>(rt: &R, alloc: Global) -> ArraySubset {
+    ArraySubset::from_ranges(alloc, &[1..3, 1..3]).expect(rt, "refused")
+}
+
+// Ends the test where a subset has other elements.
+fn read_back<R: Abort>(
+    rt: &R,
+    alloc: Global,
+    array: &Array<'_, MemoryStore, Codec>,
+    subset: &ArraySubset,
+    want: &[u8],
+) {
+    let cells = array.read(alloc, subset).expect(rt, "refused");
     assert_eq!(rt; cells.bytes(), want);
+}
+
+// What the metadata says of the array.
+fn format_of<'a>(chunk: &'a ChunkShape, fill_value: &'a FillValue) -> ArrayFormat<'a> {
+    ArrayFormat {
+        shape: &[3, 4],
+        chunk,
+        data_type: &DataType::UInt8,
+        fill_value,
+        keys: ChunkKeys {
+            encoding: KeyEncoding::Default,
+            slashes: true,
+        },
+    }
+}
+
+// Writes the chunks at (0, 0) and (1, 1).
+fn write_two<R: Abort>(rt: &R, alloc: Global, array: &mut Array<'_, MemoryStore, Codec>) {
+    write(rt, alloc, array, &[0, 0], &[1, 2, 3, 4]);
+    write(rt, alloc, array, &[1, 1], &[5, 6, 7, 8]);
 }
 
 #[test]
@@ -56,26 +86,68 @@ fn a_subset_is_read_from_each_chunk_that_it_meets(rt: HostRuntime) {
     let codec = codec_of(&rt, alloc);
     let chunk = shape_of(&rt, alloc, &[2, 2]);
     let fill_value = FillValue::new([9u8].as_slice().to_vec(alloc).expect(&rt, "refused"));
-    let format = ArrayFormat {
-        shape: &[3, 4],
-        chunk: &chunk,
-        data_type: &DataType::UInt8,
-        fill_value: &fill_value,
-        keys: ChunkKeys {
-            encoding: KeyEncoding::Default,
-            slashes: true,
-        },
-    };
     let mut array = Array {
         store: MemoryStore::new(alloc),
         codec: &codec,
-        format,
+        format: format_of(&chunk, &fill_value),
     };
-    write(&rt, alloc, &mut array, &[0, 0], &[1, 2, 3, 4]);
-    write(&rt, alloc, &mut array, &[1, 1], &[5, 6, 7, 8]);
-    read_back(&rt, alloc, &array, &[4, 9, 9, 5]);
+    write_two(&rt, alloc, &mut array);
+    let subset = middle(&rt, alloc);
+    read_back(&rt, alloc, &array, &subset, &[4, 9, 9, 5]);
     assert!(rt; array.store.get("c/1/1").is_some());
     array.erase_chunk(alloc, &[1, 1]).expect(&rt, "refused");
-    read_back(&rt, alloc, &array, &[4, 9, 9, 9]);
+    read_back(&rt, alloc, &array, &subset, &[4, 9, 9, 9]);
     assert!(rt; array.store.get("c/1/1").is_none());
+}
+
+#[test]
+fn a_subset_is_written_into_each_chunk_that_it_meets(rt: HostRuntime) {
+    let alloc = rt.alloc();
+    let codec = codec_of(&rt, alloc);
+    let chunk = shape_of(&rt, alloc, &[2, 2]);
+    let fill_value = FillValue::new([9u8].as_slice().to_vec(alloc).expect(&rt, "refused"));
+    let mut array = Array {
+        store: MemoryStore::new(alloc),
+        codec: &codec,
+        format: format_of(&chunk, &fill_value),
+    };
+    write_two(&rt, alloc, &mut array);
+    let new = [10u8, 11, 12, 13];
+    let elements = ArrayBytes::new_flen(CowSlice::Borrowed(&new), 1).expect(&rt, "one byte each");
+    array
+        .write(alloc, &middle(&rt, alloc), &elements)
+        .expect(&rt, "refused");
+    let whole = ArraySubset::from_ranges(alloc, &[0..3, 0..4]).expect(&rt, "refused");
+    let want = [1, 2, 9, 9, 3, 10, 11, 9, 9, 12, 13, 6];
+    read_back(&rt, alloc, &array, &whole, &want);
+}
+
+#[test]
+fn a_refused_write_lists_the_chunks_before(rt: HostRuntime) {
+    let alloc = rt.alloc();
+    let codec = codec_of(&rt, alloc);
+    let chunk = shape_of(&rt, alloc, &[2, 2]);
+    let fill_value = FillValue::new([9u8].as_slice().to_vec(alloc).expect(&rt, "refused"));
+    let mut array = Array {
+        store: MemoryStore::new(alloc),
+        codec: &codec,
+        format: format_of(&chunk, &fill_value),
+    };
+    write_two(&rt, alloc, &mut array);
+    let damaged = [0u8].as_slice().to_vec(alloc).expect(&rt, "refused");
+    array
+        .store
+        .put(alloc, "c/1/0", damaged)
+        .expect(&rt, "refused");
+    let new = [10u8, 11, 12, 13];
+    let elements = ArrayBytes::new_flen(CowSlice::Borrowed(&new), 1).expect(&rt, "one byte each");
+    let stop = array
+        .write(alloc, &middle(&rt, alloc), &elements)
+        .expect_err(&rt, "not refused");
+    assert_eq!(rt; stop.written.as_slice(), [0u64, 1].as_slice());
+    assert!(rt; matches!(&stop.error, ArrayError::Chunk { key, .. } if key.as_str() == "c/1/0"));
+    let first = ArraySubset::from_ranges(alloc, &[0..2, 0..4]).expect(&rt, "refused");
+    read_back(&rt, alloc, &array, &first, &[1, 2, 9, 9, 3, 10, 11, 9]);
+    let last = ArraySubset::from_ranges(alloc, &[2..3, 2..4]).expect(&rt, "refused");
+    read_back(&rt, alloc, &array, &last, &[5, 6]);
 }
