@@ -2,4 +2,5 @@ pub mod Stores
 pub mod ArrayElements
 pub mod ChunkWrites
 pub mod ArrayWrites
+pub mod Opening
 pub mod steps
