@@ -4,7 +4,7 @@ ghost use Rattle.parts_errors.specs.Order.{RefusedBy};
 ghost use Rattle.parts_row_major.specs.Numbering.{count_of};
 ghost use Rattle.parts_row_major.specs.Subsets.{IsServed, number_in};
 ghost use Rattle.parts_row_major.specs.Pieces.{piece, IsUpdated};
-ghost use Rattle.parts_arrays.specs.Arrays.{element_of};
+ghost use Rattle.parts_arrays.specs.Arrays.{element_of, fixed_array};
 ghost use Rattle.parts_arrays.specs.declared.data_type.DataTypeSize.TheVariants.{Fixed};
 ghost use Rattle.array_grid.specs.Cells.{AreWhole, AreFilled, FillRefusals, PutRefusals};
 
@@ -13,6 +13,7 @@ use parts_errors::CodecError;
 use parts_subsets::{ArraySubset, check_subset};
 use sharding_gather::room_for;
 use std::alloc::Global;
+use std::borrow::CowSlice;
 use std::marker::Model;
 
 /// The cells of a subset of an array, in row-major order of the subset; their elements have one size.
@@ -113,5 +114,15 @@ impl SubsetCells {
         ensures { result.now ≡ self.now.bytes }
     {
         &self.bytes
+    }
+
+    /// The cells as an array of elements of one size.
+    pub fn array(&self) -> ArrayBytes<'_>
+        ensures { result ≡ fixed_array self.now.element_size self.now.bytes }
+    {
+        let Some(array) = ArrayBytes::new_flen(CowSlice::Borrowed(&self.bytes), self.element_size) else {
+            unreachable!()
+        };
+        array
     }
 }

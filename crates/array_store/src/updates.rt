@@ -18,7 +18,6 @@ use parts_arrays::ArrayBytes;
 use parts_errors::CodecError;
 use parts_subsets::ArraySubset;
 use std::alloc::Global;
-use std::borrow::CowSlice;
 
 impl<S: Store, C: ArrayToBytesCodecTraits> Array<'_, S, C> {
     // The elements of the chunk of a key: those that its object has, and fill values where there is no object.
@@ -54,11 +53,8 @@ impl<S: Store, C: ArrayToBytesCodecTraits> Array<'_, S, C> {
     {
         let mut cells = self.old_elements(alloc, key)?;
         cells.put(in_chunk, elements)?;
-        let size = self.format.fill_value.as_ne_bytes().len();
-        let Some(array) = ArrayBytes::new_flen(CowSlice::Borrowed(cells.bytes()), size) else {
-            return Err(CodecError::WrongElementKind);
-        };
-        self.put_elements(alloc, key, &array)?;
+        let updated = cells.array();
+        self.put_elements(alloc, key, &updated)?;
         Ok(())
     }
 

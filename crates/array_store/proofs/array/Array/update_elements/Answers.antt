@@ -8,13 +8,12 @@ pub returns-clause-written : goal.returns-clause-written
 returns-clause-written g c = λ t.
     let f = c.args.self.now.format in
     let cells = (g.C.ArrayToBytesCodecTraits.meaning c.args.self.now.codec.now (chunk_spec f)).cells in
-    let made = rw (c.bytes.ensures, c.as_ne_bytes-size.ensures, ← c.in_ok-cells.ensures.size) at c.in-Some.ensures.1 in
-    let is = ap (λ (a : Array). a.elements) made in
+    let is = ap (λ (a : Array). a.elements) (rw c.in_ok-put.ensures.same_size at c.array-updated.ensures) in
     let wrote = rw c.in_ok-cells.ensures.shape at c.in_ok-put.ensures.written in
     let lies = rw c.in_ok-cells.ensures.shape at c.in_ok-put.ensures.served.0 in
     record {
-      elements = c.in-Some.array.elements;
+      elements = c.array-updated.result.elements;
       updated = updated_array f.chunk.now c.args.in_chunk.now (element_of c.args.elements.now) (cell_of cells f.fill_value.now ((g.S.Store.state c.args.self.now.store).contents c.args.key.now))
-          c.in_ok-cells.cells.element_size _ c.in_ok-cells.cells.bytes c.put.new.self.bytes c.in-Some.array.elements is (c.in_ok-cells.ensures.old t) wrote lies c.in_ok-put_elements.ensures.array.counted;
+          c.in_ok-cells.cells.element_size _ c.in_ok-cells.cells.bytes c.put.new.self.bytes c.array-updated.result.elements is (c.in_ok-cells.ensures.old t) wrote lies c.in_ok-put_elements.ensures.array.counted;
       encoded = c.in_ok-put_elements.ensures.written t;
     }
