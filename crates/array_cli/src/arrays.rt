@@ -4,7 +4,7 @@ use crate::shard_codec::{Planned, ShardCodec, ShardFile};
 use crate::stop::Stop;
 use array_codecs::reversed_parts;
 use array_fields::{LONGEST_TEXT, MetadataError, escaped};
-use array_folder::{
+use array_store::{
     ChunkFile, ChunkFiles, ChunkGrid, document_length, list_chunks, read_document,
 };
 use array_grid::ListPart;

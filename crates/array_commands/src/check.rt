@@ -3,7 +3,7 @@ use crate::checked::{Checked, Found, Told, write_end, write_end_lines};
 use array_cli::{
     Array, Ending, OpenShard, Place, Progress, Shard, ShardCodec, ShardFile, Stop, written,
 };
-use array_folder::ChunkFile;
+use array_store::ChunkFile;
 use array_info::{Listing, check_subchunk};
 use parts_errors::CodecError;
 use std::io;

@@ -1,6 +1,6 @@
 // What a check came to, and what is written of it.
 use array_cli::{Array, Ending, JsonLine, Progress, Refusal, Stop, written};
-use array_folder::{ChunkFiles, Counted};
+use array_store::{ChunkFiles, Counted};
 use array_info::{put_refusal, write_folder, write_folder_lines};
 use std::io;
 use std::io::Write;

@@ -1,7 +1,7 @@
 // A subset of an array as a file of NumPy's format.
 use crate::reading::{Sink, read_bands};
 use array_cli::{Array, Ending, Progress, ShardCodec, ShardFile, Stop, full_name};
-use array_folder::{npy_beside, npy_header};
+use array_store::{npy_beside, npy_header};
 use array_grid::{Requested, subset_of};
 use array_info::begin_new;
 use std::alloc::Global;

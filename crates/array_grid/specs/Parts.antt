@@ -12,17 +12,18 @@ use Rattle.array_grid.specs.Shards.{ShardedArray, whole_shards}
 use Rattle.array_grid.specs.declared.parts.ShardPart.{ShardPart}
 
 -- a part of a subset in one of the shards in which a cell of the subset lies, of a count of them: the one with a place among
--- these, in ascending order, its coordinates in the grid, and in it the cells that both have; cells are numbered as in the array's shape rounded up to whole shards
+-- these, in ascending order, its coordinates in the grid, and in it the cells that both have; cells are numbered as in the array's shape
+-- rounded up to whole shards
 pub record IsPartAt (array : ShardedArray) (subset : Subset) (count position : ℕ) (part : ShardPart) : Type 0 where
   pub shards : List ℕ
   pub touched : AreTouched (whole_shards array.shape array.shard) array.shard subset shards
   pub counted : length shards ≡ count
   pub here : slice_index shards position ≡ part.shard
-  pub coordinates : HasPoint part.shard (grid_of (whole_shards array.shape array.shard) array.shard)
-      × (part.coordinates.items ≡ point_of part.shard (grid_of (whole_shards array.shape array.shard) array.shard))
+  pub coordinates : let grid = grid_of (whole_shards array.shape array.shard) array.shard in
+      HasPoint part.shard grid × (part.coordinates.items ≡ point_of part.shard grid)
   pub meets : IsSubchunkOverlap (whole_shards array.shape array.shard) array.shard subset part.shard part.in_shard part.in_subset
 
--- a subset meets so many shards: those in which a cell of it lies
+-- a subset meets this number of shards: those in which a cell of it lies
 pub record MeetsShards (array : ShardedArray) (subset : Subset) (count : ℕ) : Type 0 where
   pub shards : List ℕ
   pub touched : AreTouched (whole_shards array.shape array.shard) array.shard subset shards

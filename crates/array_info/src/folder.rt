@@ -1,7 +1,7 @@
 // What stands in an array's folder: the shard that has a key, and what is no shard.
 use array_cli::{Array, Shard, Stop};
 use array_fields::escaped;
-use array_folder::{ChunkFiles, age_of};
+use array_store::{ChunkFiles, age_of};
 use array_grid::ListPart;
 use std::io;
 use std::io::Write;

@@ -6,7 +6,7 @@ use array_cli::{
     Array, Ending, Place, Progress, Refusal, Shard, ShardCodec, ShardFile, Stop, write_numbers,
     write_rows, written,
 };
-use array_folder::{ChunkFile, ChunkFiles, Counted, FolderFiles, IndexInfo, info_of};
+use array_store::{ChunkFile, ChunkFiles, Counted, FolderFiles, IndexInfo, info_of};
 use array_metadata::ArrayMetadata;
 use parts_errors::CodecError;
 use std::io;

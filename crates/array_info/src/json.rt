@@ -1,7 +1,7 @@
 // What an array holds, as lines of JSON.
 use crate::info::{ShardInfo, Sums};
 use array_cli::{JsonLine, Place, Refusal, write_json_cell};
-use array_folder::ChunkFiles;
+use array_store::ChunkFiles;
 use array_metadata::ArrayMetadata;
 use std::io;
 use std::io::Write;

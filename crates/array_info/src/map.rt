@@ -11,7 +11,7 @@ use array_cli::{
     Array, Ending, OpenShard, Place, Progress, Shard, ShardCodec, ShardFile, Stop, written,
 };
 use array_fields::escaped;
-use array_folder::ChunkFiles;
+use array_store::ChunkFiles;
 use parts_errors::CodecError;
 use parts_row_major::{ravel_indices, unravel_index};
 use parts_subsets::ChunkShape;

@@ -3,4 +3,6 @@ pub mod ArrayElements
 pub mod ChunkWrites
 pub mod ArrayWrites
 pub mod Opening
+pub mod Shown
+pub mod Npy
 pub mod steps

@@ -5,7 +5,7 @@ use array_cli::{
     written,
 };
 use array_fields::{LONGEST_TEXT, escaped};
-use array_folder::{ChunkFiles, age_of, read_document};
+use array_store::{ChunkFiles, age_of, read_document};
 use array_info::{Listing, put_refusal, save};
 use sharding_layout::CompactionPlan;
 use std::io::{ErrorKind, Write};

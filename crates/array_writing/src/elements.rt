@@ -1,7 +1,7 @@
 // The elements that are written into an array, from a file.
 use array_cli::{Array, Stop, full_name};
 use array_fields::escaped;
-use array_folder::npy_header;
+use array_store::npy_header;
 use array_grid::Requested;
 use std::alloc::Global;
 use std::io;

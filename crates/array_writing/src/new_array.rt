@@ -6,7 +6,7 @@ use array_cli::{
     Array, Ending, Progress, ShardCodec, ShardFile, Stop, described, read_array, turned, written,
 };
 use array_fields::{LONGEST_TEXT, escaped};
-use array_folder::{Counted, read_document};
+use array_store::{Counted, read_document};
 use array_grid::SubsetCells;
 use array_metadata::ArrayMetadata;
 use parts_arrays::ArrayBytes;

@@ -29,18 +29,20 @@ pub record ArePartsOf (format : ArrayFormat) (subset : Subset) (parts : SubsetIn
 
 -- the key of the chunk with a place among those that a subset touches
 abbrev pub touched_key : ArrayFormat → List ℕ → ℕ → Bytes
-touched_key format touched place = chunk_key format.keys (point_of (slice_index touched place) (grid_of (whole_of format) format.chunk.now))
+touched_key format touched place =
+    chunk_key format.keys (point_of (slice_index touched place) (grid_of (whole_of format) format.chunk.now))
 
 -- only under the key of that chunk something else may stand
 abbrev pub AreOtherChunksKept : ArrayFormat → Subset → ℕ → (Bytes → Option Bytes) → (Bytes → Option Bytes) → Type 0
 AreOtherChunksKept format subset place old new =
-    (touched : List ℕ) → AreTouched (whole_of format) format.chunk.now subset touched → (key : Bytes) → key ≢ touched_key format touched place
-    → new key ≡ old key
+    (touched : List ℕ) → AreTouched (whole_of format) format.chunk.now subset touched
+    → (key : Bytes) → key ≢ touched_key format touched place → new key ≡ old key
 
 -- the elements of a subset have been written that lie in one chunk, and all others are as they were
 pub record IsChunkWritten (format : ArrayFormat) (subset : Subset) (update : ℕ → Bytes) (number : ℕ)
     (old new : List ℕ → Option Bytes) : Type 0 where
-  pub here : (q : ℕ) → q < count_of subset.shape → chunk_number format (point_in subset q) ≡ number → new (point_in subset q) ≡ Some (update q)
+  pub here : (q : ℕ) → q < count_of subset.shape → chunk_number format (point_in subset q) ≡ number
+      → new (point_in subset q) ≡ Some (update q)
   pub others : (point : List ℕ) → IsInside point (whole_of format)
       → ((q : ℕ) → q < count_of subset.shape → chunk_number format (point_in subset q) ≡ number → point ≢ point_in subset q)
       → new point ≡ old point
@@ -48,7 +50,8 @@ pub record IsChunkWritten (format : ArrayFormat) (subset : Subset) (update : ℕ
 -- the elements of a subset have been written that lie in chunks of a list, and all others are as they were
 pub record AreWrittenTo (format : ArrayFormat) (subset : Subset) (update : ℕ → Bytes) (written : List ℕ)
     (old new : List ℕ → Option Bytes) : Type 0 where
-  pub done : (q : ℕ) → q < count_of subset.shape → Contains written (chunk_number format (point_in subset q)) → new (point_in subset q) ≡ Some (update q)
+  pub done : (q : ℕ) → q < count_of subset.shape → Contains written (chunk_number format (point_in subset q))
+      → new (point_in subset q) ≡ Some (update q)
   pub left : (point : List ℕ) → IsInside point (whole_of format)
       → ((q : ℕ) → q < count_of subset.shape → Contains written (chunk_number format (point_in subset q)) → point ≢ point_in subset q)
       → new point ≡ old point
@@ -56,7 +59,8 @@ pub record AreWrittenTo (format : ArrayFormat) (subset : Subset) (update : ℕ �
 -- the same after a refusal, but for the chunk that it names with a fault
 pub record AreStoppedAt (format : ArrayFormat) (subset : Subset) (update : ℕ → Bytes) (written : List ℕ) (error : ArrayError)
     (old new : List ℕ → Option Bytes) : Type 0 where
-  pub done : (q : ℕ) → q < count_of subset.shape → Contains written (chunk_number format (point_in subset q)) → new (point_in subset q) ≡ Some (update q)
+  pub done : (q : ℕ) → q < count_of subset.shape → Contains written (chunk_number format (point_in subset q))
+      → new (point_in subset q) ≡ Some (update q)
   pub left : (point : List ℕ) → IsInside point (whole_of format)
       → ((q : ℕ) → q < count_of subset.shape → Contains written (chunk_number format (point_in subset q)) → point ≢ point_in subset q)
       → ¬ IsFaultAt error (key_at format point) → new point ≡ old point

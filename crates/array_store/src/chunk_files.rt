@@ -1,6 +1,6 @@
 // The files of an array's chunks, as they are listed in its folder.
 use crate::chunk_grid::ChunkGrid;
-use crate::error::FolderError;
+use crate::folder_error::FolderError;
 use crate::names::{Level, levels_of};
 use array_grid::ChunkKeys;
 use std::alloc::{AllocError, Global};

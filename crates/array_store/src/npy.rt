@@ -1,10 +1,10 @@
 // A file of NumPy's format, version 1.0.
 ghost use Rattle.std.specs.Prelude.{◌≤◌, IfOk, IfErr, length};
-ghost use Rattle.array_folder.specs.Npy.{IsHeader};
-ghost use Rattle.array_folder.specs.Shown.{IsPathPrinted};
+ghost use Rattle.array_store.specs.Npy.{IsHeader};
+ghost use Rattle.array_store.specs.Shown.{IsPathPrinted};
 
 use crate::document::named;
-use crate::error::FolderError;
+use crate::folder_error::FolderError;
 use std::alloc::{AllocError, Global};
 use std::io;
 use std::io::ErrorKind;

@@ -1,7 +1,7 @@
 // The members of a group, as they are listed in its folder.
 use crate::chunk_files::{ROOM, open_folder};
 use crate::document::named;
-use crate::error::FolderError;
+use crate::folder_error::FolderError;
 use std::alloc::{AllocError, Global};
 use std::io::Read;
 use std::rt::Files;

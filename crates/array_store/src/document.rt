@@ -1,8 +1,8 @@
 // The text of an array's metadata.
 ghost use Rattle.std.specs.Prelude.{IfErr};
-ghost use Rattle.array_folder.specs.Shown.{IsPathPrinted};
+ghost use Rattle.array_store.specs.Shown.{IsPathPrinted};
 
-use crate::error::FolderError;
+use crate::folder_error::FolderError;
 use std::alloc::Global;
 use std::io::{ErrorKind, Read};
 use std::rt::Files;
