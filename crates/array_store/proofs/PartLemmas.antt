@@ -6,7 +6,7 @@ use Rattle.std.proofs.lemmas.Slice.Eq.{bytes_eq-Decides}
 use Rattle.std.specs.Str.{bytes_eq}
 use Rattle.parts_errors.specs.Words.{Bytes}
 use Rattle.parts_row_major.specs.Numbering.{count_of, point_of}
-use Rattle.parts_row_major.specs.Subsets.{Subset, number_in, numbers_in}
+use Rattle.parts_row_major.specs.Subsets.{Subset, LiesIn, number_in, numbers_in}
 use Rattle.parts_subsets.specs.Grid.{grid_of}
 use Rattle.parts_subsets.specs.Touched.{AreTouched}
 use Rattle.parts_arrays.specs.Arrays.{Array, element_of, extracted}
@@ -23,6 +23,9 @@ use Rattle.array_store.specs.declared.error.ArrayError.TheVariants.{Whole, Chunk
 use Rattle.array_store.specs.declared.format.ArrayFormat.{ArrayFormat}
 use Rattle.array_store.specs.steps.Writing.{ArePartsOf, AreOtherChunksKept, IsChunkWritten, touched_key, whole_of}
 use Rattle.array_store.proofs.PlaceLemmas.{touched_same}
+use Rattle.array_store.specs.ReadRefusals.{IsCut, IsRefusalIn, IsReadRefusal}
+use Rattle.array_store.specs.steps.Reading.{IsRefusalAt}
+use Rattle.array_store.proofs.ProgressLemmas.{touched_point}
 use Rattle.array_store.proofs.WriteLemmas.{chunk_written}
 
 -- two keys are the same, or they are not
@@ -65,6 +68,13 @@ module _ (format : ArrayFormat) (m : Meaning) (subset : Subset) (parts : SubsetI
   key_is : (touched : List ℕ) → AreTouched (whole_of format) format.chunk.now subset touched → chunk_key format.keys part.coordinates.items ≡ touched_key format touched place
   key_is touched are = ap (chunk_key format.keys) (at.coordinates.1 ∙ ap (λ n. point_of n (grid_of (whole_of format) format.chunk.now)) (sym (number_is touched are)))
 
+  -- a refusal for its chunk
+  pub refusal_in : place < parts.count → (error : ArrayError) → IsRefusalAt (chunk_key format.keys part.coordinates.items) error → IsRefusalIn format subset error
+  refusal_in below (Whole e) refused = refused
+  refusal_in below (Chunk named e) refused =
+      let found = touched_point format m subset ready.axes ready.some ready.inside ready.small at.shards at.touched place (omega (arith, below, at.counted)) in
+      (found.0, found.1, refused ∙ key_is at.shards at.touched ∙ found.2)
+
   pub other_chunks : (old new : StoreState) → AreKept old new (chunk_key format.keys part.coordinates.items) → IsTrue old.transparent
       → AreOtherChunksKept format subset place old.contents new.contents
   other_chunks old new kept t touched are key apart = kept.others t key (λ is. apart (is ∙ key_is touched are))
@@ -78,3 +88,9 @@ module _ (format : ArrayFormat) (m : Meaning) (subset : Subset) (parts : SubsetI
       chunk_written format m subset ready.axes ready.some ready.inside ready.small part.shard part.in_shard part.in_subset (element_of here) (element_of array) old.contents new.contents at.coordinates.0.0
       at.meets (λ r few. part_elements array here part.in_subset subset.shape r is (omega (arith, few, ap count_of at.meets.same_shape)))
       (rw (at.coordinates.1) at updated) (λ key apart. kept.others t key (λ same. apart (same ∙ ap (chunk_key format.keys) (at.coordinates.1))))
+
+-- a refusal for a chunk, as one of a read
+pub read_refused : (format : ArrayFormat) (subset : Subset) (error : ArrayError) → IsCut format → LiesIn subset format.shape.now → IsRefusalIn format subset error
+    → IsReadRefusal format subset error
+read_refused format subset (Whole e) cut lies refused = inr (inr (cut, lies, inl refused))
+read_refused format subset (Chunk named e) cut lies refused = (cut, lies, refused)

@@ -107,13 +107,20 @@ module _ (format : ArrayFormat) (m : Meaning) (subset : Subset) (same : length f
       rw (← found.2) (subchunk_number-below (whole_of format) format.chunk.now (divides format m subset same some lies small) (number_in subset (whole_of format) found.0)
       (number_in_below subset (whole_of format) found.0 (inside format m subset same some lies small) found.1))
 
+  -- its key is that of the chunk with the place
+  pub touched_point : (place : ℕ) → place < length touched
+      → (q : ℕ) × (q < count_of subset.shape) × (touched_key format touched place ≡ key_at format (point_in subset q))
+  touched_point place below =
+      let found = touching place below in
+      let coordinates = coordinates_of_chunk format m subset same some lies small (get_or touched place 0) (point_in subset found.0) (within found.0 found.1) found.2 in
+      (found.0, found.1, ap (chunk_key format.keys) (sym coordinates))
+
   -- a key of no chunk of the subset is not the key of the chunk with a place
   pub not_touched : (place : ℕ) (key : Bytes) → place < length touched → ((q : ℕ) → q < count_of subset.shape → key ≢ key_at format (point_in subset q))
       → key ≢ touched_key format touched place
   not_touched place key below apart at =
-      let found = touching place below in
-      let coordinates = coordinates_of_chunk format m subset same some lies small (get_or touched place 0) (point_in subset found.0) (within found.0 found.1) found.2 in
-      apart found.0 found.1 (at ∙ ap (chunk_key format.keys) (sym coordinates))
+      let found = touched_point place below in
+      apart found.0 found.1 (at ∙ found.2)
 
   -- every point of the subset lies in one of the chunks
   pub all_touched : (written : List ℕ) → length written ≡ length touched → ((i : ℕ) → i < length written → get_or touched i 0 ≡ get_or written i 0)

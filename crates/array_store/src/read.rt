@@ -1,5 +1,5 @@
 // A subset of an array that is read chunk by chunk.
-ghost use Rattle.std.specs.Prelude.{◌≡◌, ◌<◌, ◌^◌, ℕ, Some, IsTrue, IfOk, OnOk, List, length, slice_index};
+ghost use Rattle.std.specs.Prelude.{◌≡◌, ◌<◌, ◌^◌, ℕ, Some, IsTrue, IfOk, IfErr, OnOk, List, length, slice_index};
 ghost use Rattle.std.specs.List.{All};
 ghost use Rattle.parts_row_major.specs.Numbering.{count_of, point_of};
 ghost use Rattle.parts_row_major.specs.Pieces.{piece};
@@ -11,7 +11,10 @@ ghost use Rattle.parts_arrays.specs.declared.data_type.DataTypeSize.TheVariants.
 ghost use Rattle.array_grid.specs.Shards.{whole_shards};
 ghost use Rattle.array_grid.specs.Parts.{IsPartAt};
 ghost use Rattle.array_store.specs.ArrayElements.{AreElementsAt, chunk_spec, element_at, object_of};
-ghost use Rattle.array_store.specs.steps.Reading.{IsPartPut, IsChunkRead, AreReadTo, chunk_at};
+ghost use Rattle.array_grid.specs.ChunkKeys.{chunk_key};
+ghost use Rattle.array_store.specs.ReadRefusals.{IsReadRefusal, IsRefusalIn};
+ghost use Rattle.array_store.specs.steps.Reading.{IsPartPut, IsChunkRead, IsRefusalAt, AreReadTo, chunk_at};
+ghost use Rattle.array_store.specs.steps.Writing.{ArePartsOf};
 
 use crate::array::Array;
 use crate::error::ArrayError;
@@ -59,6 +62,7 @@ impl<S: Store, C: ArrayToBytesCodecTraits> Array<'_, S, C> {
         ensures read { let m = C.meaning self.now.codec.now (chunk_spec self.now.format) in
             OnOk result (IsTrue (S.state self.now.store).transparent
             → IsPartPut m.cells (object_of (S.state self.now.store).contents self.now.format part.now.coordinates.items) self.now.format.chunk.now part.now.in_shard part.now.in_subset cells.old cells.new) }
+        ensures refused { IfErr result (IsRefusalAt (chunk_key self.now.format.keys part.now.coordinates.items)) }
     {
         let key = self.format.keys.key_of(alloc, &part.coordinates)?;
         match self.put_part(alloc, &key, &part.in_shard, &part.in_subset, cells) {
@@ -75,9 +79,7 @@ impl<S: Store, C: ArrayToBytesCodecTraits> Array<'_, S, C> {
         number: u64,
         cells: &mut SubsetCells,
     ) -> Result<(), ArrayError>
-        requires array { parts.now.array ≡ record { shape = self.now.format.shape.now; shard = self.now.format.chunk.now } }
-        requires axes { length self.now.format.shape.now ≡ length self.now.format.chunk.now }
-        requires inside { LiesIn parts.now.subset self.now.format.shape.now }
+        requires parts { ArePartsOf self.now.format parts.now.subset parts.now }
         requires around { cells.old.shape ≡ parts.now.subset.shape }
         requires number { number < parts.now.count }
         ensures same_size { cells.new.element_size ≡ cells.old.element_size }
@@ -86,8 +88,8 @@ impl<S: Store, C: ArrayToBytesCodecTraits> Array<'_, S, C> {
             OnOk result (IsTrue (S.state self.now.store).transparent → (touched : List ℕ) → AreTouched whole f.chunk.now subset touched
             → IsChunkRead (λ q. element_at (S.state self.now.store).contents f (C.meaning self.now.codec.now (chunk_spec f)).cells (point_in subset q)) (chunk_at whole f.chunk.now subset)
             f.fill_value.now (count_of subset.shape) (slice_index touched number) (piece cells.old.element_size cells.old.bytes) (piece cells.old.element_size cells.new.bytes)) }
+        ensures refused { IfErr result (IsRefusalIn self.now.format parts.now.subset) }
     {
-        let _axes = self.format.chunk.as_slice();
         let Some(part) = parts.part(alloc, number)? else {
             unreachable!()
         };
@@ -102,9 +104,7 @@ impl<S: Store, C: ArrayToBytesCodecTraits> Array<'_, S, C> {
         parts: &ShardParts,
         cells: &mut SubsetCells,
     ) -> Result<(), ArrayError>
-        requires array { parts.now.array ≡ record { shape = self.now.format.shape.now; shard = self.now.format.chunk.now } }
-        requires axes { length self.now.format.shape.now ≡ length self.now.format.chunk.now }
-        requires inside { LiesIn parts.now.subset self.now.format.shape.now }
+        requires parts { ArePartsOf self.now.format parts.now.subset parts.now }
         requires around { cells.old.shape ≡ parts.now.subset.shape }
         requires blank { (q : ℕ) → q < count_of parts.now.subset.shape → piece cells.old.element_size cells.old.bytes q ≡ self.now.format.fill_value.now }
         ensures same_size { cells.new.element_size ≡ cells.old.element_size }
@@ -113,6 +113,7 @@ impl<S: Store, C: ArrayToBytesCodecTraits> Array<'_, S, C> {
             OnOk result (IsTrue (S.state self.now.store).transparent → (touched : List ℕ) → AreTouched whole f.chunk.now subset touched → length touched ≡ parts.now.count
             → AreReadTo (λ q. element_at (S.state self.now.store).contents f (C.meaning self.now.codec.now (chunk_spec f)).cells (point_in subset q)) (chunk_at whole f.chunk.now subset)
             f.fill_value.now (count_of subset.shape) touched parts.now.count (piece cells.old.element_size cells.new.bytes)) }
+        ensures refused { IfErr result (IsRefusalIn self.now.format parts.now.subset) }
     {
         for number in 0..parts.len() {
             self.read_numbered(alloc, parts, number, cells)?;
@@ -131,7 +132,9 @@ impl<S: Store, C: ArrayToBytesCodecTraits> Array<'_, S, C> {
         ensures elements { let f = self.now.format in
             IfOk result (λ cells. IsTrue (S.state self.now.store).transparent
             → AreElementsAt (element_at (S.state self.now.store).contents f (C.meaning self.now.codec.now (chunk_spec f)).cells) subset.now cells) }
+        ensures refused { IfErr result (IsReadRefusal self.now.format subset.now) }
     {
+        let _axes = self.format.chunk.as_slice();
         let grid = ShardGrid::new(alloc, self.format.shape, self.format.chunk)?;
         let parts = grid.parts(alloc, subset)?;
         let mut cells = SubsetCells::new(alloc, subset, self.format.fill_value)?;

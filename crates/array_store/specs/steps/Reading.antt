@@ -1,5 +1,5 @@
 -- A subset that is read chunk by chunk.
-use Rattle.std.specs.Prelude.{◌≡◌, ◌≢◌, ◌<◌, ◌≤◌, ℕ, List, Option, Some, None, length, map, slice_index, slice_index_or}
+use Rattle.std.specs.Prelude.{◌≡◌, ◌≢◌, ◌<◌, ◌≤◌, ℕ, List, Option, Some, None, length, map, slice_index, slice_index_or, string_bytes}
 use Rattle.parts_errors.specs.Words.{Bytes, CellsOf}
 use Rattle.parts_row_major.specs.Numbering.{count_of}
 use Rattle.parts_row_major.specs.Pieces.{piece, IsUpdated}
@@ -7,7 +7,15 @@ use Rattle.parts_row_major.specs.Subsets.{Subset, number_in, points_of}
 use Rattle.parts_subsets.specs.Grid.{subchunk_number}
 use Rattle.parts_arrays.specs.Arrays.{Array}
 use Rattle.codec_traits.specs.Reads.{cells_at}
+use Rattle.parts_errors.specs.declared.error.CodecError.TheVariants.{OutOfMemory}
 use Rattle.array_grid.specs.Cells.{CellsOfSubset}
+use Rattle.array_store.specs.declared.error.ArrayError.{ArrayError}
+use Rattle.array_store.specs.declared.error.ArrayError.TheVariants.{Whole, Chunk}
+
+-- a refusal is for memory, or names a key
+abbrev pub IsRefusalAt : Bytes → ArrayError → Type 0
+IsRefusalAt key (Whole e) = e ≡ OutOfMemory
+IsRefusalAt key (Chunk named e) = string_bytes named ≡ key
 
 -- what is read of a part of a chunk: nothing where there is no object, and else the elements that its bytes stand for at the part's points
 abbrev pub IsPartRead : CellsOf → Option Bytes → List ℕ → Subset → Option Array → Type 0

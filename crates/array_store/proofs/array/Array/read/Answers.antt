@@ -3,7 +3,16 @@ use Rattle.parts_row_major.specs.Subsets.{point_in}
 use Rattle.array_grid.specs.Shards.{whole_shards}
 use Rattle.array_store.specs.ArrayElements.{chunk_spec, element_at}
 use Rattle.array_store.proofs.ReadLemmas.{read_all}
+use Rattle.array_store.proofs.PartLemmas.{read_refused}
+use Rattle.array_store.proofs.ProgressLemmas.{passed_error}
 use Rattle.array_store.proofs.array.Array.read.Goals as goal
+
+pub returns-in_err-read_parts-clause-refused : goal.returns-in_err-read_parts-clause-refused
+returns-in_err-read_parts-clause-refused g c =
+    let lies = rw c.in_ok-grid.ensures.grid at c.in_ok-parts.ensures.served in
+    passed_error c.from_residual-in_err-read_parts.result c.in_err-read_parts.field-0.0 _ c.from_residual-in_err-read_parts.ensures.1
+    (read_refused c.args.self.now.format c.args.subset.now c.in_err-read_parts.field-0.0 c.in_ok-grid.ensures.served lies
+    (rw c.in_ok-parts.ensures.same_subset at c.in_err-read_parts.ensures.refused))
 
 pub returns-clause-elements : goal.returns-clause-elements
 returns-clause-elements g c = λ t.
