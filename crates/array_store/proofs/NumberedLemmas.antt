@@ -1,13 +1,11 @@
 -- The part of a subset that has a number, which is read.
-use Rattle.std.proofs.Common.{◌≡◌, ℕ, ◌<◌, List, Option, length, get_or, refl, sym, ap, subst, ◌∙◌, arith}
+use Rattle.std.proofs.Common.{◌≡◌, ℕ, ◌<◌, List, Option, length, get_or, refl, sym, ap, subst, ◌∙◌}
 use Rattle.parts_errors.specs.Words.{Bytes, CellsOf}
 use Rattle.parts_row_major.specs.Numbering.{AllPositive, count_of, number_of, point_of}
 use Rattle.parts_row_major.specs.Pieces.{piece}
 use Rattle.parts_row_major.specs.Subsets.{Subset, LiesIn, number_in, point_in}
-use Rattle.parts_row_major.proofs.PieceLaws.{number_in_below}
 use Rattle.parts_subsets.specs.Grid.{Divides, grid_of, subchunk_of, position_of, position_number}
 use Rattle.parts_subsets.specs.Touched.{AreTouched}
-use Rattle.parts_subsets.proofs.GridLaws.{subchunk_number-below}
 use Rattle.array_grid.specs.Cells.{CellsOfSubset}
 use Rattle.array_grid.specs.Parts.{IsPartAt}
 use Rattle.array_grid.specs.Shards.{whole_shards}

@@ -1,5 +1,5 @@
 -- A subset that is written chunk by chunk.
-use Rattle.std.proofs.Common.{◌≡◌, ◌≢◌, ℕ, ◌+◌, ◌<◌, ◌≤◌, ◌^◌, IsTrue, List, [], ◌∷◌, ◌++◌, Option, Some, Result, Ok, Err, IfErr, OnOk, inl, inr, length, get_or, refl, sym, ap, subst, ◌∙◌, arith}
+use Rattle.std.proofs.Common.{◌≡◌, ◌≢◌, ℕ, ◌<◌, ◌≤◌, ◌^◌, List, [], ◌∷◌, ◌++◌, Option, Some, Result, Ok, Err, IfErr, OnOk, inl, inr, length, get_or, refl, sym, ap, subst, ◌∙◌, arith}
 use Rattle.std.proofs.lemmas.Bool.{cases_eq}
 use Rattle.std.proofs.lemmas.Grind.{get_or_default_zero}
 use Rattle.std.proofs.lemmas.List.{get_or_append_left, length-append}
@@ -7,11 +7,11 @@ use Rattle.std.proofs.lemmas.List.Elements.{Contains-append_left, Contains-appen
 use Rattle.std.proofs.Math.Seq.{get_or-append_seam}
 use Rattle.std.specs.List.{All, Contains}
 use Rattle.std.specs.Result.{IsErrAnd}
-use Rattle.parts_errors.specs.Words.{Bytes, CellsOf}
-use Rattle.parts_row_major.specs.Numbering.{AllPositive, count_of, IsInside, point_of}
+use Rattle.parts_errors.specs.Words.{Bytes}
+use Rattle.parts_row_major.specs.Numbering.{AllPositive, count_of, IsInside}
 use Rattle.parts_row_major.specs.Subsets.{Subset, LiesIn, number_in, point_in}
 use Rattle.parts_row_major.proofs.PieceLaws.{number_in_below}
-use Rattle.parts_subsets.specs.Grid.{grid_of, subchunk_of, subchunk_number}
+use Rattle.parts_subsets.specs.Grid.{grid_of}
 use Rattle.parts_subsets.specs.Touched.{AreTouched}
 use Rattle.parts_subsets.proofs.GridLaws.{subchunk_number-below}
 use Rattle.codec_traits.specs.Meanings.{Meaning}

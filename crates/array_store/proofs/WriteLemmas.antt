@@ -1,5 +1,5 @@
 -- A chunk of which a part has been written.
-use Rattle.std.proofs.Common.{◌≡◌, ◌≢◌, ℕ, zero, suc, ◌<◌, ◌^◌, List, [], ◌∷◌, Option, Some, None, inl, inr, length, map, get_or, refl, sym, ap, subst, ◌∙◌, arith}
+use Rattle.std.proofs.Common.{◌≡◌, ◌≢◌, ℕ, zero, suc, ◌<◌, ◌^◌, List, [], ◌∷◌, Option, Some, None, inl, inr, length, get_or, refl, sym, ap, ◌∙◌, arith}
 use Rattle.std.proofs.lemmas.Bool.{cases_eq}
 use Rattle.std.proofs.lemmas.List.{get_or-map}
 use Rattle.std.proofs.Math.Nat.{div-le_self}
@@ -12,20 +12,17 @@ use Rattle.parts_row_major.proofs.PieceLaws.{number_in_below}
 use Rattle.parts_row_major.proofs.SubsetLaws.{shifted_inside}
 use Rattle.parts_subsets.specs.Grid.{Divides, grid_of, subchunk_of, position_of, subchunk_number, position_number, cell_number}
 use Rattle.parts_subsets.specs.Laws.{IsElsewhere}
-use Rattle.parts_subsets.proofs.GridLaws.{subchunk_of_inside, position_of_inside, position_number-below, cell_number-located, subchunk_number-cell_number}
+use Rattle.parts_subsets.proofs.GridLaws.{subchunk_of_inside, position_of_inside, cell_number-located, subchunk_number-cell_number}
 use Rattle.codec_traits.specs.Meanings.{Meaning}
 use Rattle.sharding_gather.specs.SubchunkOverlaps.{IsSubchunkOverlap}
 use Rattle.array_grid.specs.ChunkKeys.{chunk_key}
-use Rattle.array_grid.specs.Shards.{whole_shards}
 use Rattle.array_grid.proofs.KeyLemmas.{key_once}
 use Rattle.array_grid.proofs.RoundingLemmas.{whole_divided, lies_in_whole}
-use Rattle.array_store.specs.ArrayElements.{cell_of, object_of, element_at}
+use Rattle.array_store.specs.ArrayElements.{cell_of, element_at}
 use Rattle.array_store.specs.ArrayWrites.{key_at, chunk_number}
-use Rattle.array_store.specs.ChunkWrites.{HoldsEncoding, AreUpdated, IsUpdatedObject}
+use Rattle.array_store.specs.ChunkWrites.{HoldsEncoding, IsUpdatedObject}
 use Rattle.array_store.specs.declared.format.ArrayFormat.{ArrayFormat}
-use Rattle.array_store.specs.steps.Reading.{chunk_at}
 use Rattle.array_store.specs.steps.Writing.{IsChunkWritten, whole_of}
-use Rattle.array_store.proofs.NumberedLemmas.{element_of_chunk}
 
 -- the cell of an object that stands for elements
 cell_there : (m : Meaning) (fill : Bytes) (object : Option Bytes) (elements : Elements) (p : ℕ) → HoldsEncoding m elements object → p < length elements

@@ -1,5 +1,5 @@
 -- What a write of a subset leaves of an array.
-use Rattle.std.specs.Prelude.{◌≡◌, ◌≢◌, ◌<◌, ◌≤◌, ℕ, IsTrue, List, Option, Some, length, slice_index, string_bytes}
+use Rattle.std.specs.Prelude.{◌≡◌, ◌≢◌, ◌<◌, ◌≤◌, ℕ, List, Option, Some, length, slice_index, string_bytes}
 use Rattle.std.specs.List.{Contains}
 use Rattle.parts_errors.specs.Words.{Bytes, CellsOf}
 use Rattle.parts_errors.specs.declared.error.CodecError.TheVariants.{Fault}

@@ -1,8 +1,8 @@
-use Rattle.std.proofs.Common.{◌≡◌, ◌<◌, ◌∙◌, IsTrue, [], ◌∷◌, ◌++◌, length, ap, refl, sym, subst, arith}
+use Rattle.std.proofs.Common.{◌≡◌, ◌<◌, ◌∙◌, IsTrue, [], ◌∷◌, ◌++◌, length, ap, sym, subst, arith}
 use Rattle.std.proofs.lemmas.List.{length-append}
 use Rattle.parts_arrays.specs.Arrays.{element_of}
 use Rattle.parts_errors.specs.declared.error.CodecError.TheVariants.{OutOfMemory}
-use Rattle.array_store.specs.ArrayElements.{chunk_spec, element_at}
+use Rattle.array_store.specs.ArrayElements.{chunk_spec}
 use Rattle.array_store.specs.declared.error.ArrayError.TheVariants.{Whole}
 use Rattle.array_store.proofs.ProgressLemmas.{passed_error, stop_here, not_touched, stopped, listed_more, write_more, within}
 use Rattle.array_store.proofs.array.Array.write_parts.Goals as goal

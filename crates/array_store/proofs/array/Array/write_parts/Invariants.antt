@@ -1,4 +1,4 @@
-use Rattle.std.proofs.Common.{◌≡◌, ◌<◌, ◌≤◌, ℕ, List, IsTrue, length, get_or}
+use Rattle.std.proofs.Common.{◌≡◌, ◌<◌, ℕ, List, IsTrue, length, get_or}
 use Rattle.parts_arrays.specs.Arrays.{element_of}
 use Rattle.parts_subsets.specs.Touched.{AreTouched}
 use Rattle.array_store.specs.ArrayElements.{chunk_spec, element_at}
