@@ -1,50 +1,77 @@
--- A codec from bytes to bytes, and `crc32c` behind it.
-use Rattle.std.proofs.Common.{◌≡◌, Bool, true, false, refl, ap, ◌∙◌, option_and_then}
-use Rattle.parts_errors.specs.Words.{Bytes}
+-- Lists of codecs from bytes to bytes: each encodes what the one before it gives.
+use Rattle.std.proofs.Common.{◌≡◌, ◌≤◌, ℕ, Option, Some, None, IsSomeAnd, length, refl, ap, ◌∙◌, option_and_then}
+use Rattle.parts_errors.specs.Words.{Bytes, Refusals}
+use Rattle.parts_errors.specs.Order.{◌or◌then◌, done, RefusedBy}
+use Rattle.parts_errors.specs.declared.error.CodecError.TheVariants.{Damaged}
 use Rattle.codec_chains.specs.Codings.{Coding, IsInvertible, IsBounded}
-use Rattle.codec_chains.specs.Trailers.{with_trailer, without_trailer, longer_by}
-use Rattle.codec_chains.specs.TrailerLaws.{trailer_invertible, trailer_bounded}
-use Rattle.codec_checksums.specs.Crc32c.{checksum_bytes}
 use Rattle.array_codecs.specs.ByteCodec.{byte_coding, byte_invertible, byte_bounded}
+use Rattle.array_codecs.specs.declared.byte_codec.ByteCodec.{ByteCodec}
 use Rattle.array_codecs.specs.declared.byte_codecs.ByteCodecs.{ByteCodecs}
 
--- an encoding by the codec, and behind it the four bytes of its checksum
-abbrev pub checked_coding : Coding → Coding
-checked_coding coding = record {
-  written = λ b encoded. (first : Bytes) × (coding.written b first) × (encoded ≡ with_trailer checksum_bytes first);
-  decoding = λ encoded. option_and_then coding.decoding (without_trailer 4 checksum_bytes encoded);
-  representation = λ told. longer_by 4 (coding.representation told);
+-- a codec, and another behind it
+abbrev pub followed : Coding → Coding → Coding
+followed first second = record {
+  written = λ b encoded. (between : Bytes) × (first.written b between) × (second.written between encoded);
+  decoding = λ encoded. option_and_then first.decoding (second.decoding encoded);
+  representation = λ told. second.representation (first.representation told);
 }
 
-abbrev pub checked_if : Bool → Coding → Coding
-checked_if true coding = checked_coding coding
-checked_if false coding = coding
+-- no codec: the bytes stay as they are
+abbrev pub unchanged : Coding
+unchanged = record { written = λ b encoded. encoded ≡ b; decoding = Some; representation = λ told. told }
+
+abbrev pub optional_coding : Option ByteCodec → Coding
+optional_coding None = unchanged
+optional_coding (Some codec) = byte_coding codec
 
 -- what the list means
 abbrev pub list_coding : ByteCodecs → Coding
-list_coding codecs = checked_if codecs.checked (byte_coding codecs.codec)
+list_coding codecs = followed (followed (byte_coding codecs.first) (optional_coding codecs.second)) (optional_coding codecs.third)
 
-checked_invertible : (coding : Coding) → IsInvertible coding → IsInvertible (checked_coding coding)
-checked_invertible coding back b encoded (first, written, is) =
-    ap (option_and_then coding.decoding) (trailer_invertible 4 checksum_bytes (λ _. refl) first encoded is) ∙ back b first written
+-- ---- words for the contracts of the functions that decode
 
-checked_bounded : (coding : Coding) → IsBounded coding → IsBounded (checked_coding coding)
-checked_bounded coding bounded = record {
-  unbounded = ap (longer_by 4) (bounded.unbounded);
-  within = λ told b encoded h written. (trailer_bounded 4 checksum_bytes (λ _. refl)).within (coding.representation told) written.0 encoded
-      (bounded.within told b written.0 h written.1) written.2;
+-- at most as many as a limit, where there is one
+abbrev pub IsAtMost : Option ℕ → ℕ → Type 0
+IsAtMost None n = Unit {0}
+IsAtMost (Some limit) n = n ≤ limit
+
+-- encodings of bytes within one limit are within another
+abbrev pub LimitsEncodings : Coding → Option ℕ → Option ℕ → Type 0
+LimitsEncodings coding limit encodings = (b encoded : Bytes) → coding.decoding encoded ≡ Some b → IsAtMost limit (length b) → IsAtMost encodings (length encoded)
+
+-- bytes are refused that decode to none within a limit
+abbrev pub RefusedOver : Option ℕ → Option Bytes → Refusals
+RefusedOver limit decoded = RefusedBy (IsSomeAnd decoded (λ b. IsAtMost limit (length b)) or Damaged then done)
+
+-- ---- laws
+
+followed_invertible : (first second : Coding) → IsInvertible first → IsInvertible second → IsInvertible (followed first second)
+followed_invertible first second back again b encoded (between, written, is) =
+    ap (option_and_then first.decoding) (again between encoded is) ∙ back b between written
+
+followed_bounded : (first second : Coding) → IsBounded first → IsBounded second → IsBounded (followed first second)
+followed_bounded first second bounded again = record {
+  unbounded = ap second.representation (bounded.unbounded) ∙ again.unbounded;
+  within = λ told b encoded h written. again.within (first.representation told) written.0 encoded (bounded.within told b written.0 h written.1) written.2;
 }
 
-invertible_if : (checked : Bool) (coding : Coding) → IsInvertible coding → IsInvertible (checked_if checked coding)
-invertible_if true coding back = checked_invertible coding back
-invertible_if false coding back = back
+optional_invertible : (codec : Option ByteCodec) → IsInvertible (optional_coding codec)
+optional_invertible None = λ b encoded is. ap Some is
+optional_invertible (Some codec) = byte_invertible codec
 
-bounded_if : (checked : Bool) (coding : Coding) → IsBounded coding → IsBounded (checked_if checked coding)
-bounded_if true coding bounded = checked_bounded coding bounded
-bounded_if false coding bounded = bounded
+unchanged_bounded : IsBounded unchanged
+unchanged_bounded = record { unbounded = refl; within = λ told b encoded h is. rw is h }
+
+optional_bounded : (codec : Option ByteCodec) → IsBounded (optional_coding codec)
+optional_bounded None = unchanged_bounded
+optional_bounded (Some codec) = byte_bounded codec
 
 pub list_invertible : (codecs : ByteCodecs) → IsInvertible (list_coding codecs)
-list_invertible codecs = invertible_if codecs.checked (byte_coding codecs.codec) (byte_invertible codecs.codec)
+list_invertible codecs =
+    let two = followed_invertible (byte_coding codecs.first) (optional_coding codecs.second) (byte_invertible codecs.first) (optional_invertible codecs.second) in
+    followed_invertible (followed (byte_coding codecs.first) (optional_coding codecs.second)) (optional_coding codecs.third) two (optional_invertible codecs.third)
 
 pub list_bounded : (codecs : ByteCodecs) → IsBounded (list_coding codecs)
-list_bounded codecs = bounded_if codecs.checked (byte_coding codecs.codec) (byte_bounded codecs.codec)
+list_bounded codecs =
+    let two = followed_bounded (byte_coding codecs.first) (optional_coding codecs.second) (byte_bounded codecs.first) (optional_bounded codecs.second) in
+    followed_bounded (followed (byte_coding codecs.first) (optional_coding codecs.second)) (optional_coding codecs.third) two (optional_bounded codecs.third)
