@@ -3,14 +3,14 @@ ghost use Rattle.std.specs.Prelude.{◌≡◌, Some, Ok, IfOk, codes};
 ghost use Rattle.serde_json.specs.Data.{no_items, item};
 ghost use Rattle.serde_json.specs.Find.{get};
 ghost use Rattle.serde_json.specs.View.{view};
-ghost use Rattle.array_metadata.specs.ByteCodecsMetadata.{crc32c_in, gzip_in, zstd_in, zstd_level_of, checksum_in, byte_codec_in, byte_codecs_in};
+ghost use Rattle.array_metadata.specs.ByteCodecsMetadata.{crc32c_in, gzip_in, zlib_in, zlib_level_in, zstd_in, zstd_level_of, checksum_in, byte_codec_in, byte_codecs_in};
 ghost use Rattle.array_metadata.specs.CodecNames.{IsByteCodec, IsNamed, Names, metadata_of};
 
 use crate::codecs::{CodecName, NamedCodec};
 use array_codecs::{ByteCodec, ByteCodecs};
 use array_fields::{MetadataError, Placed};
 use codec_checksums::Crc32cCodec;
-use codec_gzip::GzipCodec;
+use codec_gzip::{GzipCodec, ZlibCodec};
 use codec_zstd::ZstdCodec;
 use std::alloc::Global;
 
@@ -39,6 +39,30 @@ fn gzip_codec(alloc: Global, metadata: &Placed) -> Result<GzipCodec, MetadataErr
         }),
         _ => Err(level.bad(alloc, "a level is a whole number from 0 to 9")),
     }
+}
+
+// The level of a configuration of `numcodecs.zlib`; 1 where nothing is said. Refused as `BadField`.
+fn zlib_level(alloc: Global, configuration: &Placed) -> Result<u8, MetadataError>
+    ensures read { IfOk result (λ level. zlib_level_in (get (codes "level") (view configuration.now.value.now)) ≡ Some level) }
+{
+    let Some(level) = configuration.member(alloc, "level")? else {
+        return Ok(1);
+    };
+    match level.value.as_u64() {
+        Some(number) if number <= 9 => Ok(number as u8),
+        _ => Err(level.bad(alloc, "a level is a whole number from 0 to 9")),
+    }
+}
+
+// The codec `numcodecs.zlib`, by its configuration. Refused as `MissingField` or `BadField`.
+fn zlib_codec(alloc: Global, metadata: &Placed) -> Result<ZlibCodec, MetadataError>
+    requires named { Names (view metadata.now.value.now) (codes "numcodecs.zlib") }
+    ensures read { IfOk result (λ codec. zlib_in (view metadata.now.value.now) ≡ Ok codec) }
+{
+    let configuration = metadata.required(alloc, "configuration")?;
+    configuration.only_members(alloc, &["level"])?;
+    let level = zlib_level(alloc, &configuration)?;
+    Ok(ZlibCodec { level })
 }
 
 // The level of a configuration of `zstd`. Refused as `BadField`.
@@ -85,38 +109,75 @@ fn byte_codec(alloc: Global, codec: &NamedCodec) -> Result<ByteCodec, MetadataEr
     match codec.name {
         CodecName::Zstd => Ok(ByteCodec::Zstd(zstd_codec(alloc, &codec.metadata)?)),
         CodecName::Gzip => Ok(ByteCodec::Gzip(gzip_codec(alloc, &codec.metadata)?)),
+        CodecName::Zlib => Ok(ByteCodec::Zlib(zlib_codec(alloc, &codec.metadata)?)),
         _ => Ok(ByteCodec::Crc32c(crc32c_codec(alloc, &codec.metadata)?)),
     }
 }
 
 // The codec that metadata names, alone. Refused as it is.
-pub fn single_codec(alloc: Global, codec: &NamedCodec) -> Result<ByteCodecs, MetadataError>
+pub fn one_codec(alloc: Global, codec: &NamedCodec) -> Result<ByteCodecs, MetadataError>
     requires named { IsNamed codec.now }
     requires served { IsByteCodec codec.now.name }
     ensures read { IfOk result (λ found. byte_codecs_in (item (metadata_of codec.now) no_items) ≡ Ok found) }
 {
-    let codec = byte_codec(alloc, codec)?;
+    let first = byte_codec(alloc, codec)?;
     Ok(ByteCodecs {
-        codec,
-        checked: false,
+        first,
+        second: None,
+        third: None,
     })
 }
 
-// The codec that metadata names, and `crc32c` behind it. Refused as the first that is refused.
-pub fn checked_codec(
+// The two codecs that metadata names, in this order. Refused as the first that is refused.
+pub fn two_codecs(
     alloc: Global,
-    codec: &NamedCodec,
-    checksum: &NamedCodec,
+    first: &NamedCodec,
+    second: &NamedCodec,
 ) -> Result<ByteCodecs, MetadataError>
-    requires named { IsNamed codec.now }
-    requires served { IsByteCodec codec.now.name }
-    requires checksum { Names (metadata_of checksum.now) (codes "crc32c") }
-    ensures read { IfOk result (λ found. byte_codecs_in (item (metadata_of codec.now) (item (metadata_of checksum.now) no_items)) ≡ Ok found) }
+    requires first_named { IsNamed first.now }
+    requires second_named { IsNamed second.now }
+    requires first_served { IsByteCodec first.now.name }
+    requires second_served { IsByteCodec second.now.name }
+    ensures read { IfOk result (λ found. byte_codecs_in (item (metadata_of first.now) (item (metadata_of second.now) no_items)) ≡ Ok found) }
 {
-    let codec = byte_codec(alloc, codec)?;
-    let _checksum = crc32c_codec(alloc, &checksum.metadata)?;
+    let first = byte_codec(alloc, first)?;
+    let second = byte_codec(alloc, second)?;
     Ok(ByteCodecs {
-        codec,
-        checked: true,
+        first,
+        second: Some(second),
+        third: None,
     })
+}
+
+// The three codecs that metadata names, in this order. Refused as the first that is refused.
+pub fn three_codecs(
+    alloc: Global,
+    first: &NamedCodec,
+    second: &NamedCodec,
+    third: &NamedCodec,
+) -> Result<ByteCodecs, MetadataError>
+    requires first_named { IsNamed first.now }
+    requires second_named { IsNamed second.now }
+    requires third_named { IsNamed third.now }
+    requires first_served { IsByteCodec first.now.name }
+    requires second_served { IsByteCodec second.now.name }
+    requires third_served { IsByteCodec third.now.name }
+    ensures read { IfOk result (λ found.
+        byte_codecs_in (item (metadata_of first.now) (item (metadata_of second.now) (item (metadata_of third.now) no_items))) ≡ Ok found) }
+{
+    let first = byte_codec(alloc, first)?;
+    let second = byte_codec(alloc, second)?;
+    let third = byte_codec(alloc, third)?;
+    Ok(ByteCodecs {
+        first,
+        second: Some(second),
+        third: Some(third),
+    })
+}
+
+// Whether codecs only put checksums behind bytes.
+pub fn are_checksums(codecs: &ByteCodecs) -> bool {
+    matches!(codecs.first, ByteCodec::Crc32c(_))
+        && matches!(codecs.second, None | Some(ByteCodec::Crc32c(_)))
+        && matches!(codecs.third, None | Some(ByteCodec::Crc32c(_)))
 }

@@ -10,10 +10,10 @@ ghost use Rattle.array_metadata.specs.ArrayCodecs.{bytes_in, elements_in, arrang
 ghost use Rattle.array_metadata.specs.UnreadCodecs.{sole_shards, chunks_in};
 ghost use Rattle.array_metadata.specs.CodecNames.{codec_name, IsByteCodec, IsNamed, Names, listed, metadata_of};
 
-use crate::byte_codecs::{checked_codec, single_codec};
+use crate::byte_codecs::{are_checksums, one_codec, three_codecs, two_codecs};
 use crate::transposes::{CodecValues, axis_order, codec_values};
 use crate::unread::{first_unserved, innermost, sole_shards as sole_value, test_names};
-use array_codecs::{ByteCodec, ByteCodecs, OpaqueCodec, TransposeCodec};
+use array_codecs::{ByteCodecs, OpaqueCodec, TransposeCodec};
 use array_fields::{MetadataError, Placed};
 use codec_bytes::BytesCodec;
 use codec_chains::{BytesChain, EitherCodec};
@@ -48,6 +48,7 @@ pub enum CodecName {
     Bytes,
     Crc32c,
     Gzip,
+    Zlib,
     Zstd,
     ShardingIndexed,
 }
@@ -61,6 +62,7 @@ impl CodecName {
             "bytes" => Some(CodecName::Bytes),
             "crc32c" => Some(CodecName::Crc32c),
             "gzip" => Some(CodecName::Gzip),
+            "numcodecs.zlib" => Some(CodecName::Zlib),
             "zstd" => Some(CodecName::Zstd),
             "sharding_indexed" => Some(CodecName::ShardingIndexed),
             _ => None,
@@ -81,7 +83,7 @@ impl NamedCodec<'_> {
         ensures { IsTrue result → IsByteCodec self.now.name }
     {
         match self.name {
-            CodecName::Crc32c | CodecName::Gzip | CodecName::Zstd => true,
+            CodecName::Crc32c | CodecName::Gzip | CodecName::Zlib | CodecName::Zstd => true,
             CodecName::Bytes | CodecName::ShardingIndexed => false,
         }
     }
@@ -106,7 +108,7 @@ struct ShardParts {
 pub fn unserved(name: &str) -> &'static str {
     match name {
         "blosc" | "zlib" | "lz4" | "bz2" | "lzma" => {
-            "of the codecs that compress, this program reads gzip and zstd alone"
+            "of the codecs that compress, this program reads gzip, zstd and numcodecs.zlib alone"
         }
         "transpose" => "this program reads transpose inside shards alone, where bytes follows it",
         _ => "this program does not know this codec",
@@ -201,20 +203,29 @@ impl<'a> CodecList<'a> {
             }
             [first, second] if first.name == CodecName::Bytes && second.is_byte_codec() => {
                 let bytes = bytes_codec(alloc, &first.metadata, data_type)?;
-                let codecs = single_codec(alloc, second)?;
+                let codecs = one_codec(alloc, second)?;
                 Ok(EitherCodec::Second(BytesChain::new(bytes, codecs)))
             }
             [first, second, third]
                 if first.name == CodecName::Bytes
                     && second.is_byte_codec()
-                    && third.name == CodecName::Crc32c => {
+                    && third.is_byte_codec() => {
                 let bytes = bytes_codec(alloc, &first.metadata, data_type)?;
-                let codecs = checked_codec(alloc, second, third)?;
+                let codecs = two_codecs(alloc, second, third)?;
+                Ok(EitherCodec::Second(BytesChain::new(bytes, codecs)))
+            }
+            [first, second, third, fourth]
+                if first.name == CodecName::Bytes
+                    && second.is_byte_codec()
+                    && third.is_byte_codec()
+                    && fourth.is_byte_codec() => {
+                let bytes = bytes_codec(alloc, &first.metadata, data_type)?;
+                let codecs = three_codecs(alloc, second, third, fourth)?;
                 Ok(EitherCodec::Second(BytesChain::new(bytes, codecs)))
             }
             _ => Err(self.refused(
                 alloc,
-                "only bytes is served here, or bytes and one of crc32c, gzip and zstd behind it, which crc32c may follow",
+                "only bytes is served here, or bytes and up to three of crc32c, gzip, zstd and numcodecs.zlib behind it",
             )),
         }
     }
@@ -312,7 +323,7 @@ fn parsed_configuration(
 fn is_of_fixed_size(codec: &IndexCodec) -> bool {
     match codec {
         EitherCodec::First(_) => true,
-        EitherCodec::Second(chain) => matches!(chain.bytes_to_bytes.codec, ByteCodec::Crc32c(_)),
+        EitherCodec::Second(chain) => are_checksums(&chain.bytes_to_bytes),
     }
 }
 
