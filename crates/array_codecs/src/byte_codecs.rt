@@ -3,7 +3,7 @@ ghost use Rattle.std.specs.Prelude.{◌≡◌, Some, IfOk, IfErr, length};
 ghost use Rattle.std.specs.Cow.{cow_slice_items};
 ghost use Rattle.parts_errors.specs.declared.error.CodecError.TheVariants.{OutOfMemory};
 ghost use Rattle.array_codecs.specs.ByteCodec.{byte_coding};
-ghost use Rattle.array_codecs.specs.ByteCodecs.{optional_coding, list_coding, IsAtMost, LimitsEncodings, RefusedOver};
+ghost use Rattle.array_codecs.specs.ByteCodecs.{optional_coding, list_coding, is_checksum, are_checksums, IsAtMost, LimitsEncodings, RefusedOver};
 
 use crate::byte_codec::ByteCodec;
 use codec_chains::BytesToBytesCodecTraits;
@@ -145,7 +145,23 @@ fn decode_behind<'a>(
     }
 }
 
+// Whether a codec, if there is one, is `crc32c`.
+fn is_checksum(codec: &Option<ByteCodec>) -> bool
+    ensures { result ≡ is_checksum codec.now }
+{
+    matches!(codec, None | Some(ByteCodec::Crc32c(_)))
+}
+
 impl ByteCodecs {
+    /// Whether each of the codecs is `crc32c`, so that all encodings of as many bytes have one length.
+    pub fn are_checksums(&self) -> bool
+        ensures { result ≡ are_checksums self.now }
+    {
+        matches!(self.first, ByteCodec::Crc32c(_))
+            && is_checksum(&self.second)
+            && is_checksum(&self.third)
+    }
+
     // The bytes of an encoding by the list, where they are at most as many as a limit.
     fn decode_limited<'a>(
         &self,
@@ -167,7 +183,8 @@ impl ByteCodecs {
 }
 
 impl BytesToBytesCodecTraits for ByteCodecs {
-    ghost use Rattle.array_codecs.specs.ByteCodecs.{list_coding, list_invertible, list_bounded};
+    ghost use Rattle.array_codecs.specs.ByteCodecs.{list_coding};
+    ghost use Rattle.array_codecs.specs.ByteCodecsLaws.{list_invertible, list_bounded};
 
     ghost coding = { list_coding };
 

@@ -1,5 +1,5 @@
 -- Codecs from bytes to bytes that metadata names.
-use Rattle.std.specs.Prelude.{ℕ, ℤ, pos, neg_ℤ, int_le, Bool, true, false, ◌&&◌, Option, Ok, Err, Some, None, codes, bytes_eq, nat_le, if◌then◌else◌, option_and_then, option_map, unwrap_or}
+use Rattle.std.specs.Prelude.{◌≡◌, ℕ, ℤ, pos, neg_ℤ, int_le, Bool, true, false, ◌&&◌, Option, Ok, Err, Some, None, codes, bytes_eq, nat_le, if◌then◌else◌, option_and_then, option_map, unwrap_or}
 use Rattle.parts_errors.specs.Words.{Bytes}
 use Rattle.serde_json.specs.Data.{Data, Items, no_items, item}
 use Rattle.serde_json.specs.Find.{get, as_bool}
@@ -12,6 +12,8 @@ use Rattle.codec_zstd.specs.declared.codec.ZstdCodec.{ZstdCodec}
 use Rattle.array_codecs.specs.declared.byte_codec.ByteCodec.{ByteCodec}
 use Rattle.array_codecs.specs.declared.byte_codec.ByteCodec.TheVariants.{Crc32c, Gzip, Zlib, Zstd}
 use Rattle.array_codecs.specs.declared.byte_codecs.ByteCodecs.{ByteCodecs}
+use Rattle.array_metadata.specs.declared.codecs.NamedCodec.{NamedCodec}
+use Rattle.array_metadata.specs.CodecNames.{metadata_of}
 use Rattle.array_fields.specs.MetadataFields.{whole_number_in, integer_in}
 
 -- the codec of the name `crc32c`
@@ -80,6 +82,11 @@ byte_codec_in d =
     else if is_named (codes "gzip") d then and_then (gzip_in d) (λ codec. Ok (Gzip codec))
     else if is_named (codes "numcodecs.zlib") d then and_then (zlib_in d) (λ codec. Ok (Zlib codec))
     else and_then (crc32c_in d) (λ codec. Ok (Crc32c codec))
+
+-- what is read of metadata that may be there
+abbrev pub IsOptionalCodec : Option NamedCodec → Option ByteCodec → Type 0
+IsOptionalCodec None found = found ≡ None
+IsOptionalCodec (Some codec) found = (read : ByteCodec) × (byte_codec_in (metadata_of codec) ≡ Ok read) × (found ≡ Some read)
 
 -- a list of one to three codecs from bytes to bytes
 abbrev pub byte_codecs_in : Items → Reading ByteCodecs

@@ -1,5 +1,5 @@
 -- Codecs that lists of metadata name.
-use Rattle.std.specs.Prelude.{◌≡◌, ◌⊎◌, List, Some, None, codes, map}
+use Rattle.std.specs.Prelude.{◌≡◌, ◌⊎◌, List, [], ◌∷◌, Some, None, codes, map}
 use Rattle.serde_json.specs.Data.{Data, Items}
 use Rattle.serde_json.specs.View.{view, items_of}
 use Rattle.parts_errors.specs.Words.{Bytes as Text}
@@ -20,6 +20,13 @@ codec_name ShardingIndexed = codes "sharding_indexed"
 -- a codec from bytes to bytes that is served
 abbrev pub IsByteCodec : CodecName → Type 0
 IsByteCodec name = (name ≡ Crc32c) ⊎ (name ≡ Gzip) ⊎ (name ≡ Zlib) ⊎ (name ≡ Zstd)
+
+-- one to three of them
+abbrev pub AreByteCodecs : List NamedCodec → Type 0
+AreByteCodecs (first ∷ []) = IsByteCodec first.name
+AreByteCodecs (first ∷ second ∷ []) = IsByteCodec first.name × IsByteCodec second.name
+AreByteCodecs (first ∷ second ∷ third ∷ []) = IsByteCodec first.name × IsByteCodec second.name × IsByteCodec third.name
+AreByteCodecs codecs = ⊥
 
 -- metadata has a name, and no members but those that metadata may have
 pub record Names (d : Data) (name : Text) : Type 0 where

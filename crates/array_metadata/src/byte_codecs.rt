@@ -1,10 +1,10 @@
 // Codecs from bytes to bytes in the metadata of an array.
-ghost use Rattle.std.specs.Prelude.{◌≡◌, Some, Ok, IfOk, codes};
-ghost use Rattle.serde_json.specs.Data.{no_items, item};
+ghost use Rattle.std.specs.Prelude.{◌≡◌, Some, Ok, IfOk, IfSome, IsTrue, codes, option_map};
+ghost use Rattle.std.specs.List.{All};
 ghost use Rattle.serde_json.specs.Find.{get};
 ghost use Rattle.serde_json.specs.View.{view};
-ghost use Rattle.array_metadata.specs.ByteCodecsMetadata.{crc32c_in, gzip_in, zlib_in, zlib_level_in, zstd_in, zstd_level_of, checksum_in, byte_codec_in, byte_codecs_in};
-ghost use Rattle.array_metadata.specs.CodecNames.{IsByteCodec, IsNamed, Names, metadata_of};
+ghost use Rattle.array_metadata.specs.ByteCodecsMetadata.{crc32c_in, level_of, gzip_in, zlib_in, zlib_level_in, zstd_in, zstd_level_of, checksum_in, byte_codec_in, IsOptionalCodec, byte_codecs_in};
+ghost use Rattle.array_metadata.specs.CodecNames.{IsByteCodec, AreByteCodecs, IsNamed, Names, listed, metadata_of};
 
 use crate::codecs::{CodecName, NamedCodec};
 use array_codecs::{ByteCodec, ByteCodecs};
@@ -25,6 +25,16 @@ fn crc32c_codec(alloc: Global, metadata: &Placed) -> Result<Crc32cCodec, Metadat
     Ok(Crc32cCodec)
 }
 
+// A level of DEFLATE. Refused as `BadField`.
+fn deflate_level(alloc: Global, level: &Placed) -> Result<u8, MetadataError>
+    ensures read { IfOk result (λ number. level_of (view level.now.value.now) ≡ Some number) }
+{
+    match level.value.as_u64() {
+        Some(number) if number <= 9 => Ok(number as u8),
+        _ => Err(level.bad(alloc, "a level is a whole number from 0 to 9")),
+    }
+}
+
 // The codec `gzip`, by the level of its configuration. Refused as `MissingField` or `BadField`.
 fn gzip_codec(alloc: Global, metadata: &Placed) -> Result<GzipCodec, MetadataError>
     requires named { Names (view metadata.now.value.now) (codes "gzip") }
@@ -32,25 +42,17 @@ fn gzip_codec(alloc: Global, metadata: &Placed) -> Result<GzipCodec, MetadataErr
 {
     let configuration = metadata.required(alloc, "configuration")?;
     configuration.only_members(alloc, &["level"])?;
-    let level = configuration.required(alloc, "level")?;
-    match level.value.as_u64() {
-        Some(number) if number <= 9 => Ok(GzipCodec {
-            level: number as u8,
-        }),
-        _ => Err(level.bad(alloc, "a level is a whole number from 0 to 9")),
-    }
+    let level = deflate_level(alloc, &configuration.required(alloc, "level")?)?;
+    Ok(GzipCodec { level })
 }
 
 // The level of a configuration of `numcodecs.zlib`; 1 where nothing is said. Refused as `BadField`.
 fn zlib_level(alloc: Global, configuration: &Placed) -> Result<u8, MetadataError>
     ensures read { IfOk result (λ level. zlib_level_in (get (codes "level") (view configuration.now.value.now)) ≡ Some level) }
 {
-    let Some(level) = configuration.member(alloc, "level")? else {
-        return Ok(1);
-    };
-    match level.value.as_u64() {
-        Some(number) if number <= 9 => Ok(number as u8),
-        _ => Err(level.bad(alloc, "a level is a whole number from 0 to 9")),
+    match configuration.member(alloc, "level")? {
+        Some(level) => deflate_level(alloc, &level),
+        None => Ok(1),
     }
 }
 
@@ -114,70 +116,47 @@ fn byte_codec(alloc: Global, codec: &NamedCodec) -> Result<ByteCodec, MetadataEr
     }
 }
 
-// The codec that metadata names, alone. Refused as it is.
-pub fn one_codec(alloc: Global, codec: &NamedCodec) -> Result<ByteCodecs, MetadataError>
-    requires named { IsNamed codec.now }
-    requires served { IsByteCodec codec.now.name }
-    ensures read { IfOk result (λ found. byte_codecs_in (item (metadata_of codec.now) no_items) ≡ Ok found) }
-{
-    let first = byte_codec(alloc, codec)?;
-    Ok(ByteCodecs {
-        first,
-        second: None,
-        third: None,
-    })
-}
-
-// The two codecs that metadata names, in this order. Refused as the first that is refused.
-pub fn two_codecs(
+// The codec from bytes to bytes that metadata names, if there is any. Refused as it is.
+fn optional_codec(
     alloc: Global,
-    first: &NamedCodec,
-    second: &NamedCodec,
-) -> Result<ByteCodecs, MetadataError>
-    requires first_named { IsNamed first.now }
-    requires second_named { IsNamed second.now }
-    requires first_served { IsByteCodec first.now.name }
-    requires second_served { IsByteCodec second.now.name }
-    ensures read { IfOk result (λ found. byte_codecs_in (item (metadata_of first.now) (item (metadata_of second.now) no_items)) ≡ Ok found) }
+    codec: Option<&NamedCodec>,
+) -> Result<Option<ByteCodec>, MetadataError>
+    requires named { IfSome codec (λ codec. IsNamed codec.now) }
+    requires served { IfSome codec (λ codec. IsByteCodec codec.now.name) }
+    ensures read { IfOk result (IsOptionalCodec (option_map (λ codec. codec.now) codec)) }
 {
-    let first = byte_codec(alloc, first)?;
-    let second = byte_codec(alloc, second)?;
-    Ok(ByteCodecs {
-        first,
-        second: Some(second),
-        third: None,
-    })
+    match codec {
+        Some(codec) => Ok(Some(byte_codec(alloc, codec)?)),
+        None => Ok(None),
+    }
 }
 
-// The three codecs that metadata names, in this order. Refused as the first that is refused.
-pub fn three_codecs(
-    alloc: Global,
-    first: &NamedCodec,
-    second: &NamedCodec,
-    third: &NamedCodec,
-) -> Result<ByteCodecs, MetadataError>
-    requires first_named { IsNamed first.now }
-    requires second_named { IsNamed second.now }
-    requires third_named { IsNamed third.now }
-    requires first_served { IsByteCodec first.now.name }
-    requires second_served { IsByteCodec second.now.name }
-    requires third_served { IsByteCodec third.now.name }
-    ensures read { IfOk result (λ found.
-        byte_codecs_in (item (metadata_of first.now) (item (metadata_of second.now) (item (metadata_of third.now) no_items))) ≡ Ok found) }
+// Whether metadata names one to three codecs from bytes to bytes.
+pub fn are_byte_codecs(codecs: &[NamedCodec]) -> bool
+    ensures { IsTrue result → AreByteCodecs codecs.now }
 {
-    let first = byte_codec(alloc, first)?;
-    let second = byte_codec(alloc, second)?;
-    let third = byte_codec(alloc, third)?;
-    Ok(ByteCodecs {
-        first,
-        second: Some(second),
-        third: Some(third),
-    })
+    match codecs {
+        [first] => first.is_byte_codec(),
+        [first, second] => first.is_byte_codec() && second.is_byte_codec(),
+        [first, second, third] => {
+            first.is_byte_codec() && second.is_byte_codec() && third.is_byte_codec()
+        }
+        _ => false,
+    }
 }
 
-// Whether codecs only put checksums behind bytes.
-pub fn are_checksums(codecs: &ByteCodecs) -> bool {
-    matches!(codecs.first, ByteCodec::Crc32c(_))
-        && matches!(codecs.second, None | Some(ByteCodec::Crc32c(_)))
-        && matches!(codecs.third, None | Some(ByteCodec::Crc32c(_)))
+// The codecs from bytes to bytes that metadata names, in its order. Refused as the first that is refused.
+pub fn byte_codecs(alloc: Global, codecs: &[NamedCodec]) -> Result<ByteCodecs, MetadataError>
+    requires named { All IsNamed codecs.now }
+    requires served { AreByteCodecs codecs.now }
+    ensures read { IfOk result (λ found. byte_codecs_in (listed codecs.now) ≡ Ok found) }
+{
+    let first = byte_codec(alloc, &codecs[0])?;
+    let second = optional_codec(alloc, codecs.get(1))?;
+    let third = optional_codec(alloc, codecs.get(2))?;
+    Ok(ByteCodecs {
+        first,
+        second,
+        third,
+    })
 }

@@ -10,7 +10,7 @@ ghost use Rattle.array_metadata.specs.ArrayCodecs.{bytes_in, elements_in, arrang
 ghost use Rattle.array_metadata.specs.UnreadCodecs.{sole_shards, chunks_in};
 ghost use Rattle.array_metadata.specs.CodecNames.{codec_name, IsByteCodec, IsNamed, Names, listed, metadata_of};
 
-use crate::byte_codecs::{are_checksums, one_codec, three_codecs, two_codecs};
+use crate::byte_codecs::{are_byte_codecs, byte_codecs};
 use crate::transposes::{CodecValues, axis_order, codec_values};
 use crate::unread::{first_unserved, innermost, sole_shards as sole_value, test_names};
 use array_codecs::{ByteCodecs, OpaqueCodec, TransposeCodec};
@@ -79,7 +79,7 @@ pub struct NamedCodec<'a> {
 
 impl NamedCodec<'_> {
     // Whether the codec is one from bytes to bytes.
-    fn is_byte_codec(&self) -> bool
+    pub fn is_byte_codec(&self) -> bool
         ensures { IsTrue result → IsByteCodec self.now.name }
     {
         match self.name {
@@ -201,26 +201,9 @@ impl<'a> CodecList<'a> {
             [first] if first.name == CodecName::Bytes => {
                 Ok(EitherCodec::First(bytes_codec(alloc, &first.metadata, data_type)?))
             }
-            [first, second] if first.name == CodecName::Bytes && second.is_byte_codec() => {
+            [first, behind @ ..] if first.name == CodecName::Bytes && are_byte_codecs(behind) => {
                 let bytes = bytes_codec(alloc, &first.metadata, data_type)?;
-                let codecs = one_codec(alloc, second)?;
-                Ok(EitherCodec::Second(BytesChain::new(bytes, codecs)))
-            }
-            [first, second, third]
-                if first.name == CodecName::Bytes
-                    && second.is_byte_codec()
-                    && third.is_byte_codec() => {
-                let bytes = bytes_codec(alloc, &first.metadata, data_type)?;
-                let codecs = two_codecs(alloc, second, third)?;
-                Ok(EitherCodec::Second(BytesChain::new(bytes, codecs)))
-            }
-            [first, second, third, fourth]
-                if first.name == CodecName::Bytes
-                    && second.is_byte_codec()
-                    && third.is_byte_codec()
-                    && fourth.is_byte_codec() => {
-                let bytes = bytes_codec(alloc, &first.metadata, data_type)?;
-                let codecs = three_codecs(alloc, second, third, fourth)?;
+                let codecs = byte_codecs(alloc, behind)?;
                 Ok(EitherCodec::Second(BytesChain::new(bytes, codecs)))
             }
             _ => Err(self.refused(
@@ -323,7 +306,7 @@ fn parsed_configuration(
 fn is_of_fixed_size(codec: &IndexCodec) -> bool {
     match codec {
         EitherCodec::First(_) => true,
-        EitherCodec::Second(chain) => are_checksums(&chain.bytes_to_bytes),
+        EitherCodec::Second(chain) => chain.bytes_to_bytes.are_checksums(),
     }
 }
 
