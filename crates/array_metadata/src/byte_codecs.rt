@@ -123,7 +123,7 @@ fn optional_codec(
 ) -> Result<Option<ByteCodec>, MetadataError>
     requires named { IfSome codec (λ codec. IsNamed codec.now) }
     requires served { IfSome codec (λ codec. IsByteCodec codec.now.name) }
-    ensures read { IfOk result (IsOptionalCodec (option_map (λ codec. codec.now) codec)) }
+    ensures read { IfOk result (IsOptionalCodec (option_map (λ codec. codec.now) codec.entry)) }
 {
     match codec {
         Some(codec) => Ok(Some(byte_codec(alloc, codec)?)),
