@@ -42,7 +42,7 @@ are_checksums codecs = is_checksum (Some codecs.first) && (is_checksum codecs.se
 
 -- ---- words for the contracts of the functions that decode
 
--- at most as many as a limit, where there is one
+-- at most as many as a limit, if there is any
 abbrev pub IsAtMost : Option ℕ → ℕ → Type 0
 IsAtMost None n = Unit {0}
 IsAtMost (Some limit) n = n ≤ limit

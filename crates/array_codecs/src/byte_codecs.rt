@@ -93,7 +93,7 @@ fn decode_slice<'a>(
     }
 }
 
-// The same of an encoding that is let go.
+// The same of an encoding in memory of its own.
 fn decode_owned(
     alloc: Global,
     codec: &ByteCodec,
@@ -109,7 +109,7 @@ fn decode_owned(
     Ok(owned)
 }
 
-// The same of an encoding that is lent on or owned.
+// The same of an encoding that is borrowed or owned.
 fn decode_by<'a>(
     alloc: Global,
     codec: &ByteCodec,

@@ -43,8 +43,8 @@ zlib_level_in (Some d) = level_of d
 -- the codec of the name `numcodecs.zlib`
 abbrev pub zlib_configured : Option Data → Reading ZlibCodec
 zlib_configured d =
-    or_refused (option_and_then (λ configuration. zlib_level_in (get (codes "level") configuration)) d) (bad_field (codes "level")) (λ level.
-    Ok (record { level = level }))
+    or_refused (option_and_then (λ configuration. zlib_level_in (get (codes "level") configuration)) d)
+    (bad_field (codes "level")) (λ level. Ok (record { level = level }))
 
 abbrev pub zlib_in : Data → Reading ZlibCodec
 zlib_in = codec_of (bytes_eq (codes "numcodecs.zlib")) (λ name. zlib_configured)
@@ -93,7 +93,8 @@ abbrev pub byte_codecs_in : Items → Reading ByteCodecs
 byte_codecs_in no_items = Err unsupported_chain
 byte_codecs_in (item d no_items) = and_then (byte_codec_in d) (λ first. Ok (record { first = first; second = None; third = None }))
 byte_codecs_in (item d (item e no_items)) =
-    and_then (byte_codec_in d) (λ first. and_then (byte_codec_in e) (λ second. Ok (record { first = first; second = Some second; third = None })))
+    and_then (byte_codec_in d) (λ first. and_then (byte_codec_in e) (λ second.
+    Ok (record { first = first; second = Some second; third = None })))
 byte_codecs_in (item d (item e (item f no_items))) =
     and_then (byte_codec_in d) (λ first. and_then (byte_codec_in e) (λ second. and_then (byte_codec_in f) (λ third.
     Ok (record { first = first; second = Some second; third = Some third }))))

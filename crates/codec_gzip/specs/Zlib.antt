@@ -7,8 +7,9 @@ use Rattle.codec_deflate.specs.Inflate.{inflated}
 use Rattle.codec_gzip.specs.Adler.{adler32}
 use Rattle.codec_gzip.specs.Gzip.{after}
 
--- The bytes after CMF and FLG. The bits of CMF are CM, which is 8 for DEFLATE, and CINFO, at most 7, the logarithm of the window size less eight; those of
--- FLG are FCHECK, which makes of CMF * 256 + FLG a multiple of 31, FDICT, which is not set where there is no preset dictionary, and FLEVEL.
+-- The bytes after CMF and FLG, whose bits are, from bit 0 on, CM and CINFO, and FCHECK, FDICT and FLEVEL. CM is 8 for DEFLATE; CINFO,
+-- the base-2 logarithm of the window size less eight, is at most 7; FCHECK makes of CMF * 256 + FLG a multiple of 31; FDICT is not set, as
+-- there is no preset dictionary.
 unfoldable pub after_flags : Bytes → Option Bytes
 after_flags stream = do
   compressed ← after 2 stream

@@ -17,7 +17,10 @@ pub struct ZlibCodec {
     pub level: u8,
 }
 
-impl Frame for ZlibCodec {
+// A zlib stream.
+struct ZlibStream;
+
+impl Frame for ZlibStream {
     ghost use Rattle.codec_gzip.specs.Zlib.{zlib_content};
     ghost use Rattle.codec_gzip.specs.ZlibWritten.{zlib_bound};
 
@@ -52,7 +55,7 @@ impl BytesToBytesCodecTraits for ZlibCodec {
 
     /// The content of a stream. Refused as `Damaged` where the bytes are none; or as `OutOfMemory`.
     fn decode<'a>(&self, alloc: Global, bytes: &'a [u8]) -> Result<CowSlice<'a, u8>, CodecError> {
-        decoded::<ZlibCodec>(alloc, bytes)
+        decoded::<ZlibStream>(alloc, bytes)
     }
 
     /// The content of a stream, of at most `limit` bytes. Memory is asked for `limit` bytes and a little more. Refused as `Damaged` where
@@ -63,11 +66,11 @@ impl BytesToBytesCodecTraits for ZlibCodec {
         bytes: &'a [u8],
         limit: usize,
     ) -> Result<CowSlice<'a, u8>, CodecError> {
-        decoded_within::<ZlibCodec>(alloc, bytes, limit)
+        decoded_within::<ZlibStream>(alloc, bytes, limit)
     }
 
     /// At most as long as a stream without compression. Of `UnboundedSize` where that passes `u64::MAX`.
     fn encoded_representation(&self, decoded: BytesRepresentation) -> BytesRepresentation {
-        representation::<ZlibCodec>(decoded)
+        representation::<ZlibStream>(decoded)
     }
 }
