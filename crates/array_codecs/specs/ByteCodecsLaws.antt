@@ -1,5 +1,5 @@
 -- Lists of codecs from bytes to bytes keep the laws.
-use Rattle.std.proofs.Common.{◌≡◌, Option, Some, None, refl, ap, ◌∙◌, option_and_then}
+use Rattle.std.proofs.Common.{Option, Some, None, refl, ap, ◌∙◌, option_and_then}
 use Rattle.codec_chains.specs.Codings.{Coding, IsInvertible, IsBounded}
 use Rattle.array_codecs.specs.ByteCodec.{byte_coding, byte_invertible, byte_bounded}
 use Rattle.array_codecs.specs.ByteCodecs.{followed, unchanged, optional_coding, list_coding}

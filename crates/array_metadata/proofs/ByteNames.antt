@@ -2,9 +2,7 @@
 use Rattle.std.proofs.Common.{◌≡◌, ◌≤◌, ◌<◌, ℕ, List, [], ◌∷◌, Option, Some, None, Ok, IfSome, MatchOption, length, get_or, slice_get, option_map, refl, sym, subst}
 use Rattle.std.specs.List.{HoldsAt}
 use Rattle.std.proofs.lemmas.Option.{slice_get_read, slice_get_past}
-use Rattle.codec_metadata.specs.CreateErrors.{Reading}
 use Rattle.array_codecs.specs.declared.byte_codec.ByteCodec.{ByteCodec}
-use Rattle.array_codecs.specs.declared.byte_codecs.ByteCodecs.{ByteCodecs}
 use Rattle.array_metadata.specs.ByteCodecsMetadata.{byte_codec_in, IsOptionalCodec, byte_codecs_in}
 use Rattle.array_metadata.specs.CodecNames.{AreByteCodecs, listed, metadata_of}
 use Rattle.array_metadata.specs.declared.codecs.NamedCodec.{NamedCodec}
