@@ -20,7 +20,7 @@ BUILT = f"{TOP}/crates/zarr_shard/out/zarr_shard"
 ARRAYS = f"{TOP}/tests/arrays"
 MOST = 60  # seconds
 SERVED = [["bytes"], ["bytes", "crc32c"], ["bytes", "gzip"], ["bytes", "zstd"], ["bytes", "zstd", "crc32c"], ["transpose", "bytes", "gzip"],
-          ["sharding_indexed"]]
+          ["bytes", "numcodecs.zlib"], ["bytes", "crc32c", "gzip", "zstd"], ["sharding_indexed"]]
 FORMATS = {"bool": "B", "int8": "b", "uint8": "B", "int16": "h", "uint16": "H", "int32": "i", "uint32": "I", "int64": "q", "uint64": "Q",
            "float32": "f", "float64": "d", "float16": "e", "bfloat16": "H", "numpy.datetime64": "q", "numpy.timedelta64": "q",
            "complex64": "ff", "complex128": "dd"}
@@ -130,6 +130,7 @@ def test_reshard(program, name, path, expected):
         ["--shard", words(chunk), "--subchunk", words(rows), "--inner", "zstd", "--order", "morton"],
         ["--shard", words([3 * size for size in part]), "--subchunk", words(part), "--inner", "gzip", "--index", "end", "--crc32c"],
         ["--shard", words(chunk), "--subchunk", words(part), "--inner", "crc32c"],
+        ["--shard", words(chunk), "--subchunk", words(rows), "--inner", "zlib"],
     ]
     old = path
     for number, layout in enumerate(layouts if chunk else layouts[:0]):

@@ -291,7 +291,7 @@ def written(program, top):
 
 
 def compressed(program, top):
-    """Subchunks that `reshard` compresses are gzip files that zlib reads, and no longer than zlib's by more than a tenth and 10 bytes."""
+    """Subchunks that `reshard` compresses are files that zlib reads, and no longer than its own by more than a tenth and 10 bytes."""
     dice, count = random.Random(3), MIB // 2
     words = [dice.randbytes(dice.randrange(2, 9)).hex().encode() for _ in range(500)]
     contents = {
@@ -304,9 +304,9 @@ def compressed(program, top):
         old = f"{top}/{name}"
         array(old, [count], [count], [count])
         shard(f"{old}/0", [content], 0)
-        for part in (256, 4096, count):
-            new = f"{old}.{part}"
-            expect([program, "reshard", old, new, "--subchunk", str(part), "--inner", "gzip"], 0, "1 shard")
+        for part, inner in ((256, "gzip"), (4096, "gzip"), (4096, "zlib"), (count, "gzip")):
+            new = f"{old}.{part}.{inner}"
+            expect([program, "reshard", old, new, "--subchunk", str(part), "--inner", inner], 0, "1 shard")
             expect([program, "compare", old, new], 0, "no element differs")
             with open(f"{new}/0", "rb") as file:
                 whole = file.read()
@@ -318,9 +318,9 @@ def compressed(program, top):
                 if offset == 2**64 - 1:
                     found, size = bytes(part), 0
                 else:
-                    found = gzip.decompress(whole[offset : offset + size])
+                    found = zlib.decompress(whole[offset : offset + size], 31 if inner == "gzip" else 15)
                 if found != wanted or size > 1.1 * len(gzip.compress(wanted, 5)) + 10:
-                    bad.append(f"{name} in subchunks of {part}: subchunk {number} has {size} bytes, or zlib reads it otherwise")
+                    bad.append(f"{name} in subchunks of {part} by {inner}: subchunk {number} has {size} bytes, or zlib reads it otherwise")
 
 
 def told_at_once(program, top):
@@ -459,31 +459,51 @@ def unpacked(file, size):
     return content if len(content) == size else None
 
 
-def damaged_gzip(program, top):
-    """Gzip files with each of their bits flipped, cut after each of their bytes, and with bytes behind: `check` names those that zlib
-    refuses, and all others are read."""
-    size, files = 64, []
-    text = b"a subchunk of sixty-four bytes, of which some are written again."
-    for content in (text, bytes(size), bytes(range(size)), random.Random(1).randbytes(size)):
-        for level in (0, 1, 9):
-            file = gzip.compress(content, level, mtime=0)
-            number = int.from_bytes(file, "little")
-            files += [(number ^ 1 << bit).to_bytes(len(file), "little") for bit in range(8 * len(file))]
-            files += [file[:length] for length in range(len(file))]
-            files += [file + tail for tail in (b"", b"\0", b"\x1f", b"\x1f\x8b", bytes(8), file, gzip.compress(b""))]
-    contents = [unpacked(file, size) for file in files]
-    wanted = {number for number, content in enumerate(contents) if content is None}
-    codec = {"name": "gzip", "configuration": {"level": 9}}
-    for path, parts in (("damaged", files), ("whole", [files[i] for i in range(len(files)) if i not in wanted])):
-        array(f"{top}/{path}", [size * len(parts)], [size * len(parts)], [size], codec)
-        shard(f"{top}/{path}/0", parts, 0)
-    said = subprocess.run([program, "check", f"{top}/damaged"], capture_output=True, timeout=MOST, check=False).stdout.decode()
+def unpacked_stream(file, size):
+    """The content of a zlib stream by zlib, or nothing if it is damaged, of another size, or bytes follow it."""
+    stream = zlib.decompressobj()
+    try:
+        content = stream.decompress(file, size + 1)
+    except zlib.error:
+        return None
+    return content if stream.eof and not stream.unused_data and len(content) == size else None
+
+
+def changed(file):
+    """A file with each of its bits flipped, and cut after each of its bytes."""
+    number = int.from_bytes(file, "little")
+    flipped = [(number ^ 1 << bit).to_bytes(len(file), "little") for bit in range(8 * len(file))]
+    return flipped + [file[:length] for length in range(len(file))]
+
+
+def compare_damage(program, path, codec, files, contents):
+    """Files in place of subchunks of 64 bytes: `check` names those that have no content by another reader, and all others are read."""
+    size, wanted = 64, {number for number, content in enumerate(contents) if content is None}
+    for name, parts in (("damaged", files), ("whole", [files[i] for i in range(len(files)) if i not in wanted])):
+        array(f"{path}.{name}", [size * len(parts)], [size * len(parts)], [size], codec)
+        shard(f"{path}.{name}/0", parts, 0)
+    said = subprocess.run([program, "check", f"{path}.damaged"], capture_output=True, timeout=MOST, check=False).stdout.decode()
     named = {int(number) for number in re.findall(r"15 Damaged: subchunk (\d+) ", said)}
     if len(files) < 5000 or named != wanted:
-        bad.append(f"{len(files)} gzip files: check and zlib differ on {sorted(named ^ wanted)[:20]}")
-    read = subprocess.run([program, "read", "--raw", f"{top}/whole"], capture_output=True, timeout=MOST, check=False).stdout
+        bad.append(f"{len(files)} files of {codec['name']}: check and zlib differ on {sorted(named ^ wanted)[:20]}")
+    read = subprocess.run([program, "read", "--raw", f"{path}.whole"], capture_output=True, timeout=MOST, check=False).stdout
     if read != b"".join(content for content in contents if content is not None):
-        bad.append("gzip files that zlib reads are read otherwise")
+        bad.append(f"files of {codec['name']} that zlib reads are read otherwise")
+
+
+def damaged_gzip(program, top):
+    """Gzip files and zlib streams with each of their bits flipped, cut after each of their bytes, and with bytes behind: `check` names
+    those that zlib refuses, and all others are read."""
+    files, streams = [], []
+    text = b"a subchunk of sixty-four bytes, of which some are written again."
+    for content in (text, bytes(64), bytes(range(64)), random.Random(1).randbytes(64)):
+        for level in (0, 1, 9):
+            file, stream = gzip.compress(content, level, mtime=0), zlib.compress(content, level)
+            files += changed(file) + [file + tail for tail in (b"", b"\0", b"\x1f", b"\x1f\x8b", bytes(8), file, gzip.compress(b""))]
+            streams += changed(stream) + [stream + tail for tail in (b"", b"\0", b"x", stream)]
+    compare_damage(program, f"{top}/gzip", {"name": "gzip", "configuration": {"level": 9}}, files, [unpacked(it, 64) for it in files])
+    codec = {"name": "numcodecs.zlib", "configuration": {"level": 9}}
+    compare_damage(program, f"{top}/zlib", codec, streams, [unpacked_stream(it, 64) for it in streams])
 
 
 def owners(program, top):

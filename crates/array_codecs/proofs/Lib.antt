@@ -1,4 +1,4 @@
-pub mod BeforeChecksum
 pub mod AxisOrderSteps
 pub mod MovedRows
 pub mod TransposeSteps
+pub mod ByteLists

@@ -1,50 +1,57 @@
--- A codec from bytes to bytes, and `crc32c` behind it.
-use Rattle.std.proofs.Common.{◌≡◌, Bool, true, false, refl, ap, ◌∙◌, option_and_then}
-use Rattle.parts_errors.specs.Words.{Bytes}
-use Rattle.codec_chains.specs.Codings.{Coding, IsInvertible, IsBounded}
-use Rattle.codec_chains.specs.Trailers.{with_trailer, without_trailer, longer_by}
-use Rattle.codec_chains.specs.TrailerLaws.{trailer_invertible, trailer_bounded}
-use Rattle.codec_checksums.specs.Crc32c.{checksum_bytes}
-use Rattle.array_codecs.specs.ByteCodec.{byte_coding, byte_invertible, byte_bounded}
+-- Lists of codecs from bytes to bytes: each encodes what the one before it gives.
+use Rattle.std.specs.Prelude.{◌≡◌, ◌≤◌, ℕ, ◌&&◌, Bool, true, false, Option, Some, None, IsSomeAnd, length, option_and_then}
+use Rattle.parts_errors.specs.Words.{Bytes, Refusals}
+use Rattle.parts_errors.specs.Order.{◌or◌then◌, done, RefusedBy}
+use Rattle.parts_errors.specs.declared.error.CodecError.TheVariants.{Damaged}
+use Rattle.codec_chains.specs.Codings.{Coding}
+use Rattle.array_codecs.specs.ByteCodec.{byte_coding}
+use Rattle.array_codecs.specs.declared.byte_codec.ByteCodec.{ByteCodec}
+use Rattle.array_codecs.specs.declared.byte_codec.ByteCodec.TheVariants.{Gzip, Zlib, Zstd}
 use Rattle.array_codecs.specs.declared.byte_codecs.ByteCodecs.{ByteCodecs}
 
--- an encoding by the codec, and behind it the four bytes of its checksum
-abbrev pub checked_coding : Coding → Coding
-checked_coding coding = record {
-  written = λ b encoded. (first : Bytes) × (coding.written b first) × (encoded ≡ with_trailer checksum_bytes first);
-  decoding = λ encoded. option_and_then coding.decoding (without_trailer 4 checksum_bytes encoded);
-  representation = λ told. longer_by 4 (coding.representation told);
+-- a codec, and another behind it
+abbrev pub followed : Coding → Coding → Coding
+followed first second = record {
+  written = λ b encoded. (between : Bytes) × (first.written b between) × (second.written between encoded);
+  decoding = λ encoded. option_and_then first.decoding (second.decoding encoded);
+  representation = λ told. second.representation (first.representation told);
 }
 
-abbrev pub checked_if : Bool → Coding → Coding
-checked_if true coding = checked_coding coding
-checked_if false coding = coding
+-- no codec: the bytes stay as they are
+abbrev pub unchanged : Coding
+unchanged = record { written = λ b encoded. encoded ≡ b; decoding = Some; representation = λ told. told }
+
+abbrev pub optional_coding : Option ByteCodec → Coding
+optional_coding None = unchanged
+optional_coding (Some codec) = byte_coding codec
 
 -- what the list means
 abbrev pub list_coding : ByteCodecs → Coding
-list_coding codecs = checked_if codecs.checked (byte_coding codecs.codec)
+list_coding codecs =
+    followed (followed (byte_coding codecs.first) (optional_coding codecs.second)) (optional_coding codecs.third)
 
-checked_invertible : (coding : Coding) → IsInvertible coding → IsInvertible (checked_coding coding)
-checked_invertible coding back b encoded (first, written, is) =
-    ap (option_and_then coding.decoding) (trailer_invertible 4 checksum_bytes (λ _. refl) first encoded is) ∙ back b first written
+-- whether all of them are `crc32c`
+abbrev pub is_checksum : Option ByteCodec → Bool
+is_checksum (Some (Gzip codec)) = false
+is_checksum (Some (Zlib codec)) = false
+is_checksum (Some (Zstd codec)) = false
+is_checksum codec = true
 
-checked_bounded : (coding : Coding) → IsBounded coding → IsBounded (checked_coding coding)
-checked_bounded coding bounded = record {
-  unbounded = ap (longer_by 4) (bounded.unbounded);
-  within = λ told b encoded h written. (trailer_bounded 4 checksum_bytes (λ _. refl)).within (coding.representation told) written.0 encoded
-      (bounded.within told b written.0 h written.1) written.2;
-}
+abbrev pub are_checksums : ByteCodecs → Bool
+are_checksums codecs = is_checksum (Some codecs.first) && (is_checksum codecs.second && is_checksum codecs.third)
 
-invertible_if : (checked : Bool) (coding : Coding) → IsInvertible coding → IsInvertible (checked_if checked coding)
-invertible_if true coding back = checked_invertible coding back
-invertible_if false coding back = back
+-- ---- words for the contracts of the functions that decode
 
-bounded_if : (checked : Bool) (coding : Coding) → IsBounded coding → IsBounded (checked_if checked coding)
-bounded_if true coding bounded = checked_bounded coding bounded
-bounded_if false coding bounded = bounded
+-- at most as many as a limit, if there is any
+abbrev pub IsAtMost : Option ℕ → ℕ → Type 0
+IsAtMost None n = Unit {0}
+IsAtMost (Some limit) n = n ≤ limit
 
-pub list_invertible : (codecs : ByteCodecs) → IsInvertible (list_coding codecs)
-list_invertible codecs = invertible_if codecs.checked (byte_coding codecs.codec) (byte_invertible codecs.codec)
+-- encodings of bytes within one limit are within another
+abbrev pub LimitsEncodings : Coding → Option ℕ → Option ℕ → Type 0
+LimitsEncodings coding limit encodings =
+    (b encoded : Bytes) → coding.decoding encoded ≡ Some b → IsAtMost limit (length b) → IsAtMost encodings (length encoded)
 
-pub list_bounded : (codecs : ByteCodecs) → IsBounded (list_coding codecs)
-list_bounded codecs = bounded_if codecs.checked (byte_coding codecs.codec) (byte_bounded codecs.codec)
+-- bytes are refused that decode to none within a limit
+abbrev pub RefusedOver : Option ℕ → Option Bytes → Refusals
+RefusedOver limit decoded = RefusedBy (IsSomeAnd decoded (λ b. IsAtMost limit (length b)) or Damaged then done)

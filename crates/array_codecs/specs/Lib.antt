@@ -1,5 +1,6 @@
 pub mod ByteCodec
 pub mod ByteCodecs
+pub mod ByteCodecsLaws
 pub mod OpaqueCodec
 pub mod OpaqueLaws
 pub mod ReversedParts

@@ -1,5 +1,5 @@
 -- Bytes in parts, each of which stands in reverse.
-use Rattle.std.specs.Prelude.{ℕ, ◌+◌, ◌-◌, ◌%◌, Option, Some, None, List, length, map, slice_index}
+use Rattle.std.specs.Prelude.{ℕ, ◌+◌, ◌-◌, ◌%◌, List, length, map, slice_index}
 use Rattle.std.specs.List.{range_with_len}
 
 -- where the byte stands that comes to a place: as far from the other end of its part

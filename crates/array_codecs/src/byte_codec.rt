@@ -1,7 +1,7 @@
 // The codecs from bytes to bytes that are served.
 use codec_chains::BytesToBytesCodecTraits;
 use codec_checksums::Crc32cCodec;
-use codec_gzip::GzipCodec;
+use codec_gzip::{GzipCodec, ZlibCodec};
 use codec_traits::BytesRepresentation;
 use codec_zstd::ZstdCodec;
 use parts_errors::CodecError;
@@ -13,6 +13,7 @@ use std::borrow::CowSlice;
 pub enum ByteCodec {
     Crc32c(Crc32cCodec),
     Gzip(GzipCodec),
+    Zlib(ZlibCodec),
     Zstd(ZstdCodec),
 }
 
@@ -29,6 +30,7 @@ impl BytesToBytesCodecTraits for ByteCodec {
         match self {
             ByteCodec::Crc32c(codec) => codec.encode(alloc, bytes),
             ByteCodec::Gzip(codec) => codec.encode(alloc, bytes),
+            ByteCodec::Zlib(codec) => codec.encode(alloc, bytes),
             ByteCodec::Zstd(codec) => codec.encode(alloc, bytes),
         }
     }
@@ -37,6 +39,7 @@ impl BytesToBytesCodecTraits for ByteCodec {
         match self {
             ByteCodec::Crc32c(codec) => codec.decode(alloc, bytes),
             ByteCodec::Gzip(codec) => codec.decode(alloc, bytes),
+            ByteCodec::Zlib(codec) => codec.decode(alloc, bytes),
             ByteCodec::Zstd(codec) => codec.decode(alloc, bytes),
         }
     }
@@ -50,6 +53,7 @@ impl BytesToBytesCodecTraits for ByteCodec {
         match self {
             ByteCodec::Crc32c(codec) => codec.decode_within(alloc, bytes, limit),
             ByteCodec::Gzip(codec) => codec.decode_within(alloc, bytes, limit),
+            ByteCodec::Zlib(codec) => codec.decode_within(alloc, bytes, limit),
             ByteCodec::Zstd(codec) => codec.decode_within(alloc, bytes, limit),
         }
     }
@@ -58,6 +62,7 @@ impl BytesToBytesCodecTraits for ByteCodec {
         match self {
             ByteCodec::Crc32c(codec) => codec.encoded_representation(decoded),
             ByteCodec::Gzip(codec) => codec.encoded_representation(decoded),
+            ByteCodec::Zlib(codec) => codec.encoded_representation(decoded),
             ByteCodec::Zstd(codec) => codec.encoded_representation(decoded),
         }
     }

@@ -1,39 +1,190 @@
 // Lists of codecs from bytes to bytes that are served.
-ghost use Rattle.std.specs.Prelude.{◌≡◌, Some, IfOk, IfErr, IsSome};
-ghost use Rattle.parts_errors.specs.Order.{◌or◌then◌, done, RefusedBy};
-ghost use Rattle.parts_errors.specs.declared.error.CodecError.TheVariants.{Damaged};
-ghost use Rattle.codec_chains.specs.Trailers.{without_trailer};
-ghost use Rattle.codec_checksums.specs.Crc32c.{checksum_bytes};
+ghost use Rattle.std.specs.Prelude.{◌≡◌, Some, IfOk, IfErr, length};
+ghost use Rattle.std.specs.Cow.{cow_slice_items};
+ghost use Rattle.parts_errors.specs.declared.error.CodecError.TheVariants.{OutOfMemory};
+ghost use Rattle.array_codecs.specs.ByteCodec.{byte_coding};
+ghost use Rattle.array_codecs.specs.ByteCodecs.{optional_coding, list_coding, is_checksum, are_checksums, IsAtMost, LimitsEncodings, RefusedOver};
 
 use crate::byte_codec::ByteCodec;
 use codec_chains::BytesToBytesCodecTraits;
-use codec_checksums::Crc32cCodec;
 use codec_traits::BytesRepresentation;
 use parts_errors::CodecError;
 use std::alloc::Global;
 use std::borrow::CowSlice;
 
-/// A list of codecs from bytes to bytes that is served: one, or one and `crc32c` behind it.
+/// A list of codecs from bytes to bytes that is served: one to three, each of which encodes what the one before it gives.
 #[derive(Debug, Clone, Copy, PartialEq, Eq)]
 pub struct ByteCodecs {
-    pub codec: ByteCodec,
-    /// Whether `crc32c` stands behind it.
-    pub checked: bool,
+    pub first: ByteCodec,
+    pub second: Option<ByteCodec>,
+    pub third: Option<ByteCodec>,
 }
 
-// The bytes before a checksum of theirs. Refused as `Damaged` where there are not four bytes, or where they are another.
-fn before_checksum(alloc: Global, bytes: &[u8]) -> Result<&[u8], CodecError>
-    ensures decoded { IfOk result (λ before. without_trailer 4 checksum_bytes bytes.now ≡ Some before.now) }
-    ensures refused { IfErr result (RefusedBy (
-        IsSome (without_trailer 4 checksum_bytes bytes.now) or Damaged then
-        done)) }
+// An encoding by a codec. Refused only as `OutOfMemory`: no encoding of bytes in memory passes `usize::MAX`.
+fn encode_by(alloc: Global, codec: &ByteCodec, bytes: &[u8]) -> Result<Vec<u8>, CodecError>
+    ensures encoded { IfOk result (λ encoded. (byte_coding codec.now).written bytes.now encoded.items) }
+    ensures refused { IfErr result (λ e. e ≡ OutOfMemory) }
 {
-    let _decoded = Crc32cCodec.decode(alloc, bytes)?;
-    Ok(&bytes[..bytes.len() - 4])
+    codec.encode(alloc, bytes)
+}
+
+// An encoding by a codec, or the bytes where there is none.
+fn encode_behind(
+    alloc: Global,
+    codec: Option<ByteCodec>,
+    bytes: Vec<u8>,
+) -> Result<Vec<u8>, CodecError>
+    ensures encoded { IfOk result (λ encoded. (optional_coding codec).written bytes.items encoded.items) }
+    ensures refused { IfErr result (λ e. e ≡ OutOfMemory) }
+{
+    match codec {
+        Some(codec) => encode_by(alloc, &codec, bytes.as_slice()),
+        None => Ok(bytes),
+    }
+}
+
+// How long the encodings are by a codec, or the bytes where there is none.
+fn representation_behind(
+    codec: Option<ByteCodec>,
+    decoded: BytesRepresentation,
+) -> BytesRepresentation
+    ensures { result ≡ (optional_coding codec).representation decoded }
+{
+    match codec {
+        Some(codec) => codec.encoded_representation(decoded),
+        None => decoded,
+    }
+}
+
+// How long encodings of at most `limit` bytes by a codec may be: those of a compressor have any length.
+fn limit_by(codec: ByteCodec, limit: Option<usize>) -> Option<usize>
+    ensures { LimitsEncodings (byte_coding codec) limit result }
+{
+    match codec {
+        ByteCodec::Crc32c(_) => limit?.checked_add(4),
+        ByteCodec::Gzip(_) | ByteCodec::Zlib(_) | ByteCodec::Zstd(_) => None,
+    }
+}
+
+// The same, or the limit where there is no codec.
+fn limit_behind(codec: Option<ByteCodec>, limit: Option<usize>) -> Option<usize>
+    ensures { LimitsEncodings (optional_coding codec) limit result }
+{
+    match codec {
+        Some(codec) => limit_by(codec, limit),
+        None => limit,
+    }
+}
+
+// The bytes of an encoding, where they are at most as many as a limit.
+fn decode_slice<'a>(
+    alloc: Global,
+    codec: &ByteCodec,
+    bytes: &'a [u8],
+    limit: Option<usize>,
+) -> Result<CowSlice<'a, u8>, CodecError>
+    ensures decoded { IfOk result (λ decoded. (byte_coding codec.now).decoding bytes.now ≡ Some (cow_slice_items decoded)) }
+    ensures within { IfOk result (λ decoded. IsAtMost limit (length (cow_slice_items decoded))) }
+    ensures refused { IfErr result (RefusedOver limit ((byte_coding codec.now).decoding bytes.now)) }
+{
+    match limit {
+        Some(limit) => codec.decode_within(alloc, bytes, limit),
+        None => codec.decode(alloc, bytes),
+    }
+}
+
+// The same of an encoding in memory of its own.
+fn decode_owned(
+    alloc: Global,
+    codec: &ByteCodec,
+    bytes: Vec<u8>,
+    limit: Option<usize>,
+) -> Result<Vec<u8>, CodecError>
+    ensures decoded { IfOk result (λ decoded. (byte_coding codec.now).decoding bytes.items ≡ Some decoded.items) }
+    ensures within { IfOk result (λ decoded. IsAtMost limit (length decoded.items)) }
+    ensures refused { IfErr result (RefusedOver limit ((byte_coding codec.now).decoding bytes.items)) }
+{
+    let decoded = decode_slice(alloc, codec, &bytes, limit)?;
+    let owned = decoded.into_owned(alloc)?;
+    Ok(owned)
+}
+
+// The same of an encoding that is borrowed or owned.
+fn decode_by<'a>(
+    alloc: Global,
+    codec: &ByteCodec,
+    encoded: CowSlice<'a, u8>,
+    limit: Option<usize>,
+) -> Result<CowSlice<'a, u8>, CodecError>
+    ensures decoded { IfOk result (λ decoded. (byte_coding codec.now).decoding (cow_slice_items encoded.entry) ≡ Some (cow_slice_items decoded)) }
+    ensures within { IfOk result (λ decoded. IsAtMost limit (length (cow_slice_items decoded))) }
+    ensures refused { IfErr result (RefusedOver limit ((byte_coding codec.now).decoding (cow_slice_items encoded.entry))) }
+{
+    match encoded {
+        CowSlice::Borrowed(bytes) => decode_slice(alloc, codec, bytes, limit),
+        CowSlice::Owned(bytes) => {
+            let decoded = decode_owned(alloc, codec, bytes, limit)?;
+            Ok(CowSlice::Owned(decoded))
+        }
+    }
+}
+
+// The same, or the encoding where there is no codec.
+fn decode_behind<'a>(
+    alloc: Global,
+    codec: Option<ByteCodec>,
+    encoded: CowSlice<'a, u8>,
+    limit: Option<usize>,
+) -> Result<CowSlice<'a, u8>, CodecError>
+    ensures decoded { IfOk result (λ decoded. (optional_coding codec).decoding (cow_slice_items encoded.entry) ≡ Some (cow_slice_items decoded)) }
+    ensures refused { IfErr result (RefusedOver limit ((optional_coding codec).decoding (cow_slice_items encoded.entry))) }
+{
+    match codec {
+        Some(codec) => decode_by(alloc, &codec, encoded, limit),
+        None => Ok(encoded),
+    }
+}
+
+// Whether a codec, if there is one, is `crc32c`.
+fn is_checksum(codec: &Option<ByteCodec>) -> bool
+    ensures { result ≡ is_checksum codec.now }
+{
+    matches!(codec, None | Some(ByteCodec::Crc32c(_)))
+}
+
+impl ByteCodecs {
+    /// Whether each of the codecs is `crc32c`, so that all encodings of as many bytes have one length.
+    pub fn are_checksums(&self) -> bool
+        ensures { result ≡ are_checksums self.now }
+    {
+        matches!(self.first, ByteCodec::Crc32c(_))
+            && is_checksum(&self.second)
+            && is_checksum(&self.third)
+    }
+
+    // The bytes of an encoding by the list, where they are at most as many as a limit.
+    fn decode_limited<'a>(
+        &self,
+        alloc: Global,
+        bytes: &'a [u8],
+        limit: Option<usize>,
+    ) -> Result<CowSlice<'a, u8>, CodecError>
+        ensures decoded { IfOk result (λ decoded. (list_coding self.now).decoding bytes.now ≡ Some (cow_slice_items decoded)) }
+        ensures within { IfOk result (λ decoded. IsAtMost limit (length (cow_slice_items decoded))) }
+        ensures refused { IfErr result (RefusedOver limit ((list_coding self.now).decoding bytes.now)) }
+    {
+        let by_first = limit_by(self.first, limit);
+        let by_second = limit_behind(self.second, by_first);
+        let encoded = CowSlice::Borrowed(bytes);
+        let before_third = decode_behind(alloc, self.third, encoded, by_second)?;
+        let before_second = decode_behind(alloc, self.second, before_third, by_first)?;
+        decode_by(alloc, &self.first, before_second, limit)
+    }
 }
 
 impl BytesToBytesCodecTraits for ByteCodecs {
-    ghost use Rattle.array_codecs.specs.ByteCodecs.{list_coding, list_invertible, list_bounded};
+    ghost use Rattle.array_codecs.specs.ByteCodecs.{list_coding};
+    ghost use Rattle.array_codecs.specs.ByteCodecsLaws.{list_invertible, list_bounded};
 
     ghost coding = { list_coding };
 
@@ -42,20 +193,13 @@ impl BytesToBytesCodecTraits for ByteCodecs {
     ghost bounded = { list_bounded };
 
     fn encode(&self, alloc: Global, bytes: &[u8]) -> Result<Vec<u8>, CodecError> {
-        let encoded = self.codec.encode(alloc, bytes)?;
-        if self.checked {
-            Crc32cCodec.encode(alloc, encoded.as_slice())
-        } else {
-            Ok(encoded)
-        }
+        let by_first = encode_by(alloc, &self.first, bytes)?;
+        let by_second = encode_behind(alloc, self.second, by_first)?;
+        encode_behind(alloc, self.third, by_second)
     }
 
     fn decode<'a>(&self, alloc: Global, bytes: &'a [u8]) -> Result<CowSlice<'a, u8>, CodecError> {
-        if self.checked {
-            self.codec.decode(alloc, before_checksum(alloc, bytes)?)
-        } else {
-            self.codec.decode(alloc, bytes)
-        }
+        self.decode_limited(alloc, bytes, None)
     }
 
     fn decode_within<'a>(
@@ -64,20 +208,12 @@ impl BytesToBytesCodecTraits for ByteCodecs {
         bytes: &'a [u8],
         limit: usize,
     ) -> Result<CowSlice<'a, u8>, CodecError> {
-        if self.checked {
-            self.codec
-                .decode_within(alloc, before_checksum(alloc, bytes)?, limit)
-        } else {
-            self.codec.decode_within(alloc, bytes, limit)
-        }
+        self.decode_limited(alloc, bytes, Some(limit))
     }
 
     fn encoded_representation(&self, decoded: BytesRepresentation) -> BytesRepresentation {
-        let encoded = self.codec.encoded_representation(decoded);
-        if self.checked {
-            Crc32cCodec.encoded_representation(encoded)
-        } else {
-            encoded
-        }
+        let by_first = self.first.encoded_representation(decoded);
+        let by_second = representation_behind(self.second, by_first);
+        representation_behind(self.third, by_second)
     }
 }

@@ -68,7 +68,7 @@ fn inner_options<'a>(alloc: Global, command: Command<'a>) -> Result<Command<'a>,
             alloc,
             "inner",
             "CODEC",
-            "The codec behind bytes in a shard: none, crc32c, gzip or zstd",
+            "The codec behind bytes in a shard: none, crc32c, gzip, zlib or zstd",
         ))
 }
 

@@ -6,3 +6,4 @@ pub mod Lists
 pub mod ShardCodecs
 pub mod SaidBytes
 pub mod TransposedLists
+pub mod ByteNames

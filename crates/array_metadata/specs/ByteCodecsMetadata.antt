@@ -1,5 +1,5 @@
 -- Codecs from bytes to bytes that metadata names.
-use Rattle.std.specs.Prelude.{ℕ, ℤ, pos, neg_ℤ, int_le, Bool, true, false, ◌&&◌, Option, Ok, Err, Some, None, codes, bytes_eq, nat_le, if◌then◌else◌, option_and_then, option_map, unwrap_or}
+use Rattle.std.specs.Prelude.{◌≡◌, ℕ, ℤ, pos, neg_ℤ, int_le, Bool, false, ◌&&◌, Option, Ok, Err, Some, None, codes, bytes_eq, nat_le, if◌then◌else◌, option_and_then, option_map, unwrap_or}
 use Rattle.parts_errors.specs.Words.{Bytes}
 use Rattle.serde_json.specs.Data.{Data, Items, no_items, item}
 use Rattle.serde_json.specs.Find.{get, as_bool}
@@ -7,20 +7,26 @@ use Rattle.codec_metadata.specs.CreateErrors.{Reading, and_then, or_refused, uns
 use Rattle.codec_metadata.specs.Metadata.{codec_of, name_in}
 use Rattle.codec_checksums.specs.declared.crc32c_codec.Crc32cCodec.{Crc32cCodec}
 use Rattle.codec_gzip.specs.declared.codec.GzipCodec.{GzipCodec}
+use Rattle.codec_gzip.specs.declared.zlib_streams.codec.ZlibCodec.{ZlibCodec}
 use Rattle.codec_zstd.specs.declared.codec.ZstdCodec.{ZstdCodec}
 use Rattle.array_codecs.specs.declared.byte_codec.ByteCodec.{ByteCodec}
-use Rattle.array_codecs.specs.declared.byte_codec.ByteCodec.TheVariants.{Crc32c, Gzip, Zstd}
+use Rattle.array_codecs.specs.declared.byte_codec.ByteCodec.TheVariants.{Crc32c, Gzip, Zlib, Zstd}
 use Rattle.array_codecs.specs.declared.byte_codecs.ByteCodecs.{ByteCodecs}
+use Rattle.array_metadata.specs.declared.codecs.NamedCodec.{NamedCodec}
+use Rattle.array_metadata.specs.CodecNames.{metadata_of}
 use Rattle.array_fields.specs.MetadataFields.{whole_number_in, integer_in}
 
 -- the codec of the name `crc32c`
 abbrev pub crc32c_in : Data → Reading Crc32cCodec
 crc32c_in = codec_of (bytes_eq (codes "crc32c")) (λ name configuration. Ok (record {}))
 
--- the level of a configuration: a whole number of at most 9
+-- a level: a whole number of at most 9
+abbrev pub level_of : Data → Option ℕ
+level_of d = option_and_then (λ level. if nat_le level 9 then Some level else None) (whole_number_in d)
+
+-- the level of a configuration
 abbrev pub level_in : Data → Option ℕ
-level_in d =
-    option_and_then (λ level. if nat_le level 9 then Some level else None) (option_and_then whole_number_in (get (codes "level") d))
+level_in d = option_and_then level_of (get (codes "level") d)
 
 -- the codec of the name `gzip`
 abbrev pub gzip_configured : Option Data → Reading GzipCodec
@@ -28,6 +34,20 @@ gzip_configured d = or_refused (option_and_then level_in d) (bad_field (codes "l
 
 abbrev pub gzip_in : Data → Reading GzipCodec
 gzip_in = codec_of (bytes_eq (codes "gzip")) (λ name. gzip_configured)
+
+-- the level of a `numcodecs.zlib` configuration; 1 where nothing is said, as numcodecs has it
+abbrev pub zlib_level_in : Option Data → Option ℕ
+zlib_level_in None = Some 1
+zlib_level_in (Some d) = level_of d
+
+-- the codec of the name `numcodecs.zlib`
+abbrev pub zlib_configured : Option Data → Reading ZlibCodec
+zlib_configured d =
+    or_refused (option_and_then (λ configuration. zlib_level_in (get (codes "level") configuration)) d)
+    (bad_field (codes "level")) (λ level. Ok (record { level = level }))
+
+abbrev pub zlib_in : Data → Reading ZlibCodec
+zlib_in = codec_of (bytes_eq (codes "numcodecs.zlib")) (λ name. zlib_configured)
 
 -- the level of a `zstd` configuration: a whole number from -131072 to 22
 abbrev pub is_zstd_level : ℤ → Bool
@@ -60,12 +80,22 @@ abbrev pub byte_codec_in : Data → Reading ByteCodec
 byte_codec_in d =
     if is_named (codes "zstd") d then and_then (zstd_in d) (λ codec. Ok (Zstd codec))
     else if is_named (codes "gzip") d then and_then (gzip_in d) (λ codec. Ok (Gzip codec))
+    else if is_named (codes "numcodecs.zlib") d then and_then (zlib_in d) (λ codec. Ok (Zlib codec))
     else and_then (crc32c_in d) (λ codec. Ok (Crc32c codec))
 
--- a list of codecs from bytes to bytes: one, or one and `crc32c` behind it
+-- what is read of metadata that may be there
+abbrev pub IsOptionalCodec : Option NamedCodec → Option ByteCodec → Type 0
+IsOptionalCodec None found = found ≡ None
+IsOptionalCodec (Some codec) found = (read : ByteCodec) × (byte_codec_in (metadata_of codec) ≡ Ok read) × (found ≡ Some read)
+
+-- a list of one to three codecs from bytes to bytes
 abbrev pub byte_codecs_in : Items → Reading ByteCodecs
 byte_codecs_in no_items = Err unsupported_chain
-byte_codecs_in (item d no_items) = and_then (byte_codec_in d) (λ codec. Ok (record { codec = codec; checked = false }))
+byte_codecs_in (item d no_items) = and_then (byte_codec_in d) (λ first. Ok (record { first = first; second = None; third = None }))
 byte_codecs_in (item d (item e no_items)) =
-    and_then (byte_codec_in d) (λ codec. and_then (crc32c_in e) (λ checksum. Ok (record { codec = codec; checked = true })))
-byte_codecs_in (item d (item e (item f later))) = Err unsupported_chain
+    and_then (byte_codec_in d) (λ first. and_then (byte_codec_in e) (λ second.
+    Ok (record { first = first; second = Some second; third = None })))
+byte_codecs_in (item d (item e (item f no_items))) =
+    and_then (byte_codec_in d) (λ first. and_then (byte_codec_in e) (λ second. and_then (byte_codec_in f) (λ third.
+    Ok (record { first = first; second = Some second; third = Some third }))))
+byte_codecs_in (item d (item e (item f (item g later)))) = Err unsupported_chain

@@ -1,11 +1,11 @@
 -- Codecs that lists of metadata name.
-use Rattle.std.specs.Prelude.{◌≡◌, ◌⊎◌, List, Some, None, codes, map}
+use Rattle.std.specs.Prelude.{◌≡◌, ◌⊎◌, List, [], ◌∷◌, Some, None, codes, map}
 use Rattle.serde_json.specs.Data.{Data, Items}
 use Rattle.serde_json.specs.View.{view, items_of}
 use Rattle.parts_errors.specs.Words.{Bytes as Text}
 use Rattle.codec_metadata.specs.Metadata.{name_in, is_metadata_member, first_refused, members_in}
 use Rattle.array_metadata.specs.declared.codecs.CodecName.{CodecName}
-use Rattle.array_metadata.specs.declared.codecs.CodecName.TheVariants.{Bytes, Crc32c, Gzip, Zstd, ShardingIndexed}
+use Rattle.array_metadata.specs.declared.codecs.CodecName.TheVariants.{Bytes, Crc32c, Gzip, Zlib, Zstd, ShardingIndexed}
 use Rattle.array_metadata.specs.declared.codecs.NamedCodec.{NamedCodec}
 
 -- the name of a codec that is served
@@ -13,12 +13,20 @@ abbrev pub codec_name : CodecName → Text
 codec_name Bytes = codes "bytes"
 codec_name Crc32c = codes "crc32c"
 codec_name Gzip = codes "gzip"
+codec_name Zlib = codes "numcodecs.zlib"
 codec_name Zstd = codes "zstd"
 codec_name ShardingIndexed = codes "sharding_indexed"
 
 -- a codec from bytes to bytes that is served
 abbrev pub IsByteCodec : CodecName → Type 0
-IsByteCodec name = (name ≡ Crc32c) ⊎ (name ≡ Gzip) ⊎ (name ≡ Zstd)
+IsByteCodec name = (name ≡ Crc32c) ⊎ (name ≡ Gzip) ⊎ (name ≡ Zlib) ⊎ (name ≡ Zstd)
+
+-- one to three of them
+abbrev pub AreByteCodecs : List NamedCodec → Type 0
+AreByteCodecs (first ∷ []) = IsByteCodec first.name
+AreByteCodecs (first ∷ second ∷ []) = IsByteCodec first.name × IsByteCodec second.name
+AreByteCodecs (first ∷ second ∷ third ∷ []) = IsByteCodec first.name × IsByteCodec second.name × IsByteCodec third.name
+AreByteCodecs codecs = ⊥
 
 -- metadata has a name, and no members but those that metadata may have
 pub record Names (d : Data) (name : Text) : Type 0 where

@@ -31,7 +31,7 @@ innermost list = elements_or list (sole_shards list)
 -- the codecs that elements are served with, behind `transpose` or without it
 abbrev pub is_element_codec : Bytes → Bool
 is_element_codec name = bytes_eq name (codes "bytes") || bytes_eq name (codes "crc32c") || bytes_eq name (codes "gzip")
-    || bytes_eq name (codes "zstd")
+    || bytes_eq name (codes "numcodecs.zlib") || bytes_eq name (codes "zstd")
 
 -- the name of the first codec that elements are not served with
 abbrev pub unserved_or : Option Bytes → Option Bytes → Option Bytes

@@ -1,16 +1,16 @@
 // Codecs from bytes to bytes in the metadata of an array.
-ghost use Rattle.std.specs.Prelude.{◌≡◌, Some, Ok, IfOk, codes};
-ghost use Rattle.serde_json.specs.Data.{no_items, item};
+ghost use Rattle.std.specs.Prelude.{◌≡◌, Some, Ok, IfOk, IfSome, IsTrue, codes, option_map};
+ghost use Rattle.std.specs.List.{All};
 ghost use Rattle.serde_json.specs.Find.{get};
 ghost use Rattle.serde_json.specs.View.{view};
-ghost use Rattle.array_metadata.specs.ByteCodecsMetadata.{crc32c_in, gzip_in, zstd_in, zstd_level_of, checksum_in, byte_codec_in, byte_codecs_in};
-ghost use Rattle.array_metadata.specs.CodecNames.{IsByteCodec, IsNamed, Names, metadata_of};
+ghost use Rattle.array_metadata.specs.ByteCodecsMetadata.{crc32c_in, level_of, gzip_in, zlib_in, zlib_level_in, zstd_in, zstd_level_of, checksum_in, byte_codec_in, IsOptionalCodec, byte_codecs_in};
+ghost use Rattle.array_metadata.specs.CodecNames.{IsByteCodec, AreByteCodecs, IsNamed, Names, listed, metadata_of};
 
 use crate::codecs::{CodecName, NamedCodec};
 use array_codecs::{ByteCodec, ByteCodecs};
 use array_fields::{MetadataError, Placed};
 use codec_checksums::Crc32cCodec;
-use codec_gzip::GzipCodec;
+use codec_gzip::{GzipCodec, ZlibCodec};
 use codec_zstd::ZstdCodec;
 use std::alloc::Global;
 
@@ -25,6 +25,16 @@ fn crc32c_codec(alloc: Global, metadata: &Placed) -> Result<Crc32cCodec, Metadat
     Ok(Crc32cCodec)
 }
 
+// A level of DEFLATE. Refused as `BadField`.
+fn deflate_level(alloc: Global, level: &Placed) -> Result<u8, MetadataError>
+    ensures read { IfOk result (λ number. level_of (view level.now.value.now) ≡ Some number) }
+{
+    match level.value.as_u64() {
+        Some(number) if number <= 9 => Ok(number as u8),
+        _ => Err(level.bad(alloc, "a level is a whole number from 0 to 9")),
+    }
+}
+
 // The codec `gzip`, by the level of its configuration. Refused as `MissingField` or `BadField`.
 fn gzip_codec(alloc: Global, metadata: &Placed) -> Result<GzipCodec, MetadataError>
     requires named { Names (view metadata.now.value.now) (codes "gzip") }
@@ -32,13 +42,29 @@ fn gzip_codec(alloc: Global, metadata: &Placed) -> Result<GzipCodec, MetadataErr
 {
     let configuration = metadata.required(alloc, "configuration")?;
     configuration.only_members(alloc, &["level"])?;
-    let level = configuration.required(alloc, "level")?;
-    match level.value.as_u64() {
-        Some(number) if number <= 9 => Ok(GzipCodec {
-            level: number as u8,
-        }),
-        _ => Err(level.bad(alloc, "a level is a whole number from 0 to 9")),
+    let level = deflate_level(alloc, &configuration.required(alloc, "level")?)?;
+    Ok(GzipCodec { level })
+}
+
+// The level of a configuration of `numcodecs.zlib`; 1 where nothing is said. Refused as `BadField`.
+fn zlib_level(alloc: Global, configuration: &Placed) -> Result<u8, MetadataError>
+    ensures read { IfOk result (λ level. zlib_level_in (get (codes "level") (view configuration.now.value.now)) ≡ Some level) }
+{
+    match configuration.member(alloc, "level")? {
+        Some(level) => deflate_level(alloc, &level),
+        None => Ok(1),
     }
+}
+
+// The codec `numcodecs.zlib`, by its configuration. Refused as `MissingField` or `BadField`.
+fn zlib_codec(alloc: Global, metadata: &Placed) -> Result<ZlibCodec, MetadataError>
+    requires named { Names (view metadata.now.value.now) (codes "numcodecs.zlib") }
+    ensures read { IfOk result (λ codec. zlib_in (view metadata.now.value.now) ≡ Ok codec) }
+{
+    let configuration = metadata.required(alloc, "configuration")?;
+    configuration.only_members(alloc, &["level"])?;
+    let level = zlib_level(alloc, &configuration)?;
+    Ok(ZlibCodec { level })
 }
 
 // The level of a configuration of `zstd`. Refused as `BadField`.
@@ -85,38 +111,52 @@ fn byte_codec(alloc: Global, codec: &NamedCodec) -> Result<ByteCodec, MetadataEr
     match codec.name {
         CodecName::Zstd => Ok(ByteCodec::Zstd(zstd_codec(alloc, &codec.metadata)?)),
         CodecName::Gzip => Ok(ByteCodec::Gzip(gzip_codec(alloc, &codec.metadata)?)),
+        CodecName::Zlib => Ok(ByteCodec::Zlib(zlib_codec(alloc, &codec.metadata)?)),
         _ => Ok(ByteCodec::Crc32c(crc32c_codec(alloc, &codec.metadata)?)),
     }
 }
 
-// The codec that metadata names, alone. Refused as it is.
-pub fn single_codec(alloc: Global, codec: &NamedCodec) -> Result<ByteCodecs, MetadataError>
-    requires named { IsNamed codec.now }
-    requires served { IsByteCodec codec.now.name }
-    ensures read { IfOk result (λ found. byte_codecs_in (item (metadata_of codec.now) no_items) ≡ Ok found) }
+// The codec from bytes to bytes that metadata names, if there is any. Refused as it is.
+fn optional_codec(
+    alloc: Global,
+    codec: Option<&NamedCodec>,
+) -> Result<Option<ByteCodec>, MetadataError>
+    requires named { IfSome codec (λ codec. IsNamed codec.now) }
+    requires served { IfSome codec (λ codec. IsByteCodec codec.now.name) }
+    ensures read { IfOk result (IsOptionalCodec (option_map (λ codec. codec.now) codec.entry)) }
 {
-    let codec = byte_codec(alloc, codec)?;
-    Ok(ByteCodecs {
-        codec,
-        checked: false,
-    })
+    match codec {
+        Some(codec) => Ok(Some(byte_codec(alloc, codec)?)),
+        None => Ok(None),
+    }
 }
 
-// The codec that metadata names, and `crc32c` behind it. Refused as the first that is refused.
-pub fn checked_codec(
-    alloc: Global,
-    codec: &NamedCodec,
-    checksum: &NamedCodec,
-) -> Result<ByteCodecs, MetadataError>
-    requires named { IsNamed codec.now }
-    requires served { IsByteCodec codec.now.name }
-    requires checksum { Names (metadata_of checksum.now) (codes "crc32c") }
-    ensures read { IfOk result (λ found. byte_codecs_in (item (metadata_of codec.now) (item (metadata_of checksum.now) no_items)) ≡ Ok found) }
+// Whether metadata names one to three codecs from bytes to bytes.
+pub fn are_byte_codecs(codecs: &[NamedCodec]) -> bool
+    ensures { IsTrue result → AreByteCodecs codecs.now }
 {
-    let codec = byte_codec(alloc, codec)?;
-    let _checksum = crc32c_codec(alloc, &checksum.metadata)?;
+    match codecs {
+        [first] => first.is_byte_codec(),
+        [first, second] => first.is_byte_codec() && second.is_byte_codec(),
+        [first, second, third] => {
+            first.is_byte_codec() && second.is_byte_codec() && third.is_byte_codec()
+        }
+        _ => false,
+    }
+}
+
+// The codecs from bytes to bytes that metadata names, in its order. Refused as the first that is refused.
+pub fn byte_codecs(alloc: Global, codecs: &[NamedCodec]) -> Result<ByteCodecs, MetadataError>
+    requires named { All IsNamed codecs.now }
+    requires served { AreByteCodecs codecs.now }
+    ensures read { IfOk result (λ found. byte_codecs_in (listed codecs.now) ≡ Ok found) }
+{
+    let first = byte_codec(alloc, &codecs[0])?;
+    let second = optional_codec(alloc, codecs.get(1))?;
+    let third = optional_codec(alloc, codecs.get(2))?;
     Ok(ByteCodecs {
-        codec,
-        checked: true,
+        first,
+        second,
+        third,
     })
 }

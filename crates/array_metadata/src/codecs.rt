@@ -10,10 +10,10 @@ ghost use Rattle.array_metadata.specs.ArrayCodecs.{bytes_in, elements_in, arrang
 ghost use Rattle.array_metadata.specs.UnreadCodecs.{sole_shards, chunks_in};
 ghost use Rattle.array_metadata.specs.CodecNames.{codec_name, IsByteCodec, IsNamed, Names, listed, metadata_of};
 
-use crate::byte_codecs::{checked_codec, single_codec};
+use crate::byte_codecs::{are_byte_codecs, byte_codecs};
 use crate::transposes::{CodecValues, axis_order, codec_values};
 use crate::unread::{first_unserved, innermost, sole_shards as sole_value, test_names};
-use array_codecs::{ByteCodec, ByteCodecs, OpaqueCodec, TransposeCodec};
+use array_codecs::{ByteCodecs, OpaqueCodec, TransposeCodec};
 use array_fields::{MetadataError, Placed};
 use codec_bytes::BytesCodec;
 use codec_chains::{BytesChain, EitherCodec};
@@ -48,6 +48,7 @@ pub enum CodecName {
     Bytes,
     Crc32c,
     Gzip,
+    Zlib,
     Zstd,
     ShardingIndexed,
 }
@@ -61,6 +62,7 @@ impl CodecName {
             "bytes" => Some(CodecName::Bytes),
             "crc32c" => Some(CodecName::Crc32c),
             "gzip" => Some(CodecName::Gzip),
+            "numcodecs.zlib" => Some(CodecName::Zlib),
             "zstd" => Some(CodecName::Zstd),
             "sharding_indexed" => Some(CodecName::ShardingIndexed),
             _ => None,
@@ -77,11 +79,11 @@ pub struct NamedCodec<'a> {
 
 impl NamedCodec<'_> {
     // Whether the codec is one from bytes to bytes.
-    fn is_byte_codec(&self) -> bool
+    pub fn is_byte_codec(&self) -> bool
         ensures { IsTrue result → IsByteCodec self.now.name }
     {
         match self.name {
-            CodecName::Crc32c | CodecName::Gzip | CodecName::Zstd => true,
+            CodecName::Crc32c | CodecName::Gzip | CodecName::Zlib | CodecName::Zstd => true,
             CodecName::Bytes | CodecName::ShardingIndexed => false,
         }
     }
@@ -106,7 +108,7 @@ struct ShardParts {
 pub fn unserved(name: &str) -> &'static str {
     match name {
         "blosc" | "zlib" | "lz4" | "bz2" | "lzma" => {
-            "of the codecs that compress, this program reads gzip and zstd alone"
+            "of the codecs that compress, this program reads gzip, zstd and numcodecs.zlib alone"
         }
         "transpose" => "this program reads transpose inside shards alone, where bytes follows it",
         _ => "this program does not know this codec",
@@ -199,22 +201,14 @@ impl<'a> CodecList<'a> {
             [first] if first.name == CodecName::Bytes => {
                 Ok(EitherCodec::First(bytes_codec(alloc, &first.metadata, data_type)?))
             }
-            [first, second] if first.name == CodecName::Bytes && second.is_byte_codec() => {
+            [first, behind @ ..] if first.name == CodecName::Bytes && are_byte_codecs(behind) => {
                 let bytes = bytes_codec(alloc, &first.metadata, data_type)?;
-                let codecs = single_codec(alloc, second)?;
-                Ok(EitherCodec::Second(BytesChain::new(bytes, codecs)))
-            }
-            [first, second, third]
-                if first.name == CodecName::Bytes
-                    && second.is_byte_codec()
-                    && third.name == CodecName::Crc32c => {
-                let bytes = bytes_codec(alloc, &first.metadata, data_type)?;
-                let codecs = checked_codec(alloc, second, third)?;
+                let codecs = byte_codecs(alloc, behind)?;
                 Ok(EitherCodec::Second(BytesChain::new(bytes, codecs)))
             }
             _ => Err(self.refused(
                 alloc,
-                "only bytes is served here, or bytes and one of crc32c, gzip and zstd behind it, which crc32c may follow",
+                "only bytes is served here, or bytes and up to three of crc32c, gzip, zstd and numcodecs.zlib behind it",
             )),
         }
     }
@@ -312,7 +306,7 @@ fn parsed_configuration(
 fn is_of_fixed_size(codec: &IndexCodec) -> bool {
     match codec {
         EitherCodec::First(_) => true,
-        EitherCodec::Second(chain) => matches!(chain.bytes_to_bytes.codec, ByteCodec::Crc32c(_)),
+        EitherCodec::Second(chain) => chain.bytes_to_bytes.are_checksums(),
     }
 }
 

@@ -398,8 +398,8 @@ impl ArrayMetadata {
     /// nests deeper than is read, has a number past the range of a float, is no object, of another `zarr_format` than 3, of another
     /// `node_type` than `array`, has an unknown member that must be understood, or `storage_transformers`; and then for `shape` (whole
     /// numbers), `data_type` (`bool`, `int8` to `int64`, `uint8` to `uint64`, floats, complex numbers, raw bits or times), `chunk_grid` (`regular`), `chunk_key_encoding` (`default` or `v2`), `fill_value` (an element of the type, or of one that
-    /// is not read any value) and `codecs` (`sharding_indexed` alone, with `bytes`, `crc32c`, `gzip` or `zstd` behind it, `transpose` before
-    /// it, `sharding_indexed` once more inside, or codecs of other names, which are not looked into) in turn: each with its place, and a sentence that says what is not
+    /// is not read any value) and `codecs` (`sharding_indexed` alone, with `bytes` inside, up to three of `crc32c`, `gzip`, `numcodecs.zlib` and `zstd`
+    /// behind it, `transpose` before it, `sharding_indexed` once more inside, or codecs of other names, which are not looked into) in turn: each with its place, and a sentence that says what is not
     /// served; or as `OutOfMemory`. Where elements go through a codec of another name, their type may have any name.
     pub fn from_text(alloc: Global, text: &str) -> Result<Self, MetadataError>
         ensures served { OnOk result (IsServedText text.now) }

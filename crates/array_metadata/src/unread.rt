@@ -54,7 +54,10 @@ pub fn innermost(values: &[Value]) -> &[Value]
 fn is_element_codec(name: &str) -> bool
     ensures { result ≡ is_element_codec name.now }
 {
-    matches!(name, "bytes" | "crc32c" | "gzip" | "zstd")
+    matches!(
+        name,
+        "bytes" | "crc32c" | "gzip" | "numcodecs.zlib" | "zstd"
+    )
 }
 
 // The name of the first codec that elements are not served with.

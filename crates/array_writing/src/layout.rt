@@ -16,7 +16,7 @@ pub struct LayoutWords<'a> {
     pub index: Option<&'a str>,
     /// Whether `crc32c` is behind the index.
     pub is_checked: Option<bool>,
-    /// The codec behind `bytes` inside a shard: `none`, `crc32c`, `gzip` or `zstd`.
+    /// The codec behind `bytes` inside a shard: `none`, `crc32c`, `gzip`, `zlib` or `zstd`.
     pub inner: Option<&'a str>,
     /// In which order the subchunks are written: `c` or `morton`.
     pub order: Option<&'a str>,
@@ -54,6 +54,7 @@ fn behind_bytes(name: &str) -> Option<&'static str> {
         "none" => Some(""),
         "crc32c" => Some(",{\"name\":\"crc32c\"}"),
         "gzip" => Some(",{\"name\":\"gzip\",\"configuration\":{\"level\":5}}"),
+        "zlib" => Some(",{\"name\":\"numcodecs.zlib\",\"configuration\":{\"level\":5}}"),
         "zstd" => Some(",{\"name\":\"zstd\",\"configuration\":{\"level\":0,\"checksum\":false}}"),
         _ => None,
     }

@@ -1,5 +1,5 @@
 -- Laws of the members of a gzip file.
-use Rattle.std.proofs.Common.{◌≡◌, ℕ, zero, suc, ◌+◌, ◌-◌, ◌<◌, ◌≤◌, ◌≢◌, ◌++◌, [], ◌∷◌, Option, Some, None, IfSome, length, get_or, drop, refl, sym, ap, subst, ◌∙◌, arith, length-append}
+use Rattle.std.proofs.Common.{◌≡◌, ℕ, zero, suc, ◌+◌, ◌<◌, ◌≢◌, [], ◌∷◌, Option, Some, None, length, get_or, drop, refl, sym, ap, subst, ◌∙◌, arith}
 use Rattle.codec_compression.specs.Options.{◌>>=◌}
 use Rattle.codec_compression.specs.Bits.{Bytes}
 use Rattle.codec_deflate.specs.Inflate.{inflated}

@@ -1,2 +1,4 @@
 pub mod GzipLaws
 pub mod WrittenLaws
+pub mod AdlerLaws
+pub mod ZlibLaws

@@ -3,3 +3,8 @@ pub mod Gzip
 pub mod Written
 pub mod GzipCoding
 pub mod GzipLaws
+pub mod Adler
+pub mod Zlib
+pub mod ZlibWritten
+pub mod ZlibCoding
+pub mod ZlibLaws

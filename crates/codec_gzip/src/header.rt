@@ -8,7 +8,7 @@ use codec_compression::DecompressError;
 
 // `count` bytes.
 #[tactic(auto, unfolding(crate::specs::Gzip::after))]
-fn after(bytes: &[u8], count: usize) -> Result<&[u8], DecompressError>
+pub(crate) fn after(bytes: &[u8], count: usize) -> Result<&[u8], DecompressError>
     ensures read { Gives (λ rest. rest.now) result (after count bytes.now) }
     ensures shorter { IfOk result (λ rest. length rest.now + count ≡ length bytes.now) }
 {

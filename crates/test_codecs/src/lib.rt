@@ -46,4 +46,6 @@ mod variable;
 #[cfg(test)]
 mod writes;
 #[cfg(test)]
+mod zlib;
+#[cfg(test)]
 mod zstd;

@@ -132,6 +132,8 @@ const INNER_CODECS: &[&str] = &[
     r#"[{"name": "transpose", "configuration": {"order": [1, 0]}}, {"name": "bytes", "configuration": {"endian": "big"}}]"#,
     r#"[{"name": "transpose", "configuration": {"order": [0, 1]}}, {"name": "bytes", "configuration": {"endian": "little"}},
         {"name": "gzip", "configuration": {"level": 5}}, {"name": "crc32c"}]"#,
+    r#"[{"name": "bytes", "configuration": {"endian": "little"}}, "crc32c", {"name": "numcodecs.zlib", "configuration": {}},
+        {"name": "zstd", "configuration": {"level": 3}}]"#,
     r#"[{"name": "sharding_indexed", "configuration": {"chunk_shape": [1, 2],
         "codecs": [{"name": "transpose", "configuration": {"order": [1, 0]}}, {"name": "bytes", "configuration": {"endian": "little"}}],
         "index_codecs": [{"name": "bytes", "configuration": {"endian": "little"}}]}}]"#,

@@ -228,11 +228,11 @@ const INNER_CODECS: &[(&str, &str)] = &[
     ),
     (
         "[]",
-        "5 UnsupportedChain: in codecs[0].configuration.codecs: only bytes is served here, or bytes and one of crc32c, gzip and zstd behind it, which crc32c may follow",
+        "5 UnsupportedChain: in codecs[0].configuration.codecs: only bytes is served here, or bytes and up to three of crc32c, gzip, zstd and numcodecs.zlib behind it",
     ),
     (
         r#"[{"name": "crc32c"}, {"name": "bytes"}]"#,
-        "5 UnsupportedChain: in codecs[0].configuration.codecs: only bytes is served here, or bytes and one of crc32c, gzip and zstd behind it, which crc32c may follow",
+        "5 UnsupportedChain: in codecs[0].configuration.codecs: only bytes is served here, or bytes and up to three of crc32c, gzip, zstd and numcodecs.zlib behind it",
     ),
     (
         r#"[{"name": "bytes"}]"#,
@@ -271,6 +271,14 @@ const INNER_CODECS: &[(&str, &str)] = &[
         "4 BadField lvl: in codecs[0].configuration.codecs[1].configuration: the key is not known",
     ),
     (
+        r#"[{"name": "bytes", "configuration": {"endian": "little"}}, {"name": "numcodecs.zlib"}]"#,
+        "3 MissingField configuration: in codecs[0].configuration.codecs[1]: the key configuration is missing",
+    ),
+    (
+        r#"[{"name": "bytes", "configuration": {"endian": "little"}}, "crc32c", {"name": "numcodecs.zlib", "configuration": {"level": 10}}]"#,
+        "4 BadField level: in codecs[0].configuration.codecs[2].configuration.level: a level is a whole number from 0 to 9",
+    ),
+    (
         r#"[{"name": "bytes", "configuration": {"endian": "little"}}, {"name": "zstd"}]"#,
         "3 MissingField configuration: in codecs[0].configuration.codecs[1]: the key configuration is missing",
     ),
@@ -295,8 +303,8 @@ const INNER_CODECS: &[(&str, &str)] = &[
         "4 BadField window: in codecs[0].configuration.codecs[1].configuration: the key is not known",
     ),
     (
-        r#"[{"name": "bytes", "configuration": {"endian": "little"}}, {"name": "crc32c"}, {"name": "zstd", "configuration": {"level": 3}}]"#,
-        "5 UnsupportedChain: in codecs[0].configuration.codecs: only bytes is served here, or bytes and one of crc32c, gzip and zstd behind it, which crc32c may follow",
+        r#"[{"name": "bytes", "configuration": {"endian": "little"}}, "crc32c", "crc32c", "crc32c", "crc32c"]"#,
+        "5 UnsupportedChain: in codecs[0].configuration.codecs: only bytes is served here, or bytes and up to three of crc32c, gzip, zstd and numcodecs.zlib behind it",
     ),
     (
         r#"[{"name": "sharding_indexed", "configuration": {"chunk_shape": [2, 2],
@@ -311,7 +319,7 @@ const INNER_CODECS: &[(&str, &str)] = &[
     (
         r#"[{"name": "sharding_indexed", "configuration": {"chunk_shape": [2, 2],
             "codecs": [{"name": "crc32c"}], "index_codecs": [{"name": "blosc"}]}}]"#,
-        "2 UnsupportedCodec blosc: in codecs[0].configuration.codecs[0].configuration.index_codecs[0]: of the codecs that compress, this program reads gzip and zstd alone",
+        "2 UnsupportedCodec blosc: in codecs[0].configuration.codecs[0].configuration.index_codecs[0]: of the codecs that compress, this program reads gzip, zstd and numcodecs.zlib alone",
     ),
     (
         r#"[{"name": "sharding_indexed", "configuration": {"chunk_shape": [2, 2],

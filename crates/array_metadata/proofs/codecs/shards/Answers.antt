@@ -1,4 +1,4 @@
-use Rattle.std.proofs.Common.{◌≡◌, ◌∙◌, arith, sym, ap, Ok}
+use Rattle.std.proofs.Common.{◌≡◌, ◌∙◌, arith, ap}
 use Rattle.serde_json.specs.View.{view, items_view}
 use Rattle.array_metadata.specs.ArrayCodecs.{subchunks_in}
 use Rattle.array_metadata.proofs.Lists.{shape_said}
