@@ -120,7 +120,8 @@ impl SubsetCells {
     pub fn array(&self) -> ArrayBytes<'_>
         ensures { result ≡ fixed_array self.now.element_size self.now.bytes }
     {
-        let Some(array) = ArrayBytes::new_flen(CowSlice::Borrowed(&self.bytes), self.element_size) else {
+        let Some(array) = ArrayBytes::new_flen(CowSlice::Borrowed(&self.bytes), self.element_size)
+        else {
             unreachable!()
         };
         array

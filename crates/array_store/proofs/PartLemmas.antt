@@ -45,9 +45,9 @@ kept_but old new key (Whole e) refused kept t other sound = elim (same_or_not ot
 ]
 kept_but old new key (Chunk named e) refused kept t other sound = elim (same_or_not other key) [
   | inl is ↦ elim refused.1 [
-      | inl fault ↦ absurd (sound (fault, refused.0 ∙ sym is))
-      | inr stays ↦ subst (λ k. new.contents k ≡ old.contents k) (sym is) (stays t)
-    ]
+    | inl fault ↦ absurd (sound (fault, refused.0 ∙ sym is))
+    | inr stays ↦ subst (λ k. new.contents k ≡ old.contents k) (sym is) (stays t)
+  ]
   | inr apart ↦ kept.others t other apart
 ]
 

@@ -57,7 +57,7 @@ only_last n x (k, few, is) = let first : k ≡ 0 = omega (arith, few) in sym (ap
 -- chunks that have been written, one after the other
 module _ (format : ArrayFormat) (subset : Subset) (update : ℕ → Bytes) where
   pub write_none : (elements : List ℕ → Option Bytes) → AreWrittenTo format subset update [] elements elements
-  write_none elements = record { done = λ q few there. absurd (omega (arith, there.1)); left = λ point within apart. refl; }
+  write_none elements = record { done = λ q few there. absurd (omega (arith, there.1)); left = λ point within apart. refl }
 
   module _ (written : List ℕ) (number : ℕ) (old mid new : List ℕ → Option Bytes) (before : AreWrittenTo format subset update written old mid)
       (after : IsChunkWritten format subset update number mid new)
@@ -66,11 +66,11 @@ module _ (format : ArrayFormat) (subset : Subset) (update : ℕ → Bytes) where
     done_more q few there = elim (cases_eq (chunk_number format (point_in subset q)) number) [
       | inl is ↦ after.here q few is
       | inr other ↦ elim (Contains-append_cases written (number ∷ []) (chunk_number format (point_in subset q)) there) [
-          | inl earlier ↦
-              after.others (point_in subset q) (within q few) (λ r less at one. other (ap (chunk_number format) one ∙ at))
-              ∙ before.done q few earlier
-          | inr last ↦ absurd (other (only_last number (chunk_number format (point_in subset q)) last))
-        ]
+        | inl earlier ↦
+            after.others (point_in subset q) (within q few) (λ r less at one. other (ap (chunk_number format) one ∙ at))
+            ∙ before.done q few earlier
+        | inr last ↦ absurd (other (only_last number (chunk_number format (point_in subset q)) last))
+      ]
     ]
 
     left_more : (point : List ℕ) → IsInside point (whole_of format)
@@ -80,12 +80,12 @@ module _ (format : ArrayFormat) (subset : Subset) (update : ℕ → Bytes) where
         ∙ before.left point here (λ q few there. apart q few (Contains-append_left written (number ∷ []) (chunk_number format (point_in subset q)) there))
 
     pub write_more : AreWrittenTo format subset update (written ++ number ∷ []) old new
-    write_more = record { done = done_more; left = left_more; }
+    write_more = record { done = done_more; left = left_more }
 
   -- a refusal that changes nothing
   pub stop_here : (written : List ℕ) (error : ArrayError) (old new : List ℕ → Option Bytes) → AreWrittenTo format subset update written old new
       → AreStoppedAt format subset update written error old new
-  stop_here written error old new before = record { done = before.done; left = λ point within apart sound. before.left point within apart; }
+  stop_here written error old new before = record { done = before.done; left = λ point within apart sound. before.left point within apart }
 
 -- the chunks that a subset touches, by their keys
 module _ (format : ArrayFormat) (m : Meaning) (subset : Subset) (same : length format.shape.now ≡ length format.chunk.now)

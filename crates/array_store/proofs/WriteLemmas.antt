@@ -170,4 +170,4 @@ module _ (format : ArrayFormat) (m : Meaning) (subset : Subset) (same : length f
     ]
 
     pub chunk_written : IsChunkWritten format subset update k (element_at old format m.cells) (element_at new format m.cells)
-    chunk_written = record { here = written_here; others = left_there; }
+    chunk_written = record { here = written_here; others = left_there }

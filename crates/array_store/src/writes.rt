@@ -45,7 +45,12 @@ impl<S: Store, C: ArrayToBytesCodecTraits> Array<'_, S, C> {
             unreachable!()
         };
         let data_type = self.format.data_type;
-        let here = elements.extract_array_subset(alloc, &part.in_subset, subset.shape(), data_type)?;
+        let here = elements.extract_array_subset(
+            alloc,
+            &part.in_subset,
+            subset.shape(),
+            data_type,
+        )?;
         match self.write_in_chunk(alloc, &part.coordinates, &part.in_shard, &here) {
             Ok(()) => Ok(part.shard),
             Err(error) => Err(error),

@@ -8,6 +8,6 @@ unreachable-requires c =
     let s = c.self.inside in
     let i = c.self.invariant in
     c.in_default.ensures (
-    i.some,
-    ap (λ n. n % s.element_size) (omega (arith, i.whole, ap length c.deref.ensures.value)) ∙ mod-mul-add (count_of s.shape.items) s.element_size 0 i.some,
+      i.some,
+      ap (λ n. n % s.element_size) (omega (arith, i.whole, ap length c.deref.ensures.value)) ∙ mod-mul-add (count_of s.shape.items) s.element_size 0 i.some,
     )
