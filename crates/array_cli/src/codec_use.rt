@@ -9,7 +9,7 @@ pub trait CodecUse<F> {
     type Answer;
 
     /// Does it with a codec.
-    fn with<C: ShardCodec<F>>(self, codec: C) -> Self::Answer;
+    fn with<C: ShardCodec<F> + Sync>(self, codec: C) -> Self::Answer;
 }
 
 /// Does something with the codec that metadata names. It alone names the type of that codec; all else works with any.

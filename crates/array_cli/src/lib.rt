@@ -5,6 +5,7 @@
 mod arrays;
 mod codec_use;
 mod json_line;
+mod parallel;
 mod progress;
 mod read;
 mod refusal;
@@ -16,6 +17,7 @@ mod text;
 pub use arrays::{Array, Shard, described, metadata_of, turned};
 pub use codec_use::{CodecUse, with_codec};
 pub use json_line::{JsonLine, write_json_text};
+pub use parallel::{ShardWork, run_in_parallel, threads_of};
 pub use progress::Progress;
 pub use read::{read_array, shards_of};
 pub use refusal::{Place, Refusal};

@@ -5,10 +5,11 @@ use crate::check::check;
 use crate::command_line::{Scope, Target, Work, program, work_of};
 use crate::extract::extract;
 use crate::npy::save_subset;
-use crate::reading::print_subset;
+use crate::reading::{Reading, print_subset};
 use crate::writing_line::array_words;
 use array_cli::{
-    Array, CodecUse, Ending, Progress, ShardCodec, ShardFile, Stop, metadata_of, with_codec,
+    Array, CodecUse, Ending, Progress, ShardCodec, ShardFile, Stop, metadata_of, threads_of,
+    with_codec,
 };
 use array_fields::escaped;
 use array_grid::{ListPart, subset_of};
@@ -21,22 +22,40 @@ use std::convert::AsStr;
 use std::io;
 use std::io::{BufWriter, Write};
 use std::rt::{Clock, Files};
+use std::thread::Threads;
+
+// By how many threads a command works, by a word. Refused as `Stop::BadWord` where that is no number above 0.
+fn jobs_of<R: AllocGlobal + Threads>(rt: &R, word: Option<&str>) -> Result<u64, Stop> {
+    let Some(word) = word else {
+        return Ok(threads_of(rt));
+    };
+    match word.parse() {
+        Ok(jobs) if jobs > 0 => Ok(jobs),
+        _ => Err(Stop::BadWord(escaped(rt.alloc(), word)?)),
+    }
+}
 
 // Reads the subset that a word names, and writes its elements.
-fn run_read<'a, R: Files + AllocGlobal, C: ShardCodec<ShardFile<'a, R>>, W: Write, M: Write>(
+fn run_read<
+    'a,
+    R: Files + AllocGlobal + Threads + Sync,
+    C: ShardCodec<ShardFile<'a, R>> + Sync,
+    W: Write,
+    M: Write,
+>(
     array: &Array<'a, R, C>,
     requested: Option<&str>,
     target: Target<'_>,
-    fills: bool,
+    reading: Reading,
     out: &mut W,
     progress: &mut Progress<'_, M>,
 ) -> Result<Ending, Stop> {
     match target {
-        Target::NumPy(path) => save_subset(array, requested, path, fills, out, progress),
+        Target::NumPy(path) => save_subset(array, requested, path, reading, out, progress),
         Target::Answer(form) => {
             array.test_read()?;
             let subset = subset_of(array.alloc(), requested, &array.metadata.shape)?.subset;
-            print_subset(array, &subset, form, fills, out, progress)
+            print_subset(array, &subset, form, reading, out, progress)
         }
     }
 }
@@ -80,8 +99,8 @@ fn way_of(is_dry: bool, output: Option<&str>) -> Way<'_> {
 // Does a work, and writes its answer.
 fn run_work<
     'a,
-    R: Files + AllocGlobal + Clock,
-    C: ShardCodec<ShardFile<'a, R>>,
+    R: Files + AllocGlobal + Clock + Threads + Sync,
+    C: ShardCodec<ShardFile<'a, R>> + Sync,
     W: Write,
     M: Write,
 >(
@@ -97,22 +116,29 @@ fn run_work<
         Work::Check {
             is_index_alone,
             scope,
-        } => check(
-            array,
-            is_index_alone,
-            &listing_of(alloc, scope)?,
-            out,
-            progress,
-        ),
+            jobs,
+        } => {
+            let jobs = jobs_of(array.rt, jobs)?;
+            let listing = listing_of(alloc, scope)?;
+            check(array, is_index_alone, &listing, jobs, out, progress)
+        }
         Work::Map { key, svg } => run_map(array, key, svg, out, progress),
         Work::Extract { key, number } => extract(array, key, number, out),
         Work::Read {
             requested,
             target,
             fills,
-        } => run_read(array, requested, target, fills, out, progress),
+            jobs,
+        } => {
+            let jobs = jobs_of(array.rt, jobs)?;
+            let reading = Reading { fills, jobs };
+            run_read(array, requested, target, reading, out, progress)
+        }
         Work::Write { requested, file } => write_subset(array, requested, file, out, progress),
-        Work::Reshard { path, words } => reshard(array, path, &words, out, progress),
+        Work::Reshard { path, words, jobs } => {
+            let jobs = jobs_of(array.rt, jobs)?;
+            reshard(array, path, &words, jobs, out, progress)
+        }
         Work::Compact {
             is_dry,
             output,
@@ -145,26 +171,19 @@ struct ArrayWork<'w, 'p, R, W, M> {
     progress: &'w mut Progress<'p, M>,
 }
 
-impl<'w, R: Files + AllocGlobal + Clock, W: Write, M: Write> CodecUse<ShardFile<'w, R>>
-    for ArrayWork<'w, '_, R, W, M> {
+impl<'w, R: Files + AllocGlobal + Clock + Threads + Sync, W: Write, M: Write> CodecUse<
+    ShardFile<'w, R>,
+> for ArrayWork<'w, '_, R, W, M> {
     type Answer = Result<Ending, Stop>;
 
-    fn with<C: ShardCodec<ShardFile<'w, R>>>(self, codec: C) -> Result<Ending, Stop> {
-        let ArrayWork {
-            rt,
-            path,
-            metadata,
-            work,
-            out,
-            progress,
-        } = self;
-        let array = Array::open(rt, path, metadata, codec)?;
-        run_work(&array, work, out, progress)
+    fn with<C: ShardCodec<ShardFile<'w, R>> + Sync>(self, codec: C) -> Result<Ending, Stop> {
+        let array = Array::open(self.rt, self.path, self.metadata, codec)?;
+        run_work(&array, self.work, self.out, self.progress)
     }
 }
 
 // Reads the metadata of an array, and does a work.
-fn run_array<R: Files + AllocGlobal + Clock, W: Write, M: Write>(
+fn run_array<R: Files + AllocGlobal + Clock + Threads + Sync, W: Write, M: Write>(
     rt: &R,
     path: &str,
     work: Work<'_>,
@@ -204,7 +223,7 @@ impl<'w, R: Files + AllocGlobal, W: Write, M: Write> CodecUse<ShardFile<'w, R>>
     for Comparison<'w, '_, R, W, M> {
     type Answer = Result<Ending, Stop>;
 
-    fn with<C: ShardCodec<ShardFile<'w, R>>>(self, codec: C) -> Result<Ending, Stop> {
+    fn with<C: ShardCodec<ShardFile<'w, R>> + Sync>(self, codec: C) -> Result<Ending, Stop> {
         let metadata = self.metadata.1;
         let comparison = HalfComparison {
             comparison: self,
@@ -214,12 +233,16 @@ impl<'w, R: Files + AllocGlobal, W: Write, M: Write> CodecUse<ShardFile<'w, R>>
     }
 }
 
-impl<'w, C: ShardCodec<ShardFile<'w, R>>, R: Files + AllocGlobal, W: Write, M: Write> CodecUse<
-    ShardFile<'w, R>,
-> for HalfComparison<'w, '_, C, R, W, M> {
+impl<
+    'w,
+    C: ShardCodec<ShardFile<'w, R>> + Sync,
+    R: Files + AllocGlobal,
+    W: Write,
+    M: Write,
+> CodecUse<ShardFile<'w, R>> for HalfComparison<'w, '_, C, R, W, M> {
     type Answer = Result<Ending, Stop>;
 
-    fn with<D: ShardCodec<ShardFile<'w, R>>>(self, codec: D) -> Result<Ending, Stop> {
+    fn with<D: ShardCodec<ShardFile<'w, R>> + Sync>(self, codec: D) -> Result<Ending, Stop> {
         let Comparison {
             rt,
             paths,
@@ -254,7 +277,7 @@ fn run_compare<R: Files + AllocGlobal, W: Write, M: Write>(
 }
 
 // Does what the words of a command line say.
-fn run_matches<R: Files + AllocGlobal + Clock, W: Write, M: Write>(
+fn run_matches<R: Files + AllocGlobal + Clock + Threads + Sync, W: Write, M: Write>(
     rt: &R,
     matches: &ArgMatches<'_>,
     out: &mut W,
@@ -312,7 +335,7 @@ fn tell<W: Write, M: Write>(
 }
 
 // Reads the words of a command line, and does what they say.
-fn run_words<R: Files + AllocGlobal + Clock, S: AsStr, W: Write, M: Write>(
+fn run_words<R: Files + AllocGlobal + Clock + Threads + Sync, S: AsStr, W: Write, M: Write>(
     rt: &R,
     words: &[S],
     out: &mut W,
@@ -328,13 +351,12 @@ fn run_words<R: Files + AllocGlobal + Clock, S: AsStr, W: Write, M: Write>(
 }
 
 // Runs a command line, and sees that its answer is written.
-fn run_buffered<R: Files + AllocGlobal + Clock, S: AsStr, W: Write + Drop, M: Write>(
-    rt: &R,
-    words: &[S],
-    writer: W,
-    messages: &mut M,
-    shows_progress: bool,
-) -> Result<u8, Stop>
+fn run_buffered<
+    R: Files + AllocGlobal + Clock + Threads + Sync,
+    S: AsStr,
+    W: Write + Drop,
+    M: Write,
+>(rt: &R, words: &[S], writer: W, messages: &mut M, shows_progress: bool) -> Result<u8, Stop>
     ensures { IfOk result (λ status. status ≤ 2) }
 {
     let mut out = BufWriter::new(rt.alloc(), writer)?;
@@ -350,13 +372,12 @@ fn run_buffered<R: Files + AllocGlobal + Clock, S: AsStr, W: Write + Drop, M: Wr
 /// it, could not be done, and then nothing is written but what `list`, `check` and `compact` had said before, and a line on the
 /// owner of a new file. A message that is not taken is dropped, and an answer that nobody reads. Where `shows_progress` is
 /// true, the messages show how far the command is while it runs, and it is blanked before an answer or a sentence is written.
-pub fn run_command<R: Files + AllocGlobal + Clock, S: AsStr, W: Write + Drop, M: Write + Drop>(
-    rt: &R,
-    words: &[S],
-    writer: W,
-    mut messages: M,
-    shows_progress: bool,
-) -> u8
+pub fn run_command<
+    R: Files + AllocGlobal + Clock + Threads + Sync,
+    S: AsStr,
+    W: Write + Drop,
+    M: Write + Drop,
+>(rt: &R, words: &[S], writer: W, mut messages: M, shows_progress: bool) -> u8
     ensures { result ≤ 2 }
 {
     match run_buffered(rt, words, writer, &mut messages, shows_progress) {

@@ -43,6 +43,7 @@ pub enum Work<'a> {
     Check {
         is_index_alone: bool,
         scope: Scope<'a>,
+        jobs: Option<&'a str>,
     },
     Extract {
         key: &'a str,
@@ -56,6 +57,7 @@ pub enum Work<'a> {
         requested: Option<&'a str>,
         target: Target<'a>,
         fills: bool,
+        jobs: Option<&'a str>,
     },
     Write {
         requested: Option<&'a str>,
@@ -64,6 +66,7 @@ pub enum Work<'a> {
     Reshard {
         path: &'a str,
         words: LayoutWords<'a>,
+        jobs: Option<&'a str>,
     },
     Compact {
         is_dry: bool,
@@ -95,6 +98,17 @@ fn part_option<'a>(alloc: Global) -> Arg<'a> {
     Arg::new(alloc, "part").long("part").value_name("K/N").help(
         "Only the K-th of N parts of the shards, which are dealt out in turn",
     )
+}
+
+/// How many threads work side by side.
+pub fn jobs_option<'a>(alloc: Global) -> Arg<'a> {
+    Arg::new(alloc, "jobs")
+        .short('j')
+        .long("jobs")
+        .value_name("N")
+        .help(
+            "By how many threads, each with shards of its own; without it as many as there are processors",
+        )
 }
 
 fn info_command<'a>(alloc: Global) -> Result<Command<'a>, AllocError> {
@@ -129,7 +143,8 @@ fn check_command<'a>(alloc: Global) -> Result<Command<'a>, AllocError> {
         .arg(path_argument(alloc))?
         .arg(index_flag(alloc))?
         .arg(lines_flag(alloc))?
-        .arg(part_option(alloc))
+        .arg(part_option(alloc))?
+        .arg(jobs_option(alloc))
 }
 
 fn svg_option<'a>(alloc: Global) -> Arg<'a> {
@@ -223,7 +238,8 @@ fn read_command<'a>(alloc: Global) -> Result<Command<'a>, AllocError> {
         .arg(json_flag(alloc))?
         .arg(raw)?
         .arg(npy)?
-        .arg(fill_flag(alloc))
+        .arg(fill_flag(alloc))?
+        .arg(jobs_option(alloc))
 }
 
 fn dry_flag<'a>(alloc: Global) -> Arg<'a> {
@@ -345,6 +361,7 @@ fn reading<'a>(matches: &ArgMatches<'a>) -> Work<'a> {
         requested: matches.get_str("BOX"),
         target,
         fills: matches.get_flag("fill-damaged"),
+        jobs: matches.get_str("jobs"),
     }
 }
 
@@ -354,6 +371,7 @@ pub fn work_of<'a>(name: &str, matches: &ArgMatches<'a>) -> Work<'a> {
         "check" => Work::Check {
             is_index_alone: matches.get_flag("index"),
             scope: scope_of(matches),
+            jobs: matches.get_str("jobs"),
         },
         "extract" => Work::Extract {
             key: matches.get_str("KEY").unwrap_or(""),
@@ -371,6 +389,7 @@ pub fn work_of<'a>(name: &str, matches: &ArgMatches<'a>) -> Work<'a> {
         "reshard" => Work::Reshard {
             path: matches.get_str("DST").unwrap_or(""),
             words: layout_words(matches),
+            jobs: matches.get_str("jobs"),
         },
         "compact" => Work::Compact {
             is_dry: matches.get_flag("dry-run"),

@@ -3,7 +3,8 @@ use crate::chunks::{chunks_of, elements_of};
 use crate::layout::{LayoutWords, new_document, order_of};
 use crate::new_folder::{begin_folder, encoded, end_folder, put, test_served};
 use array_cli::{
-    Array, Ending, Progress, ShardCodec, ShardFile, Stop, described, read_array, turned, written,
+    Array, Ending, Progress, ShardCodec, ShardFile, ShardWork, Stop, described, read_array,
+    run_in_parallel, turned, written,
 };
 use array_fields::{LONGEST_TEXT, escaped};
 use array_folder::{Counted, read_document};
@@ -18,6 +19,10 @@ use std::borrow::CowSlice;
 use std::fs;
 use std::io::Write;
 use std::rt::Files;
+use std::thread::Threads;
+
+// How many chunks each thread is given at a time.
+const CHUNKS_OF_A_THREAD: u64 = 4;
 
 // A new array: the folder in which its shards are made, and its metadata.
 #[derive(Clone, Copy)]
@@ -94,33 +99,84 @@ fn put_chunk<'a, R: Files + AllocGlobal, C: ShardCodec<ShardFile<'a, R>>>(
     Ok(Some(bytes.len() as u64))
 }
 
-// Makes the chunks of a new array that have these coordinates.
-fn put_all<'a, R: Files + AllocGlobal, C: ShardCodec<ShardFile<'a, R>>, M: Write>(
+// Chunks of a new array that are made side by side.
+#[derive(Drop)]
+struct SomeChunks<'s, 'n, 'a, R, C> {
+    old: &'s Array<'a, R, C>,
+    new: &'s NewArray<'n>,
+    chunks: &'s [Vec<u64>],
+}
+
+impl<'a, R: Files + AllocGlobal + Sync, C: ShardCodec<ShardFile<'a, R>> + Sync> ShardWork
+    for SomeChunks<'_, '_, 'a, R, C> {
+    type Answer = Result<Option<u64>, Stop>;
+
+    fn run(&self, number: u64) -> Result<Option<u64>, Stop> {
+        match self.chunks.get(number as usize) {
+            Some(coordinates) => put_chunk(self.old, self.new, coordinates),
+            None => Ok(None),
+        }
+    }
+}
+
+impl Written {
+    // Adds chunks that were made, as far as none is refused.
+    fn add(&mut self, made: Vec<Result<Option<u64>, Stop>>) -> Result<(), Stop> {
+        for bytes in made {
+            if let Some(bytes) = bytes? {
+                self.shards = self.shards.saturating_add(1);
+                self.bytes = self.bytes.saturating_add(bytes);
+            }
+        }
+        Ok(())
+    }
+}
+
+// Makes the chunks of a new array that have these coordinates, some of them at a time.
+fn put_all<
+    'a,
+    R: Files + AllocGlobal + Threads + Sync,
+    C: ShardCodec<ShardFile<'a, R>> + Sync,
+    M: Write,
+>(
     old: &Array<'a, R, C>,
     new: &NewArray<'_>,
     chunks: &[Vec<u64>],
+    jobs: u64,
     progress: &mut Progress<'_, M>,
 ) -> Result<Written, Stop> {
     let mut sum = Written {
         shards: 0,
         bytes: 0,
     };
-    for (number, coordinates) in chunks.iter().enumerate() {
-        progress.step(number as u64, chunks.len() as u64);
-        if let Some(bytes) = put_chunk(old, new, coordinates)? {
-            sum.shards = sum.shards.saturating_add(1);
-            sum.bytes = sum.bytes.saturating_add(bytes);
-        }
+    let at_once = jobs
+        .saturating_mul(CHUNKS_OF_A_THREAD)
+        .min(usize::MAX as u64);
+    for (number, some) in chunks.chunks((at_once as usize).max(1)).enumerate() {
+        progress.step((number as u64).saturating_mul(at_once), chunks.len() as u64);
+        let work = SomeChunks {
+            old,
+            new,
+            chunks: some,
+        };
+        let count = some.len() as u64;
+        sum.add(run_in_parallel(old.rt, old.alloc(), count, jobs, &work)?)?;
     }
     Ok(sum)
 }
 
 // Makes a new array in the folder `beside`, which is there, and puts it at its path.
-fn make_in<'a, R: Files + AllocGlobal, C: ShardCodec<ShardFile<'a, R>>, M: Write>(
+fn make_in<
+    'a,
+    R: Files + AllocGlobal + Threads + Sync,
+    C: ShardCodec<ShardFile<'a, R>> + Sync,
+    M: Write,
+>(
     old: &Array<'a, R, C>,
     paths: (&str, &str),
     document: &str,
     new: &ArrayMetadata,
+    jobs: u64,
     progress: &mut Progress<'_, M>,
 ) -> Result<Written, Stop> {
     let (path, beside) = paths;
@@ -129,22 +185,28 @@ fn make_in<'a, R: Files + AllocGlobal, C: ShardCodec<ShardFile<'a, R>>, M: Write
         folder: beside,
         metadata: new,
     };
-    let sum = put_all(old, &array, &chunks, progress)?;
+    let sum = put_all(old, &array, &chunks, jobs, progress)?;
     end_folder(old.rt, path, beside, document)?;
     Ok(sum)
 }
 
 // Makes a new array in a folder beside its path, and puts it there; where that is refused, nothing is left of it.
-fn make<'a, R: Files + AllocGlobal, C: ShardCodec<ShardFile<'a, R>>, M: Write>(
+fn make<
+    'a,
+    R: Files + AllocGlobal + Threads + Sync,
+    C: ShardCodec<ShardFile<'a, R>> + Sync,
+    M: Write,
+>(
     old: &Array<'a, R, C>,
     path: &str,
     document: &str,
     new: &ArrayMetadata,
+    jobs: u64,
     progress: &mut Progress<'_, M>,
 ) -> Result<Written, Stop> {
     let beside = format!(in old.alloc(); "{path}.partial")?;
     begin_folder(old.rt, path, &beside)?;
-    let made = make_in(old, (path, &beside), document, new, progress);
+    let made = make_in(old, (path, &beside), document, new, jobs, progress);
     if made.is_err() {
         let _ = fs::remove_dir_all(old.rt, &beside);
     }
@@ -153,11 +215,18 @@ fn make<'a, R: Files + AllocGlobal, C: ShardCodec<ShardFile<'a, R>>, M: Write>(
 
 /// Makes a new array of the elements of an old one, laid out in another way, in a folder that is not there yet. It is written beside
 /// itself, with `.partial` behind its name, and renamed once it is whole; where anything is refused, nothing is left. Each new shard is
-/// read from the old array as one subset. Writes how many shards and bytes it has.
-pub fn reshard<'a, R: Files + AllocGlobal, C: ShardCodec<ShardFile<'a, R>>, W: Write, M: Write>(
+/// read from the old array as one subset, and made by one of `jobs` threads. Writes how many shards and bytes it has.
+pub fn reshard<
+    'a,
+    R: Files + AllocGlobal + Threads + Sync,
+    C: ShardCodec<ShardFile<'a, R>> + Sync,
+    W: Write,
+    M: Write,
+>(
     old: &Array<'a, R, C>,
     path: &str,
     words: &LayoutWords<'_>,
+    jobs: u64,
     out: &mut W,
     progress: &mut Progress<'_, M>,
 ) -> Result<Ending, Stop> {
@@ -168,7 +237,7 @@ pub fn reshard<'a, R: Files + AllocGlobal, C: ShardCodec<ShardFile<'a, R>>, W: W
     let document = new_document(alloc, words, &text, old.metadata)?;
     let new = described(alloc, path, &document, order)?;
     test_served(old.rt, path, &new)?;
-    let Written { shards, bytes } = make(old, path, &document, &new, progress)?;
+    let Written { shards, bytes } = make(old, path, &document, &new, jobs, progress)?;
     progress.clear();
     let shards = Counted(shards, "shard");
     written(writeln!(out, "{shards}: {bytes} bytes"), Ending::Done)?;

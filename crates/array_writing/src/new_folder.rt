@@ -77,7 +77,7 @@ struct NewArrayTest<'t, R> {
 impl<'t, R: Files + AllocGlobal> CodecUse<ShardFile<'t, R>> for NewArrayTest<'t, R> {
     type Answer = Result<(), Stop>;
 
-    fn with<C: ShardCodec<ShardFile<'t, R>>>(self, codec: C) -> Result<(), Stop> {
+    fn with<C: ShardCodec<ShardFile<'t, R>> + Sync>(self, codec: C) -> Result<(), Stop> {
         let array = Array::open(self.rt, self.path, self.metadata, codec)?;
         array.test_read()
     }
@@ -103,7 +103,7 @@ struct Unencoded<'t, 'e, R> {
 impl<'t, R: Files + AllocGlobal> CodecUse<ShardFile<'t, R>> for Unencoded<'t, '_, R> {
     type Answer = Result<Option<Vec<u8>>, CodecError>;
 
-    fn with<C: ShardCodec<ShardFile<'t, R>>>(
+    fn with<C: ShardCodec<ShardFile<'t, R>> + Sync>(
         self,
         codec: C,
     ) -> Result<Option<Vec<u8>>, CodecError> {

@@ -53,6 +53,7 @@ use array_commands::run_command;
 use std::alloc::Global;
 use std::io::Write;
 use std::rt::{Clock, Files};
+use std::thread::Threads;
 use std::{fs, io};
 
 // Writes messages, each line behind `! `.
@@ -65,7 +66,7 @@ fn write_messages(alloc: Global, messages: &[u8], out: &mut Vec<u8>) -> io::Resu
 }
 
 // What a command line answers, and the status.
-fn answer_of<R: Files + AllocGlobal + Clock>(
+fn answer_of<R: Files + AllocGlobal + Clock + Threads + Sync>(
     rt: &R,
     words: &[&str],
     shows_progress: bool,
@@ -78,7 +79,7 @@ fn answer_of<R: Files + AllocGlobal + Clock>(
 }
 
 // The status of a command line whose answer nobody reads.
-fn answer_nobody<R: Files + AllocGlobal + Clock>(
+fn answer_nobody<R: Files + AllocGlobal + Clock + Threads + Sync>(
     rt: &R,
     words: &[&str],
     out: &mut Vec<u8>,
