@@ -2,15 +2,13 @@
 use crate::checked::{Checked, Found, Told, write_end, write_end_lines};
 use array_cli::{
     Array, Ending, OpenShard, Place, Progress, Shard, ShardCodec, ShardFile, ShardWork, Stop,
-    run_in_parallel, written,
+    System, run_in_parallel, written,
 };
 use array_folder::ChunkFile;
 use array_info::{Listing, check_subchunk};
 use parts_errors::CodecError;
 use std::io;
 use std::io::Write;
-use std::rt::{Clock, Files};
-use std::thread::Threads;
 use storage_handles::BytesPartialDecoderTraits;
 
 // How many shards each thread is given at a time.
@@ -52,7 +50,7 @@ impl Read {
 }
 
 // Reads each subchunk of a shard, and goes on behind one that is refused.
-fn check_each<'a, R: Files + AllocGlobal, C, S: OpenShard<ShardFile<'a, R>>, W: Write, M: Write>(
+fn check_each<'a, R: System, C, S: OpenShard<ShardFile<R>>, W: Write, M: Write>(
     array: &Array<'a, R, C>,
     shard: &Shard<'_>,
     checked: &Checked,
@@ -82,7 +80,7 @@ fn check_each<'a, R: Files + AllocGlobal, C, S: OpenShard<ShardFile<'a, R>>, W: 
 }
 
 // Tells the bad index entries of a shard on one line, if there are some.
-fn tell_bad<R: Files + AllocGlobal, C, W: Write, M: Write>(
+fn tell_bad<R: System, C, W: Write, M: Write>(
     array: &Array<'_, R, C>,
     shard: &Shard<'_>,
     read: &Read,
@@ -99,10 +97,10 @@ fn tell_bad<R: Files + AllocGlobal, C, W: Write, M: Write>(
 }
 
 // Tells the subchunk behind which nothing more could be read of a shard, if there is one.
-fn tell_last<R: Files + AllocGlobal, C, W: Write, M: Write>(
+fn tell_last<R: System, C, W: Write, M: Write>(
     array: &Array<'_, R, C>,
     shard: &Shard<'_>,
-    file: &ShardFile<'_, R>,
+    file: &ShardFile<R>,
     last: Option<(u64, CodecError)>,
     told: &mut Told<'_, '_, W, M>,
 ) -> Result<(), Stop> {
@@ -113,7 +111,7 @@ fn tell_last<R: Files + AllocGlobal, C, W: Write, M: Write>(
 }
 
 // Reads each subchunk of a shard that is open.
-fn check_opened<'a, R: Files + AllocGlobal, C: ShardCodec<ShardFile<'a, R>>, W: Write, M: Write>(
+fn check_opened<'a, R: System, C: ShardCodec<ShardFile<R>>, W: Write, M: Write>(
     array: &Array<'a, R, C>,
     shard: &Shard<'_>,
     checked: &Checked,
@@ -132,10 +130,10 @@ fn check_opened<'a, R: Files + AllocGlobal, C: ShardCodec<ShardFile<'a, R>>, W: 
 }
 
 // Opens the shard that a file holds, which is there, and reads each subchunk.
-fn check_file<'a, R: Files + AllocGlobal, C: ShardCodec<ShardFile<'a, R>>, W: Write, M: Write>(
+fn check_file<'a, R: System, C: ShardCodec<ShardFile<R>>, W: Write, M: Write>(
     array: &Array<'a, R, C>,
     shard: &Shard<'_>,
-    file: ShardFile<'a, R>,
+    file: ShardFile<R>,
     checked: &mut Checked,
     told: &mut Told<'_, '_, W, M>,
 ) -> Result<(), Stop> {
@@ -154,7 +152,7 @@ fn check_file<'a, R: Files + AllocGlobal, C: ShardCodec<ShardFile<'a, R>>, W: Wr
 }
 
 // Opens a shard and reads each subchunk. Where its file is gone, nothing is to be checked.
-fn check_shard<'a, R: Files + AllocGlobal, C: ShardCodec<ShardFile<'a, R>>, W: Write, M: Write>(
+fn check_shard<'a, R: System, C: ShardCodec<ShardFile<R>>, W: Write, M: Write>(
     array: &Array<'a, R, C>,
     shard: &Shard<'_>,
     checked: &mut Checked,
@@ -177,7 +175,7 @@ fn shard_in(file: &ChunkFile) -> Shard<'_> {
 }
 
 // Checks the shards in these files, one after the other.
-fn check_each_file<'a, R: Files + AllocGlobal, C: ShardCodec<ShardFile<'a, R>>, W: Write, M: Write>(
+fn check_each_file<'a, R: System, C: ShardCodec<ShardFile<R>>, W: Write, M: Write>(
     array: &Array<'a, R, C>,
     files: &[ChunkFile],
     checked: &mut Checked,
@@ -198,7 +196,7 @@ struct Aside {
 }
 
 // Checks the shard in a file, and tells nothing yet.
-fn check_aside<'a, R: Files + AllocGlobal, C: ShardCodec<ShardFile<'a, R>>>(
+fn check_aside<'a, R: System, C: ShardCodec<ShardFile<R>>>(
     array: &Array<'a, R, C>,
     file: &ChunkFile,
     is_index_alone: bool,
@@ -229,8 +227,7 @@ struct SomeShards<'s, 'a, R, C> {
     is_json: bool,
 }
 
-impl<'a, R: Files + AllocGlobal + Sync, C: ShardCodec<ShardFile<'a, R>> + Sync> ShardWork
-    for SomeShards<'_, 'a, R, C> {
+impl<'a, R: System, C: ShardCodec<ShardFile<R>> + Sync> ShardWork for SomeShards<'_, 'a, R, C> {
     type Answer = Option<Aside>;
 
     fn run(&self, number: u64) -> Option<Aside> {
@@ -264,13 +261,7 @@ fn tell_aside<W: Write, M: Write>(
 }
 
 // Checks the shards in these files by `jobs` threads, and tells what came of each in their order.
-fn check_in_parallel<
-    'a,
-    R: Files + AllocGlobal + Threads + Sync,
-    C: ShardCodec<ShardFile<'a, R>> + Sync,
-    W: Write,
-    M: Write,
->(
+fn check_in_parallel<'a, R: System, C: ShardCodec<ShardFile<R>> + Sync, W: Write, M: Write>(
     array: &Array<'a, R, C>,
     files: &[ChunkFile],
     jobs: u64,
@@ -293,13 +284,7 @@ fn check_in_parallel<
 }
 
 // Checks the shards in these files: by several threads some of them at a time.
-fn check_all<
-    'a,
-    R: Files + AllocGlobal + Threads + Sync,
-    C: ShardCodec<ShardFile<'a, R>> + Sync,
-    W: Write,
-    M: Write,
->(
+fn check_all<'a, R: System, C: ShardCodec<ShardFile<R>> + Sync, W: Write, M: Write>(
     array: &Array<'a, R, C>,
     files: &[ChunkFile],
     jobs: u64,
@@ -322,13 +307,7 @@ fn check_all<
 /// Decodes each index of the shards that a part has, and each subchunk if its codec is served and the indexes are not all that is
 /// asked; writes a line for each that is refused, what else stands in the folder, how many subchunks were not looked into, and what was
 /// checked. Where several threads work, each has shards of its own, and the lines are those of one thread, in its order.
-pub fn check<
-    'a,
-    R: Files + AllocGlobal + Clock + Threads + Sync,
-    C: ShardCodec<ShardFile<'a, R>> + Sync,
-    W: Write,
-    M: Write,
->(
+pub fn check<'a, R: System, C: ShardCodec<ShardFile<R>> + Sync, W: Write, M: Write>(
     array: &Array<'a, R, C>,
     is_index_asked: bool,
     listing: &Listing,

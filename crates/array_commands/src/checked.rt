@@ -1,10 +1,9 @@
 // What a check came to, and what is written of it.
-use array_cli::{Array, Ending, JsonLine, Progress, Refusal, Stop, written};
+use array_cli::{Array, Ending, JsonLine, Progress, Refusal, Stop, System, written};
 use array_folder::{ChunkFiles, Counted};
 use array_info::{put_refusal, write_folder, write_folder_lines};
 use std::io;
 use std::io::Write;
-use std::rt::{Clock, Files};
 
 /// What was checked so far, and what is refused.
 #[derive(Debug, Clone, Copy, PartialEq, Eq)]
@@ -145,7 +144,7 @@ fn write_checked<W: Write>(out: &mut W, checked: &Checked) -> io::Result<()> {
 }
 
 /// Writes what else stands in the folder, how many subchunks were not looked into, and what was checked.
-pub fn write_end<R: Files + AllocGlobal + Clock, C, W: Write>(
+pub fn write_end<R: System, C, W: Write>(
     array: &Array<'_, R, C>,
     out: &mut W,
     files: &ChunkFiles,

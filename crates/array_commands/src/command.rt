@@ -8,8 +8,8 @@ use crate::npy::save_subset;
 use crate::reading::{Reading, print_subset};
 use crate::writing_line::array_words;
 use array_cli::{
-    Array, CodecUse, Ending, Progress, ShardCodec, ShardFile, Stop, metadata_of, threads_of,
-    with_codec,
+    Array, CodecUse, Ending, Progress, ShardCodec, ShardFile, Stop, System, metadata_of,
+    threads_of, with_codec,
 };
 use array_fields::escaped;
 use array_grid::{ListPart, subset_of};
@@ -21,7 +21,6 @@ use std::alloc::Global;
 use std::convert::AsStr;
 use std::io;
 use std::io::{BufWriter, Write};
-use std::rt::{Clock, Files};
 use std::thread::Threads;
 
 // By how many threads a command works, by a word. Refused as `Stop::BadWord` where that is no number above 0.
@@ -36,13 +35,7 @@ fn jobs_of<R: AllocGlobal + Threads>(rt: &R, word: Option<&str>) -> Result<u64, 
 }
 
 // Reads the subset that a word names, and writes its elements.
-fn run_read<
-    'a,
-    R: Files + AllocGlobal + Threads + Sync,
-    C: ShardCodec<ShardFile<'a, R>> + Sync,
-    W: Write,
-    M: Write,
->(
+fn run_read<'a, R: System, C: ShardCodec<ShardFile<R>> + Sync, W: Write, M: Write>(
     array: &Array<'a, R, C>,
     requested: Option<&str>,
     target: Target<'_>,
@@ -61,7 +54,7 @@ fn run_read<
 }
 
 // Draws an array, or the shard that has a key.
-fn run_map<'a, R: Files + AllocGlobal, C: ShardCodec<ShardFile<'a, R>>, W: Write, M: Write>(
+fn run_map<'a, R: System, C: ShardCodec<ShardFile<R>>, W: Write, M: Write>(
     array: &Array<'a, R, C>,
     key: Option<&str>,
     svg: Option<&str>,
@@ -97,13 +90,7 @@ fn way_of(is_dry: bool, output: Option<&str>) -> Way<'_> {
 }
 
 // Does a work, and writes its answer.
-fn run_work<
-    'a,
-    R: Files + AllocGlobal + Clock + Threads + Sync,
-    C: ShardCodec<ShardFile<'a, R>> + Sync,
-    W: Write,
-    M: Write,
->(
+fn run_work<'a, R: System, C: ShardCodec<ShardFile<R>> + Sync, W: Write, M: Write>(
     array: &Array<'a, R, C>,
     work: Work<'_>,
     out: &mut W,
@@ -171,19 +158,17 @@ struct ArrayWork<'w, 'p, R, W, M> {
     progress: &'w mut Progress<'p, M>,
 }
 
-impl<'w, R: Files + AllocGlobal + Clock + Threads + Sync, W: Write, M: Write> CodecUse<
-    ShardFile<'w, R>,
-> for ArrayWork<'w, '_, R, W, M> {
+impl<'w, R: System, W: Write, M: Write> CodecUse<ShardFile<R>> for ArrayWork<'w, '_, R, W, M> {
     type Answer = Result<Ending, Stop>;
 
-    fn with<C: ShardCodec<ShardFile<'w, R>> + Sync>(self, codec: C) -> Result<Ending, Stop> {
+    fn with<C: ShardCodec<ShardFile<R>> + Sync>(self, codec: C) -> Result<Ending, Stop> {
         let array = Array::open(self.rt, self.path, self.metadata, codec)?;
         run_work(&array, self.work, self.out, self.progress)
     }
 }
 
 // Reads the metadata of an array, and does a work.
-fn run_array<R: Files + AllocGlobal + Clock + Threads + Sync, W: Write, M: Write>(
+fn run_array<R: System, W: Write, M: Write>(
     rt: &R,
     path: &str,
     work: Work<'_>,
@@ -219,11 +204,10 @@ struct HalfComparison<'w, 'p, C, R, W, M> {
     codec: C,
 }
 
-impl<'w, R: Files + AllocGlobal, W: Write, M: Write> CodecUse<ShardFile<'w, R>>
-    for Comparison<'w, '_, R, W, M> {
+impl<'w, R: System, W: Write, M: Write> CodecUse<ShardFile<R>> for Comparison<'w, '_, R, W, M> {
     type Answer = Result<Ending, Stop>;
 
-    fn with<C: ShardCodec<ShardFile<'w, R>> + Sync>(self, codec: C) -> Result<Ending, Stop> {
+    fn with<C: ShardCodec<ShardFile<R>> + Sync>(self, codec: C) -> Result<Ending, Stop> {
         let metadata = self.metadata.1;
         let comparison = HalfComparison {
             comparison: self,
@@ -233,16 +217,11 @@ impl<'w, R: Files + AllocGlobal, W: Write, M: Write> CodecUse<ShardFile<'w, R>>
     }
 }
 
-impl<
-    'w,
-    C: ShardCodec<ShardFile<'w, R>> + Sync,
-    R: Files + AllocGlobal,
-    W: Write,
-    M: Write,
-> CodecUse<ShardFile<'w, R>> for HalfComparison<'w, '_, C, R, W, M> {
+impl<'w, C: ShardCodec<ShardFile<R>> + Sync, R: System, W: Write, M: Write> CodecUse<ShardFile<R>>
+    for HalfComparison<'w, '_, C, R, W, M> {
     type Answer = Result<Ending, Stop>;
 
-    fn with<D: ShardCodec<ShardFile<'w, R>> + Sync>(self, codec: D) -> Result<Ending, Stop> {
+    fn with<D: ShardCodec<ShardFile<R>> + Sync>(self, codec: D) -> Result<Ending, Stop> {
         let Comparison {
             rt,
             paths,
@@ -257,7 +236,7 @@ impl<
 }
 
 // Compares the arrays at two paths.
-fn run_compare<R: Files + AllocGlobal, W: Write, M: Write>(
+fn run_compare<R: System, W: Write, M: Write>(
     rt: &R,
     paths: (&str, &str),
     out: &mut W,
@@ -277,7 +256,7 @@ fn run_compare<R: Files + AllocGlobal, W: Write, M: Write>(
 }
 
 // Does what the words of a command line say.
-fn run_matches<R: Files + AllocGlobal + Clock + Threads + Sync, W: Write, M: Write>(
+fn run_matches<R: System, W: Write, M: Write>(
     rt: &R,
     matches: &ArgMatches<'_>,
     out: &mut W,
@@ -335,7 +314,7 @@ fn tell<W: Write, M: Write>(
 }
 
 // Reads the words of a command line, and does what they say.
-fn run_words<R: Files + AllocGlobal + Clock + Threads + Sync, S: AsStr, W: Write, M: Write>(
+fn run_words<R: System, S: AsStr, W: Write, M: Write>(
     rt: &R,
     words: &[S],
     out: &mut W,
@@ -351,12 +330,13 @@ fn run_words<R: Files + AllocGlobal + Clock + Threads + Sync, S: AsStr, W: Write
 }
 
 // Runs a command line, and sees that its answer is written.
-fn run_buffered<
-    R: Files + AllocGlobal + Clock + Threads + Sync,
-    S: AsStr,
-    W: Write + Drop,
-    M: Write,
->(rt: &R, words: &[S], writer: W, messages: &mut M, shows_progress: bool) -> Result<u8, Stop>
+fn run_buffered<R: System, S: AsStr, W: Write + Drop, M: Write>(
+    rt: &R,
+    words: &[S],
+    writer: W,
+    messages: &mut M,
+    shows_progress: bool,
+) -> Result<u8, Stop>
     ensures { IfOk result (λ status. status ≤ 2) }
 {
     let mut out = BufWriter::new(rt.alloc(), writer)?;
@@ -372,12 +352,13 @@ fn run_buffered<
 /// it, could not be done, and then nothing is written but what `list`, `check` and `compact` had said before, and a line on the
 /// owner of a new file. A message that is not taken is dropped, and an answer that nobody reads. Where `shows_progress` is
 /// true, the messages show how far the command is while it runs, and it is blanked before an answer or a sentence is written.
-pub fn run_command<
-    R: Files + AllocGlobal + Clock + Threads + Sync,
-    S: AsStr,
-    W: Write + Drop,
-    M: Write + Drop,
->(rt: &R, words: &[S], writer: W, mut messages: M, shows_progress: bool) -> u8
+pub fn run_command<R: System, S: AsStr, W: Write + Drop, M: Write + Drop>(
+    rt: &R,
+    words: &[S],
+    writer: W,
+    mut messages: M,
+    shows_progress: bool,
+) -> u8
     ensures { result ≤ 2 }
 {
     match run_buffered(rt, words, writer, &mut messages, shows_progress) {

@@ -1,6 +1,6 @@
 // A subset of an array as a file of NumPy's format.
 use crate::reading::{Reading, Sink, read_bands};
-use array_cli::{Array, Ending, Progress, ShardCodec, ShardFile, Stop, full_name};
+use array_cli::{Array, Ending, Progress, ShardCodec, ShardFile, Stop, System, full_name};
 use array_folder::{npy_beside, npy_header};
 use array_grid::{Requested, subset_of};
 use array_info::begin_new;
@@ -8,11 +8,10 @@ use std::alloc::Global;
 use std::io;
 use std::io::Write;
 use std::rt::Files;
-use std::thread::Threads;
 use storage_files::Replacement;
 
 // The header of a file of NumPy's format, to be at a path, which has the elements that are requested.
-fn header_of<R: Files + AllocGlobal, C>(
+fn header_of<R: System, C>(
     array: &Array<'_, R, C>,
     requested: &Requested,
     path: &str,
@@ -65,12 +64,7 @@ fn end_file<R: Files + Drop>(
 }
 
 // Reads what is requested, and writes it into a new file behind a header.
-fn fill<
-    'a,
-    R: Files + AllocGlobal + Threads + Sync,
-    C: ShardCodec<ShardFile<'a, R>> + Sync,
-    M: Write,
->(
+fn fill<'a, R: System, C: ShardCodec<ShardFile<R>> + Sync, M: Write>(
     array: &Array<'a, R, C>,
     requested: &Requested,
     reading: Reading,
@@ -84,13 +78,7 @@ fn fill<
 
 /// Reads a subset, and makes a file of NumPy's format of it, which has no axis that is named by one coordinate. A file of that
 /// name is replaced once the new one is whole. Where the path is refused nothing is read.
-pub fn save_subset<
-    'a,
-    R: Files + AllocGlobal + Threads + Sync,
-    C: ShardCodec<ShardFile<'a, R>> + Sync,
-    W: Write,
-    M: Write,
->(
+pub fn save_subset<'a, R: System, C: ShardCodec<ShardFile<R>> + Sync, W: Write, M: Write>(
     array: &Array<'a, R, C>,
     requested: Option<&str>,
     path: &str,

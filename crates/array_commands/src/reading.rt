@@ -1,7 +1,7 @@
 // Elements that are written as they are read, band by band.
 use crate::command_line::Form;
 use array_cli::{
-    Array, Ending, Progress, ShardCodec, ShardFile, Stop, TextRows, begin_json, end_json,
+    Array, Ending, Progress, ShardCodec, ShardFile, Stop, System, TextRows, begin_json, end_json,
     read_in_parallel, write_json_cells, written,
 };
 use array_grid::Bands;
@@ -10,8 +10,6 @@ use parts_errors::CodecError;
 use parts_subsets::ArraySubset;
 use std::io;
 use std::io::Write;
-use std::rt::Files;
-use std::thread::Threads;
 
 // The most bytes of elements that are read.
 const MOST_BYTES: u64 = 1 << 40;
@@ -47,13 +45,7 @@ fn test_size(subset: &ArraySubset, size: u64) -> Result<(), Stop> {
 /// Reads the elements of a subset and hands them on, in row-major order: those of a band at a time, so that memory is that of a band.
 /// Refused as `Stop::TooLarge` where they have more than 2^40 bytes, and as `read_in_parallel` refuses; then the bands before are handed
 /// on.
-pub fn read_bands<
-    'a,
-    R: Files + AllocGlobal + Threads + Sync,
-    C: ShardCodec<ShardFile<'a, R>> + Sync,
-    S: Sink,
-    M: Write,
->(
+pub fn read_bands<'a, R: System, C: ShardCodec<ShardFile<R>> + Sync, S: Sink, M: Write>(
     array: &Array<'a, R, C>,
     subset: &ArraySubset,
     reading: Reading,
@@ -116,13 +108,7 @@ impl<W: Write> Sink for Printed<'_, W> {
 }
 
 /// Reads the elements of a subset, and writes them in a form to an answer.
-pub fn print_subset<
-    'a,
-    R: Files + AllocGlobal + Threads + Sync,
-    C: ShardCodec<ShardFile<'a, R>> + Sync,
-    W: Write,
-    M: Write,
->(
+pub fn print_subset<'a, R: System, C: ShardCodec<ShardFile<R>> + Sync, W: Write, M: Write>(
     array: &Array<'a, R, C>,
     subset: &ArraySubset,
     form: Form,

@@ -3,7 +3,7 @@ use crate::chunks::{chunks_of, elements_of};
 use crate::layout::{LayoutWords, new_document, order_of};
 use crate::new_folder::{begin_folder, encoded, end_folder, put, test_served};
 use array_cli::{
-    Array, Ending, Progress, ShardCodec, ShardFile, ShardWork, Stop, described, read_array,
+    Array, Ending, Progress, ShardCodec, ShardFile, ShardWork, Stop, System, described, read_array,
     run_in_parallel, turned, written,
 };
 use array_fields::{LONGEST_TEXT, escaped};
@@ -18,8 +18,6 @@ use std::alloc::Global;
 use std::borrow::CowSlice;
 use std::fs;
 use std::io::Write;
-use std::rt::Files;
-use std::thread::Threads;
 
 // How many chunks each thread is given at a time.
 const CHUNKS_OF_A_THREAD: u64 = 4;
@@ -57,7 +55,7 @@ fn padded(
 }
 
 // The bytes of the chunk at these coordinates of a new array, with the elements that the old one has there; `None` where it has no file.
-fn new_chunk<'a, R: Files + AllocGlobal, C: ShardCodec<ShardFile<'a, R>>>(
+fn new_chunk<'a, R: System, C: ShardCodec<ShardFile<R>>>(
     old: &Array<'a, R, C>,
     new: &NewArray<'_>,
     coordinates: &[u64],
@@ -86,7 +84,7 @@ fn new_chunk<'a, R: Files + AllocGlobal, C: ShardCodec<ShardFile<'a, R>>>(
 }
 
 // Makes the chunk at these coordinates of a new array, and says how many bytes it has; `None` where it has no file.
-fn put_chunk<'a, R: Files + AllocGlobal, C: ShardCodec<ShardFile<'a, R>>>(
+fn put_chunk<'a, R: System, C: ShardCodec<ShardFile<R>>>(
     old: &Array<'a, R, C>,
     new: &NewArray<'_>,
     coordinates: &[u64],
@@ -107,8 +105,7 @@ struct SomeChunks<'s, 'n, 'a, R, C> {
     chunks: &'s [Vec<u64>],
 }
 
-impl<'a, R: Files + AllocGlobal + Sync, C: ShardCodec<ShardFile<'a, R>> + Sync> ShardWork
-    for SomeChunks<'_, '_, 'a, R, C> {
+impl<'a, R: System, C: ShardCodec<ShardFile<R>> + Sync> ShardWork for SomeChunks<'_, '_, 'a, R, C> {
     type Answer = Result<Option<u64>, Stop>;
 
     fn run(&self, number: u64) -> Result<Option<u64>, Stop> {
@@ -133,12 +130,7 @@ impl Written {
 }
 
 // Makes the chunks of a new array that have these coordinates, some of them at a time.
-fn put_all<
-    'a,
-    R: Files + AllocGlobal + Threads + Sync,
-    C: ShardCodec<ShardFile<'a, R>> + Sync,
-    M: Write,
->(
+fn put_all<'a, R: System, C: ShardCodec<ShardFile<R>> + Sync, M: Write>(
     old: &Array<'a, R, C>,
     new: &NewArray<'_>,
     chunks: &[Vec<u64>],
@@ -166,12 +158,7 @@ fn put_all<
 }
 
 // Makes a new array in the folder `beside`, which is there, and puts it at its path.
-fn make_in<
-    'a,
-    R: Files + AllocGlobal + Threads + Sync,
-    C: ShardCodec<ShardFile<'a, R>> + Sync,
-    M: Write,
->(
+fn make_in<'a, R: System, C: ShardCodec<ShardFile<R>> + Sync, M: Write>(
     old: &Array<'a, R, C>,
     paths: (&str, &str),
     document: &str,
@@ -191,12 +178,7 @@ fn make_in<
 }
 
 // Makes a new array in a folder beside its path, and puts it there; where that is refused, nothing is left of it.
-fn make<
-    'a,
-    R: Files + AllocGlobal + Threads + Sync,
-    C: ShardCodec<ShardFile<'a, R>> + Sync,
-    M: Write,
->(
+fn make<'a, R: System, C: ShardCodec<ShardFile<R>> + Sync, M: Write>(
     old: &Array<'a, R, C>,
     path: &str,
     document: &str,
@@ -216,13 +198,7 @@ fn make<
 /// Makes a new array of the elements of an old one, laid out in another way, in a folder that is not there yet. It is written beside
 /// itself, with `.partial` behind its name, and renamed once it is whole; where anything is refused, nothing is left. Each new shard is
 /// read from the old array as one subset, and made by one of `jobs` threads. Writes how many shards and bytes it has.
-pub fn reshard<
-    'a,
-    R: Files + AllocGlobal + Threads + Sync,
-    C: ShardCodec<ShardFile<'a, R>> + Sync,
-    W: Write,
-    M: Write,
->(
+pub fn reshard<'a, R: System, C: ShardCodec<ShardFile<R>> + Sync, W: Write, M: Write>(
     old: &Array<'a, R, C>,
     path: &str,
     words: &LayoutWords<'_>,

@@ -1,5 +1,5 @@
 // The folder of a new array, which stands beside its path until it is whole.
-use array_cli::{Array, CodecUse, ShardCodec, ShardEncoder, ShardFile, Stop, with_codec};
+use array_cli::{Array, CodecUse, ShardCodec, ShardEncoder, ShardFile, Stop, System, with_codec};
 use array_metadata::ArrayMetadata;
 use parts_arrays::ArrayBytes;
 use parts_errors::CodecError;
@@ -74,21 +74,17 @@ struct NewArrayTest<'t, R> {
     metadata: &'t ArrayMetadata,
 }
 
-impl<'t, R: Files + AllocGlobal> CodecUse<ShardFile<'t, R>> for NewArrayTest<'t, R> {
+impl<'t, R: System> CodecUse<ShardFile<R>> for NewArrayTest<'t, R> {
     type Answer = Result<(), Stop>;
 
-    fn with<C: ShardCodec<ShardFile<'t, R>> + Sync>(self, codec: C) -> Result<(), Stop> {
+    fn with<C: ShardCodec<ShardFile<R>> + Sync>(self, codec: C) -> Result<(), Stop> {
         let array = Array::open(self.rt, self.path, self.metadata, codec)?;
         array.test_read()
     }
 }
 
 /// Tests that the codecs that metadata names serve a new array, and that its elements are read.
-pub fn test_served<R: Files + AllocGlobal>(
-    rt: &R,
-    path: &str,
-    metadata: &ArrayMetadata,
-) -> Result<(), Stop> {
+pub fn test_served<R: System>(rt: &R, path: &str, metadata: &ArrayMetadata) -> Result<(), Stop> {
     with_codec(metadata, NewArrayTest { rt, path, metadata })
 }
 
@@ -100,10 +96,10 @@ struct Unencoded<'t, 'e, R> {
     metadata: &'t ArrayMetadata,
 }
 
-impl<'t, R: Files + AllocGlobal> CodecUse<ShardFile<'t, R>> for Unencoded<'t, '_, R> {
+impl<'t, R: System> CodecUse<ShardFile<R>> for Unencoded<'t, '_, R> {
     type Answer = Result<Option<Vec<u8>>, CodecError>;
 
-    fn with<C: ShardCodec<ShardFile<'t, R>> + Sync>(
+    fn with<C: ShardCodec<ShardFile<R>> + Sync>(
         self,
         codec: C,
     ) -> Result<Option<Vec<u8>>, CodecError> {
@@ -112,7 +108,7 @@ impl<'t, R: Files + AllocGlobal> CodecUse<ShardFile<'t, R>> for Unencoded<'t, '_
 }
 
 /// The bytes of a shard of a new array that has these elements, by the codec that its metadata names, as `encode_chunk` says.
-pub fn encoded<R: Files + AllocGlobal>(
+pub fn encoded<R: System>(
     rt: &R,
     elements: &ArrayBytes,
     metadata: &ArrayMetadata,
