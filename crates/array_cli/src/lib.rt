@@ -19,7 +19,7 @@ mod text;
 pub use arrays::{Array, Shard, described, metadata_of, turned};
 pub use codec_use::{CodecUse, with_codec};
 pub use json_line::{JsonLine, write_json_text};
-pub use parallel::{ShardWork, run_in_parallel, threads_of};
+pub use parallel::{ShardWork, piece_length, piece_of, run_in_parallel, threads_of};
 pub use pieces::read_by_threads;
 pub use progress::Progress;
 pub use read::{read_array, shards_of};

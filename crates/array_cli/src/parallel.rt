@@ -1,5 +1,6 @@
 // Work on the shards of an array, which threads do side by side.
-ghost use Rattle.std.specs.Prelude.{◌≡◌, ◌<◌, ℕ, IfOk, vec_len, slice_index_or};
+ghost use Rattle.std.specs.Prelude.{◌≡◌, ◌<◌, ◌≤◌, ℕ, IfOk, max, vec_len, slice_index_or};
+ghost use Rattle.std.specs.Fork.{slice_chunk};
 
 use std::alloc::{AllocError, Global};
 use std::thread;
@@ -42,4 +43,22 @@ pub fn run_in_parallel<R: Threads + Sync, S: ShardWork + Sync>(
         ensures { S.gives work.entry.now number result }
     { work.run(number as u64) };
     thread::map_indices(rt, alloc, count, &piece)
+}
+
+/// How many items a piece has, where `threads` threads have a piece each at a time: no more than `most`, nor than a fair share of `all`, and
+/// at least one.
+pub fn piece_length(all: usize, threads: usize, most: usize) -> usize
+    ensures { (1 ≤ result) × (result ≤ max 1 most) }
+{
+    let share = all.div_ceil(threads.max(1));
+    share.min(most).max(1)
+}
+
+/// The piece with a number, of items that are cut into pieces of as many; nothing past the last one.
+pub fn piece_of<T>(items: &[T], number: u64, in_piece: usize) -> &[T]
+    ensures { result.now ≡ slice_chunk items.now in_piece number }
+{
+    let first = (number as usize).saturating_mul(in_piece).min(items.len());
+    let end = first.saturating_add(in_piece).min(items.len());
+    &items[first..end]
 }

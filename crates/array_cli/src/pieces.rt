@@ -50,6 +50,7 @@ fn read_piece<'a, R: System, C: ShardCodec<ShardFile<R>>>(
 impl<'a, R: System, C: ShardCodec<ShardFile<R>>> ShardWork for Pieces<'_, 'a, R, C> {
     type Answer = PieceRead;
 
+    // no contract says what files give
     ghost gives = { λ pieces number read. Unit {0} };
 
     fn run(&self, number: u64) -> PieceRead {

@@ -1,7 +1,7 @@
 // A new array that has no shard yet.
 use crate::layout::{LayoutWords, list_of, new_document, order_of};
 use crate::new_folder::{begin_folder, end_folder, test_served};
-use array_cli::{Ending, Stop, System, described};
+use array_cli::{Ending, SharedSystem, Stop, described};
 use array_fields::escaped;
 use serde_json::Value;
 use sharding_format::SubchunkWriteOrder;
@@ -75,7 +75,11 @@ fn plain_document(alloc: Global, words: &ArrayWords<'_>) -> Result<String, Stop>
 }
 
 // The `zarr.json` of a new array. Refused as `Stop::BadWord`, as `Stop::Metadata`, and where the codecs do not serve it.
-fn document_of<R: System>(rt: &R, path: &str, words: &ArrayWords<'_>) -> Result<String, Stop> {
+fn document_of<R: SharedSystem>(
+    rt: &R,
+    path: &str,
+    words: &ArrayWords<'_>,
+) -> Result<String, Stop> {
     let alloc = rt.alloc();
     let order = order_of(alloc, words.layout.order)?;
     let plain = plain_document(alloc, words)?;
@@ -90,7 +94,7 @@ fn document_of<R: System>(rt: &R, path: &str, words: &ArrayWords<'_>) -> Result<
 /// beside itself, with `.partial` behind its name, and renamed once it is whole. Refused, in this order, as `Stop::BadWord` where a
 /// word is none of those that it may be, as `Stop::Metadata` and `Stop::Codec` where no array is so, and as `Stop::System` where the
 /// folder is there already or cannot be made; nothing is left then.
-pub fn create<R: System>(rt: &R, path: &str, words: &ArrayWords<'_>) -> Result<Ending, Stop> {
+pub fn create<R: SharedSystem>(rt: &R, path: &str, words: &ArrayWords<'_>) -> Result<Ending, Stop> {
     let document = document_of(rt, path, words)?;
     let beside = format!(in rt.alloc(); "{path}.partial")?;
     begin_folder(rt, path, &beside)?;

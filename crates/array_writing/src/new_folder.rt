@@ -1,12 +1,16 @@
 // The folder of a new array, which stands beside its path until it is whole.
-use array_cli::{Array, CodecUse, ShardCodec, ShardEncoder, ShardFile, Stop, System, with_codec};
+use array_cli::{
+    Array, CodecUse, ShardEncoder, ShardFile, SharedCodec, SharedSystem, Stop, with_codec,
+};
 use array_metadata::ArrayMetadata;
 use parts_arrays::ArrayBytes;
 use parts_errors::CodecError;
+use std::alloc::Global;
 use std::io::ErrorKind;
 use std::rt::Files;
 use std::{fs, io};
 use storage_files::Replacement;
+use storage_handles::MemoryHandle;
 
 // Makes a file of bytes, with its folder.
 fn save<R: Files + AllocGlobal>(rt: &R, path: &str, bytes: &[u8]) -> io::Result<()> {
@@ -74,51 +78,51 @@ struct NewArrayTest<'t, R> {
     metadata: &'t ArrayMetadata,
 }
 
-impl<'t, R: System> CodecUse<ShardFile<R>> for NewArrayTest<'t, R> {
+impl<'t, R: SharedSystem> CodecUse<ShardFile<R>> for NewArrayTest<'t, R> {
     type Answer = Result<(), Stop>;
 
-    fn with<C: ShardCodec<ShardFile<R>> + Sync>(self, codec: C) -> Result<(), Stop> {
+    fn with<C: SharedCodec<ShardFile<R>>>(self, codec: C) -> Result<(), Stop> {
         let array = Array::open(self.rt, self.path, self.metadata, codec)?;
         array.test_read()
     }
 }
 
 /// Tests that the codecs that metadata names serve a new array, and that its elements are read.
-pub fn test_served<R: System>(rt: &R, path: &str, metadata: &ArrayMetadata) -> Result<(), Stop> {
+pub fn test_served<R: SharedSystem>(
+    rt: &R,
+    path: &str,
+    metadata: &ArrayMetadata,
+) -> Result<(), Stop> {
     with_codec(metadata, NewArrayTest { rt, path, metadata })
 }
 
 // The elements of a shard that is to be encoded.
 #[derive(Drop)]
-struct Unencoded<'t, 'e, R> {
-    rt: &'t R,
-    elements: &'t ArrayBytes<'e>,
-    metadata: &'t ArrayMetadata,
+struct Unencoded<'e, 'b> {
+    alloc: Global,
+    elements: &'e ArrayBytes<'b>,
+    metadata: &'e ArrayMetadata,
 }
 
-impl<'t, R: System> CodecUse<ShardFile<R>> for Unencoded<'t, '_, R> {
+// a shard is encoded in memory
+impl CodecUse<MemoryHandle> for Unencoded<'_, '_> {
     type Answer = Result<Option<Vec<u8>>, CodecError>;
 
-    fn with<C: ShardCodec<ShardFile<R>> + Sync>(
-        self,
-        codec: C,
-    ) -> Result<Option<Vec<u8>>, CodecError> {
-        codec.encode(self.rt.alloc(), self.elements, self.metadata)
+    fn with<C: SharedCodec<MemoryHandle>>(self, codec: C) -> Result<Option<Vec<u8>>, CodecError> {
+        codec.encode(self.alloc, self.elements, self.metadata)
     }
 }
 
 /// The bytes of a shard of a new array that has these elements, by the codec that its metadata names, as `encode_chunk` says.
-pub fn encoded<R: System>(
-    rt: &R,
+pub fn encoded(
+    alloc: Global,
     elements: &ArrayBytes,
     metadata: &ArrayMetadata,
 ) -> Result<Option<Vec<u8>>, CodecError> {
-    with_codec(
+    let unencoded = Unencoded {
+        alloc,
+        elements,
         metadata,
-        Unencoded {
-            rt,
-            elements,
-            metadata,
-        },
-    )
+    };
+    with_codec(metadata, unencoded)
 }
