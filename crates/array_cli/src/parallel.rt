@@ -8,9 +8,9 @@ use std::thread::Threads;
 
 /// How many threads work side by side where nothing else is requested: as many as there are processors, or one where the system does not
 /// say how many these are.
-pub fn threads_of<R: Threads>(rt: &R) -> u64 {
+pub fn threads_of<R: Threads>(rt: &R) -> usize {
     match thread::available_parallelism(rt) {
-        Ok(count) => count.get() as u64,
+        Ok(count) => count.get(),
         Err(_) => 1,
     }
 }

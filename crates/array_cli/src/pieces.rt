@@ -1,6 +1,6 @@
 // The elements of a subset of an array, whose parts are read side by side.
 use crate::arrays::Array;
-use crate::parallel::{ShardWork, run_in_parallel};
+use crate::parallel::{ShardWork, piece_length, run_in_parallel};
 use crate::progress::Progress;
 use crate::read::{Answer, PartRead, ended, put_read, read_numbered, read_parts, shards_of};
 use crate::shard_codec::{ShardCodec, ShardFile, SharedCodec};
@@ -95,7 +95,7 @@ fn put_pieces<'a, R: System, C: ShardCodec<ShardFile<R>>, M: Write>(
 }
 
 // How many parts a piece has, where `threads` threads read `all` of them.
-fn parts_of_a_piece<R, C>(array: &Array<'_, R, C>, all: u64, threads: u64) -> u64 {
+fn parts_of_a_piece<R, C>(array: &Array<'_, R, C>, all: u64, threads: usize) -> u64 {
     let metadata = array.metadata;
     let size = metadata.fill_value.as_ne_bytes().len() as u64;
     let bytes = match metadata.shard.num_elements() {
@@ -103,24 +103,24 @@ fn parts_of_a_piece<R, C>(array: &Array<'_, R, C>, all: u64, threads: u64) -> u6
         None => u64::MAX,
     };
     let most = BYTES_OF_A_PIECE.checked_div(bytes).unwrap_or(u64::MAX);
-    let fair = all.div_ceil(threads.max(1));
-    most.min(PARTS_OF_A_PIECE).min(fair).max(1)
+    let most = most.min(PARTS_OF_A_PIECE);
+    piece_length(all as usize, threads, most as usize) as u64
 }
 
 // Reads the elements of the parts of a subset, some pieces at a time.
 fn read_in_pieces<'a, R: SharedSystem, C: SharedCodec<ShardFile<R>>, M: Write>(
     requested: &ArraySubset,
-    threads: u64,
+    threads: usize,
     mut pieces: Pieces<'_, 'a, R, C>,
     answer: &mut Answer,
     progress: &mut Progress<'_, M>,
 ) -> Result<(), Stop> {
     let (array, all) = (pieces.array, pieces.parts.len());
-    let at_once = pieces.in_piece.saturating_mul(threads).max(1);
+    let at_once = pieces.in_piece.saturating_mul(threads as u64).max(1);
     for _ in 0..all.div_ceil(at_once) {
         progress.step(pieces.first, all);
         let left = all.saturating_sub(pieces.first);
-        let count = left.div_ceil(pieces.in_piece.max(1)).min(threads);
+        let count = left.div_ceil(pieces.in_piece.max(1)).min(threads as u64);
         let read = run_in_parallel(array.rt, array.alloc(), count as usize, &pieces)?;
         put_pieces(array, requested, read, answer, progress)?;
         pieces.first = pieces.first.saturating_add(at_once);
@@ -134,7 +134,7 @@ pub fn read_by_threads<'a, R: SharedSystem, C: SharedCodec<ShardFile<R>>, M: Wri
     array: &Array<'a, R, C>,
     requested: &ArraySubset,
     fills: bool,
-    threads: u64,
+    threads: usize,
     progress: &mut Progress<'_, M>,
 ) -> Result<(SubsetCells, Ending), Stop> {
     let grid = shards_of(array)?;

@@ -1,8 +1,9 @@
 // Whether the shards of an array are sound.
+use crate::check_pieces::check_all;
 use crate::checked::{Checked, Found, Told, write_end, write_end_lines};
 use array_cli::{
-    Array, Ending, OpenShard, Place, Progress, Shard, ShardCodec, ShardFile, ShardWork, Stop,
-    System, run_in_parallel, written,
+    Array, Ending, OpenShard, Place, Progress, Shard, ShardCodec, ShardFile, SharedCodec,
+    SharedSystem, Stop, System, written,
 };
 use array_folder::ChunkFile;
 use array_info::{Listing, check_subchunk};
@@ -10,9 +11,6 @@ use parts_errors::CodecError;
 use std::io;
 use std::io::Write;
 use storage_handles::BytesPartialDecoderTraits;
-
-// How many shards each thread is given at a time.
-const SHARDS_OF_A_THREAD: u64 = 16;
 
 // What reading the subchunks of a shard came to.
 #[derive(Debug, Clone, Copy)]
@@ -174,8 +172,8 @@ fn shard_in(file: &ChunkFile) -> Shard<'_> {
     }
 }
 
-// Checks the shards in these files, one after the other.
-fn check_each_file<'a, R: System, C: ShardCodec<ShardFile<R>>, W: Write, M: Write>(
+/// Checks the shards in these files, one after the other.
+pub fn check_each_file<'a, R: System, C: ShardCodec<ShardFile<R>>, W: Write, M: Write>(
     array: &Array<'a, R, C>,
     files: &[ChunkFile],
     checked: &mut Checked,
@@ -187,131 +185,14 @@ fn check_each_file<'a, R: System, C: ShardCodec<ShardFile<R>>, W: Write, M: Writ
     Ok(())
 }
 
-// What came of a shard that was checked beside others: the lines that tell it, and why the command stops there, if it does.
-#[derive(Drop)]
-struct Aside {
-    checked: Checked,
-    lines: Vec<u8>,
-    stop: Option<Stop>,
-}
-
-// Checks the shard in a file, and tells nothing yet.
-fn check_aside<'a, R: System, C: ShardCodec<ShardFile<R>>>(
-    array: &Array<'a, R, C>,
-    file: &ChunkFile,
-    is_index_alone: bool,
-    is_json: bool,
-) -> Aside {
-    let (mut lines, mut silent) = (Vec::new(array.alloc()), Vec::new(array.alloc()));
-    let mut checked = Checked::none(1, is_index_alone);
-    let mut progress = Progress::new(&mut silent, false);
-    let mut told = Told {
-        out: &mut lines,
-        progress: &mut progress,
-        is_json,
-    };
-    let stop = check_shard(array, &shard_in(file), &mut checked, &mut told).err();
-    Aside {
-        checked,
-        lines,
-        stop,
-    }
-}
-
-// Shards that are checked side by side.
-#[derive(Drop)]
-struct SomeShards<'s, 'a, R, C> {
-    array: &'s Array<'a, R, C>,
-    files: &'s [ChunkFile],
-    is_index_alone: bool,
-    is_json: bool,
-}
-
-impl<'a, R: System, C: ShardCodec<ShardFile<R>> + Sync> ShardWork for SomeShards<'_, 'a, R, C> {
-    type Answer = Option<Aside>;
-
-    fn run(&self, number: u64) -> Option<Aside> {
-        let file = self.files.get(number as usize)?;
-        Some(check_aside(self.array, file, self.is_index_alone, self.is_json))
-    }
-}
-
-// Writes lines that tell of a shard, which are seen at once.
-fn write_lines<W: Write>(out: &mut W, lines: &[u8]) -> io::Result<()> {
-    if lines.is_empty() {
-        return Ok(());
-    }
-    out.write_all(lines)?;
-    out.flush()
-}
-
-// Tells what came of a shard that was checked beside others.
-fn tell_aside<W: Write, M: Write>(
-    aside: Aside,
-    checked: &mut Checked,
-    told: &mut Told<'_, '_, W, M>,
-) -> Result<(), Stop> {
-    checked.add_all(&aside.checked);
-    told.progress.clear();
-    written(write_lines(told.out, &aside.lines), checked.ending(true))?;
-    match aside.stop {
-        Some(stop) => Err(stop),
-        None => Ok(()),
-    }
-}
-
-// Checks the shards in these files by `jobs` threads, and tells what came of each in their order.
-fn check_in_parallel<'a, R: System, C: ShardCodec<ShardFile<R>> + Sync, W: Write, M: Write>(
-    array: &Array<'a, R, C>,
-    files: &[ChunkFile],
-    jobs: u64,
-    checked: &mut Checked,
-    told: &mut Told<'_, '_, W, M>,
-) -> Result<(), Stop> {
-    let some = SomeShards {
-        array,
-        files,
-        is_index_alone: checked.is_index_alone,
-        is_json: told.is_json,
-    };
-    let count = files.len() as u64;
-    for aside in run_in_parallel(array.rt, array.alloc(), count, jobs, &some)? {
-        if let Some(aside) = aside {
-            tell_aside(aside, checked, told)?;
-        }
-    }
-    Ok(())
-}
-
-// Checks the shards in these files: by several threads some of them at a time.
-fn check_all<'a, R: System, C: ShardCodec<ShardFile<R>> + Sync, W: Write, M: Write>(
-    array: &Array<'a, R, C>,
-    files: &[ChunkFile],
-    jobs: u64,
-    checked: &mut Checked,
-    told: &mut Told<'_, '_, W, M>,
-) -> Result<(), Stop> {
-    if jobs == 1 || files.len() < 2 {
-        return check_each_file(array, files, checked, told);
-    }
-    let at_once = jobs
-        .saturating_mul(SHARDS_OF_A_THREAD)
-        .min(usize::MAX as u64);
-    for some in files.chunks((at_once as usize).max(1)) {
-        told.progress.step(checked.shards, checked.all);
-        check_in_parallel(array, some, jobs, checked, told)?;
-    }
-    Ok(())
-}
-
 /// Decodes each index of the shards that a part has, and each subchunk if its codec is served and the indexes are not all that is
 /// asked; writes a line for each that is refused, what else stands in the folder, how many subchunks were not looked into, and what was
 /// checked. Where several threads work, each has shards of its own, and the lines are those of one thread, in its order.
-pub fn check<'a, R: System, C: ShardCodec<ShardFile<R>> + Sync, W: Write, M: Write>(
+pub fn check<'a, R: SharedSystem, C: SharedCodec<ShardFile<R>>, W: Write, M: Write>(
     array: &Array<'a, R, C>,
     is_index_asked: bool,
     listing: &Listing,
-    jobs: u64,
+    jobs: usize,
     out: &mut W,
     progress: &mut Progress<'_, M>,
 ) -> Result<Ending, Stop> {

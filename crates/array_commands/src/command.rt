@@ -8,8 +8,8 @@ use crate::npy::save_subset;
 use crate::reading::{Reading, print_subset};
 use crate::writing_line::array_words;
 use array_cli::{
-    Array, CodecUse, Ending, Progress, ShardCodec, ShardFile, Stop, System, metadata_of,
-    threads_of, with_codec,
+    Array, CodecUse, Ending, Progress, ShardCodec, ShardFile, SharedCodec, SharedSystem, Stop,
+    System, metadata_of, threads_of, with_codec,
 };
 use array_fields::escaped;
 use array_grid::{ListPart, subset_of};
@@ -21,21 +21,23 @@ use std::alloc::Global;
 use std::convert::AsStr;
 use std::io;
 use std::io::{BufWriter, Write};
-use std::thread::Threads;
+
+// By how many threads a command works at most.
+const MOST_THREADS: usize = 256;
 
 // By how many threads a command works, by a word. Refused as `Stop::BadWord` where that is no number above 0.
-fn jobs_of<R: AllocGlobal + Threads>(rt: &R, word: Option<&str>) -> Result<u64, Stop> {
+fn jobs_of<R: SharedSystem>(rt: &R, word: Option<&str>) -> Result<usize, Stop> {
     let Some(word) = word else {
-        return Ok(threads_of(rt));
+        return Ok(threads_of(rt).min(MOST_THREADS));
     };
-    match word.parse() {
-        Ok(jobs) if jobs > 0 => Ok(jobs),
+    match word.parse::<usize>() {
+        Ok(jobs) if jobs > 0 => Ok(jobs.min(MOST_THREADS)),
         _ => Err(Stop::BadWord(escaped(rt.alloc(), word)?)),
     }
 }
 
 // Reads the subset that a word names, and writes its elements.
-fn run_read<'a, R: System, C: ShardCodec<ShardFile<R>> + Sync, W: Write, M: Write>(
+fn run_read<'a, R: SharedSystem, C: SharedCodec<ShardFile<R>>, W: Write, M: Write>(
     array: &Array<'a, R, C>,
     requested: Option<&str>,
     target: Target<'_>,
@@ -90,7 +92,7 @@ fn way_of(is_dry: bool, output: Option<&str>) -> Way<'_> {
 }
 
 // Does a work, and writes its answer.
-fn run_work<'a, R: System, C: ShardCodec<ShardFile<R>> + Sync, W: Write, M: Write>(
+fn run_work<'a, R: SharedSystem, C: SharedCodec<ShardFile<R>>, W: Write, M: Write>(
     array: &Array<'a, R, C>,
     work: Work<'_>,
     out: &mut W,
@@ -158,17 +160,26 @@ struct ArrayWork<'w, 'p, R, W, M> {
     progress: &'w mut Progress<'p, M>,
 }
 
-impl<'w, R: System, W: Write, M: Write> CodecUse<ShardFile<R>> for ArrayWork<'w, '_, R, W, M> {
+impl<'w, R: SharedSystem, W: Write, M: Write> CodecUse<ShardFile<R>>
+    for ArrayWork<'w, '_, R, W, M> {
     type Answer = Result<Ending, Stop>;
 
-    fn with<C: ShardCodec<ShardFile<R>> + Sync>(self, codec: C) -> Result<Ending, Stop> {
-        let array = Array::open(self.rt, self.path, self.metadata, codec)?;
-        run_work(&array, self.work, self.out, self.progress)
+    fn with<C: SharedCodec<ShardFile<R>>>(self, codec: C) -> Result<Ending, Stop> {
+        let ArrayWork {
+            rt,
+            path,
+            metadata,
+            work,
+            out,
+            progress,
+        } = self;
+        let array = Array::open(rt, path, metadata, codec)?;
+        run_work(&array, work, out, progress)
     }
 }
 
 // Reads the metadata of an array, and does a work.
-fn run_array<R: System, W: Write, M: Write>(
+fn run_array<R: SharedSystem, W: Write, M: Write>(
     rt: &R,
     path: &str,
     work: Work<'_>,
@@ -204,10 +215,11 @@ struct HalfComparison<'w, 'p, C, R, W, M> {
     codec: C,
 }
 
-impl<'w, R: System, W: Write, M: Write> CodecUse<ShardFile<R>> for Comparison<'w, '_, R, W, M> {
+impl<'w, R: SharedSystem, W: Write, M: Write> CodecUse<ShardFile<R>>
+    for Comparison<'w, '_, R, W, M> {
     type Answer = Result<Ending, Stop>;
 
-    fn with<C: ShardCodec<ShardFile<R>> + Sync>(self, codec: C) -> Result<Ending, Stop> {
+    fn with<C: SharedCodec<ShardFile<R>>>(self, codec: C) -> Result<Ending, Stop> {
         let metadata = self.metadata.1;
         let comparison = HalfComparison {
             comparison: self,
@@ -217,26 +229,30 @@ impl<'w, R: System, W: Write, M: Write> CodecUse<ShardFile<R>> for Comparison<'w
     }
 }
 
-impl<'w, C: ShardCodec<ShardFile<R>> + Sync, R: System, W: Write, M: Write> CodecUse<ShardFile<R>>
+impl<'w, C: SharedCodec<ShardFile<R>>, R: SharedSystem, W: Write, M: Write> CodecUse<ShardFile<R>>
     for HalfComparison<'w, '_, C, R, W, M> {
     type Answer = Result<Ending, Stop>;
 
-    fn with<D: ShardCodec<ShardFile<R>> + Sync>(self, codec: D) -> Result<Ending, Stop> {
+    fn with<D: SharedCodec<ShardFile<R>>>(self, codec: D) -> Result<Ending, Stop> {
+        let HalfComparison {
+            comparison,
+            codec: first,
+        } = self;
         let Comparison {
             rt,
             paths,
             metadata,
             out,
             progress,
-        } = self.comparison;
-        let one = Array::open(rt, paths.0, metadata.0, self.codec)?;
+        } = comparison;
+        let one = Array::open(rt, paths.0, metadata.0, first)?;
         let other = Array::open(rt, paths.1, metadata.1, codec)?;
         compare(&one, &other, out, progress)
     }
 }
 
 // Compares the arrays at two paths.
-fn run_compare<R: System, W: Write, M: Write>(
+fn run_compare<R: SharedSystem, W: Write, M: Write>(
     rt: &R,
     paths: (&str, &str),
     out: &mut W,
@@ -256,7 +272,7 @@ fn run_compare<R: System, W: Write, M: Write>(
 }
 
 // Does what the words of a command line say.
-fn run_matches<R: System, W: Write, M: Write>(
+fn run_matches<R: SharedSystem, W: Write, M: Write>(
     rt: &R,
     matches: &ArgMatches<'_>,
     out: &mut W,
@@ -314,7 +330,7 @@ fn tell<W: Write, M: Write>(
 }
 
 // Reads the words of a command line, and does what they say.
-fn run_words<R: System, S: AsStr, W: Write, M: Write>(
+fn run_words<R: SharedSystem, S: AsStr, W: Write, M: Write>(
     rt: &R,
     words: &[S],
     out: &mut W,
@@ -330,7 +346,7 @@ fn run_words<R: System, S: AsStr, W: Write, M: Write>(
 }
 
 // Runs a command line, and sees that its answer is written.
-fn run_buffered<R: System, S: AsStr, W: Write + Drop, M: Write>(
+fn run_buffered<R: SharedSystem, S: AsStr, W: Write + Drop, M: Write>(
     rt: &R,
     words: &[S],
     writer: W,
@@ -352,8 +368,8 @@ fn run_buffered<R: System, S: AsStr, W: Write + Drop, M: Write>(
 /// it, could not be done, and then nothing is written but what `list`, `check` and `compact` had said before, and a line on the
 /// owner of a new file. A message that is not taken is dropped, and an answer that nobody reads. Where `shows_progress` is
 /// true, the messages show how far the command is while it runs, and it is blanked before an answer or a sentence is written.
-pub fn run_command<R: System, S: AsStr, W: Write + Drop, M: Write + Drop>(
-    rt: &R,
+pub fn run_command<R: SharedSystem, S: AsStr, W: Write + Drop, M: Write + Drop>(
+    rt: R,
     words: &[S],
     writer: W,
     mut messages: M,
@@ -361,7 +377,7 @@ pub fn run_command<R: System, S: AsStr, W: Write + Drop, M: Write + Drop>(
 ) -> u8
     ensures { result ≤ 2 }
 {
-    match run_buffered(rt, words, writer, &mut messages, shows_progress) {
+    match run_buffered(&rt, words, writer, &mut messages, shows_progress) {
         Ok(status) => status,
         Err(stop) => {
             let _ = writeln!(messages, "zarr_shard: {stop}");

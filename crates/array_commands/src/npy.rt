@@ -1,6 +1,8 @@
 // A subset of an array as a file of NumPy's format.
 use crate::reading::{Reading, Sink, read_bands};
-use array_cli::{Array, Ending, Progress, ShardCodec, ShardFile, Stop, System, full_name};
+use array_cli::{
+    Array, Ending, Progress, ShardFile, SharedCodec, SharedSystem, Stop, System, full_name,
+};
 use array_folder::{npy_beside, npy_header};
 use array_grid::{Requested, subset_of};
 use array_info::begin_new;
@@ -64,7 +66,7 @@ fn end_file<R: Files + Drop>(
 }
 
 // Reads what is requested, and writes it into a new file behind a header.
-fn fill<'a, R: System, C: ShardCodec<ShardFile<R>> + Sync, M: Write>(
+fn fill<'a, R: SharedSystem, C: SharedCodec<ShardFile<R>>, M: Write>(
     array: &Array<'a, R, C>,
     requested: &Requested,
     reading: Reading,
@@ -78,7 +80,7 @@ fn fill<'a, R: System, C: ShardCodec<ShardFile<R>> + Sync, M: Write>(
 
 /// Reads a subset, and makes a file of NumPy's format of it, which has no axis that is named by one coordinate. A file of that
 /// name is replaced once the new one is whole. Where the path is refused nothing is read.
-pub fn save_subset<'a, R: System, C: ShardCodec<ShardFile<R>> + Sync, W: Write, M: Write>(
+pub fn save_subset<'a, R: SharedSystem, C: SharedCodec<ShardFile<R>>, W: Write, M: Write>(
     array: &Array<'a, R, C>,
     requested: Option<&str>,
     path: &str,

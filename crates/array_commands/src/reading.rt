@@ -1,8 +1,8 @@
 // Elements that are written as they are read, band by band.
 use crate::command_line::Form;
 use array_cli::{
-    Array, Ending, Progress, ShardCodec, ShardFile, Stop, System, TextRows, begin_json, end_json,
-    read_in_parallel, write_json_cells, written,
+    Array, Ending, Progress, ShardFile, SharedCodec, SharedSystem, Stop, TextRows, begin_json,
+    end_json, read_by_threads, write_json_cells, written,
 };
 use array_grid::Bands;
 use array_metadata::ElementType;
@@ -20,7 +20,7 @@ pub struct Reading {
     /// Whether what is refused is filled.
     pub fills: bool,
     /// By how many threads.
-    pub jobs: u64,
+    pub jobs: usize,
 }
 
 /// Where the elements of a subset go, least significant byte first.
@@ -43,9 +43,9 @@ fn test_size(subset: &ArraySubset, size: u64) -> Result<(), Stop> {
 }
 
 /// Reads the elements of a subset and hands them on, in row-major order: those of a band at a time, so that memory is that of a band.
-/// Refused as `Stop::TooLarge` where they have more than 2^40 bytes, and as `read_in_parallel` refuses; then the bands before are handed
+/// Refused as `Stop::TooLarge` where they have more than 2^40 bytes, and as `read_by_threads` refuses; then the bands before are handed
 /// on.
-pub fn read_bands<'a, R: System, C: ShardCodec<ShardFile<R>> + Sync, S: Sink, M: Write>(
+pub fn read_bands<'a, R: SharedSystem, C: SharedCodec<ShardFile<R>>, S: Sink, M: Write>(
     array: &Array<'a, R, C>,
     subset: &ArraySubset,
     reading: Reading,
@@ -62,7 +62,7 @@ pub fn read_bands<'a, R: System, C: ShardCodec<ShardFile<R>> + Sync, S: Sink, M:
             return Err(CodecError::OutOfBounds.into());
         };
         let Reading { fills, jobs } = reading;
-        let (cells, ended) = read_in_parallel(array, &band, fills, jobs, progress)?;
+        let (cells, ended) = read_by_threads(array, &band, fills, jobs, progress)?;
         if ended != Ending::Done {
             ending = ended;
         }
@@ -108,7 +108,7 @@ impl<W: Write> Sink for Printed<'_, W> {
 }
 
 /// Reads the elements of a subset, and writes them in a form to an answer.
-pub fn print_subset<'a, R: System, C: ShardCodec<ShardFile<R>> + Sync, W: Write, M: Write>(
+pub fn print_subset<'a, R: SharedSystem, C: SharedCodec<ShardFile<R>>, W: Write, M: Write>(
     array: &Array<'a, R, C>,
     subset: &ArraySubset,
     form: Form,
