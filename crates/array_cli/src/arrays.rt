@@ -2,7 +2,6 @@
 use crate::refusal::{Place, Refusal};
 use crate::shard_codec::{Planned, ShardCodec, ShardFile};
 use crate::stop::Stop;
-use crate::system::System;
 use array_codecs::reversed_parts;
 use array_fields::{LONGEST_TEXT, MetadataError, escaped};
 use array_folder::{
@@ -119,7 +118,7 @@ fn chunks_in(
     Ok(kept)
 }
 
-impl<'a, R: System, C> Array<'a, R, C> {
+impl<'a, R: Files + AllocGlobal, C> Array<'a, R, C> {
     /// The allocator.
     pub fn alloc(&self) -> Global {
         self.rt.alloc()
@@ -188,16 +187,16 @@ impl<'a, R: System, C> Array<'a, R, C> {
     }
 
     /// The file of the shard with this key.
-    pub fn file(&self, key: &str) -> Result<ShardFile<R>, Stop> {
+    pub fn file(&self, key: &str) -> Result<ShardFile<'a, R>, Stop> {
         let path = self.path_of(key)?;
-        Ok(FileHandle::new(self.alloc(), *self.rt, &path)?)
+        Ok(FileHandle::new(self.alloc(), self.rt, &path)?)
     }
 
     /// Why a shard is refused. What no shard is the cause of stops the command: what the system said, and memory.
     pub fn refusal(
         &self,
         shard: &Shard<'_>,
-        file: &ShardFile<R>,
+        file: &ShardFile<'a, R>,
         error: CodecError,
         position: Place,
     ) -> Result<Refusal, Stop> {
@@ -226,7 +225,7 @@ impl<'a, R: System, C> Array<'a, R, C> {
     }
 }
 
-impl<'a, R: System, C: ShardCodec<ShardFile<R>>> Array<'a, R, C> {
+impl<'a, R: Files + AllocGlobal, C: ShardCodec<ShardFile<'a, R>>> Array<'a, R, C> {
     /// Opens the array whose folder has this path, with its metadata and the codec that this names.
     pub fn open(
         rt: &'a R,
@@ -251,7 +250,7 @@ impl<'a, R: System, C: ShardCodec<ShardFile<R>>> Array<'a, R, C> {
     pub fn open_shard(
         &self,
         shard: &Shard<'_>,
-        file: ShardFile<R>,
+        file: ShardFile<'a, R>,
     ) -> Result<Result<C::Open, Refusal>, Stop> {
         match self.codec.open(self.alloc(), file, self.metadata) {
             Ok(opened) => Ok(Ok(opened)),
@@ -265,7 +264,7 @@ impl<'a, R: System, C: ShardCodec<ShardFile<R>>> Array<'a, R, C> {
     /// What a compaction does to the shard in a file. Only its index is read.
     pub fn plan_compaction(
         &self,
-        file: &mut ShardFile<R>,
+        file: &mut ShardFile<'a, R>,
         is_dry: bool,
     ) -> Result<Planned, CodecError> {
         self.codec

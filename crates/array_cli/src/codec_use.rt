@@ -1,5 +1,5 @@
 // What is done with the codec of an array's shards, whichever it is.
-use crate::shard_codec::SharedCodec;
+use crate::shard_codec::ShardCodec;
 use array_metadata::ArrayMetadata;
 use storage_handles::BytesPartialDecoderTraits;
 
@@ -9,11 +9,11 @@ pub trait CodecUse<F> {
     type Answer;
 
     /// Does it with a codec.
-    fn with<C: SharedCodec<F>>(self, codec: C) -> Self::Answer;
+    fn with<C: ShardCodec<F>>(self, codec: C) -> Self::Answer;
 }
 
 /// Does something with the codec that metadata names. It alone names the type of that codec; all else works with any.
-pub fn with_codec<F: BytesPartialDecoderTraits + Send + Sync, U: CodecUse<F>>(
+pub fn with_codec<F: BytesPartialDecoderTraits, U: CodecUse<F>>(
     metadata: &ArrayMetadata,
     user: U,
 ) -> U::Answer {

@@ -5,16 +5,16 @@ use crate::refusal::{Place, Refusal};
 use crate::shard_codec::{OpenShard, ShardCodec, ShardFile};
 use crate::sound::{put_elements, put_sound};
 use crate::stop::{Ending, Stop};
-use crate::system::System;
 use array_grid::{ShardGrid, ShardPart, ShardParts, SubsetCells, shared_elements};
 use parts_errors::CodecError;
 use parts_row_major::unravel_index;
 use parts_subsets::ArraySubset;
 use std::io::Write;
+use std::rt::Files;
 
 // What is read so far.
 #[derive(Drop)]
-pub(crate) struct Answer {
+struct Answer {
     // the elements of the subset, once a part is read
     cells: Option<SubsetCells>,
     // whether what is refused is filled
@@ -25,7 +25,7 @@ pub(crate) struct Answer {
 
 impl Answer {
     // Nothing is read so far.
-    pub(crate) fn new(fills: bool) -> Self {
+    fn new(fills: bool) -> Self {
         Answer {
             cells: None,
             fills,
@@ -35,7 +35,7 @@ impl Answer {
 }
 
 // The cells of a subset as they are held, or fill values where none are.
-fn held_cells<R: System, C>(
+pub(crate) fn held_cells<R: Files + AllocGlobal, C>(
     array: &Array<'_, R, C>,
     requested: &ArraySubset,
     held: Option<SubsetCells>,
@@ -47,7 +47,7 @@ fn held_cells<R: System, C>(
 }
 
 // Puts the cells of a part into those of a subset, for which memory is asked with the first part.
-fn put_shard_part<R: System, C>(
+pub(crate) fn put_shard_part<R: Files + AllocGlobal, C>(
     array: &Array<'_, R, C>,
     requested: &ArraySubset,
     part: &ShardPart,
@@ -61,7 +61,7 @@ fn put_shard_part<R: System, C>(
 }
 
 // Whether a subchunk of a shard that is open has elements of a part of a subset, and does not decode.
-fn is_damaged<'a, R: System, C, S: OpenShard<ShardFile<R>>>(
+fn is_damaged<'a, R: Files + AllocGlobal, C, S: OpenShard<ShardFile<'a, R>>>(
     array: &Array<'a, R, C>,
     part: &ShardPart,
     opened: &mut S,
@@ -80,7 +80,7 @@ fn is_damaged<'a, R: System, C, S: OpenShard<ShardFile<R>>>(
 }
 
 // Where a refusal of a read of a part of a subset lies, of a shard that is open: the lowest subchunk that does not decode.
-fn place_of<'a, R: System, C, S: OpenShard<ShardFile<R>>>(
+fn place_of<'a, R: Files + AllocGlobal, C, S: OpenShard<ShardFile<'a, R>>>(
     array: &Array<'a, R, C>,
     part: &ShardPart,
     opened: &mut S,
@@ -98,7 +98,7 @@ fn place_of<'a, R: System, C, S: OpenShard<ShardFile<R>>>(
 }
 
 // Reads the part of a subset that lies in a shard, which is open, or says how and where that is refused.
-fn read_placed<'a, R: System, C, S: OpenShard<ShardFile<R>>>(
+fn read_placed<'a, R: Files + AllocGlobal, C, S: OpenShard<ShardFile<'a, R>>>(
     array: &Array<'a, R, C>,
     part: &ShardPart,
     opened: &mut S,
@@ -115,7 +115,7 @@ fn read_placed<'a, R: System, C, S: OpenShard<ShardFile<R>>>(
 }
 
 // Reads the part of a subset that lies in a shard, which is open, or gives its refusal.
-fn read_opened<'a, R: System, C: ShardCodec<ShardFile<R>>>(
+fn read_opened<'a, R: Files + AllocGlobal, C: ShardCodec<ShardFile<'a, R>>>(
     array: &Array<'a, R, C>,
     part: &ShardPart,
     shard: &Shard<'_>,
@@ -130,7 +130,7 @@ fn read_opened<'a, R: System, C: ShardCodec<ShardFile<R>>>(
 }
 
 // Reads a part of a subset, which lies in a shard, or gives its refusal.
-fn read_shard<'a, R: System, C: ShardCodec<ShardFile<R>>>(
+fn read_shard<'a, R: Files + AllocGlobal, C: ShardCodec<ShardFile<'a, R>>>(
     array: &Array<'a, R, C>,
     part: &ShardPart,
     shard: &Shard<'_>,
@@ -160,7 +160,7 @@ impl GridShard {
 }
 
 // The shard of a grid with this number.
-fn shard_of_grid<R: System, C>(
+fn shard_of_grid<R: Files + AllocGlobal, C>(
     array: &Array<'_, R, C>,
     grid: &ShardGrid,
     number: u64,
@@ -175,13 +175,13 @@ fn shard_of_grid<R: System, C>(
 // A part of a subset, the shard in which it lies, and its elements or why they are refused.
 #[derive(Drop)]
 pub(crate) struct PartRead {
-    part: ShardPart,
+    pub(crate) part: ShardPart,
     shard: GridShard,
-    found: Result<Vec<u8>, Refusal>,
+    pub(crate) found: Result<Vec<u8>, Refusal>,
 }
 
 // Reads the part of a subset with this number; nothing past the last one.
-pub(crate) fn read_numbered<'a, R: System, C: ShardCodec<ShardFile<R>>>(
+pub(crate) fn read_numbered<'a, R: Files + AllocGlobal, C: ShardCodec<ShardFile<'a, R>>>(
     array: &Array<'a, R, C>,
     grid: &ShardGrid,
     parts: &ShardParts,
@@ -196,7 +196,7 @@ pub(crate) fn read_numbered<'a, R: System, C: ShardCodec<ShardFile<R>>>(
 }
 
 // Reads what is sound of a part of a subset that is refused, where the rest is to be filled.
-fn fill_part<'a, R: System, C: ShardCodec<ShardFile<R>>, M: Write>(
+fn fill_part<'a, R: Files + AllocGlobal, C: ShardCodec<ShardFile<'a, R>>, M: Write>(
     array: &Array<'a, R, C>,
     requested: &ArraySubset,
     part: &ShardPart,
@@ -212,7 +212,7 @@ fn fill_part<'a, R: System, C: ShardCodec<ShardFile<R>>, M: Write>(
 }
 
 // Puts a part that was read into the answer.
-pub(crate) fn put_read<'a, R: System, C: ShardCodec<ShardFile<R>>, M: Write>(
+fn put_read<'a, R: Files + AllocGlobal, C: ShardCodec<ShardFile<'a, R>>, M: Write>(
     array: &Array<'a, R, C>,
     requested: &ArraySubset,
     read: PartRead,
@@ -230,7 +230,7 @@ pub(crate) fn put_read<'a, R: System, C: ShardCodec<ShardFile<R>>, M: Write>(
 }
 
 /// The shards of an array whose elements have numbers. Refused as `Stop::TooManyElements` where they have not.
-pub fn shards_of<R: System, C>(array: &Array<'_, R, C>) -> Result<ShardGrid, Stop> {
+pub fn shards_of<R: Files + AllocGlobal, C>(array: &Array<'_, R, C>) -> Result<ShardGrid, Stop> {
     match ShardGrid::new(array.alloc(), &array.metadata.shape, &array.metadata.shard) {
         Ok(grid) => Ok(grid),
         Err(CodecError::TooLarge) => Err(Stop::TooManyElements),
@@ -239,7 +239,7 @@ pub fn shards_of<R: System, C>(array: &Array<'_, R, C>) -> Result<ShardGrid, Sto
 }
 
 // Reads the elements of the parts of a subset.
-pub(crate) fn read_parts<'a, R: System, C: ShardCodec<ShardFile<R>>, M: Write>(
+fn read_parts<'a, R: Files + AllocGlobal, C: ShardCodec<ShardFile<'a, R>>, M: Write>(
     array: &Array<'a, R, C>,
     requested: &ArraySubset,
     grid: &ShardGrid,
@@ -257,7 +257,7 @@ pub(crate) fn read_parts<'a, R: System, C: ShardCodec<ShardFile<R>>, M: Write>(
 }
 
 // The elements of a subset that are read, or fill values where none are, and how the command ends.
-pub(crate) fn ended<R: System, C>(
+fn ended<R: Files + AllocGlobal, C>(
     array: &Array<'_, R, C>,
     requested: &ArraySubset,
     answer: Answer,
@@ -273,7 +273,7 @@ pub(crate) fn ended<R: System, C>(
 /// The elements of a subset, from each shard that it overlaps, and fill values of those that are absent. Memory for them is
 /// allocated once a part is read, so that a subset in one shard takes less. Where `fills` is true, what is refused has fill values too,
 /// the messages say which shards and subchunks that are, and the command ends as `Ending::Refused`.
-pub fn read_array<'a, R: System, C: ShardCodec<ShardFile<R>>, M: Write>(
+pub fn read_array<'a, R: Files + AllocGlobal, C: ShardCodec<ShardFile<'a, R>>, M: Write>(
     array: &Array<'a, R, C>,
     requested: &ArraySubset,
     fills: bool,

@@ -22,7 +22,7 @@ use storage_files::FileHandle;
 use storage_handles::{ByteRange, BytesPartialDecoderTraits, Interval};
 
 /// The file of a shard.
-pub type ShardFile<R> = FileHandle<R>;
+pub type ShardFile<'a, R> = FileHandle<&'a R>;
 
 /// What a compaction does to a shard.
 #[derive(Drop)]
@@ -139,11 +139,6 @@ pub trait ShardCodec<F>: Copy + ShardEncoder {
         is_dry: bool,
     ) -> Result<Planned, CodecError>;
 }
-
-/// A codec that threads share, and the shards of which one thread can hand to another.
-pub trait SharedCodec<F>: ShardCodec<F, Open: Send + Sync> + Sync {}
-
-impl<F, C: ShardCodec<F, Open: Send + Sync> + Sync> SharedCodec<F> for C {}
 
 /// A shard of the codec `sharding_indexed` that is open.
 #[derive(Drop)]

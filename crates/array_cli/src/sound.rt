@@ -4,7 +4,6 @@ use crate::progress::Progress;
 use crate::refusal::{Place, Refusal};
 use crate::shard_codec::{OpenShard, ShardCodec, ShardFile};
 use crate::stop::Stop;
-use crate::system::System;
 use array_grid::{ShardPart, SubsetCells, shared_elements};
 use array_metadata::ArrayMetadata;
 use parts_arrays::ArrayBytes;
@@ -13,6 +12,7 @@ use parts_row_major::unravel_index;
 use parts_subsets::ArraySubset;
 use std::borrow::CowSlice;
 use std::io::Write;
+use std::rt::Files;
 
 /// Puts elements of an array with this metadata, which have these bytes, where they lie in a subset.
 pub fn put_elements(
@@ -30,7 +30,7 @@ pub fn put_elements(
 
 // Puts what a subchunk of a shard that is open has of a part of a subset, and says whether it is sound. Refused where it could not be
 // read.
-fn put_subchunk<'a, R: System, C, S: OpenShard<ShardFile<R>>>(
+fn put_subchunk<'a, R: Files + AllocGlobal, C, S: OpenShard<ShardFile<'a, R>>>(
     array: &Array<'a, R, C>,
     part: &ShardPart,
     opened: &mut S,
@@ -58,7 +58,7 @@ fn tell_filled<M: Write>(progress: &mut Progress<'_, M>, refusal: &Refusal) {
 }
 
 // Puts what each subchunk of a shard that is open has of a part of a subset, and tells which ones are refused.
-fn put_each<'a, R: System, C: ShardCodec<ShardFile<R>>, M: Write>(
+fn put_each<'a, R: Files + AllocGlobal, C: ShardCodec<ShardFile<'a, R>>, M: Write>(
     array: &Array<'a, R, C>,
     part: &ShardPart,
     shard: &Shard<'_>,
@@ -81,7 +81,7 @@ fn put_each<'a, R: System, C: ShardCodec<ShardFile<R>>, M: Write>(
 
 /// Puts the sound elements of a part of a subset, of which a shard or a subchunk is refused, and leaves the others as they are; tells
 /// which ones these are.
-pub fn put_sound<'a, R: System, C: ShardCodec<ShardFile<R>>, M: Write>(
+pub fn put_sound<'a, R: Files + AllocGlobal, C: ShardCodec<ShardFile<'a, R>>, M: Write>(
     array: &Array<'a, R, C>,
     part: &ShardPart,
     shard: &Shard<'_>,

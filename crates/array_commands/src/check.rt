@@ -1,15 +1,14 @@
 // Whether the shards of an array are sound.
-use crate::check_pieces::check_all;
 use crate::checked::{Checked, Found, Told, write_end, write_end_lines};
 use array_cli::{
-    Array, Ending, OpenShard, Place, Progress, Shard, ShardCodec, ShardFile, SharedCodec,
-    SharedSystem, Stop, System, written,
+    Array, Ending, OpenShard, Place, Progress, Shard, ShardCodec, ShardFile, Stop, written,
 };
 use array_folder::ChunkFile;
 use array_info::{Listing, check_subchunk};
 use parts_errors::CodecError;
 use std::io;
 use std::io::Write;
+use std::rt::{Clock, Files};
 use storage_handles::BytesPartialDecoderTraits;
 
 // What reading the subchunks of a shard came to.
@@ -48,7 +47,7 @@ impl Read {
 }
 
 // Reads each subchunk of a shard, and goes on behind one that is refused.
-fn check_each<'a, R: System, C, S: OpenShard<ShardFile<R>>, W: Write, M: Write>(
+fn check_each<'a, R: Files + AllocGlobal, C, S: OpenShard<ShardFile<'a, R>>, W: Write, M: Write>(
     array: &Array<'a, R, C>,
     shard: &Shard<'_>,
     checked: &Checked,
@@ -78,7 +77,7 @@ fn check_each<'a, R: System, C, S: OpenShard<ShardFile<R>>, W: Write, M: Write>(
 }
 
 // Tells the bad index entries of a shard on one line, if there are some.
-fn tell_bad<R: System, C, W: Write, M: Write>(
+fn tell_bad<R: Files + AllocGlobal, C, W: Write, M: Write>(
     array: &Array<'_, R, C>,
     shard: &Shard<'_>,
     read: &Read,
@@ -95,10 +94,10 @@ fn tell_bad<R: System, C, W: Write, M: Write>(
 }
 
 // Tells the subchunk behind which nothing more could be read of a shard, if there is one.
-fn tell_last<R: System, C, W: Write, M: Write>(
+fn tell_last<R: Files + AllocGlobal, C, W: Write, M: Write>(
     array: &Array<'_, R, C>,
     shard: &Shard<'_>,
-    file: &ShardFile<R>,
+    file: &ShardFile<'_, R>,
     last: Option<(u64, CodecError)>,
     told: &mut Told<'_, '_, W, M>,
 ) -> Result<(), Stop> {
@@ -109,7 +108,7 @@ fn tell_last<R: System, C, W: Write, M: Write>(
 }
 
 // Reads each subchunk of a shard that is open.
-fn check_opened<'a, R: System, C: ShardCodec<ShardFile<R>>, W: Write, M: Write>(
+fn check_opened<'a, R: Files + AllocGlobal, C: ShardCodec<ShardFile<'a, R>>, W: Write, M: Write>(
     array: &Array<'a, R, C>,
     shard: &Shard<'_>,
     checked: &Checked,
@@ -128,10 +127,10 @@ fn check_opened<'a, R: System, C: ShardCodec<ShardFile<R>>, W: Write, M: Write>(
 }
 
 // Opens the shard that a file holds, which is there, and reads each subchunk.
-fn check_file<'a, R: System, C: ShardCodec<ShardFile<R>>, W: Write, M: Write>(
+fn check_file<'a, R: Files + AllocGlobal, C: ShardCodec<ShardFile<'a, R>>, W: Write, M: Write>(
     array: &Array<'a, R, C>,
     shard: &Shard<'_>,
-    file: ShardFile<R>,
+    file: ShardFile<'a, R>,
     checked: &mut Checked,
     told: &mut Told<'_, '_, W, M>,
 ) -> Result<(), Stop> {
@@ -150,7 +149,7 @@ fn check_file<'a, R: System, C: ShardCodec<ShardFile<R>>, W: Write, M: Write>(
 }
 
 // Opens a shard and reads each subchunk. Where its file is gone, nothing is to be checked.
-fn check_shard<'a, R: System, C: ShardCodec<ShardFile<R>>, W: Write, M: Write>(
+fn check_shard<'a, R: Files + AllocGlobal, C: ShardCodec<ShardFile<'a, R>>, W: Write, M: Write>(
     array: &Array<'a, R, C>,
     shard: &Shard<'_>,
     checked: &mut Checked,
@@ -172,27 +171,34 @@ fn shard_in(file: &ChunkFile) -> Shard<'_> {
     }
 }
 
-/// Checks the shards in these files, one after the other.
-pub fn check_each_file<'a, R: System, C: ShardCodec<ShardFile<R>>, W: Write, M: Write>(
+// Checks the shards in these files.
+fn check_all<'a, R: Files + AllocGlobal, C: ShardCodec<ShardFile<'a, R>>, W: Write, M: Write>(
     array: &Array<'a, R, C>,
     files: &[ChunkFile],
-    checked: &mut Checked,
+    is_index_alone: bool,
     told: &mut Told<'_, '_, W, M>,
-) -> Result<(), Stop> {
+) -> Result<Checked, Stop> {
+    let mut checked = Checked::none(files.len() as u64, is_index_alone);
     for file in files {
-        check_shard(array, &shard_in(file), checked, told)?;
+        check_shard(array, &shard_in(file), &mut checked, told)?;
     }
-    Ok(())
+    told.progress.clear();
+    Ok(checked)
 }
 
 /// Decodes each index of the shards that a part has, and each subchunk if its codec is served and the indexes are not all that is
-/// asked; writes a line for each that is refused, what else stands in the folder, how many subchunks were not looked into, and what was
-/// checked. Where several threads work, each has shards of its own, and the lines are those of one thread, in its order.
-pub fn check<'a, R: SharedSystem, C: SharedCodec<ShardFile<R>>, W: Write, M: Write>(
+/// asked; writes a line for each that is refused as it comes, what else stands in the folder, how many subchunks were not looked
+/// into, and what was checked.
+pub fn check<
+    'a,
+    R: Files + AllocGlobal + Clock,
+    C: ShardCodec<ShardFile<'a, R>>,
+    W: Write,
+    M: Write,
+>(
     array: &Array<'a, R, C>,
     is_index_asked: bool,
     listing: &Listing,
-    jobs: usize,
     out: &mut W,
     progress: &mut Progress<'_, M>,
 ) -> Result<Ending, Stop> {
@@ -206,9 +212,7 @@ pub fn check<'a, R: SharedSystem, C: SharedCodec<ShardFile<R>>, W: Write, M: Wri
         is_json,
     };
     let is_index_alone = is_index_asked || unread.is_some();
-    let mut checked = Checked::none(files.chunks.len() as u64, is_index_alone);
-    check_all(array, &files.chunks, jobs, &mut checked, &mut told)?;
-    told.progress.clear();
+    let checked = check_all(array, &files.chunks, is_index_alone, &mut told)?;
     let ending = checked.ending(is_index_asked);
     let wrote = if is_json {
         write_end_lines(told.out, &files, &checked, unread)

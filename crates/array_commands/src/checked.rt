@@ -1,9 +1,10 @@
 // What a check came to, and what is written of it.
-use array_cli::{Array, Ending, JsonLine, Progress, Refusal, Stop, System, written};
+use array_cli::{Array, Ending, JsonLine, Progress, Refusal, Stop, written};
 use array_folder::{ChunkFiles, Counted};
 use array_info::{put_refusal, write_folder, write_folder_lines};
 use std::io;
 use std::io::Write;
+use std::rt::{Clock, Files};
 
 /// What was checked so far, and what is refused.
 #[derive(Debug, Clone, Copy, PartialEq, Eq)]
@@ -36,13 +37,6 @@ impl Checked {
             all,
             is_index_alone,
         }
-    }
-
-    /// Adds what was checked beside it.
-    pub fn add_all(&mut self, other: &Checked) {
-        self.shards = self.shards.saturating_add(other.shards);
-        self.refused = self.refused.saturating_add(other.refused);
-        self.subchunks = self.subchunks.saturating_add(other.subchunks);
     }
 
     /// Adds a shard.
@@ -144,7 +138,7 @@ fn write_checked<W: Write>(out: &mut W, checked: &Checked) -> io::Result<()> {
 }
 
 /// Writes what else stands in the folder, how many subchunks were not looked into, and what was checked.
-pub fn write_end<R: System, C, W: Write>(
+pub fn write_end<R: Files + AllocGlobal + Clock, C, W: Write>(
     array: &Array<'_, R, C>,
     out: &mut W,
     files: &ChunkFiles,

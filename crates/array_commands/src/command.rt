@@ -5,11 +5,10 @@ use crate::check::check;
 use crate::command_line::{Scope, Target, Work, program, work_of};
 use crate::extract::extract;
 use crate::npy::save_subset;
-use crate::reading::{Reading, print_subset};
+use crate::reading::print_subset;
 use crate::writing_line::array_words;
 use array_cli::{
-    Array, CodecUse, Ending, Progress, ShardCodec, ShardFile, SharedCodec, SharedSystem, Stop,
-    System, metadata_of, threads_of, with_codec,
+    Array, CodecUse, Ending, Progress, ShardCodec, ShardFile, Stop, metadata_of, with_codec,
 };
 use array_fields::escaped;
 use array_grid::{ListPart, subset_of};
@@ -21,42 +20,29 @@ use std::alloc::Global;
 use std::convert::AsStr;
 use std::io;
 use std::io::{BufWriter, Write};
-
-// By how many threads a command works at most.
-const MOST_THREADS: usize = 256;
-
-// By how many threads a command works, by a word. Refused as `Stop::BadWord` where that is no number above 0.
-fn jobs_of<R: SharedSystem>(rt: &R, word: Option<&str>) -> Result<usize, Stop> {
-    let Some(word) = word else {
-        return Ok(threads_of(rt).min(MOST_THREADS));
-    };
-    match word.parse::<usize>() {
-        Ok(jobs) if jobs > 0 => Ok(jobs.min(MOST_THREADS)),
-        _ => Err(Stop::BadWord(escaped(rt.alloc(), word)?)),
-    }
-}
+use std::rt::{Clock, Files};
 
 // Reads the subset that a word names, and writes its elements.
-fn run_read<'a, R: SharedSystem, C: SharedCodec<ShardFile<R>>, W: Write, M: Write>(
+fn run_read<'a, R: Files + AllocGlobal, C: ShardCodec<ShardFile<'a, R>>, W: Write, M: Write>(
     array: &Array<'a, R, C>,
     requested: Option<&str>,
     target: Target<'_>,
-    reading: Reading,
+    fills: bool,
     out: &mut W,
     progress: &mut Progress<'_, M>,
 ) -> Result<Ending, Stop> {
     match target {
-        Target::NumPy(path) => save_subset(array, requested, path, reading, out, progress),
+        Target::NumPy(path) => save_subset(array, requested, path, fills, out, progress),
         Target::Answer(form) => {
             array.test_read()?;
             let subset = subset_of(array.alloc(), requested, &array.metadata.shape)?.subset;
-            print_subset(array, &subset, form, reading, out, progress)
+            print_subset(array, &subset, form, fills, out, progress)
         }
     }
 }
 
 // Draws an array, or the shard that has a key.
-fn run_map<'a, R: System, C: ShardCodec<ShardFile<R>>, W: Write, M: Write>(
+fn run_map<'a, R: Files + AllocGlobal, C: ShardCodec<ShardFile<'a, R>>, W: Write, M: Write>(
     array: &Array<'a, R, C>,
     key: Option<&str>,
     svg: Option<&str>,
@@ -92,7 +78,13 @@ fn way_of(is_dry: bool, output: Option<&str>) -> Way<'_> {
 }
 
 // Does a work, and writes its answer.
-fn run_work<'a, R: SharedSystem, C: SharedCodec<ShardFile<R>>, W: Write, M: Write>(
+fn run_work<
+    'a,
+    R: Files + AllocGlobal + Clock,
+    C: ShardCodec<ShardFile<'a, R>>,
+    W: Write,
+    M: Write,
+>(
     array: &Array<'a, R, C>,
     work: Work<'_>,
     out: &mut W,
@@ -105,29 +97,22 @@ fn run_work<'a, R: SharedSystem, C: SharedCodec<ShardFile<R>>, W: Write, M: Writ
         Work::Check {
             is_index_alone,
             scope,
-            jobs,
-        } => {
-            let jobs = jobs_of(array.rt, jobs)?;
-            let listing = listing_of(alloc, scope)?;
-            check(array, is_index_alone, &listing, jobs, out, progress)
-        }
+        } => check(
+            array,
+            is_index_alone,
+            &listing_of(alloc, scope)?,
+            out,
+            progress,
+        ),
         Work::Map { key, svg } => run_map(array, key, svg, out, progress),
         Work::Extract { key, number } => extract(array, key, number, out),
         Work::Read {
             requested,
             target,
             fills,
-            jobs,
-        } => {
-            let jobs = jobs_of(array.rt, jobs)?;
-            let reading = Reading { fills, jobs };
-            run_read(array, requested, target, reading, out, progress)
-        }
+        } => run_read(array, requested, target, fills, out, progress),
         Work::Write { requested, file } => write_subset(array, requested, file, out, progress),
-        Work::Reshard { path, words, jobs } => {
-            let jobs = jobs_of(array.rt, jobs)?;
-            reshard(array, path, &words, jobs, out, progress)
-        }
+        Work::Reshard { path, words } => reshard(array, path, &words, out, progress),
         Work::Compact {
             is_dry,
             output,
@@ -160,11 +145,11 @@ struct ArrayWork<'w, 'p, R, W, M> {
     progress: &'w mut Progress<'p, M>,
 }
 
-impl<'w, R: SharedSystem, W: Write, M: Write> CodecUse<ShardFile<R>>
+impl<'w, R: Files + AllocGlobal + Clock, W: Write, M: Write> CodecUse<ShardFile<'w, R>>
     for ArrayWork<'w, '_, R, W, M> {
     type Answer = Result<Ending, Stop>;
 
-    fn with<C: SharedCodec<ShardFile<R>>>(self, codec: C) -> Result<Ending, Stop> {
+    fn with<C: ShardCodec<ShardFile<'w, R>>>(self, codec: C) -> Result<Ending, Stop> {
         let ArrayWork {
             rt,
             path,
@@ -179,7 +164,7 @@ impl<'w, R: SharedSystem, W: Write, M: Write> CodecUse<ShardFile<R>>
 }
 
 // Reads the metadata of an array, and does a work.
-fn run_array<R: SharedSystem, W: Write, M: Write>(
+fn run_array<R: Files + AllocGlobal + Clock, W: Write, M: Write>(
     rt: &R,
     path: &str,
     work: Work<'_>,
@@ -215,11 +200,11 @@ struct HalfComparison<'w, 'p, C, R, W, M> {
     codec: C,
 }
 
-impl<'w, R: SharedSystem, W: Write, M: Write> CodecUse<ShardFile<R>>
+impl<'w, R: Files + AllocGlobal, W: Write, M: Write> CodecUse<ShardFile<'w, R>>
     for Comparison<'w, '_, R, W, M> {
     type Answer = Result<Ending, Stop>;
 
-    fn with<C: SharedCodec<ShardFile<R>>>(self, codec: C) -> Result<Ending, Stop> {
+    fn with<C: ShardCodec<ShardFile<'w, R>>>(self, codec: C) -> Result<Ending, Stop> {
         let metadata = self.metadata.1;
         let comparison = HalfComparison {
             comparison: self,
@@ -229,30 +214,27 @@ impl<'w, R: SharedSystem, W: Write, M: Write> CodecUse<ShardFile<R>>
     }
 }
 
-impl<'w, C: SharedCodec<ShardFile<R>>, R: SharedSystem, W: Write, M: Write> CodecUse<ShardFile<R>>
-    for HalfComparison<'w, '_, C, R, W, M> {
+impl<'w, C: ShardCodec<ShardFile<'w, R>>, R: Files + AllocGlobal, W: Write, M: Write> CodecUse<
+    ShardFile<'w, R>,
+> for HalfComparison<'w, '_, C, R, W, M> {
     type Answer = Result<Ending, Stop>;
 
-    fn with<D: SharedCodec<ShardFile<R>>>(self, codec: D) -> Result<Ending, Stop> {
-        let HalfComparison {
-            comparison,
-            codec: first,
-        } = self;
+    fn with<D: ShardCodec<ShardFile<'w, R>>>(self, codec: D) -> Result<Ending, Stop> {
         let Comparison {
             rt,
             paths,
             metadata,
             out,
             progress,
-        } = comparison;
-        let one = Array::open(rt, paths.0, metadata.0, first)?;
+        } = self.comparison;
+        let one = Array::open(rt, paths.0, metadata.0, self.codec)?;
         let other = Array::open(rt, paths.1, metadata.1, codec)?;
         compare(&one, &other, out, progress)
     }
 }
 
 // Compares the arrays at two paths.
-fn run_compare<R: SharedSystem, W: Write, M: Write>(
+fn run_compare<R: Files + AllocGlobal, W: Write, M: Write>(
     rt: &R,
     paths: (&str, &str),
     out: &mut W,
@@ -272,7 +254,7 @@ fn run_compare<R: SharedSystem, W: Write, M: Write>(
 }
 
 // Does what the words of a command line say.
-fn run_matches<R: SharedSystem, W: Write, M: Write>(
+fn run_matches<R: Files + AllocGlobal + Clock, W: Write, M: Write>(
     rt: &R,
     matches: &ArgMatches<'_>,
     out: &mut W,
@@ -330,7 +312,7 @@ fn tell<W: Write, M: Write>(
 }
 
 // Reads the words of a command line, and does what they say.
-fn run_words<R: SharedSystem, S: AsStr, W: Write, M: Write>(
+fn run_words<R: Files + AllocGlobal + Clock, S: AsStr, W: Write, M: Write>(
     rt: &R,
     words: &[S],
     out: &mut W,
@@ -346,7 +328,7 @@ fn run_words<R: SharedSystem, S: AsStr, W: Write, M: Write>(
 }
 
 // Runs a command line, and sees that its answer is written.
-fn run_buffered<R: SharedSystem, S: AsStr, W: Write + Drop, M: Write>(
+fn run_buffered<R: Files + AllocGlobal + Clock, S: AsStr, W: Write + Drop, M: Write>(
     rt: &R,
     words: &[S],
     writer: W,
@@ -368,8 +350,8 @@ fn run_buffered<R: SharedSystem, S: AsStr, W: Write + Drop, M: Write>(
 /// it, could not be done, and then nothing is written but what `list`, `check` and `compact` had said before, and a line on the
 /// owner of a new file. A message that is not taken is dropped, and an answer that nobody reads. Where `shows_progress` is
 /// true, the messages show how far the command is while it runs, and it is blanked before an answer or a sentence is written.
-pub fn run_command<R: SharedSystem, S: AsStr, W: Write + Drop, M: Write + Drop>(
-    rt: R,
+pub fn run_command<R: Files + AllocGlobal + Clock, S: AsStr, W: Write + Drop, M: Write + Drop>(
+    rt: &R,
     words: &[S],
     writer: W,
     mut messages: M,
@@ -377,7 +359,7 @@ pub fn run_command<R: SharedSystem, S: AsStr, W: Write + Drop, M: Write + Drop>(
 ) -> u8
     ensures { result ≤ 2 }
 {
-    match run_buffered(&rt, words, writer, &mut messages, shows_progress) {
+    match run_buffered(rt, words, writer, &mut messages, shows_progress) {
         Ok(status) => status,
         Err(stop) => {
             let _ = writeln!(messages, "zarr_shard: {stop}");

@@ -1,15 +1,14 @@
 // The bytes of a subchunk as they are stored.
-use array_cli::{
-    Array, Ending, OpenShard, Place, Shard, ShardCodec, ShardFile, Stop, System, written,
-};
+use array_cli::{Array, Ending, OpenShard, Place, Shard, ShardCodec, ShardFile, Stop, written};
 use array_fields::escaped;
 use array_info::shard_of;
 use parts_errors::CodecError;
 use parts_row_major::unravel_index;
 use std::io::Write;
+use std::rt::Files;
 
 // The number of a subchunk that a word is.
-fn number_of<R: System, C>(array: &Array<'_, R, C>, word: &str) -> Result<u64, Stop> {
+fn number_of<R: Files + AllocGlobal, C>(array: &Array<'_, R, C>, word: &str) -> Result<u64, Stop> {
     let count = array.subchunks.num_elements().unwrap_or(u64::MAX);
     match word.parse::<u64>() {
         Ok(number) if number < count => Ok(number),
@@ -21,7 +20,7 @@ fn number_of<R: System, C>(array: &Array<'_, R, C>, word: &str) -> Result<u64, S
 }
 
 // The bytes of the subchunk with this number; `None` where it is absent.
-fn stored<'a, R: System, C: ShardCodec<ShardFile<R>>>(
+fn stored<'a, R: Files + AllocGlobal, C: ShardCodec<ShardFile<'a, R>>>(
     array: &Array<'a, R, C>,
     opened: &mut C::Open,
     number: u64,
@@ -34,7 +33,7 @@ fn stored<'a, R: System, C: ShardCodec<ShardFile<R>>>(
 }
 
 // The bytes of a subchunk of a shard that is open.
-fn extracted<'a, R: System, C: ShardCodec<ShardFile<R>>>(
+fn extracted<'a, R: Files + AllocGlobal, C: ShardCodec<ShardFile<'a, R>>>(
     array: &Array<'a, R, C>,
     shard: &Shard<'_>,
     number: u64,
@@ -58,7 +57,7 @@ fn extracted<'a, R: System, C: ShardCodec<ShardFile<R>>>(
 /// Writes the bytes of a subchunk as they are stored, by the key of its shard and its row-major number in it. Refused where no
 /// shard has the key, where the word is no number of a subchunk, where the index is refused or its entry of the subchunk, and
 /// where the subchunk is absent.
-pub fn extract<'a, R: System, C: ShardCodec<ShardFile<R>>, W: Write>(
+pub fn extract<'a, R: Files + AllocGlobal, C: ShardCodec<ShardFile<'a, R>>, W: Write>(
     array: &Array<'a, R, C>,
     key: &str,
     number: &str,

@@ -1,8 +1,6 @@
 // A subset of an array as a file of NumPy's format.
-use crate::reading::{Reading, Sink, read_bands};
-use array_cli::{
-    Array, Ending, Progress, ShardFile, SharedCodec, SharedSystem, Stop, System, full_name,
-};
+use crate::reading::{Sink, read_bands};
+use array_cli::{Array, Ending, Progress, ShardCodec, ShardFile, Stop, full_name};
 use array_folder::{npy_beside, npy_header};
 use array_grid::{Requested, subset_of};
 use array_info::begin_new;
@@ -13,7 +11,7 @@ use std::rt::Files;
 use storage_files::Replacement;
 
 // The header of a file of NumPy's format, to be at a path, which has the elements that are requested.
-fn header_of<R: System, C>(
+fn header_of<R: Files + AllocGlobal, C>(
     array: &Array<'_, R, C>,
     requested: &Requested,
     path: &str,
@@ -66,25 +64,25 @@ fn end_file<R: Files + Drop>(
 }
 
 // Reads what is requested, and writes it into a new file behind a header.
-fn fill<'a, R: SharedSystem, C: SharedCodec<ShardFile<R>>, M: Write>(
+fn fill<'a, R: Files + AllocGlobal, C: ShardCodec<ShardFile<'a, R>>, M: Write>(
     array: &Array<'a, R, C>,
     requested: &Requested,
-    reading: Reading,
+    fills: bool,
     header: &[u8],
     new: &mut NewFile<'_, &'a R>,
     progress: &mut Progress<'_, M>,
 ) -> Result<Ending, Stop> {
     new.write(header)?;
-    read_bands(array, &requested.subset, reading, new, progress)
+    read_bands(array, &requested.subset, fills, new, progress)
 }
 
 /// Reads a subset, and makes a file of NumPy's format of it, which has no axis that is named by one coordinate. A file of that
 /// name is replaced once the new one is whole. Where the path is refused nothing is read.
-pub fn save_subset<'a, R: SharedSystem, C: SharedCodec<ShardFile<R>>, W: Write, M: Write>(
+pub fn save_subset<'a, R: Files + AllocGlobal, C: ShardCodec<ShardFile<'a, R>>, W: Write, M: Write>(
     array: &Array<'a, R, C>,
     requested: Option<&str>,
     path: &str,
-    reading: Reading,
+    fills: bool,
     out: &mut W,
     progress: &mut Progress<'_, M>,
 ) -> Result<Ending, Stop> {
@@ -95,7 +93,7 @@ pub fn save_subset<'a, R: SharedSystem, C: SharedCodec<ShardFile<R>>, W: Write, 
     let header = header_of(array, &requested, path)?;
     let file = begin_new(array, path, &beside, out)?;
     let mut new = NewFile { alloc, file, path };
-    let wrote = fill(array, &requested, reading, &header, &mut new, progress);
+    let wrote = fill(array, &requested, fills, &header, &mut new, progress);
     progress.clear();
     end_file(new, wrote)
 }

@@ -1,10 +1,11 @@
 // What stands in an array's folder: the shard that has a key, and what is no shard.
-use array_cli::{Array, Shard, Stop, System};
+use array_cli::{Array, Shard, Stop};
 use array_fields::escaped;
 use array_folder::{ChunkFiles, age_of};
 use array_grid::ListPart;
 use std::io;
 use std::io::Write;
+use std::rt::{Clock, Files};
 
 /// Which shards of an array a command goes over, and whether it tells of them in lines of JSON.
 #[derive(Drop)]
@@ -14,7 +15,7 @@ pub struct Listing {
 }
 
 /// The shard of an array that has a key, among the files of its chunks. Refused as `Stop::NoShard` where none has it.
-pub fn shard_of<'s, R: System, C>(
+pub fn shard_of<'s, R: Files + AllocGlobal, C>(
     array: &Array<'_, R, C>,
     files: &'s ChunkFiles,
     key: &str,
@@ -31,7 +32,7 @@ pub fn shard_of<'s, R: System, C>(
 }
 
 // Writes a line for the new file with a key, which stands beside a shard.
-fn write_replacing<R: System, C, W: Write>(
+fn write_replacing<R: Files + AllocGlobal + Clock, C, W: Write>(
     array: &Array<'_, R, C>,
     out: &mut W,
     key: &str,
@@ -45,7 +46,7 @@ fn write_replacing<R: System, C, W: Write>(
 
 /// Writes what stands in an array's folder besides its shards: a line for each new file that stands beside a shard, and how
 /// many other files there are. Refused as the writer refuses.
-pub fn write_folder<R: System, C, W: Write>(
+pub fn write_folder<R: Files + AllocGlobal + Clock, C, W: Write>(
     array: &Array<'_, R, C>,
     out: &mut W,
     files: &ChunkFiles,

@@ -1,8 +1,9 @@
 // What the index of a shard says.
-use array_cli::{Array, ShardCodec, ShardFile, System};
+use array_cli::{Array, ShardCodec, ShardFile};
 use array_folder::{IndexInfo, info_of};
 use parts_errors::CodecError;
 use sharding_format::ShardingIndexLocation;
+use std::rt::Files;
 use storage_handles::ByteRange;
 
 /// Where the index of a shard stands, which has a size.
@@ -14,7 +15,7 @@ pub fn index_range(location: ShardingIndexLocation, size: u64) -> ByteRange {
 }
 
 /// What the index of a shard in an object of a length says, which has these bytes.
-pub fn index_info<'a, R: System, C: ShardCodec<ShardFile<R>>>(
+pub fn index_info<'a, R: Files + AllocGlobal, C: ShardCodec<ShardFile<'a, R>>>(
     array: &Array<'a, R, C>,
     bytes: &[u8],
     length: u64,

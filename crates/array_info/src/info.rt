@@ -3,14 +3,15 @@ use crate::folder::{Listing, write_folder};
 use crate::index_info::{index_info, index_range};
 use crate::json;
 use array_cli::{
-    Array, Ending, Place, Progress, Refusal, Shard, ShardCodec, ShardFile, Stop, System,
-    write_numbers, write_rows, written,
+    Array, Ending, Place, Progress, Refusal, Shard, ShardCodec, ShardFile, Stop, write_numbers,
+    write_rows, written,
 };
 use array_folder::{ChunkFile, ChunkFiles, Counted, FolderFiles, IndexInfo, info_of};
 use array_metadata::ArrayMetadata;
 use parts_errors::CodecError;
 use std::io;
 use std::io::Write;
+use std::rt::{Clock, Files};
 use storage_handles::BytesPartialDecoderTraits;
 
 /// What is known of a shard that is there.
@@ -36,7 +37,7 @@ pub struct Sums {
 const LONGEST_AT_ONCE: u64 = 65_536;
 
 // What the index of a shard says, which has these bytes, or why it is refused.
-fn index_of<'a, R: System, C: ShardCodec<ShardFile<R>>>(
+fn index_of<'a, R: Files + AllocGlobal, C: ShardCodec<ShardFile<'a, R>>>(
     array: &Array<'a, R, C>,
     shard: &Shard<'_>,
     bytes: &[u8],
@@ -50,7 +51,7 @@ fn index_of<'a, R: System, C: ShardCodec<ShardFile<R>>>(
 }
 
 // What is known of a shard, whose index has a size and is read at once; nothing where its file is gone.
-fn read_at_once<'a, R: System, C: ShardCodec<ShardFile<R>>>(
+fn read_at_once<'a, R: Files + AllocGlobal, C: ShardCodec<ShardFile<'a, R>>>(
     array: &Array<'a, R, C>,
     shard: &Shard<'_>,
     size: u64,
@@ -68,10 +69,10 @@ fn read_at_once<'a, R: System, C: ShardCodec<ShardFile<R>>>(
 }
 
 // The length of the shard in a file and what its index says, which has a size and is read in pieces; nothing where there is no file.
-fn info_in_pieces<'a, R: System, C: ShardCodec<ShardFile<R>>>(
+fn info_in_pieces<'a, R: Files + AllocGlobal, C: ShardCodec<ShardFile<'a, R>>>(
     array: &Array<'a, R, C>,
     size: u64,
-    file: &mut ShardFile<R>,
+    file: &mut ShardFile<'a, R>,
 ) -> Result<Option<(u64, Result<IndexInfo, CodecError>)>, CodecError> {
     let Some(length) = file.len()? else {
         return Ok(None);
@@ -85,10 +86,10 @@ fn info_in_pieces<'a, R: System, C: ShardCodec<ShardFile<R>>>(
 }
 
 // What is known of a shard in a file, which has a length and whose index says this or is refused so.
-fn known<'a, R: System, C>(
+fn known<'a, R: Files + AllocGlobal, C>(
     array: &Array<'a, R, C>,
     shard: &Shard<'_>,
-    file: &ShardFile<R>,
+    file: &ShardFile<'a, R>,
     length: u64,
     read: Result<IndexInfo, CodecError>,
 ) -> Result<ShardInfo, Stop> {
@@ -100,7 +101,7 @@ fn known<'a, R: System, C>(
 }
 
 // What is known of a shard, whose index has a size and is read in pieces; nothing where its file is gone.
-fn read_in_pieces<'a, R: System, C: ShardCodec<ShardFile<R>>>(
+fn read_in_pieces<'a, R: Files + AllocGlobal, C: ShardCodec<ShardFile<'a, R>>>(
     array: &Array<'a, R, C>,
     shard: &Shard<'_>,
     size: u64,
@@ -114,7 +115,7 @@ fn read_in_pieces<'a, R: System, C: ShardCodec<ShardFile<R>>>(
 }
 
 // What is known of the shards in these files, whose indexes have a size; nothing of one whose file is gone.
-fn listed<'a, R: System, C: ShardCodec<ShardFile<R>>, M: Write>(
+fn listed<'a, R: Files + AllocGlobal, C: ShardCodec<ShardFile<'a, R>>, M: Write>(
     array: &Array<'a, R, C>,
     chunks: &[ChunkFile],
     size: u64,
@@ -270,7 +271,7 @@ fn write_sums<W: Write>(out: &mut W, sums: &Sums) -> io::Result<()> {
 }
 
 // Writes what the metadata says, how many shards are there, a line for each, what else stands in the folder, and the sums.
-fn write_info<R: System, C, W: Write>(
+fn write_info<R: Files + AllocGlobal + Clock, C, W: Write>(
     out: &mut W,
     array: &Array<'_, R, C>,
     files: &ChunkFiles,
@@ -301,7 +302,7 @@ fn write_shard_lines<W: Write>(
 }
 
 // Writes the same as lines of JSON.
-fn write_info_lines<R: System, C, W: Write>(
+fn write_info_lines<R: Files + AllocGlobal, C, W: Write>(
     out: &mut W,
     array: &Array<'_, R, C>,
     files: &ChunkFiles,
@@ -319,7 +320,7 @@ fn write_info_lines<R: System, C, W: Write>(
 
 /// What is known of the shards in these files; nothing of one whose file is gone. Of each only the index is read. Refused as
 /// `info_of_array` is.
-pub fn known_shards<'a, R: System, C: ShardCodec<ShardFile<R>>, M: Write>(
+pub fn known_shards<'a, R: Files + AllocGlobal, C: ShardCodec<ShardFile<'a, R>>, M: Write>(
     array: &Array<'a, R, C>,
     files: &ChunkFiles,
     progress: &mut Progress<'_, M>,
@@ -331,7 +332,13 @@ pub fn known_shards<'a, R: System, C: ShardCodec<ShardFile<R>>, M: Write>(
 /// Writes what the metadata says, and what is known of the shards that are there. Of each only the index is read; a shard that is
 /// refused has a line that says why. Refused, in this order, as `Stop::Codec` where the index has no fixed size, as `Stop::System`
 /// where the folder or a file is not read, and as `Stop::Output` or `Stop::Closed` where the answer is not taken.
-pub fn info_of_array<'a, R: System, C: ShardCodec<ShardFile<R>>, W: Write, M: Write>(
+pub fn info_of_array<
+    'a,
+    R: Files + AllocGlobal + Clock,
+    C: ShardCodec<ShardFile<'a, R>>,
+    W: Write,
+    M: Write,
+>(
     array: &Array<'a, R, C>,
     listing: &Listing,
     out: &mut W,

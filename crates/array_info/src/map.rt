@@ -8,7 +8,7 @@ use crate::new_file::save_bytes;
 use crate::picture::{write_array_picture, write_shard_picture};
 use crate::subchunks::check_subchunk;
 use array_cli::{
-    Array, Ending, OpenShard, Place, Progress, Shard, ShardCodec, ShardFile, Stop, System, written,
+    Array, Ending, OpenShard, Place, Progress, Shard, ShardCodec, ShardFile, Stop, written,
 };
 use array_fields::escaped;
 use array_folder::ChunkFiles;
@@ -19,6 +19,7 @@ use sharding_format::SubchunkWriteOrder;
 use sharding_layout::SubchunkSequence;
 use std::alloc::{AllocError, Global};
 use std::io::Write;
+use std::rt::Files;
 use storage_handles::{ByteRange, BytesPartialDecoderTraits};
 
 // How many places a map has at most.
@@ -54,7 +55,7 @@ fn mark_of(decoded: Result<bool, CodecError>) -> Result<Mark, CodecError> {
 }
 
 // A subchunk of a shard that is open: where its slice lies, and whether it decodes where its codec is served.
-fn drawn_at<'a, R: System, C, S: OpenShard<ShardFile<R>>>(
+fn drawn_at<'a, R: Files + AllocGlobal, C, S: OpenShard<ShardFile<'a, R>>>(
     array: &Array<'a, R, C>,
     opened: &mut S,
     number: u64,
@@ -76,7 +77,7 @@ fn drawn_at<'a, R: System, C, S: OpenShard<ShardFile<R>>>(
 }
 
 // Adds the subchunk of a shard that has a number.
-fn draw_next<'a, R: System, C, S: OpenShard<ShardFile<R>>>(
+fn draw_next<'a, R: Files + AllocGlobal, C, S: OpenShard<ShardFile<'a, R>>>(
     array: &Array<'a, R, C>,
     opened: &mut S,
     number: u64,
@@ -90,7 +91,7 @@ fn draw_next<'a, R: System, C, S: OpenShard<ShardFile<R>>>(
 }
 
 // The subchunks of a shard that is open.
-fn draw_each<'a, R: System, C, S: OpenShard<ShardFile<R>>, M: Write>(
+fn draw_each<'a, R: Files + AllocGlobal, C, S: OpenShard<ShardFile<'a, R>>, M: Write>(
     array: &Array<'a, R, C>,
     opened: &mut S,
     count: u64,
@@ -146,7 +147,7 @@ fn order_of(
 }
 
 // The map of a shard that is open.
-fn map_of<'a, R: System, C: ShardCodec<ShardFile<R>>, M: Write>(
+fn map_of<'a, R: Files + AllocGlobal, C: ShardCodec<ShardFile<'a, R>>, M: Write>(
     array: &Array<'a, R, C>,
     opened: &mut C::Open,
     length: u64,
@@ -168,10 +169,10 @@ fn map_of<'a, R: System, C: ShardCodec<ShardFile<R>>, M: Write>(
 }
 
 // The map of the shard in a file, which has as many subchunks.
-fn map_of_file<'a, R: System, C: ShardCodec<ShardFile<R>>, M: Write>(
+fn map_of_file<'a, R: Files + AllocGlobal, C: ShardCodec<ShardFile<'a, R>>, M: Write>(
     array: &Array<'a, R, C>,
     shard: &Shard<'_>,
-    mut file: ShardFile<R>,
+    mut file: ShardFile<'a, R>,
     count: u64,
     progress: &mut Progress<'_, M>,
 ) -> Result<ShardMap, Stop> {
@@ -198,7 +199,7 @@ fn map_of_file<'a, R: System, C: ShardCodec<ShardFile<R>>, M: Write>(
 /// subchunk that is present is decoded, where its codec is served. Refused, in this order, as `Stop::TooManyPlaces` where a shard has
 /// more than 65,536 subchunks, as `Stop::System` where the folder is not read, as `Stop::NoShard` where no shard has the key, as
 /// `Stop::System` or `Stop::Refused` where its index is not read, and where the drawing is not taken.
-pub fn map_shard<'a, R: System, C: ShardCodec<ShardFile<R>>, W: Write, M: Write>(
+pub fn map_shard<'a, R: Files + AllocGlobal, C: ShardCodec<ShardFile<'a, R>>, W: Write, M: Write>(
     array: &Array<'a, R, C>,
     key: &str,
     svg: Option<&str>,
@@ -227,7 +228,7 @@ pub fn map_shard<'a, R: System, C: ShardCodec<ShardFile<R>>, W: Write, M: Write>
 }
 
 // What stands at each place of the chunk grid.
-fn marks_of<R: System, C>(
+fn marks_of<R: Files + AllocGlobal, C>(
     array: &Array<'_, R, C>,
     files: &ChunkFiles,
     shards: &[Option<ShardInfo>],
@@ -250,7 +251,7 @@ fn marks_of<R: System, C>(
 
 /// Draws which shards of an array are there, and which have an index that is refused, as text or as a picture in a file of the format
 /// SVG. Refused, in this order, as `Stop::TooManyPlaces` where there could be more than 65,536 shards, and as `info` is.
-pub fn map_array<'a, R: System, C: ShardCodec<ShardFile<R>>, W: Write, M: Write>(
+pub fn map_array<'a, R: Files + AllocGlobal, C: ShardCodec<ShardFile<'a, R>>, W: Write, M: Write>(
     array: &Array<'a, R, C>,
     svg: Option<&str>,
     out: &mut W,

@@ -1,5 +1,5 @@
 // A new file that is put at a path once it is whole.
-use array_cli::{Array, Stop, System};
+use array_cli::{Array, Stop};
 use array_fields::escaped;
 use array_folder::{npy_beside, write_npy};
 use std::io;
@@ -8,7 +8,7 @@ use std::rt::Files;
 use storage_files::{Replacement, folder_of};
 
 /// The new file of a path, or `None` where one stands there already.
-pub fn begin<'a, R: System, C>(
+pub fn begin<'a, R: Files + AllocGlobal, C>(
     array: &Array<'a, R, C>,
     path: &str,
     beside: &str,
@@ -45,7 +45,7 @@ fn busy() -> io::Error {
 }
 
 /// The new file of a path, which is refused where one stands there already. A line says so where it has not the owner of the old one.
-pub fn begin_new<'a, R: System, C, W: Write>(
+pub fn begin_new<'a, R: Files + AllocGlobal, C, W: Write>(
     array: &Array<'a, R, C>,
     path: &str,
     beside: &str,
@@ -61,7 +61,7 @@ pub fn begin_new<'a, R: System, C, W: Write>(
 }
 
 /// Makes the file at a path of a header and what follows it. A file of that name is replaced once the new one is whole.
-pub fn save<R: System, C, W: Write>(
+pub fn save<R: Files + AllocGlobal, C, W: Write>(
     array: &Array<'_, R, C>,
     path: &str,
     beside: &str,
@@ -77,7 +77,7 @@ pub fn save<R: System, C, W: Write>(
 }
 
 /// Makes a file at a path of bytes. A file of that name is replaced once the new one is whole.
-pub fn save_bytes<R: System, C, W: Write>(
+pub fn save_bytes<R: Files + AllocGlobal, C, W: Write>(
     array: &Array<'_, R, C>,
     path: &str,
     bytes: &[u8],

@@ -2,7 +2,7 @@
 use crate::folder::shard_of;
 use crate::info::{ShardInfo, write_shard};
 use crate::json;
-use array_cli::{Array, Ending, JsonLine, Place, ShardCodec, ShardFile, Stop, System, written};
+use array_cli::{Array, Ending, JsonLine, Place, ShardCodec, ShardFile, Stop, written};
 use array_fields::escaped;
 use array_folder::{DeadBytes, IndexInfo, index_interval, info_of, slice_of};
 use parts_errors::CodecError;
@@ -11,6 +11,7 @@ use sharding_format::ShardingIndexLocation;
 use std::alloc::Global;
 use std::io;
 use std::io::Write;
+use std::rt::Files;
 use storage_handles::BytesPartialDecoderTraits;
 
 // What the index of a shard says: its numbers, as they stand there and sorted.
@@ -60,10 +61,10 @@ impl Layout {
 }
 
 // Where the subchunks of the shard in a file lie, whose index has a size; `None` where there is no file.
-fn layout_of<'a, R: System, C: ShardCodec<ShardFile<R>>>(
+fn layout_of<'a, R: Files + AllocGlobal, C: ShardCodec<ShardFile<'a, R>>>(
     array: &Array<'a, R, C>,
     size: u64,
-    file: &mut ShardFile<R>,
+    file: &mut ShardFile<'a, R>,
 ) -> Result<Option<Layout>, CodecError> {
     let Some(length) = file.len()? else {
         return Ok(None);
@@ -197,7 +198,7 @@ fn write_layout<W: Write>(
 /// index is read. Refused, in this order, as `Stop::Codec` where the index has no fixed size, as `Stop::System` where the folder is not
 /// read, as `Stop::NoShard` where no shard has the key, as `Stop::System` or `Stop::Refused` where its index is not read, and as
 /// `Stop::Output` or `Stop::Closed` where the answer is not taken.
-pub fn info_of_shard<'a, R: System, C: ShardCodec<ShardFile<R>>, W: Write>(
+pub fn info_of_shard<'a, R: Files + AllocGlobal, C: ShardCodec<ShardFile<'a, R>>, W: Write>(
     array: &Array<'a, R, C>,
     key: &str,
     is_json: bool,

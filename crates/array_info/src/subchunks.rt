@@ -1,10 +1,11 @@
 // Whether a subchunk is sound.
-use array_cli::{Array, OpenShard, ShardFile, System};
+use array_cli::{Array, OpenShard, ShardFile};
 use parts_errors::CodecError;
 use parts_row_major::unravel_index;
+use std::rt::Files;
 
 /// Reads a subchunk of a shard, or looks it up in the index alone, and says whether it is present.
-pub fn check_subchunk<'a, R: System, C, S: OpenShard<ShardFile<R>>>(
+pub fn check_subchunk<'a, R: Files + AllocGlobal, C, S: OpenShard<ShardFile<'a, R>>>(
     array: &Array<'a, R, C>,
     is_index_alone: bool,
     opened: &mut S,

@@ -1,10 +1,11 @@
 // The chunks of a grid that have elements in the files of an array.
-use array_cli::{Array, Stop, System};
+use array_cli::{Array, Stop};
 use array_folder::ChunkFile;
 use array_metadata::ArrayMetadata;
 use parts_row_major::unravel_index;
 use parts_subsets::{ArraySubset, ChunkShape};
 use std::alloc::{AllocError, Global};
+use std::rt::Files;
 
 // The chunks along an axis, of a size, that have elements of one of another size: the first one, and how many there are.
 fn touched_axis(chunk: u64, size: u64, other: u64, end: u64) -> (u64, u64) {
@@ -66,7 +67,7 @@ fn add_touched(
 }
 
 /// The coordinates of the chunks of a shape that have elements of the files of an array: each once, in the order of the grid.
-pub fn chunks_of<R: System, C>(
+pub fn chunks_of<R: Files + AllocGlobal, C>(
     array: &Array<'_, R, C>,
     chunk: &ChunkShape,
 ) -> Result<Vec<Vec<u64>>, Stop> {

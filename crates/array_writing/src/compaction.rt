@@ -2,7 +2,7 @@
 use crate::rewriting::replace;
 use array_cli::{
     Array, Ending, JsonLine, Place, Planned, Progress, Refusal, Shard, ShardCodec, ShardFile, Stop,
-    System, written,
+    written,
 };
 use array_fields::{LONGEST_TEXT, escaped};
 use array_folder::{ChunkFiles, age_of, read_document};
@@ -102,7 +102,10 @@ enum Outcome {
 }
 
 // The path at which the new file of a path stands until it is whole.
-fn beside_of<R: System, C>(array: &Array<'_, R, C>, path: &str) -> Result<String, Stop> {
+fn beside_of<R: Files + AllocGlobal, C>(
+    array: &Array<'_, R, C>,
+    path: &str,
+) -> Result<String, Stop> {
     match path_beside(array.alloc(), array.rt, path) {
         Ok(beside) => Ok(beside),
         Err(error) => Err(Stop::system(array.alloc(), path, error)),
@@ -110,10 +113,10 @@ fn beside_of<R: System, C>(array: &Array<'_, R, C>, path: &str) -> Result<String
 }
 
 // Compacts a shard by a plan to save these bytes, if no new file stands beside it. Without a plan no file is written.
-fn put<'a, R: System, C, W: Write>(
+fn put<'a, R: Files + AllocGlobal, C, W: Write>(
     array: &Array<'a, R, C>,
     shard: &Shard<'_>,
-    file: &mut ShardFile<R>,
+    file: &mut ShardFile<'a, R>,
     bytes: u64,
     plan: Option<&CompactionPlan>,
     out: &mut W,
@@ -132,10 +135,10 @@ fn put<'a, R: System, C, W: Write>(
 }
 
 // What a compaction makes of the shard in a file: its plan, if it has one, and what is said of it.
-fn plan_and_outcome<'a, R: System, C: ShardCodec<ShardFile<R>>>(
+fn plan_and_outcome<'a, R: Files + AllocGlobal, C: ShardCodec<ShardFile<'a, R>>>(
     array: &Array<'a, R, C>,
     shard: &Shard<'_>,
-    file: &mut ShardFile<R>,
+    file: &mut ShardFile<'a, R>,
 ) -> Result<(Option<CompactionPlan>, Outcome), Stop> {
     match array.plan_compaction(file, false) {
         Ok(Planned::Nothing) => Ok((None, Outcome::Compact)),
@@ -149,10 +152,10 @@ fn plan_and_outcome<'a, R: System, C: ShardCodec<ShardFile<R>>>(
 }
 
 // Writes a shard to another folder: compacted, or as it is where that would not make it shorter or where it is refused.
-fn copy_to<'a, R: System, C: ShardCodec<ShardFile<R>>, W: Write>(
+fn copy_to<'a, R: Files + AllocGlobal, C: ShardCodec<ShardFile<'a, R>>, W: Write>(
     array: &Array<'a, R, C>,
     shard: &Shard<'_>,
-    file: &mut ShardFile<R>,
+    file: &mut ShardFile<'a, R>,
     folder: &str,
     out: &mut W,
 ) -> Result<Outcome, Stop> {
@@ -168,10 +171,10 @@ fn copy_to<'a, R: System, C: ShardCodec<ShardFile<R>>, W: Write>(
 }
 
 // Compacts the shard in a file.
-fn compact_file<'a, R: System, C: ShardCodec<ShardFile<R>>, W: Write>(
+fn compact_file<'a, R: Files + AllocGlobal, C: ShardCodec<ShardFile<'a, R>>, W: Write>(
     array: &Array<'a, R, C>,
     shard: &Shard<'_>,
-    file: &mut ShardFile<R>,
+    file: &mut ShardFile<'a, R>,
     is_dry: bool,
     out: &mut W,
 ) -> Result<Outcome, Stop> {
@@ -251,7 +254,7 @@ fn write_sum_line<W: Write>(out: &mut W, gained: &Gained, all: u64) -> io::Resul
 }
 
 // Compacts a shard, and says what became of it.
-fn outcome_of<'a, R: System, C: ShardCodec<ShardFile<R>>, W: Write>(
+fn outcome_of<'a, R: Files + AllocGlobal, C: ShardCodec<ShardFile<'a, R>>, W: Write>(
     array: &Array<'a, R, C>,
     shard: &Shard<'_>,
     rule: &Rule<'_>,
@@ -265,7 +268,13 @@ fn outcome_of<'a, R: System, C: ShardCodec<ShardFile<R>>, W: Write>(
 }
 
 // Compacts a shard, and writes a line where it is not compact.
-fn compact_one<'a, R: System, C: ShardCodec<ShardFile<R>>, W: Write, M: Write>(
+fn compact_one<
+    'a,
+    R: Files + AllocGlobal + Clock,
+    C: ShardCodec<ShardFile<'a, R>>,
+    W: Write,
+    M: Write,
+>(
     array: &Array<'a, R, C>,
     shard: &Shard<'_>,
     rule: &Rule<'_>,
@@ -292,7 +301,13 @@ fn compact_one<'a, R: System, C: ShardCodec<ShardFile<R>>, W: Write, M: Write>(
 }
 
 // Compacts the shards in these files, and writes a line for each that is not compact.
-fn compact_all<'a, R: System, C: ShardCodec<ShardFile<R>>, W: Write, M: Write>(
+fn compact_all<
+    'a,
+    R: Files + AllocGlobal + Clock,
+    C: ShardCodec<ShardFile<'a, R>>,
+    W: Write,
+    M: Write,
+>(
     array: &Array<'a, R, C>,
     files: &ChunkFiles,
     rule: &Rule<'_>,
@@ -314,7 +329,10 @@ fn compact_all<'a, R: System, C: ShardCodec<ShardFile<R>>, W: Write, M: Write>(
 }
 
 // Tests that a folder does not hold an array or a group yet.
-fn test_no_array<R: System, C>(array: &Array<'_, R, C>, folder: &str) -> Result<(), Stop> {
+fn test_no_array<R: Files + AllocGlobal, C>(
+    array: &Array<'_, R, C>,
+    folder: &str,
+) -> Result<(), Stop> {
     let alloc = array.alloc();
     let path = format!(in alloc; "{folder}/zarr.json")?;
     if fs::symlink_metadata(array.rt, &path).is_err() {
@@ -325,7 +343,7 @@ fn test_no_array<R: System, C>(array: &Array<'_, R, C>, folder: &str) -> Result<
 }
 
 // Copies the metadata of an array to another folder, which is an array's from then on.
-fn copy_metadata<R: System, C, W: Write>(
+fn copy_metadata<R: Files + AllocGlobal, C, W: Write>(
     array: &Array<'_, R, C>,
     folder: &str,
     out: &mut W,
@@ -340,7 +358,13 @@ fn copy_metadata<R: System, C, W: Write>(
 /// Compacts each shard that a part has, and writes a line for each that is not compact and how many bytes were saved in all. As a copy,
 /// each shard is written to the folder of another array, also one that is compact or refused, and the metadata last, once every shard
 /// is there.
-pub fn compact<'a, R: System, C: ShardCodec<ShardFile<R>>, W: Write, M: Write>(
+pub fn compact<
+    'a,
+    R: Files + AllocGlobal + Clock,
+    C: ShardCodec<ShardFile<'a, R>>,
+    W: Write,
+    M: Write,
+>(
     array: &Array<'a, R, C>,
     way: Way<'_>,
     listing: &Listing,

@@ -1,12 +1,13 @@
 // A new array that has no shard yet.
 use crate::layout::{LayoutWords, list_of, new_document, order_of};
 use crate::new_folder::{begin_folder, end_folder, test_served};
-use array_cli::{Ending, SharedSystem, Stop, described};
+use array_cli::{Ending, Stop, described};
 use array_fields::escaped;
 use serde_json::Value;
 use sharding_format::SubchunkWriteOrder;
 use std::alloc::Global;
 use std::fs;
+use std::rt::Files;
 
 /// What a new array is, by the words of a command line.
 #[derive(Debug, Clone, Copy, PartialEq, Eq)]
@@ -75,7 +76,7 @@ fn plain_document(alloc: Global, words: &ArrayWords<'_>) -> Result<String, Stop>
 }
 
 // The `zarr.json` of a new array. Refused as `Stop::BadWord`, as `Stop::Metadata`, and where the codecs do not serve it.
-fn document_of<R: SharedSystem>(
+fn document_of<R: Files + AllocGlobal>(
     rt: &R,
     path: &str,
     words: &ArrayWords<'_>,
@@ -94,7 +95,11 @@ fn document_of<R: SharedSystem>(
 /// beside itself, with `.partial` behind its name, and renamed once it is whole. Refused, in this order, as `Stop::BadWord` where a
 /// word is none of those that it may be, as `Stop::Metadata` and `Stop::Codec` where no array is so, and as `Stop::System` where the
 /// folder is there already or cannot be made; nothing is left then.
-pub fn create<R: SharedSystem>(rt: &R, path: &str, words: &ArrayWords<'_>) -> Result<Ending, Stop> {
+pub fn create<R: Files + AllocGlobal>(
+    rt: &R,
+    path: &str,
+    words: &ArrayWords<'_>,
+) -> Result<Ending, Stop> {
     let document = document_of(rt, path, words)?;
     let beside = format!(in rt.alloc(); "{path}.partial")?;
     begin_folder(rt, path, &beside)?;

@@ -1,8 +1,8 @@
 // Two arrays, compared element by element.
 use crate::chunks::{chunks_of, elements_of};
 use array_cli::{
-    Array, Ending, Progress, ShardCodec, ShardFile, Stop, System, read_array, write_numbers,
-    write_rows, written,
+    Array, Ending, Progress, ShardCodec, ShardFile, Stop, read_array, write_numbers, write_rows,
+    written,
 };
 use array_metadata::ElementType;
 use parts_row_major::unravel_index;
@@ -10,6 +10,7 @@ use parts_subsets::ArraySubset;
 use std::alloc::Global;
 use std::io;
 use std::io::Write;
+use std::rt::Files;
 
 // What was found of two arrays.
 #[derive(Drop)]
@@ -72,7 +73,12 @@ impl Differences {
 }
 
 // Adds what differs in the chunk at these coordinates of the first array's grid.
-fn add_chunk<'a, R: System, C: ShardCodec<ShardFile<R>>, D: ShardCodec<ShardFile<R>>>(
+fn add_chunk<
+    'a,
+    R: Files + AllocGlobal,
+    C: ShardCodec<ShardFile<'a, R>>,
+    D: ShardCodec<ShardFile<'a, R>>,
+>(
     one: &Array<'a, R, C>,
     other: &Array<'a, R, D>,
     coordinates: &[u64],
@@ -94,7 +100,7 @@ fn add_chunk<'a, R: System, C: ShardCodec<ShardFile<R>>, D: ShardCodec<ShardFile
 
 // The chunks of the first array's grid in which elements may differ: those that either has elements of, or all where they have other
 // fill values.
-fn chunks_of_both<R: System, C, D>(
+fn chunks_of_both<R: Files + AllocGlobal, C, D>(
     one: &Array<'_, R, C>,
     other: &Array<'_, R, D>,
 ) -> Result<Vec<Vec<u64>>, Stop> {
@@ -127,7 +133,13 @@ fn all_chunks(alloc: Global, counts: &[u64]) -> Result<Vec<Vec<u64>>, Stop> {
 }
 
 // The differences of two arrays of a shape and a type.
-fn found_in<'a, R: System, C: ShardCodec<ShardFile<R>>, D: ShardCodec<ShardFile<R>>, M: Write>(
+fn found_in<
+    'a,
+    R: Files + AllocGlobal,
+    C: ShardCodec<ShardFile<'a, R>>,
+    D: ShardCodec<ShardFile<'a, R>>,
+    M: Write,
+>(
     one: &Array<'a, R, C>,
     other: &Array<'a, R, D>,
     progress: &mut Progress<'_, M>,
@@ -167,9 +179,9 @@ fn write_differences<W: Write>(
 /// fill values differ.
 pub fn compare<
     'a,
-    R: System,
-    C: ShardCodec<ShardFile<R>>,
-    D: ShardCodec<ShardFile<R>>,
+    R: Files + AllocGlobal,
+    C: ShardCodec<ShardFile<'a, R>>,
+    D: ShardCodec<ShardFile<'a, R>>,
     W: Write,
     M: Write,
 >(

@@ -1,5 +1,5 @@
 // The elements that are written into an array, from a file.
-use array_cli::{Array, Stop, System, full_name};
+use array_cli::{Array, Stop, full_name};
 use array_fields::escaped;
 use array_folder::npy_header;
 use array_grid::Requested;
@@ -112,14 +112,17 @@ fn read_file<R: Files + AllocGlobal>(
 }
 
 // How many bytes the elements of a subset take.
-fn wanted_bytes<R: System, C>(array: &Array<'_, R, C>, requested: &Requested) -> Result<u64, Stop> {
+fn wanted_bytes<R: Files + AllocGlobal, C>(
+    array: &Array<'_, R, C>,
+    requested: &Requested,
+) -> Result<u64, Stop> {
     let size = array.metadata.fill_value.as_ne_bytes().len() as u64;
     let count = requested.subset.num_elements().ok_or(Stop::TooLarge)?;
     count.checked_mul(size).ok_or(Stop::TooLarge)
 }
 
 // The elements of a file of NumPy's format. Refused as `Stop::Header` where it has not the description of those that are wanted.
-fn npy_elements<R: System, C>(
+fn npy_elements<R: Files + AllocGlobal, C>(
     array: &Array<'_, R, C>,
     requested: &Requested,
     path: &str,
@@ -141,7 +144,7 @@ fn npy_elements<R: System, C>(
 /// The elements of a file that are to be a subset of an array. Refused, in this order, as `Stop::System` where the file is not read,
 /// as `Stop::Length` where it is too long, as `Stop::Header` where it is not of NumPy's format with the description of these elements,
 /// and as `Stop::Length` where it is too short.
-pub fn elements_of_file<R: System, C>(
+pub fn elements_of_file<R: Files + AllocGlobal, C>(
     array: &Array<'_, R, C>,
     requested: &Requested,
     file: ElementsFile<'_>,

@@ -3,8 +3,7 @@ use crate::chunks::{chunks_of, elements_of};
 use crate::layout::{LayoutWords, new_document, order_of};
 use crate::new_folder::{begin_folder, encoded, end_folder, put, test_served};
 use array_cli::{
-    Array, Ending, Progress, ShardCodec, ShardFile, ShardWork, SharedCodec, SharedSystem, Stop,
-    System, described, piece_length, piece_of, read_array, run_in_parallel, turned, written,
+    Array, Ending, Progress, ShardCodec, ShardFile, Stop, described, read_array, turned, written,
 };
 use array_fields::{LONGEST_TEXT, escaped};
 use array_folder::{Counted, read_document};
@@ -18,9 +17,7 @@ use std::alloc::Global;
 use std::borrow::CowSlice;
 use std::fs;
 use std::io::Write;
-
-// How many chunks a thread makes at a time at most.
-const CHUNKS_OF_A_PIECE: usize = 4;
+use std::rt::Files;
 
 // A new array: the folder in which its shards are made, and its metadata.
 #[derive(Clone, Copy)]
@@ -34,22 +31,6 @@ struct NewArray<'n> {
 struct Written {
     shards: u64,
     bytes: u64,
-}
-
-impl Written {
-    // Nothing.
-    fn nothing() -> Self {
-        Written {
-            shards: 0,
-            bytes: 0,
-        }
-    }
-
-    // More was written.
-    fn add(&mut self, other: Written) {
-        self.shards = self.shards.saturating_add(other.shards);
-        self.bytes = self.bytes.saturating_add(other.bytes);
-    }
 }
 
 // The elements of a chunk, of which those in the array are put at its start, and fill values behind the array's end.
@@ -71,7 +52,7 @@ fn padded(
 }
 
 // The bytes of the chunk at these coordinates of a new array, with the elements that the old one has there; `None` where it has no file.
-fn new_chunk<'a, R: System, C: ShardCodec<ShardFile<R>>>(
+fn new_chunk<'a, R: Files + AllocGlobal, C: ShardCodec<ShardFile<'a, R>>>(
     old: &Array<'a, R, C>,
     new: &NewArray<'_>,
     coordinates: &[u64],
@@ -94,13 +75,13 @@ fn new_chunk<'a, R: System, C: ShardCodec<ShardFile<R>>>(
     };
     let size = metadata.fill_value.as_ne_bytes().len();
     match ArrayBytes::new_flen(CowSlice::Borrowed(cells.bytes()), size) {
-        Some(elements) => Ok(encoded(alloc, &elements, metadata)?),
+        Some(elements) => Ok(encoded(old.rt, &elements, metadata)?),
         None => Err(CodecError::WrongElementKind.into()),
     }
 }
 
 // Makes the chunk at these coordinates of a new array, and says how many bytes it has; `None` where it has no file.
-fn put_chunk<'a, R: System, C: ShardCodec<ShardFile<R>>>(
+fn put_chunk<'a, R: Files + AllocGlobal, C: ShardCodec<ShardFile<'a, R>>>(
     old: &Array<'a, R, C>,
     new: &NewArray<'_>,
     coordinates: &[u64],
@@ -113,84 +94,33 @@ fn put_chunk<'a, R: System, C: ShardCodec<ShardFile<R>>>(
     Ok(Some(bytes.len() as u64))
 }
 
-// Makes chunks of a new array, one after the other, as far as none is refused.
-fn put_each<'a, R: System, C: ShardCodec<ShardFile<R>>>(
+// Makes the chunks of a new array that have these coordinates.
+fn put_all<'a, R: Files + AllocGlobal, C: ShardCodec<ShardFile<'a, R>>, M: Write>(
     old: &Array<'a, R, C>,
     new: &NewArray<'_>,
     chunks: &[Vec<u64>],
+    progress: &mut Progress<'_, M>,
 ) -> Result<Written, Stop> {
-    let mut sum = Written::nothing();
-    for coordinates in chunks {
+    let mut sum = Written {
+        shards: 0,
+        bytes: 0,
+    };
+    for (number, coordinates) in chunks.iter().enumerate() {
+        progress.step(number as u64, chunks.len() as u64);
         if let Some(bytes) = put_chunk(old, new, coordinates)? {
-            sum.add(Written { shards: 1, bytes });
+            sum.shards = sum.shards.saturating_add(1);
+            sum.bytes = sum.bytes.saturating_add(bytes);
         }
     }
     Ok(sum)
 }
 
-// Chunks of a new array, in pieces of as many chunks.
-#[derive(Drop)]
-struct ChunkPieces<'s, 'n, 'a, R, C> {
-    old: &'s Array<'a, R, C>,
-    new: &'s NewArray<'n>,
-    chunks: &'s [Vec<u64>],
-    in_piece: usize,
-}
-
-impl<'a, R: System, C: ShardCodec<ShardFile<R>>> ShardWork for ChunkPieces<'_, '_, 'a, R, C> {
-    type Answer = Result<Written, Stop>;
-
-    // no contract says what files give
-    ghost gives = { λ pieces number made. Unit {0} };
-
-    fn run(&self, number: u64) -> Result<Written, Stop> {
-        let piece = piece_of(self.chunks, number, self.in_piece);
-        put_each(self.old, self.new, piece)
-    }
-}
-
-// Adds what was made of pieces, as far as none is refused.
-fn add_each(pieces: Vec<Result<Written, Stop>>, sum: &mut Written) -> Result<(), Stop> {
-    for piece in pieces {
-        sum.add(piece?);
-    }
-    Ok(())
-}
-
-// Makes the chunks of a new array that have these coordinates, by `jobs` threads that have a piece each at a time.
-fn put_all<'a, R: SharedSystem, C: SharedCodec<ShardFile<R>>, M: Write>(
-    old: &Array<'a, R, C>,
-    new: &NewArray<'_>,
-    chunks: &[Vec<u64>],
-    jobs: usize,
-    progress: &mut Progress<'_, M>,
-) -> Result<Written, Stop> {
-    let mut sum = Written::nothing();
-    let most = if jobs == 1 { 1 } else { CHUNKS_OF_A_PIECE };
-    let in_piece = piece_length(chunks.len(), jobs, most);
-    let at_once = in_piece.saturating_mul(jobs).max(1);
-    for (number, some) in chunks.chunks(at_once).enumerate() {
-        progress.step(number.saturating_mul(at_once) as u64, chunks.len() as u64);
-        let pieces = ChunkPieces {
-            old,
-            new,
-            chunks: some,
-            in_piece,
-        };
-        let count = some.len().div_ceil(in_piece);
-        let made = run_in_parallel(old.rt, old.alloc(), count, &pieces)?;
-        add_each(made, &mut sum)?;
-    }
-    Ok(sum)
-}
-
 // Makes a new array in the folder `beside`, which is there, and puts it at its path.
-fn make_in<'a, R: SharedSystem, C: SharedCodec<ShardFile<R>>, M: Write>(
+fn make_in<'a, R: Files + AllocGlobal, C: ShardCodec<ShardFile<'a, R>>, M: Write>(
     old: &Array<'a, R, C>,
     paths: (&str, &str),
     document: &str,
     new: &ArrayMetadata,
-    jobs: usize,
     progress: &mut Progress<'_, M>,
 ) -> Result<Written, Stop> {
     let (path, beside) = paths;
@@ -199,23 +129,22 @@ fn make_in<'a, R: SharedSystem, C: SharedCodec<ShardFile<R>>, M: Write>(
         folder: beside,
         metadata: new,
     };
-    let sum = put_all(old, &array, &chunks, jobs, progress)?;
+    let sum = put_all(old, &array, &chunks, progress)?;
     end_folder(old.rt, path, beside, document)?;
     Ok(sum)
 }
 
 // Makes a new array in a folder beside its path, and puts it there; where that is refused, nothing is left of it.
-fn make<'a, R: SharedSystem, C: SharedCodec<ShardFile<R>>, M: Write>(
+fn make<'a, R: Files + AllocGlobal, C: ShardCodec<ShardFile<'a, R>>, M: Write>(
     old: &Array<'a, R, C>,
     path: &str,
     document: &str,
     new: &ArrayMetadata,
-    jobs: usize,
     progress: &mut Progress<'_, M>,
 ) -> Result<Written, Stop> {
     let beside = format!(in old.alloc(); "{path}.partial")?;
     begin_folder(old.rt, path, &beside)?;
-    let made = make_in(old, (path, &beside), document, new, jobs, progress);
+    let made = make_in(old, (path, &beside), document, new, progress);
     if made.is_err() {
         let _ = fs::remove_dir_all(old.rt, &beside);
     }
@@ -224,12 +153,11 @@ fn make<'a, R: SharedSystem, C: SharedCodec<ShardFile<R>>, M: Write>(
 
 /// Makes a new array of the elements of an old one, laid out in another way, in a folder that is not there yet. It is written beside
 /// itself, with `.partial` behind its name, and renamed once it is whole; where anything is refused, nothing is left. Each new shard is
-/// read from the old array as one subset, and made by one of `jobs` threads. Writes how many shards and bytes it has.
-pub fn reshard<'a, R: SharedSystem, C: SharedCodec<ShardFile<R>>, W: Write, M: Write>(
+/// read from the old array as one subset. Writes how many shards and bytes it has.
+pub fn reshard<'a, R: Files + AllocGlobal, C: ShardCodec<ShardFile<'a, R>>, W: Write, M: Write>(
     old: &Array<'a, R, C>,
     path: &str,
     words: &LayoutWords<'_>,
-    jobs: usize,
     out: &mut W,
     progress: &mut Progress<'_, M>,
 ) -> Result<Ending, Stop> {
@@ -240,7 +168,7 @@ pub fn reshard<'a, R: SharedSystem, C: SharedCodec<ShardFile<R>>, W: Write, M: W
     let document = new_document(alloc, words, &text, old.metadata)?;
     let new = described(alloc, path, &document, order)?;
     test_served(old.rt, path, &new)?;
-    let Written { shards, bytes } = make(old, path, &document, &new, jobs, progress)?;
+    let Written { shards, bytes } = make(old, path, &document, &new, progress)?;
     progress.clear();
     let shards = Counted(shards, "shard");
     written(writeln!(out, "{shards}: {bytes} bytes"), Ending::Done)?;

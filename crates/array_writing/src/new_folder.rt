@@ -1,16 +1,12 @@
 // The folder of a new array, which stands beside its path until it is whole.
-use array_cli::{
-    Array, CodecUse, ShardEncoder, ShardFile, SharedCodec, SharedSystem, Stop, with_codec,
-};
+use array_cli::{Array, CodecUse, ShardCodec, ShardEncoder, ShardFile, Stop, with_codec};
 use array_metadata::ArrayMetadata;
 use parts_arrays::ArrayBytes;
 use parts_errors::CodecError;
-use std::alloc::Global;
 use std::io::ErrorKind;
 use std::rt::Files;
 use std::{fs, io};
 use storage_files::Replacement;
-use storage_handles::MemoryHandle;
 
 // Makes a file of bytes, with its folder.
 fn save<R: Files + AllocGlobal>(rt: &R, path: &str, bytes: &[u8]) -> io::Result<()> {
@@ -78,17 +74,17 @@ struct NewArrayTest<'t, R> {
     metadata: &'t ArrayMetadata,
 }
 
-impl<'t, R: SharedSystem> CodecUse<ShardFile<R>> for NewArrayTest<'t, R> {
+impl<'t, R: Files + AllocGlobal> CodecUse<ShardFile<'t, R>> for NewArrayTest<'t, R> {
     type Answer = Result<(), Stop>;
 
-    fn with<C: SharedCodec<ShardFile<R>>>(self, codec: C) -> Result<(), Stop> {
+    fn with<C: ShardCodec<ShardFile<'t, R>>>(self, codec: C) -> Result<(), Stop> {
         let array = Array::open(self.rt, self.path, self.metadata, codec)?;
         array.test_read()
     }
 }
 
 /// Tests that the codecs that metadata names serve a new array, and that its elements are read.
-pub fn test_served<R: SharedSystem>(
+pub fn test_served<R: Files + AllocGlobal>(
     rt: &R,
     path: &str,
     metadata: &ArrayMetadata,
@@ -98,31 +94,35 @@ pub fn test_served<R: SharedSystem>(
 
 // The elements of a shard that is to be encoded.
 #[derive(Drop)]
-struct Unencoded<'e, 'b> {
-    alloc: Global,
-    elements: &'e ArrayBytes<'b>,
-    metadata: &'e ArrayMetadata,
+struct Unencoded<'t, 'e, R> {
+    rt: &'t R,
+    elements: &'t ArrayBytes<'e>,
+    metadata: &'t ArrayMetadata,
 }
 
-// a shard is encoded in memory
-impl CodecUse<MemoryHandle> for Unencoded<'_, '_> {
+impl<'t, R: Files + AllocGlobal> CodecUse<ShardFile<'t, R>> for Unencoded<'t, '_, R> {
     type Answer = Result<Option<Vec<u8>>, CodecError>;
 
-    fn with<C: SharedCodec<MemoryHandle>>(self, codec: C) -> Result<Option<Vec<u8>>, CodecError> {
-        codec.encode(self.alloc, self.elements, self.metadata)
+    fn with<C: ShardCodec<ShardFile<'t, R>>>(
+        self,
+        codec: C,
+    ) -> Result<Option<Vec<u8>>, CodecError> {
+        codec.encode(self.rt.alloc(), self.elements, self.metadata)
     }
 }
 
 /// The bytes of a shard of a new array that has these elements, by the codec that its metadata names, as `encode_chunk` says.
-pub fn encoded(
-    alloc: Global,
+pub fn encoded<R: Files + AllocGlobal>(
+    rt: &R,
     elements: &ArrayBytes,
     metadata: &ArrayMetadata,
 ) -> Result<Option<Vec<u8>>, CodecError> {
-    let unencoded = Unencoded {
-        alloc,
-        elements,
+    with_codec(
         metadata,
-    };
-    with_codec(metadata, unencoded)
+        Unencoded {
+            rt,
+            elements,
+            metadata,
+        },
+    )
 }

@@ -1,5 +1,5 @@
 // A compact shard that is written in the place of a shard's file.
-use array_cli::{Array, Place, Shard, ShardFile, Stop, System};
+use array_cli::{Array, Place, Shard, ShardFile, Stop};
 use array_info::{begin, tell_owner};
 use parts_errors::CodecError;
 use sharding_format::ShardingIndexLocation;
@@ -131,10 +131,10 @@ fn carry_out<H: BytesPartialDecoderTraits, R: Files + Drop>(
 }
 
 // Why a shard was not replaced.
-fn stop_of<'a, R: System, C>(
+fn stop_of<'a, R: Files + AllocGlobal, C>(
     array: &Array<'a, R, C>,
     shard: &Shard<'_>,
-    old: &ShardFile<R>,
+    old: &ShardFile<'a, R>,
     beside: &str,
     failure: Failure,
 ) -> Result<Stop, Stop> {
@@ -149,10 +149,10 @@ fn stop_of<'a, R: System, C>(
 
 /// Puts what a plan says, or without a plan the shard as it is, at a path, by a new file that stands at the path `beside` until it is
 /// whole; or says that a file stands there already.
-pub fn replace<'a, R: System, C, W: Write>(
+pub fn replace<'a, R: Files + AllocGlobal, C, W: Write>(
     array: &Array<'a, R, C>,
     shard: &Shard<'_>,
-    old: &mut ShardFile<R>,
+    old: &mut ShardFile<'a, R>,
     (path, beside): (&str, &str),
     plan: Option<&CompactionPlan>,
     out: &mut W,

@@ -2,8 +2,8 @@
 use crate::chunks::elements_of;
 use crate::elements::{ElementsFile, elements_of_file};
 use array_cli::{
-    Array, Ending, OpenShard, Place, Progress, Shard, ShardCodec, ShardFile, Stop, System,
-    put_elements, shards_of, turned, written,
+    Array, Ending, OpenShard, Place, Progress, Shard, ShardCodec, ShardFile, Stop, put_elements,
+    shards_of, turned, written,
 };
 use array_folder::Counted;
 use array_grid::{ShardGrid, ShardPart, ShardParts, SubsetCells, subset_of};
@@ -27,7 +27,7 @@ struct Update<'u> {
 }
 
 // Puts all elements of a shard that is open into cells of its shape.
-fn put_all<'a, R: Files + 'a, S: OpenShard<ShardFile<R>>>(
+fn put_all<'a, R: Files + 'a, S: OpenShard<ShardFile<'a, R>>>(
     alloc: Global,
     metadata: &ArrayMetadata,
     opened: &mut S,
@@ -39,7 +39,7 @@ fn put_all<'a, R: Files + 'a, S: OpenShard<ShardFile<R>>>(
 }
 
 // Puts all elements of a shard into cells of its shape.
-fn put_shard<'a, R: System, C: ShardCodec<ShardFile<R>>>(
+fn put_shard<'a, R: Files + AllocGlobal, C: ShardCodec<ShardFile<'a, R>>>(
     array: &Array<'a, R, C>,
     shard: &Shard<'_>,
     whole: &ArraySubset,
@@ -61,7 +61,7 @@ fn put_shard<'a, R: System, C: ShardCodec<ShardFile<R>>>(
 }
 
 // Whether a part of a shard is all that the shard has of the array.
-fn is_whole<R: System, C>(
+fn is_whole<R: Files + AllocGlobal, C>(
     array: &Array<'_, R, C>,
     shard: &Shard<'_>,
     part: &ShardPart,
@@ -80,7 +80,7 @@ fn is_whole<R: System, C>(
 }
 
 // The elements of a shard, of which a part is to be written: as they are, or fill values where no other element of the array stays.
-fn old_cells<'a, R: System, C: ShardCodec<ShardFile<R>>>(
+fn old_cells<'a, R: Files + AllocGlobal, C: ShardCodec<ShardFile<'a, R>>>(
     array: &Array<'a, R, C>,
     shard: &Shard<'_>,
     part: &ShardPart,
@@ -95,7 +95,7 @@ fn old_cells<'a, R: System, C: ShardCodec<ShardFile<R>>>(
 }
 
 // The bytes of a shard of which a part is written; `None` where each of its elements is the fill value then.
-fn new_shard<'a, R: System, C: ShardCodec<ShardFile<R>>>(
+fn new_shard<'a, R: Files + AllocGlobal, C: ShardCodec<ShardFile<'a, R>>>(
     array: &Array<'a, R, C>,
     shard: &Shard<'_>,
     part: &ShardPart,
@@ -127,7 +127,7 @@ fn remove<R: Files + AllocGlobal>(rt: &R, path: &str) -> Result<(), Stop> {
 }
 
 // Puts a shard of these bytes in the place of the one with a key, or removes its file where there are none. Writes a line that says it.
-fn replace<R: System, C, W: Write>(
+fn replace<R: Files + AllocGlobal, C, W: Write>(
     array: &Array<'_, R, C>,
     key: &str,
     bytes: Option<&[u8]>,
@@ -151,7 +151,7 @@ fn replace<R: System, C, W: Write>(
 }
 
 // Writes a part of an update into the shard in which it lies.
-fn write_part<'a, R: System, C: ShardCodec<ShardFile<R>>, W: Write>(
+fn write_part<'a, R: Files + AllocGlobal, C: ShardCodec<ShardFile<'a, R>>, W: Write>(
     array: &Array<'a, R, C>,
     grid: &ShardGrid,
     part: &ShardPart,
@@ -171,7 +171,7 @@ fn write_part<'a, R: System, C: ShardCodec<ShardFile<R>>, W: Write>(
 }
 
 // Writes the parts of an update, one of each shard in which it lies.
-fn write_parts<'a, R: System, C: ShardCodec<ShardFile<R>>, W: Write, M: Write>(
+fn write_parts<'a, R: Files + AllocGlobal, C: ShardCodec<ShardFile<'a, R>>, W: Write, M: Write>(
     array: &Array<'a, R, C>,
     grid: &ShardGrid,
     parts: &ShardParts,
@@ -191,7 +191,7 @@ fn write_parts<'a, R: System, C: ShardCodec<ShardFile<R>>, W: Write, M: Write>(
 }
 
 // Writes elements, as they are stored, into a subset of an array.
-fn write_update<'a, R: System, C: ShardCodec<ShardFile<R>>, W: Write, M: Write>(
+fn write_update<'a, R: Files + AllocGlobal, C: ShardCodec<ShardFile<'a, R>>, W: Write, M: Write>(
     array: &Array<'a, R, C>,
     subset: &ArraySubset,
     elements: &[u8],
@@ -217,7 +217,13 @@ fn write_update<'a, R: System, C: ShardCodec<ShardFile<R>>, W: Write, M: Write>(
 /// elements are the fill value then; a line tells of it. Refused, in this order, as `Stop::Metadata` where elements are not read, as
 /// `Stop::Box` where the text names no subset, as `elements_of_file` refuses, and as a shard is refused that is to keep some of its
 /// elements: those before it are written then, and none behind it.
-pub fn write_subset<'a, R: System, C: ShardCodec<ShardFile<R>>, W: Write, M: Write>(
+pub fn write_subset<
+    'a,
+    R: Files + AllocGlobal,
+    C: ShardCodec<ShardFile<'a, R>>,
+    W: Write,
+    M: Write,
+>(
     array: &Array<'a, R, C>,
     requested: Option<&str>,
     file: ElementsFile<'_>,
