@@ -2,15 +2,57 @@
 use crate::check::check_each_file;
 use crate::checked::{Checked, Told};
 use array_cli::{
-    Array, Ending, Progress, ShardCodec, ShardFile, ShardWork, SharedCodec, SharedSystem, Stop,
-    System, piece_length, piece_of, run_in_parallel, written,
+    Array, CodecUse, Ending, Progress, ShardCodec, ShardFile, ShardWork, SharedArray, SharedSystem,
+    Stop, piece_length, piece_of, run_in_parallel, with_codec, written,
 };
 use array_folder::ChunkFile;
 use std::io;
 use std::io::Write;
+use std::rt::Files;
 
 // How many shards a thread checks at a time at most.
 const SHARDS_OF_A_PIECE: usize = 16;
+
+// Files of shards that one thread checks.
+#[derive(Drop)]
+struct CheckedFiles<'s, 'o, 'm, R, W, M> {
+    array: &'s SharedArray<'s, R>,
+    files: &'s [ChunkFile],
+    checked: &'s mut Checked,
+    told: &'s mut Told<'o, 'm, W, M>,
+}
+
+impl<'s, R: Files + AllocGlobal, W: Write, M: Write> CodecUse<ShardFile<'s, R>>
+    for CheckedFiles<'s, '_, '_, R, W, M> {
+    type Answer = Result<(), Stop>;
+
+    fn with<C: ShardCodec<ShardFile<'s, R>>>(self, codec: C) -> Result<(), Stop> {
+        let CheckedFiles {
+            array,
+            files,
+            checked,
+            told,
+        } = self;
+        let array = Array::open(array.rt, array.path, array.metadata, codec)?;
+        check_each_file(&array, files, checked, told)
+    }
+}
+
+// Checks the shards in these files by one thread.
+fn check_files<'s, R: Files + AllocGlobal, W: Write, M: Write>(
+    array: &'s SharedArray<'s, R>,
+    files: &'s [ChunkFile],
+    checked: &'s mut Checked,
+    told: &'s mut Told<'_, '_, W, M>,
+) -> Result<(), Stop> {
+    let checking = CheckedFiles {
+        array,
+        files,
+        checked,
+        told,
+    };
+    with_codec(array.metadata, checking)
+}
 
 // What came of a piece: what was checked, the lines that tell of it, and why the command stops behind them, if it does.
 #[derive(Drop)]
@@ -22,8 +64,8 @@ struct PieceChecked {
 
 // Files of shards, in pieces of as many files, and how they are checked.
 #[derive(Drop)]
-struct FilePieces<'s, 'a, R, C> {
-    array: &'s Array<'a, R, C>,
+struct FilePieces<'s, R> {
+    array: &'s SharedArray<'s, R>,
     files: &'s [ChunkFile],
     in_piece: usize,
     is_index_alone: bool,
@@ -38,7 +80,7 @@ fn stop_in_memory(stop: Stop) -> Stop {
     }
 }
 
-impl<'a, R: System, C: ShardCodec<ShardFile<R>>> ShardWork for FilePieces<'_, 'a, R, C> {
+impl<R: Files + AllocGlobal> ShardWork for FilePieces<'_, R> {
     type Answer = PieceChecked;
 
     // no contract says what files give
@@ -54,7 +96,7 @@ impl<'a, R: System, C: ShardCodec<ShardFile<R>>> ShardWork for FilePieces<'_, 'a
             progress: &mut Progress::new(&mut silent, false),
             is_json: self.is_json,
         };
-        let ended = check_each_file(self.array, files, &mut checked, &mut told);
+        let ended = check_files(self.array, files, &mut checked, &mut told);
         PieceChecked {
             checked,
             lines,
@@ -99,9 +141,9 @@ fn tell_piece<W: Write, M: Write>(
 }
 
 // Checks the shards in these files, each piece of them by a thread of its own, and tells what came of them in their order.
-fn check_pieces_of<'a, R: SharedSystem, C: SharedCodec<ShardFile<R>>, W: Write, M: Write>(
-    array: &Array<'a, R, C>,
-    files: &[ChunkFile],
+fn check_pieces_of<'s, R: SharedSystem, W: Write, M: Write>(
+    array: &'s SharedArray<'s, R>,
+    files: &'s [ChunkFile],
     in_piece: usize,
     checked: &mut Checked,
     told: &mut Told<'_, '_, W, M>,
@@ -122,15 +164,15 @@ fn check_pieces_of<'a, R: SharedSystem, C: SharedCodec<ShardFile<R>>, W: Write, 
 
 /// Checks the shards in these files by `jobs` threads. What is told is what one thread tells, in its order; of several threads the lines
 /// of some shards at a time.
-pub fn check_all<'a, R: SharedSystem, C: SharedCodec<ShardFile<R>>, W: Write, M: Write>(
-    array: &Array<'a, R, C>,
+pub fn check_all<R: SharedSystem, W: Write, M: Write>(
+    array: &SharedArray<'_, R>,
     files: &[ChunkFile],
     jobs: usize,
     checked: &mut Checked,
     told: &mut Told<'_, '_, W, M>,
 ) -> Result<(), Stop> {
     if jobs == 1 || files.len() < 2 {
-        return check_each_file(array, files, checked, told);
+        return check_files(array, files, checked, told);
     }
     let in_piece = piece_length(files.len(), jobs, SHARDS_OF_A_PIECE);
     let at_once = in_piece.saturating_mul(jobs).max(1);

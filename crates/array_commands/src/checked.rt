@@ -39,6 +39,13 @@ impl Checked {
         }
     }
 
+    /// Adds what was checked beside it.
+    pub fn add_all(&mut self, other: &Checked) {
+        self.shards = self.shards.saturating_add(other.shards);
+        self.refused = self.refused.saturating_add(other.refused);
+        self.subchunks = self.subchunks.saturating_add(other.subchunks);
+    }
+
     /// Adds a shard.
     pub fn add(&mut self, shard: &Found) {
         self.shards = self.shards.saturating_add(1);

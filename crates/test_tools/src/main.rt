@@ -49,11 +49,10 @@ mod transposes;
 use crate::closed::Closed;
 use crate::disk::Disk;
 use crate::steps::{link, set_length, set_mode, write_bytes, write_permissions};
+use array_cli::SharedSystem;
 use array_commands::run_command;
 use std::alloc::Global;
 use std::io::Write;
-use std::rt::{Clock, Files};
-use std::thread::Threads;
 use std::{fs, io};
 
 // Writes messages, each line behind `! `.
@@ -66,7 +65,7 @@ fn write_messages(alloc: Global, messages: &[u8], out: &mut Vec<u8>) -> io::Resu
 }
 
 // What a command line answers, and the status.
-fn answer_of<R: Files + AllocGlobal + Clock + Threads + Sync>(
+fn answer_of<R: SharedSystem>(
     rt: &R,
     words: &[&str],
     shows_progress: bool,
@@ -79,7 +78,7 @@ fn answer_of<R: Files + AllocGlobal + Clock + Threads + Sync>(
 }
 
 // The status of a command line whose answer nobody reads.
-fn answer_nobody<R: Files + AllocGlobal + Clock + Threads + Sync>(
+fn answer_nobody<R: SharedSystem>(
     rt: &R,
     words: &[&str],
     out: &mut Vec<u8>,
