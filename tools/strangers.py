@@ -324,7 +324,7 @@ def compressed(program, top):
 
 
 def told_at_once(program, top):
-    """`check` prints a refusal as it comes: it stands there while a long shard is read."""
+    """`check` by one thread prints a refusal as it comes: it stands there while a long shard is read."""
     path = f"{top}/told"
     array(path, [2 * GIB], [GIB], [GIB // 2])
     with open(f"{path}/0", "wb") as file:
@@ -333,7 +333,7 @@ def told_at_once(program, top):
         file.truncate(GIB)
         file.seek(0, os.SEEK_END)
         file.write(struct.pack("<4Q", 0, GIB // 2, GIB // 2, GIB // 2))
-    with subprocess.Popen([program, "check", path], stdout=subprocess.PIPE, text=True) as ran:
+    with subprocess.Popen([program, "check", "-j", "1", path], stdout=subprocess.PIPE, text=True) as ran:
         first = ran.stdout.readline()
         ran.kill()
         rest = ran.stdout.read()

@@ -179,7 +179,7 @@ pub fn check_all<R: SharedSystem, W: Write, M: Write>(
     for (number, some) in files.chunks(at_once).enumerate() {
         let done = number.saturating_mul(at_once);
         told.progress.step(done as u64, files.len() as u64);
-        check_pieces_of(array, some, in_piece, checked, told)?;
+        check_pieces_of(&*array, some, in_piece, checked, told)?;
     }
     Ok(())
 }

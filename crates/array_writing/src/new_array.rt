@@ -132,13 +132,13 @@ fn put_each<'a, R: Files + AllocGlobal, C: ShardCodec<ShardFile<'a, R>>>(
 
 // Chunks of a new array, by their coordinates.
 #[derive(Drop)]
-struct NewChunks<'s, R> {
+struct NewChunks<'s, 'n, R> {
     old: &'s SharedArray<'s, R>,
-    new: &'s NewArray<'s>,
+    new: &'s NewArray<'n>,
     chunks: &'s [Vec<u64>],
 }
 
-impl<'s, R: Files + AllocGlobal> CodecUse<ShardFile<'s, R>> for NewChunks<'s, R> {
+impl<'s, R: Files + AllocGlobal> CodecUse<ShardFile<'s, R>> for NewChunks<'s, '_, R> {
     type Answer = Result<Written, Stop>;
 
     fn with<C: ShardCodec<ShardFile<'s, R>>>(self, codec: C) -> Result<Written, Stop> {
@@ -150,14 +150,14 @@ impl<'s, R: Files + AllocGlobal> CodecUse<ShardFile<'s, R>> for NewChunks<'s, R>
 
 // Chunks of a new array, in pieces of as many chunks.
 #[derive(Drop)]
-struct ChunkPieces<'s, R> {
+struct ChunkPieces<'s, 'n, R> {
     old: &'s SharedArray<'s, R>,
-    new: &'s NewArray<'s>,
+    new: &'s NewArray<'n>,
     chunks: &'s [Vec<u64>],
     in_piece: usize,
 }
 
-impl<R: Files + AllocGlobal> ShardWork for ChunkPieces<'_, R> {
+impl<R: Files + AllocGlobal> ShardWork for ChunkPieces<'_, '_, R> {
     type Answer = Result<Written, Stop>;
 
     // no contract says what files give
@@ -171,7 +171,7 @@ impl<R: Files + AllocGlobal> ShardWork for ChunkPieces<'_, R> {
 }
 
 // Makes pieces of chunks, each by a thread of its own, and adds what was made, as far as none is refused.
-fn put_pieces<R: SharedSystem>(pieces: &ChunkPieces<'_, R>, sum: &mut Written) -> Result<(), Stop> {
+fn put_pieces<R: SharedSystem>(pieces: &ChunkPieces<'_, '_, R>, sum: &mut Written) -> Result<(), Stop> {
     let old = pieces.old;
     let count = pieces.chunks.len().div_ceil(pieces.in_piece.max(1));
     for made in run_in_parallel(old.rt, old.alloc(), count, pieces)? {
@@ -183,7 +183,7 @@ fn put_pieces<R: SharedSystem>(pieces: &ChunkPieces<'_, R>, sum: &mut Written) -
 // Makes the chunks of a new array that have these coordinates, by `jobs` threads that have a piece each at a time.
 fn put_all<'s, R: SharedSystem, M: Write>(
     old: &'s SharedArray<'s, R>,
-    new: &'s NewArray<'s>,
+    new: &'s NewArray<'_>,
     chunks: &'s [Vec<u64>],
     jobs: usize,
     progress: &mut Progress<'_, M>,
@@ -220,7 +220,7 @@ fn make_in<R: SharedSystem, M: Write>(
         folder: beside,
         metadata: new,
     };
-    let sum = put_all(old, &array, &chunks, jobs, progress)?;
+    let sum = put_all(&*old, &array, &chunks, jobs, progress)?;
     end_folder(old.rt, path, beside, document)?;
     Ok(sum)
 }
