@@ -162,8 +162,8 @@ fn check_pieces_of<'s, R: SharedSystem, W: Write, M: Write>(
     Ok(())
 }
 
-/// Checks the shards in these files by `jobs` threads. What is told is what one thread tells, in its order; of several threads the lines
-/// of some shards at a time.
+/// Checks the shards in these files by `jobs` threads, and tells what one thread tells, in its order: of several threads the lines of some
+/// shards at a time.
 pub fn check_all<R: SharedSystem, W: Write, M: Write>(
     array: &SharedArray<'_, R>,
     files: &[ChunkFile],

@@ -1,9 +1,9 @@
 // A subset of an array as a file of NumPy's format.
 use crate::reading::{Reading, Sink, read_bands};
-use array_cli::{Array, Ending, Progress, SharedArray, SharedSystem, Stop, full_name};
+use array_cli::{Array, Ending, Progress, SharedArray, SharedSystem, Stop};
 use array_folder::{npy_beside, npy_header};
 use array_grid::{Requested, subset_of};
-use array_info::begin_new;
+use array_info::{begin_new, full_name};
 use std::alloc::Global;
 use std::io;
 use std::io::Write;

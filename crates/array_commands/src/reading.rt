@@ -1,10 +1,8 @@
 // Elements that are written as they are read, band by band.
 use crate::command_line::Form;
-use array_cli::{
-    Ending, Progress, SharedArray, SharedSystem, Stop, TextRows, begin_json, end_json, read_shared,
-    write_json_cells, written,
-};
+use array_cli::{Ending, Progress, SharedArray, SharedSystem, Stop, read_shared, written};
 use array_grid::Bands;
+use array_info::{TextRows, begin_json, end_json, write_json_cells};
 use array_metadata::ElementType;
 use parts_errors::CodecError;
 use parts_subsets::ArraySubset;

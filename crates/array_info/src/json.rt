@@ -1,6 +1,7 @@
 // What an array holds, as lines of JSON.
 use crate::info::{ShardInfo, Sums};
-use array_cli::{JsonLine, Place, Refusal, write_json_cell};
+use crate::text::write_json_cell;
+use array_cli::{JsonLine, Place, Refusal};
 use array_folder::ChunkFiles;
 use array_metadata::ArrayMetadata;
 use std::io;

@@ -171,7 +171,10 @@ impl<R: Files + AllocGlobal> ShardWork for ChunkPieces<'_, '_, R> {
 }
 
 // Makes pieces of chunks, each by a thread of its own, and adds what was made, as far as none is refused.
-fn put_pieces<R: SharedSystem>(pieces: &ChunkPieces<'_, '_, R>, sum: &mut Written) -> Result<(), Stop> {
+fn put_pieces<R: SharedSystem>(
+    pieces: &ChunkPieces<'_, '_, R>,
+    sum: &mut Written,
+) -> Result<(), Stop> {
     let old = pieces.old;
     let count = pieces.chunks.len().div_ceil(pieces.in_piece.max(1));
     for made in run_in_parallel(old.rt, old.alloc(), count, pieces)? {
