@@ -324,7 +324,7 @@ def compressed(program, top):
 
 
 def told_at_once(program, top):
-    """`check` prints a refusal as it comes: it stands there while a long shard is read."""
+    """`check` by one thread prints a refusal as it comes: it stands there while a long shard is read."""
     path = f"{top}/told"
     array(path, [2 * GIB], [GIB], [GIB // 2])
     with open(f"{path}/0", "wb") as file:
@@ -333,7 +333,7 @@ def told_at_once(program, top):
         file.truncate(GIB)
         file.seek(0, os.SEEK_END)
         file.write(struct.pack("<4Q", 0, GIB // 2, GIB // 2, GIB // 2))
-    with subprocess.Popen([program, "check", path], stdout=subprocess.PIPE, text=True) as ran:
+    with subprocess.Popen([program, "check", "-j", "1", path], stdout=subprocess.PIPE, text=True) as ran:
         first = ran.stdout.readline()
         ran.kill()
         rest = ran.stdout.read()
@@ -380,26 +380,28 @@ def banded(program, top):
 
 
 def joined(program, top):
-    """The bands of that array have its elements, in each form; a shard that is damaged in the last
+    """The bands of that array have its elements, in each form the same by one thread and by several; a shard that is damaged in the last
     band stops the command behind the bands before it."""
     path, rows, row, whole = f"{top}/banded", 40, 1_000_000, b""
     line = bytes(number % 251 for number in range(row))
     for number in range(rows):
         for start in range(0, row, row // 4):
             whole += bytes([number]) + line[start + 1 : start + row // 4]
-    if subprocess.run([program, "read", "--raw", path], capture_output=True, timeout=MOST, check=False).stdout != whole:
-        bad.append("read --raw of several bands: other elements")
-    expect([program, "read", "--npy", f"{top}/banded.npy", path], 0, "")
-    with open(f"{top}/banded.npy", "rb") as file:
-        if file.read()[-len(whole) :] != whole:
-            bad.append("read --npy of several bands: other elements")
-    narrow = b"".join(whole[number * row + 249_998 : number * row + 250_003] for number in range(rows))
-    text = "".join(" ".join(map(str, narrow[at : at + 5])) + "\n" for at in range(0, len(narrow), 5))
-    expect([program, "read", path, ":,249998:250003"], 0, text)
-    expect([program, "check", path], 0, "40 shards, 160 subchunks: all sound")
-    large = subprocess.run([program, "read", "--json", path, "17:40"], capture_output=True, timeout=60, check=False).stdout
+    for jobs in ("1", "3"):
+        if subprocess.run([program, "read", "--raw", path, "-j", jobs], capture_output=True, timeout=MOST, check=False).stdout != whole:
+            bad.append(f"read --raw -j {jobs} of several bands: other elements")
+        expect([program, "read", "--npy", f"{top}/banded.npy", path, "-j", jobs], 0, "")
+        with open(f"{top}/banded.npy", "rb") as file:
+            if file.read()[-len(whole) :] != whole:
+                bad.append(f"read --npy -j {jobs} of several bands: other elements")
+        narrow = b"".join(whole[number * row + 249_998 : number * row + 250_003] for number in range(rows))
+        text = "".join(" ".join(map(str, narrow[at : at + 5])) + "\n" for at in range(0, len(narrow), 5))
+        expect([program, "read", path, ":,249998:250003", "-j", jobs], 0, text)
+        expect([program, "check", path, "-j", jobs], 0, "40 shards, 160 subchunks: all sound")
+    large = subprocess.run([program, "read", "--json", path, "17:40", "-j", "3"], capture_output=True, timeout=60, check=False).stdout
     if json.loads(large) != {"cells": list(whole[17 * row :]), "data_type": "uint8", "shape": [23, row]}:
         bad.append("read --json of several bands: other elements")
+    expect([program, "read", path, "-j", "0"], 2, "0 is none of the words that can stand there")
     os.truncate(f"{path}/39.0", 10)
     ran = subprocess.run([program, "read", "--raw", path], capture_output=True, timeout=MOST, check=False)
     if ran.returncode != 1 or b"39.0: 7 ShardTooShort" not in ran.stderr or ran.stdout != whole[: 32 * row]:

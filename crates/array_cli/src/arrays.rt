@@ -4,11 +4,9 @@ use crate::shard_codec::{Planned, ShardCodec, ShardFile};
 use crate::stop::Stop;
 use array_codecs::reversed_parts;
 use array_fields::{LONGEST_TEXT, MetadataError, escaped};
-use array_store::{
-    ChunkFile, ChunkFiles, ChunkGrid, document_length, list_chunks, read_document,
-};
 use array_grid::ListPart;
 use array_metadata::{ArrayMetadata, reversed_size};
+use array_store::{ChunkFile, ChunkFiles, ChunkGrid, document_length, list_chunks, read_document};
 use parts_arrays::FillValue;
 use parts_errors::CodecError;
 use parts_subsets::ChunkShape;

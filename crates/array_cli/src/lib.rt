@@ -1,28 +1,31 @@
 // What the commands over an array on disk share: an array that is open, the elements of a subset of it, why a shard is refused, and why
-// a command stops; how elements and the progress of a command are written.
+// a command stops; how the progress of a command is written.
 #![tactic(auto)]
 
 mod arrays;
 mod codec_use;
 mod json_line;
+mod parallel;
 mod progress;
 mod read;
 mod refusal;
 mod shard_codec;
+mod shared_array;
+mod shared_read;
 mod sound;
 mod stop;
-mod text;
+mod system;
 
 pub use arrays::{Array, Shard, described, metadata_of, turned};
 pub use codec_use::{CodecUse, with_codec};
-pub use json_line::{JsonLine, write_json_text};
+pub use json_line::{JsonLine, write_json_numbers, write_json_text};
+pub use parallel::{ShardWork, piece_length, piece_of, run_in_parallel, threads_of};
 pub use progress::Progress;
 pub use read::{read_array, shards_of};
 pub use refusal::{Place, Refusal};
 pub use shard_codec::{OpenShard, Planned, ShardCodec, ShardEncoder, ShardFile, encode_chunk};
+pub use shared_array::{SharedArray, open_shared};
+pub use shared_read::read_shared;
 pub use sound::put_elements;
 pub use stop::{Ending, Stop, written};
-pub use text::{
-    TextRows, begin_json, end_json, full_name, write_json_cell, write_json_cells, write_numbers,
-    write_rows,
-};
+pub use system::SharedSystem;

@@ -35,7 +35,7 @@ impl Answer {
 }
 
 // The cells of a subset as they are held, or fill values where none are.
-fn held_cells<R: Files + AllocGlobal, C>(
+pub(crate) fn held_cells<R: Files + AllocGlobal, C>(
     array: &Array<'_, R, C>,
     requested: &ArraySubset,
     held: Option<SubsetCells>,
@@ -47,7 +47,7 @@ fn held_cells<R: Files + AllocGlobal, C>(
 }
 
 // Puts the cells of a part into those of a subset, for which memory is asked with the first part.
-fn put_shard_part<R: Files + AllocGlobal, C>(
+pub(crate) fn put_shard_part<R: Files + AllocGlobal, C>(
     array: &Array<'_, R, C>,
     requested: &ArraySubset,
     part: &ShardPart,
@@ -174,14 +174,14 @@ fn shard_of_grid<R: Files + AllocGlobal, C>(
 
 // A part of a subset, the shard in which it lies, and its elements or why they are refused.
 #[derive(Drop)]
-struct PartRead {
-    part: ShardPart,
+pub(crate) struct PartRead {
+    pub(crate) part: ShardPart,
     shard: GridShard,
-    found: Result<Vec<u8>, Refusal>,
+    pub(crate) found: Result<Vec<u8>, Refusal>,
 }
 
 // Reads the part of a subset with this number; nothing past the last one.
-fn read_numbered<'a, R: Files + AllocGlobal, C: ShardCodec<ShardFile<'a, R>>>(
+pub(crate) fn read_numbered<'a, R: Files + AllocGlobal, C: ShardCodec<ShardFile<'a, R>>>(
     array: &Array<'a, R, C>,
     grid: &ShardGrid,
     parts: &ShardParts,

@@ -1,14 +1,16 @@
 // Whether the shards of an array are sound.
+use crate::check_pieces::check_all;
 use crate::checked::{Checked, Found, Told, write_end, write_end_lines};
 use array_cli::{
-    Array, Ending, OpenShard, Place, Progress, Shard, ShardCodec, ShardFile, Stop, written,
+    Array, Ending, OpenShard, Place, Progress, Shard, ShardCodec, ShardFile, SharedArray,
+    SharedSystem, Stop, written,
 };
-use array_store::ChunkFile;
 use array_info::{Listing, check_subchunk};
+use array_store::ChunkFile;
 use parts_errors::CodecError;
 use std::io;
 use std::io::Write;
-use std::rt::{Clock, Files};
+use std::rt::Files;
 use storage_handles::BytesPartialDecoderTraits;
 
 // What reading the subchunks of a shard came to.
@@ -171,34 +173,33 @@ fn shard_in(file: &ChunkFile) -> Shard<'_> {
     }
 }
 
-// Checks the shards in these files.
-fn check_all<'a, R: Files + AllocGlobal, C: ShardCodec<ShardFile<'a, R>>, W: Write, M: Write>(
-    array: &Array<'a, R, C>,
-    files: &[ChunkFile],
-    is_index_alone: bool,
-    told: &mut Told<'_, '_, W, M>,
-) -> Result<Checked, Stop> {
-    let mut checked = Checked::none(files.len() as u64, is_index_alone);
-    for file in files {
-        check_shard(array, &shard_in(file), &mut checked, told)?;
-    }
-    told.progress.clear();
-    Ok(checked)
-}
-
-/// Decodes each index of the shards that a part has, and each subchunk if its codec is served and the indexes are not all that is
-/// asked; writes a line for each that is refused as it comes, what else stands in the folder, how many subchunks were not looked
-/// into, and what was checked.
-pub fn check<
+/// Checks the shards in these files, one after the other.
+pub fn check_each_file<
     'a,
-    R: Files + AllocGlobal + Clock,
+    R: Files + AllocGlobal,
     C: ShardCodec<ShardFile<'a, R>>,
     W: Write,
     M: Write,
 >(
     array: &Array<'a, R, C>,
+    files: &[ChunkFile],
+    checked: &mut Checked,
+    told: &mut Told<'_, '_, W, M>,
+) -> Result<(), Stop> {
+    for file in files {
+        check_shard(array, &shard_in(file), checked, told)?;
+    }
+    Ok(())
+}
+
+/// Decodes each index of the shards that a part has, and each subchunk if its codec is served and the indexes are not all that is
+/// asked, by `jobs` threads; writes a line for each that is refused, in the order of the shards, what else stands in the folder, how many
+/// subchunks were not looked into, and what was checked.
+pub fn check<R: SharedSystem, W: Write, M: Write>(
+    array: &SharedArray<'_, R>,
     is_index_asked: bool,
     listing: &Listing,
+    jobs: usize,
     out: &mut W,
     progress: &mut Progress<'_, M>,
 ) -> Result<Ending, Stop> {
@@ -212,7 +213,9 @@ pub fn check<
         is_json,
     };
     let is_index_alone = is_index_asked || unread.is_some();
-    let checked = check_all(array, &files.chunks, is_index_alone, &mut told)?;
+    let mut checked = Checked::none(files.chunks.len() as u64, is_index_alone);
+    check_all(array, &files.chunks, jobs, &mut checked, &mut told)?;
+    told.progress.clear();
     let ending = checked.ending(is_index_asked);
     let wrote = if is_json {
         write_end_lines(told.out, &files, &checked, unread)

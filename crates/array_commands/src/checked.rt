@@ -1,7 +1,7 @@
 // What a check came to, and what is written of it.
 use array_cli::{Array, Ending, JsonLine, Progress, Refusal, Stop, written};
-use array_store::{ChunkFiles, Counted};
 use array_info::{put_refusal, write_folder, write_folder_lines};
+use array_store::{ChunkFiles, Counted};
 use std::io;
 use std::io::Write;
 use std::rt::{Clock, Files};
@@ -37,6 +37,13 @@ impl Checked {
             all,
             is_index_alone,
         }
+    }
+
+    /// Adds what was checked beside it.
+    pub fn add_all(&mut self, other: &Checked) {
+        self.shards = self.shards.saturating_add(other.shards);
+        self.refused = self.refused.saturating_add(other.refused);
+        self.subchunks = self.subchunks.saturating_add(other.subchunks);
     }
 
     /// Adds a shard.

@@ -2,13 +2,14 @@
 ghost use Rattle.std.specs.Prelude.{◌≤◌, IfOk};
 
 use crate::check::check;
-use crate::command_line::{Scope, Target, Work, program, work_of};
+use crate::command_line::{ArrayWork, Scope, SharedWork, Target, Work, program, work_of};
 use crate::extract::extract;
 use crate::npy::save_subset;
-use crate::reading::print_subset;
+use crate::reading::{Reading, print_subset};
 use crate::writing_line::array_words;
 use array_cli::{
-    Array, CodecUse, Ending, Progress, ShardCodec, ShardFile, Stop, metadata_of, with_codec,
+    Array, CodecUse, Ending, Progress, ShardCodec, ShardFile, SharedArray, SharedSystem, Stop,
+    metadata_of, open_shared, threads_of, with_codec,
 };
 use array_fields::escaped;
 use array_grid::{ListPart, subset_of};
@@ -22,21 +23,35 @@ use std::io;
 use std::io::{BufWriter, Write};
 use std::rt::{Clock, Files};
 
+// By how many threads a command works at most.
+const MOST_THREADS: usize = 256;
+
+// By how many threads a command works, by a word. Refused as `Stop::BadWord` where that is no number above 0.
+fn jobs_of<R: SharedSystem>(rt: &R, word: Option<&str>) -> Result<usize, Stop> {
+    let Some(word) = word else {
+        return Ok(threads_of(rt).min(MOST_THREADS));
+    };
+    match word.parse::<usize>() {
+        Ok(jobs) if jobs > 0 => Ok(jobs.min(MOST_THREADS)),
+        _ => Err(Stop::BadWord(escaped(rt.alloc(), word)?)),
+    }
+}
+
 // Reads the subset that a word names, and writes its elements.
-fn run_read<'a, R: Files + AllocGlobal, C: ShardCodec<ShardFile<'a, R>>, W: Write, M: Write>(
-    array: &Array<'a, R, C>,
+fn run_read<R: SharedSystem, W: Write, M: Write>(
+    array: &SharedArray<'_, R>,
     requested: Option<&str>,
     target: Target<'_>,
-    fills: bool,
+    reading: Reading,
     out: &mut W,
     progress: &mut Progress<'_, M>,
 ) -> Result<Ending, Stop> {
     match target {
-        Target::NumPy(path) => save_subset(array, requested, path, fills, out, progress),
+        Target::NumPy(path) => save_subset(array, requested, path, reading, out, progress),
         Target::Answer(form) => {
             array.test_read()?;
             let subset = subset_of(array.alloc(), requested, &array.metadata.shape)?.subset;
-            print_subset(array, &subset, form, fills, out, progress)
+            print_subset(array, &subset, form, reading, out, progress)
         }
     }
 }
@@ -77,7 +92,7 @@ fn way_of(is_dry: bool, output: Option<&str>) -> Way<'_> {
     }
 }
 
-// Does a work, and writes its answer.
+// Does a work of one thread, and writes its answer.
 fn run_work<
     'a,
     R: Files + AllocGlobal + Clock,
@@ -94,25 +109,9 @@ fn run_work<
     match work {
         Work::Info { scope } => info_of_array(array, &listing_of(alloc, scope)?, out, progress),
         Work::InfoOfShard { key, is_json } => info_of_shard(array, key, is_json, out),
-        Work::Check {
-            is_index_alone,
-            scope,
-        } => check(
-            array,
-            is_index_alone,
-            &listing_of(alloc, scope)?,
-            out,
-            progress,
-        ),
         Work::Map { key, svg } => run_map(array, key, svg, out, progress),
         Work::Extract { key, number } => extract(array, key, number, out),
-        Work::Read {
-            requested,
-            target,
-            fills,
-        } => run_read(array, requested, target, fills, out, progress),
         Work::Write { requested, file } => write_subset(array, requested, file, out, progress),
-        Work::Reshard { path, words } => reshard(array, path, &words, out, progress),
         Work::Compact {
             is_dry,
             output,
@@ -134,9 +133,9 @@ fn status_of(ran: Result<Ending, Stop>) -> Result<u8, Stop>
     }
 }
 
-// A work on an array whose metadata is read.
+// A work of one thread on an array whose metadata is read.
 #[derive(Drop)]
-struct ArrayWork<'w, 'p, R, W, M> {
+struct LoneWork<'w, 'p, R, W, M> {
     rt: &'w R,
     path: &'w str,
     metadata: &'w ArrayMetadata,
@@ -146,11 +145,11 @@ struct ArrayWork<'w, 'p, R, W, M> {
 }
 
 impl<'w, R: Files + AllocGlobal + Clock, W: Write, M: Write> CodecUse<ShardFile<'w, R>>
-    for ArrayWork<'w, '_, R, W, M> {
+    for LoneWork<'w, '_, R, W, M> {
     type Answer = Result<Ending, Stop>;
 
     fn with<C: ShardCodec<ShardFile<'w, R>>>(self, codec: C) -> Result<Ending, Stop> {
-        let ArrayWork {
+        let LoneWork {
             rt,
             path,
             metadata,
@@ -163,16 +162,51 @@ impl<'w, R: Files + AllocGlobal + Clock, W: Write, M: Write> CodecUse<ShardFile<
     }
 }
 
+// Does a work of several threads, and writes its answer.
+fn run_shared<R: SharedSystem, W: Write, M: Write>(
+    array: &SharedArray<'_, R>,
+    work: SharedWork<'_>,
+    jobs: usize,
+    out: &mut W,
+    progress: &mut Progress<'_, M>,
+) -> Result<Ending, Stop> {
+    match work {
+        SharedWork::Check {
+            is_index_alone,
+            scope,
+        } => {
+            let listing = listing_of(array.alloc(), scope)?;
+            check(array, is_index_alone, &listing, jobs, out, progress)
+        }
+        SharedWork::Read {
+            requested,
+            target,
+            fills,
+        } => {
+            let reading = Reading { fills, jobs };
+            run_read(array, requested, target, reading, out, progress)
+        }
+        SharedWork::Reshard { path, words } => reshard(array, path, &words, jobs, out, progress),
+    }
+}
+
 // Reads the metadata of an array, and does a work.
-fn run_array<R: Files + AllocGlobal + Clock, W: Write, M: Write>(
+fn run_array<R: SharedSystem, W: Write, M: Write>(
     rt: &R,
     path: &str,
-    work: Work<'_>,
+    work: ArrayWork<'_>,
     out: &mut W,
     progress: &mut Progress<'_, M>,
 ) -> Result<Ending, Stop> {
     let metadata = &metadata_of(rt, path)?;
-    let work = ArrayWork {
+    let work = match work {
+        ArrayWork::Shared { work, jobs } => {
+            let array = open_shared(rt, path, metadata)?;
+            return run_shared(&array, work, jobs_of(rt, jobs)?, out, progress);
+        }
+        ArrayWork::Alone(work) => work,
+    };
+    let work = LoneWork {
         rt,
         path,
         metadata,
@@ -254,7 +288,7 @@ fn run_compare<R: Files + AllocGlobal, W: Write, M: Write>(
 }
 
 // Does what the words of a command line say.
-fn run_matches<R: Files + AllocGlobal + Clock, W: Write, M: Write>(
+fn run_matches<R: SharedSystem, W: Write, M: Write>(
     rt: &R,
     matches: &ArgMatches<'_>,
     out: &mut W,
@@ -312,7 +346,7 @@ fn tell<W: Write, M: Write>(
 }
 
 // Reads the words of a command line, and does what they say.
-fn run_words<R: Files + AllocGlobal + Clock, S: AsStr, W: Write, M: Write>(
+fn run_words<R: SharedSystem, S: AsStr, W: Write, M: Write>(
     rt: &R,
     words: &[S],
     out: &mut W,
@@ -328,7 +362,7 @@ fn run_words<R: Files + AllocGlobal + Clock, S: AsStr, W: Write, M: Write>(
 }
 
 // Runs a command line, and sees that its answer is written.
-fn run_buffered<R: Files + AllocGlobal + Clock, S: AsStr, W: Write + Drop, M: Write>(
+fn run_buffered<R: SharedSystem, S: AsStr, W: Write + Drop, M: Write>(
     rt: &R,
     words: &[S],
     writer: W,
@@ -350,7 +384,7 @@ fn run_buffered<R: Files + AllocGlobal + Clock, S: AsStr, W: Write + Drop, M: Wr
 /// it, could not be done, and then nothing is written but what `list`, `check` and `compact` had said before, and a line on the
 /// owner of a new file. A message that is not taken is dropped, and an answer that nobody reads. Where `shows_progress` is
 /// true, the messages show how far the command is while it runs, and it is blanked before an answer or a sentence is written.
-pub fn run_command<R: Files + AllocGlobal + Clock, S: AsStr, W: Write + Drop, M: Write + Drop>(
+pub fn run_command<R: SharedSystem, S: AsStr, W: Write + Drop, M: Write + Drop>(
     rt: &R,
     words: &[S],
     writer: W,

@@ -30,7 +30,7 @@ pub struct Scope<'a> {
     pub is_json: bool,
 }
 
-/// What is done with an array.
+/// What one thread does with an array.
 #[derive(Debug, Clone, Copy, PartialEq, Eq)]
 pub enum Work<'a> {
     Info {
@@ -40,10 +40,6 @@ pub enum Work<'a> {
         key: &'a str,
         is_json: bool,
     },
-    Check {
-        is_index_alone: bool,
-        scope: Scope<'a>,
-    },
     Extract {
         key: &'a str,
         number: &'a str,
@@ -52,23 +48,43 @@ pub enum Work<'a> {
         key: Option<&'a str>,
         svg: Option<&'a str>,
     },
-    Read {
-        requested: Option<&'a str>,
-        target: Target<'a>,
-        fills: bool,
-    },
     Write {
         requested: Option<&'a str>,
         file: ElementsFile<'a>,
-    },
-    Reshard {
-        path: &'a str,
-        words: LayoutWords<'a>,
     },
     Compact {
         is_dry: bool,
         output: Option<&'a str>,
         scope: Scope<'a>,
+    },
+}
+
+/// What several threads do with an array.
+#[derive(Debug, Clone, Copy, PartialEq, Eq)]
+pub enum SharedWork<'a> {
+    Check {
+        is_index_alone: bool,
+        scope: Scope<'a>,
+    },
+    Read {
+        requested: Option<&'a str>,
+        target: Target<'a>,
+        fills: bool,
+    },
+    Reshard {
+        path: &'a str,
+        words: LayoutWords<'a>,
+    },
+}
+
+/// What is done with an array.
+#[derive(Debug, Clone, Copy, PartialEq, Eq)]
+pub enum ArrayWork<'a> {
+    Alone(Work<'a>),
+    /// By how many threads, a word may say.
+    Shared {
+        work: SharedWork<'a>,
+        jobs: Option<&'a str>,
     },
 }
 
@@ -95,6 +111,17 @@ fn part_option<'a>(alloc: Global) -> Arg<'a> {
     Arg::new(alloc, "part").long("part").value_name("K/N").help(
         "Only the K-th of N parts of the shards, which are dealt out in turn",
     )
+}
+
+/// How many threads work side by side.
+pub fn jobs_option<'a>(alloc: Global) -> Arg<'a> {
+    Arg::new(alloc, "jobs")
+        .short('j')
+        .long("jobs")
+        .value_name("N")
+        .help(
+            "By how many threads, each with shards of its own; without it as many as there are processors",
+        )
 }
 
 fn info_command<'a>(alloc: Global) -> Result<Command<'a>, AllocError> {
@@ -129,7 +156,8 @@ fn check_command<'a>(alloc: Global) -> Result<Command<'a>, AllocError> {
         .arg(path_argument(alloc))?
         .arg(index_flag(alloc))?
         .arg(lines_flag(alloc))?
-        .arg(part_option(alloc))
+        .arg(part_option(alloc))?
+        .arg(jobs_option(alloc))
 }
 
 fn svg_option<'a>(alloc: Global) -> Arg<'a> {
@@ -223,7 +251,8 @@ fn read_command<'a>(alloc: Global) -> Result<Command<'a>, AllocError> {
         .arg(json_flag(alloc))?
         .arg(raw)?
         .arg(npy)?
-        .arg(fill_flag(alloc))
+        .arg(fill_flag(alloc))?
+        .arg(jobs_option(alloc))
 }
 
 fn dry_flag<'a>(alloc: Global) -> Arg<'a> {
@@ -336,25 +365,37 @@ fn telling<'a>(matches: &ArgMatches<'a>) -> Work<'a> {
 }
 
 // What the command `read` does.
-fn reading<'a>(matches: &ArgMatches<'a>) -> Work<'a> {
+fn reading<'a>(matches: &ArgMatches<'a>) -> SharedWork<'a> {
     let target = match matches.get_str("npy") {
         Some(path) => Target::NumPy(path),
         None => Target::Answer(form_of(matches)),
     };
-    Work::Read {
+    SharedWork::Read {
         requested: matches.get_str("BOX"),
         target,
         fills: matches.get_flag("fill-damaged"),
     }
 }
 
-/// What the command of a name does.
-pub fn work_of<'a>(name: &str, matches: &ArgMatches<'a>) -> Work<'a> {
+// What the command of a name does that several threads do.
+fn shared_work_of<'a>(name: &str, matches: &ArgMatches<'a>) -> Option<SharedWork<'a>> {
     match name {
-        "check" => Work::Check {
+        "check" => Some(SharedWork::Check {
             is_index_alone: matches.get_flag("index"),
             scope: scope_of(matches),
-        },
+        }),
+        "read" => Some(reading(matches)),
+        "reshard" => Some(SharedWork::Reshard {
+            path: matches.get_str("DST").unwrap_or(""),
+            words: layout_words(matches),
+        }),
+        _ => None,
+    }
+}
+
+// What the command of a name does that one thread does.
+fn lone_work_of<'a>(name: &str, matches: &ArgMatches<'a>) -> Work<'a> {
+    match name {
         "extract" => Work::Extract {
             key: matches.get_str("KEY").unwrap_or(""),
             number: matches.get_str("NUMBER").unwrap_or(""),
@@ -363,14 +404,9 @@ pub fn work_of<'a>(name: &str, matches: &ArgMatches<'a>) -> Work<'a> {
             key: matches.get_str("KEY"),
             svg: matches.get_str("svg"),
         },
-        "read" => reading(matches),
         "write" => Work::Write {
             requested: matches.get_str("BOX"),
             file: elements_file(matches),
-        },
-        "reshard" => Work::Reshard {
-            path: matches.get_str("DST").unwrap_or(""),
-            words: layout_words(matches),
         },
         "compact" => Work::Compact {
             is_dry: matches.get_flag("dry-run"),
@@ -378,5 +414,16 @@ pub fn work_of<'a>(name: &str, matches: &ArgMatches<'a>) -> Work<'a> {
             scope: scope_of(matches),
         },
         _ => telling(matches),
+    }
+}
+
+/// What the command of a name does.
+pub fn work_of<'a>(name: &str, matches: &ArgMatches<'a>) -> ArrayWork<'a> {
+    match shared_work_of(name, matches) {
+        Some(work) => ArrayWork::Shared {
+            work,
+            jobs: matches.get_str("jobs"),
+        },
+        None => ArrayWork::Alone(lone_work_of(name, matches)),
     }
 }

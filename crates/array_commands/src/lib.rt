@@ -3,6 +3,7 @@
 #![tactic(auto)]
 
 mod check;
+mod check_pieces;
 mod checked;
 mod command;
 mod command_line;

@@ -1,9 +1,9 @@
 // A subset of an array as a file of NumPy's format.
-use crate::reading::{Sink, read_bands};
-use array_cli::{Array, Ending, Progress, ShardCodec, ShardFile, Stop, full_name};
-use array_store::{npy_beside, npy_header};
+use crate::reading::{Reading, Sink, read_bands};
+use array_cli::{Array, Ending, Progress, SharedArray, SharedSystem, Stop};
 use array_grid::{Requested, subset_of};
-use array_info::begin_new;
+use array_info::{begin_new, full_name};
+use array_store::{npy_beside, npy_header};
 use std::alloc::Global;
 use std::io;
 use std::io::Write;
@@ -64,25 +64,25 @@ fn end_file<R: Files + Drop>(
 }
 
 // Reads what is requested, and writes it into a new file behind a header.
-fn fill<'a, R: Files + AllocGlobal, C: ShardCodec<ShardFile<'a, R>>, M: Write>(
-    array: &Array<'a, R, C>,
+fn fill<'a, R: SharedSystem, M: Write>(
+    array: &SharedArray<'a, R>,
     requested: &Requested,
-    fills: bool,
+    reading: Reading,
     header: &[u8],
     new: &mut NewFile<'_, &'a R>,
     progress: &mut Progress<'_, M>,
 ) -> Result<Ending, Stop> {
     new.write(header)?;
-    read_bands(array, &requested.subset, fills, new, progress)
+    read_bands(array, &requested.subset, reading, new, progress)
 }
 
 /// Reads a subset, and makes a file of NumPy's format of it, which has no axis that is named by one coordinate. A file of that
 /// name is replaced once the new one is whole. Where the path is refused nothing is read.
-pub fn save_subset<'a, R: Files + AllocGlobal, C: ShardCodec<ShardFile<'a, R>>, W: Write, M: Write>(
-    array: &Array<'a, R, C>,
+pub fn save_subset<R: SharedSystem, W: Write, M: Write>(
+    array: &SharedArray<'_, R>,
     requested: Option<&str>,
     path: &str,
-    fills: bool,
+    reading: Reading,
     out: &mut W,
     progress: &mut Progress<'_, M>,
 ) -> Result<Ending, Stop> {
@@ -93,7 +93,7 @@ pub fn save_subset<'a, R: Files + AllocGlobal, C: ShardCodec<ShardFile<'a, R>>, 
     let header = header_of(array, &requested, path)?;
     let file = begin_new(array, path, &beside, out)?;
     let mut new = NewFile { alloc, file, path };
-    let wrote = fill(array, &requested, fills, &header, &mut new, progress);
+    let wrote = fill(array, &requested, reading, &header, &mut new, progress);
     progress.clear();
     end_file(new, wrote)
 }

@@ -1,19 +1,25 @@
 // Elements that are written as they are read, band by band.
 use crate::command_line::Form;
-use array_cli::{
-    Array, Ending, Progress, ShardCodec, ShardFile, Stop, TextRows, begin_json, end_json,
-    read_array, write_json_cells, written,
-};
+use array_cli::{Ending, Progress, SharedArray, SharedSystem, Stop, read_shared, written};
 use array_grid::Bands;
+use array_info::{TextRows, begin_json, end_json, write_json_cells};
 use array_metadata::ElementType;
 use parts_errors::CodecError;
 use parts_subsets::ArraySubset;
 use std::io;
 use std::io::Write;
-use std::rt::Files;
 
 // The most bytes of elements that are read.
 const MOST_BYTES: u64 = 1 << 40;
+
+/// How elements are read.
+#[derive(Debug, Clone, Copy, PartialEq, Eq)]
+pub struct Reading {
+    /// Whether what is refused has fill values.
+    pub fills: bool,
+    /// By how many threads.
+    pub jobs: usize,
+}
 
 /// Where the elements of a subset go, least significant byte first.
 pub trait Sink {
@@ -37,10 +43,10 @@ fn test_size(subset: &ArraySubset, size: u64) -> Result<(), Stop> {
 /// Reads the elements of a subset, with fill values for what is refused if `fills`, and hands them on, in row-major order: those of a band at a time, so that memory is that of a band.
 /// Refused as `Stop::TooLarge` where they have more than 2^40 bytes, and as `read_array` refuses; then the bands before are handed
 /// on.
-pub fn read_bands<'a, R: Files + AllocGlobal, C: ShardCodec<ShardFile<'a, R>>, S: Sink, M: Write>(
-    array: &Array<'a, R, C>,
+pub fn read_bands<R: SharedSystem, S: Sink, M: Write>(
+    array: &SharedArray<'_, R>,
     subset: &ArraySubset,
-    fills: bool,
+    reading: Reading,
     sink: &mut S,
     progress: &mut Progress<'_, M>,
 ) -> Result<Ending, Stop> {
@@ -53,7 +59,8 @@ pub fn read_bands<'a, R: Files + AllocGlobal, C: ShardCodec<ShardFile<'a, R>>, S
         let Some(band) = bands.band(array.alloc(), number)? else {
             return Err(CodecError::OutOfBounds.into());
         };
-        let (cells, ended) = read_array(array, &band, fills, progress)?;
+        let Reading { fills, jobs } = reading;
+        let (cells, ended) = read_shared(array, &band, fills, jobs, progress)?;
         if ended != Ending::Done {
             ending = ended;
         }
@@ -99,17 +106,11 @@ impl<W: Write> Sink for Printed<'_, W> {
 }
 
 /// Reads the elements of a subset, and writes them in a form to an answer.
-pub fn print_subset<
-    'a,
-    R: Files + AllocGlobal,
-    C: ShardCodec<ShardFile<'a, R>>,
-    W: Write,
-    M: Write,
->(
-    array: &Array<'a, R, C>,
+pub fn print_subset<R: SharedSystem, W: Write, M: Write>(
+    array: &SharedArray<'_, R>,
     subset: &ArraySubset,
     form: Form,
-    fills: bool,
+    reading: Reading,
     out: &mut W,
     progress: &mut Progress<'_, M>,
 ) -> Result<Ending, Stop> {
@@ -121,7 +122,7 @@ pub fn print_subset<
         rows: TextRows::new(subset.shape()),
         is_first: true,
     };
-    let ending = read_bands(array, subset, fills, &mut printed, progress)?;
+    let ending = read_bands(array, subset, reading, &mut printed, progress)?;
     if form == Form::Json {
         written(end_json(printed.out, element_type, subset.shape()), ending)?;
     }

@@ -1,5 +1,5 @@
 // The command line of the commands that make arrays, write into them and compare them.
-use crate::command_line::{path_argument, subset_argument};
+use crate::command_line::{jobs_option, path_argument, subset_argument};
 use array_writing::{ArrayWords, ElementsFile, LayoutWords};
 use clap::{Arg, ArgAction, ArgMatches, Command};
 use std::alloc::{AllocError, Global};
@@ -87,7 +87,8 @@ pub fn reshard_command<'a>(alloc: Global) -> Result<Command<'a>, AllocError> {
             "DST",
             "The folder of the new array, which is not there yet",
         ))?;
-    inner_options(alloc, index_options(alloc, shape_options(alloc, command)?)?)
+    let command = inner_options(alloc, index_options(alloc, shape_options(alloc, command)?)?)?;
+    command.arg(jobs_option(alloc))
 }
 
 /// The command `compare`.

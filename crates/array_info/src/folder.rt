@@ -1,8 +1,8 @@
 // What stands in an array's folder: the shard that has a key, and what is no shard.
 use array_cli::{Array, Shard, Stop};
 use array_fields::escaped;
-use array_store::{ChunkFiles, age_of};
 use array_grid::ListPart;
+use array_store::{ChunkFiles, age_of};
 use std::io;
 use std::io::Write;
 use std::rt::{Clock, Files};

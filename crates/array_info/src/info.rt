@@ -2,12 +2,12 @@
 use crate::folder::{Listing, write_folder};
 use crate::index_info::{index_info, index_range};
 use crate::json;
+use crate::text::{write_numbers, write_rows};
 use array_cli::{
-    Array, Ending, Place, Progress, Refusal, Shard, ShardCodec, ShardFile, Stop, write_numbers,
-    write_rows, written,
+    Array, Ending, Place, Progress, Refusal, Shard, ShardCodec, ShardFile, Stop, written,
 };
-use array_store::{ChunkFile, ChunkFiles, Counted, FolderFiles, IndexInfo, info_of};
 use array_metadata::ArrayMetadata;
+use array_store::{ChunkFile, ChunkFiles, Counted, FolderFiles, IndexInfo, info_of};
 use parts_errors::CodecError;
 use std::io;
 use std::io::Write;

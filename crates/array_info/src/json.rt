@@ -1,8 +1,9 @@
 // What an array holds, as lines of JSON.
 use crate::info::{ShardInfo, Sums};
-use array_cli::{JsonLine, Place, Refusal, write_json_cell};
-use array_store::ChunkFiles;
+use crate::text::write_json_cell;
+use array_cli::{JsonLine, Place, Refusal};
 use array_metadata::ArrayMetadata;
+use array_store::ChunkFiles;
 use std::io;
 use std::io::Write;
 

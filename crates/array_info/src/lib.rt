@@ -13,6 +13,7 @@ mod new_file;
 mod picture;
 mod shard_info;
 mod subchunks;
+mod text;
 
 pub use folder::{Listing, shard_of, write_folder};
 pub use info::info_of_array;
@@ -22,3 +23,7 @@ pub use map::{map_array, map_shard};
 pub use new_file::{begin, begin_new, save, tell_owner};
 pub use shard_info::info_of_shard;
 pub use subchunks::check_subchunk;
+pub use text::{
+    TextRows, begin_json, end_json, full_name, write_json_cell, write_json_cells, write_numbers,
+    write_rows,
+};

@@ -5,8 +5,8 @@ use array_cli::{
     written,
 };
 use array_fields::{LONGEST_TEXT, escaped};
-use array_store::{ChunkFiles, age_of, read_document};
 use array_info::{Listing, put_refusal, save};
+use array_store::{ChunkFiles, age_of, read_document};
 use sharding_layout::CompactionPlan;
 use std::io::{ErrorKind, Write};
 use std::rt::{Clock, Files};

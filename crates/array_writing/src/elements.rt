@@ -1,8 +1,9 @@
 // The elements that are written into an array, from a file.
-use array_cli::{Array, Stop, full_name};
+use array_cli::{Array, Stop};
 use array_fields::escaped;
-use array_store::npy_header;
 use array_grid::Requested;
+use array_info::full_name;
+use array_store::npy_header;
 use std::alloc::Global;
 use std::io;
 use std::io::ErrorKind;

@@ -3,12 +3,14 @@ use crate::chunks::{chunks_of, elements_of};
 use crate::layout::{LayoutWords, new_document, order_of};
 use crate::new_folder::{begin_folder, encoded, end_folder, put, test_served};
 use array_cli::{
-    Array, Ending, Progress, ShardCodec, ShardFile, Stop, described, read_array, turned, written,
+    Array, CodecUse, Ending, Progress, ShardCodec, ShardFile, ShardWork, SharedArray, SharedSystem,
+    Stop, described, piece_length, piece_of, read_array, run_in_parallel, turned, with_codec,
+    written,
 };
 use array_fields::{LONGEST_TEXT, escaped};
-use array_store::{Counted, read_document};
 use array_grid::SubsetCells;
 use array_metadata::ArrayMetadata;
+use array_store::{Counted, read_document};
 use parts_arrays::ArrayBytes;
 use parts_errors::CodecError;
 use parts_subsets::ArraySubset;
@@ -18,6 +20,9 @@ use std::borrow::CowSlice;
 use std::fs;
 use std::io::Write;
 use std::rt::Files;
+
+// How many chunks a thread makes at a time at most, where there are several.
+const CHUNKS_OF_A_PIECE: usize = 4;
 
 // A new array: the folder in which its shards are made, and its metadata.
 #[derive(Clone, Copy)]
@@ -31,6 +36,22 @@ struct NewArray<'n> {
 struct Written {
     shards: u64,
     bytes: u64,
+}
+
+impl Written {
+    // Nothing.
+    fn nothing() -> Self {
+        Written {
+            shards: 0,
+            bytes: 0,
+        }
+    }
+
+    // More was written.
+    fn add(&mut self, other: Written) {
+        self.shards = self.shards.saturating_add(other.shards);
+        self.bytes = self.bytes.saturating_add(other.bytes);
+    }
 }
 
 // The elements of a chunk, of which those in the array are put at its start, and fill values behind the array's end.
@@ -94,33 +115,106 @@ fn put_chunk<'a, R: Files + AllocGlobal, C: ShardCodec<ShardFile<'a, R>>>(
     Ok(Some(bytes.len() as u64))
 }
 
-// Makes the chunks of a new array that have these coordinates.
-fn put_all<'a, R: Files + AllocGlobal, C: ShardCodec<ShardFile<'a, R>>, M: Write>(
+// Makes chunks of a new array, one after the other, as far as none is refused.
+fn put_each<'a, R: Files + AllocGlobal, C: ShardCodec<ShardFile<'a, R>>>(
     old: &Array<'a, R, C>,
     new: &NewArray<'_>,
     chunks: &[Vec<u64>],
-    progress: &mut Progress<'_, M>,
 ) -> Result<Written, Stop> {
-    let mut sum = Written {
-        shards: 0,
-        bytes: 0,
-    };
-    for (number, coordinates) in chunks.iter().enumerate() {
-        progress.step(number as u64, chunks.len() as u64);
+    let mut sum = Written::nothing();
+    for coordinates in chunks {
         if let Some(bytes) = put_chunk(old, new, coordinates)? {
-            sum.shards = sum.shards.saturating_add(1);
-            sum.bytes = sum.bytes.saturating_add(bytes);
+            sum.add(Written { shards: 1, bytes });
         }
     }
     Ok(sum)
 }
 
+// Chunks of a new array, by their coordinates.
+#[derive(Drop)]
+struct NewChunks<'s, 'n, R> {
+    old: &'s SharedArray<'s, R>,
+    new: &'s NewArray<'n>,
+    chunks: &'s [Vec<u64>],
+}
+
+impl<'s, R: Files + AllocGlobal> CodecUse<ShardFile<'s, R>> for NewChunks<'s, '_, R> {
+    type Answer = Result<Written, Stop>;
+
+    fn with<C: ShardCodec<ShardFile<'s, R>>>(self, codec: C) -> Result<Written, Stop> {
+        let NewChunks { old, new, chunks } = self;
+        let old = Array::open(old.rt, old.path, old.metadata, codec)?;
+        put_each(&old, new, chunks)
+    }
+}
+
+// Chunks of a new array, in pieces of as many chunks.
+#[derive(Drop)]
+struct ChunkPieces<'s, 'n, R> {
+    old: &'s SharedArray<'s, R>,
+    new: &'s NewArray<'n>,
+    chunks: &'s [Vec<u64>],
+    in_piece: usize,
+}
+
+impl<R: Files + AllocGlobal> ShardWork for ChunkPieces<'_, '_, R> {
+    type Answer = Result<Written, Stop>;
+
+    // no contract says what files give
+    ghost gives = { λ pieces number made. Unit {0} };
+
+    fn run(&self, number: u64) -> Result<Written, Stop> {
+        let (old, new) = (self.old, self.new);
+        let chunks = piece_of(self.chunks, number, self.in_piece);
+        with_codec(old.metadata, NewChunks { old, new, chunks })
+    }
+}
+
+// Makes pieces of chunks, each by a thread of its own, and adds what was made, as far as none is refused.
+fn put_pieces<R: SharedSystem>(
+    pieces: &ChunkPieces<'_, '_, R>,
+    sum: &mut Written,
+) -> Result<(), Stop> {
+    let old = pieces.old;
+    let count = pieces.chunks.len().div_ceil(pieces.in_piece.max(1));
+    for made in run_in_parallel(old.rt, old.alloc(), count, pieces)? {
+        sum.add(made?);
+    }
+    Ok(())
+}
+
+// Makes the chunks of a new array that have these coordinates, by `jobs` threads that have a piece each at a time.
+fn put_all<'s, R: SharedSystem, M: Write>(
+    old: &'s SharedArray<'s, R>,
+    new: &'s NewArray<'_>,
+    chunks: &'s [Vec<u64>],
+    jobs: usize,
+    progress: &mut Progress<'_, M>,
+) -> Result<Written, Stop> {
+    let mut sum = Written::nothing();
+    let most = if jobs == 1 { 1 } else { CHUNKS_OF_A_PIECE };
+    let in_piece = piece_length(chunks.len(), jobs, most);
+    let at_once = in_piece.saturating_mul(jobs).max(1);
+    for (number, some) in chunks.chunks(at_once).enumerate() {
+        progress.step(number.saturating_mul(at_once) as u64, chunks.len() as u64);
+        let pieces = ChunkPieces {
+            old,
+            new,
+            chunks: some,
+            in_piece,
+        };
+        put_pieces(&pieces, &mut sum)?;
+    }
+    Ok(sum)
+}
+
 // Makes a new array in the folder `beside`, which is there, and puts it at its path.
-fn make_in<'a, R: Files + AllocGlobal, C: ShardCodec<ShardFile<'a, R>>, M: Write>(
-    old: &Array<'a, R, C>,
+fn make_in<R: SharedSystem, M: Write>(
+    old: &SharedArray<'_, R>,
     paths: (&str, &str),
     document: &str,
     new: &ArrayMetadata,
+    jobs: usize,
     progress: &mut Progress<'_, M>,
 ) -> Result<Written, Stop> {
     let (path, beside) = paths;
@@ -129,22 +223,23 @@ fn make_in<'a, R: Files + AllocGlobal, C: ShardCodec<ShardFile<'a, R>>, M: Write
         folder: beside,
         metadata: new,
     };
-    let sum = put_all(old, &array, &chunks, progress)?;
+    let sum = put_all(&*old, &array, &chunks, jobs, progress)?;
     end_folder(old.rt, path, beside, document)?;
     Ok(sum)
 }
 
 // Makes a new array in a folder beside its path, and puts it there; where that is refused, nothing is left of it.
-fn make<'a, R: Files + AllocGlobal, C: ShardCodec<ShardFile<'a, R>>, M: Write>(
-    old: &Array<'a, R, C>,
+fn make<R: SharedSystem, M: Write>(
+    old: &SharedArray<'_, R>,
     path: &str,
     document: &str,
     new: &ArrayMetadata,
+    jobs: usize,
     progress: &mut Progress<'_, M>,
 ) -> Result<Written, Stop> {
     let beside = format!(in old.alloc(); "{path}.partial")?;
     begin_folder(old.rt, path, &beside)?;
-    let made = make_in(old, (path, &beside), document, new, progress);
+    let made = make_in(old, (path, &beside), document, new, jobs, progress);
     if made.is_err() {
         let _ = fs::remove_dir_all(old.rt, &beside);
     }
@@ -152,12 +247,14 @@ fn make<'a, R: Files + AllocGlobal, C: ShardCodec<ShardFile<'a, R>>, M: Write>(
 }
 
 /// Makes a new array of the elements of an old one, laid out in another way, in a folder that is not there yet. It is written beside
-/// itself, with `.partial` behind its name, and renamed once it is whole; where anything is refused, nothing is left. Each new shard is
-/// read from the old array as one subset. Writes how many shards and bytes it has.
-pub fn reshard<'a, R: Files + AllocGlobal, C: ShardCodec<ShardFile<'a, R>>, W: Write, M: Write>(
-    old: &Array<'a, R, C>,
+/// itself, with `.partial` behind its name, and renamed once it is whole; where anything is refused, nothing is left, and the refusal is
+/// that of the first new shard, in the order of their grid, that is refused. Each new shard is read from the old array as one subset, and
+/// made by one of `jobs` threads. Writes how many shards and bytes it has.
+pub fn reshard<R: SharedSystem, W: Write, M: Write>(
+    old: &SharedArray<'_, R>,
     path: &str,
     words: &LayoutWords<'_>,
+    jobs: usize,
     out: &mut W,
     progress: &mut Progress<'_, M>,
 ) -> Result<Ending, Stop> {
@@ -168,7 +265,7 @@ pub fn reshard<'a, R: Files + AllocGlobal, C: ShardCodec<ShardFile<'a, R>>, W: W
     let document = new_document(alloc, words, &text, old.metadata)?;
     let new = described(alloc, path, &document, order)?;
     test_served(old.rt, path, &new)?;
-    let Written { shards, bytes } = make(old, path, &document, &new, progress)?;
+    let Written { shards, bytes } = make(old, path, &document, &new, jobs, progress)?;
     progress.clear();
     let shards = Counted(shards, "shard");
     written(writeln!(out, "{shards}: {bytes} bytes"), Ending::Done)?;

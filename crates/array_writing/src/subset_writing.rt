@@ -5,10 +5,10 @@ use array_cli::{
     Array, Ending, OpenShard, Place, Progress, Shard, ShardCodec, ShardFile, Stop, put_elements,
     shards_of, turned, written,
 };
-use array_store::Counted;
 use array_grid::{ShardGrid, ShardPart, ShardParts, SubsetCells, subset_of};
 use array_info::save;
 use array_metadata::ArrayMetadata;
+use array_store::Counted;
 use parts_arrays::ArrayBytes;
 use parts_errors::CodecError;
 use parts_subsets::ArraySubset;

@@ -5,6 +5,7 @@ use std::io;
 use std::io::{Read, Seek, SeekFrom, Write};
 use std::path::PathBuf;
 use std::rt::{Clock, Files};
+use std::thread::Threads;
 use std::time::Duration;
 
 // How many bytes an open file still takes on a disk that is full.
@@ -94,6 +95,8 @@ impl<R: Files> Files for Disk<'_, R> {
         self.rt.lchown(path, uid, gid)
     }
 }
+
+impl<R: Threads> Threads for Disk<'_, R> {}
 
 // It has no clock, so that nothing printed depends on the time.
 impl<R> Clock for Disk<'_, R> {

@@ -51,10 +51,10 @@ mod transposes;
 use crate::closed::Closed;
 use crate::disk::Disk;
 use crate::steps::{link, set_length, set_mode, write_bytes, write_permissions};
+use array_cli::SharedSystem;
 use array_commands::run_command;
 use std::alloc::Global;
 use std::io::Write;
-use std::rt::{Clock, Files};
 use std::{fs, io};
 
 // Writes messages, each line behind `! `.
@@ -67,7 +67,7 @@ fn write_messages(alloc: Global, messages: &[u8], out: &mut Vec<u8>) -> io::Resu
 }
 
 // What a command line answers, and the status.
-fn answer_of<R: Files + AllocGlobal + Clock>(
+fn answer_of<R: SharedSystem>(
     rt: &R,
     words: &[&str],
     shows_progress: bool,
@@ -80,11 +80,7 @@ fn answer_of<R: Files + AllocGlobal + Clock>(
 }
 
 // The status of a command line whose answer nobody reads.
-fn answer_nobody<R: Files + AllocGlobal + Clock>(
-    rt: &R,
-    words: &[&str],
-    out: &mut Vec<u8>,
-) -> io::Result<()> {
+fn answer_nobody<R: SharedSystem>(rt: &R, words: &[&str], out: &mut Vec<u8>) -> io::Result<()> {
     let mut messages: Vec<u8> = Vec::new(rt.alloc());
     let status = run_command(rt, words, Closed, &mut messages, false);
     write_messages(rt.alloc(), &messages, out)?;
@@ -92,7 +88,7 @@ fn answer_nobody<R: Files + AllocGlobal + Clock>(
 }
 
 // What the words of a line answer, of which the first may say how they are run.
-fn answer_words(rt: &HostRuntime, words: &[&str], out: &mut Vec<u8>) -> io::Result<()> {
+fn answer_words<R: SharedSystem>(rt: &R, words: &[&str], out: &mut Vec<u8>) -> io::Result<()> {
     let (words, is_full, shows_progress) = match words {
         ["closed", words @ ..] => return answer_nobody(&Disk::over(rt, false), words, out),
         ["progress", words @ ..] => (words, false, true),
@@ -102,8 +98,8 @@ fn answer_words(rt: &HostRuntime, words: &[&str], out: &mut Vec<u8>) -> io::Resu
     answer_of(&Disk::over(rt, is_full), words, shows_progress, out)
 }
 
-// Runs a line, and prints what it answers.
-fn run_line(rt: &HostRuntime, line: &str) -> io::Result<()> {
+// Runs a line, and gives what it answers.
+fn run_line<R: SharedSystem>(rt: &R, line: &str) -> io::Result<Vec<u8>> {
     let words: Vec<&str> = line.split(' ').collect(rt.alloc())?;
     let mut out: Vec<u8> = Vec::new(rt.alloc());
     match words.as_slice() {
@@ -114,13 +110,14 @@ fn run_line(rt: &HostRuntime, line: &str) -> io::Result<()> {
         ["length", bytes, path] => set_length(rt, bytes, path)?,
         words => answer_words(rt, words, &mut out)?,
     }
-    let answer = String::from_utf8_lossy(rt.alloc(), &out)?;
-    print!(rt; "> {line}\n{answer}")
+    Ok(out)
 }
 
 fn main(rt: HostRuntime) -> io::Result<()> {
     for line in fs::read_to_string(&rt, "COMMANDS")?.lines() {
-        run_line(&rt, line)?;
+        let answer = run_line(&rt, line)?;
+        let answer = String::from_utf8_lossy(rt.alloc(), &answer)?;
+        print!(rt; "> {line}\n{answer}")?;
     }
     Ok(())
 }

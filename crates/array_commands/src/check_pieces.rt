@@ -1,0 +1,185 @@
+// Shards that threads check side by side, a piece of their list each at a time.
+use crate::check::check_each_file;
+use crate::checked::{Checked, Told};
+use array_cli::{
+    Array, CodecUse, Ending, Progress, ShardCodec, ShardFile, ShardWork, SharedArray, SharedSystem,
+    Stop, piece_length, piece_of, run_in_parallel, with_codec, written,
+};
+use array_store::ChunkFile;
+use std::io;
+use std::io::Write;
+use std::rt::Files;
+
+// How many shards a thread checks at a time at most.
+const SHARDS_OF_A_PIECE: usize = 16;
+
+// Files of shards that one thread checks.
+#[derive(Drop)]
+struct CheckedFiles<'s, 'o, 'm, R, W, M> {
+    array: &'s SharedArray<'s, R>,
+    files: &'s [ChunkFile],
+    checked: &'s mut Checked,
+    told: &'s mut Told<'o, 'm, W, M>,
+}
+
+impl<'s, R: Files + AllocGlobal, W: Write, M: Write> CodecUse<ShardFile<'s, R>>
+    for CheckedFiles<'s, '_, '_, R, W, M> {
+    type Answer = Result<(), Stop>;
+
+    fn with<C: ShardCodec<ShardFile<'s, R>>>(self, codec: C) -> Result<(), Stop> {
+        let CheckedFiles {
+            array,
+            files,
+            checked,
+            told,
+        } = self;
+        let array = Array::open(array.rt, array.path, array.metadata, codec)?;
+        check_each_file(&array, files, checked, told)
+    }
+}
+
+// Checks the shards in these files by one thread.
+fn check_files<'s, R: Files + AllocGlobal, W: Write, M: Write>(
+    array: &'s SharedArray<'s, R>,
+    files: &'s [ChunkFile],
+    checked: &'s mut Checked,
+    told: &'s mut Told<'_, '_, W, M>,
+) -> Result<(), Stop> {
+    let checking = CheckedFiles {
+        array,
+        files,
+        checked,
+        told,
+    };
+    with_codec(array.metadata, checking)
+}
+
+// What came of a piece: what was checked, the lines that tell of it, and why the command stops behind them, if it does.
+#[derive(Drop)]
+struct PieceChecked {
+    checked: Checked,
+    lines: Vec<u8>,
+    stop: Option<Stop>,
+}
+
+// Files of shards, in pieces of as many files, and how they are checked.
+#[derive(Drop)]
+struct FilePieces<'s, R> {
+    array: &'s SharedArray<'s, R>,
+    files: &'s [ChunkFile],
+    in_piece: usize,
+    is_index_alone: bool,
+    is_json: bool,
+}
+
+// Why a check stops whose lines go to memory: where they are not taken, that ran out.
+fn stop_in_memory(stop: Stop) -> Stop {
+    match stop {
+        Stop::Output(_) => Stop::OutOfMemory,
+        stop => stop,
+    }
+}
+
+impl<R: Files + AllocGlobal> ShardWork for FilePieces<'_, R> {
+    type Answer = PieceChecked;
+
+    // no contract says what files give
+    ghost gives = { λ pieces number checked. Unit {0} };
+
+    fn run(&self, number: u64) -> PieceChecked {
+        let files = piece_of(self.files, number, self.in_piece);
+        let alloc = self.array.alloc();
+        let (mut lines, mut silent) = (Vec::new(alloc), Vec::new(alloc));
+        let mut checked = Checked::none(files.len() as u64, self.is_index_alone);
+        let mut told = Told {
+            out: &mut lines,
+            progress: &mut Progress::new(&mut silent, false),
+            is_json: self.is_json,
+        };
+        let ended = check_files(self.array, files, &mut checked, &mut told);
+        PieceChecked {
+            checked,
+            lines,
+            stop: ended.err().map(stop_in_memory),
+        }
+    }
+}
+
+// Writes the lines that tell of a piece, which are seen at once.
+fn write_lines<W: Write>(out: &mut W, lines: &[u8]) -> io::Result<()> {
+    if lines.is_empty() {
+        return Ok(());
+    }
+    out.write_all(lines)?;
+    out.flush()
+}
+
+// Tells what came of a piece.
+fn tell_piece<W: Write, M: Write>(
+    piece: PieceChecked,
+    checked: &mut Checked,
+    told: &mut Told<'_, '_, W, M>,
+) -> Result<(), Stop> {
+    let PieceChecked {
+        checked: of_piece,
+        lines,
+        stop,
+    } = piece;
+    checked.add_all(&of_piece);
+    told.progress.clear();
+    // a line that is none of JSON tells a refusal
+    let ending = if told.is_json || lines.is_empty() {
+        checked.ending(true)
+    } else {
+        Ending::Refused
+    };
+    written(write_lines(told.out, &lines), ending)?;
+    match stop {
+        Some(stop) => Err(stop),
+        None => Ok(()),
+    }
+}
+
+// Checks the shards in these files, each piece of them by a thread of its own, and tells what came of them in their order.
+fn check_pieces_of<'s, R: SharedSystem, W: Write, M: Write>(
+    array: &'s SharedArray<'s, R>,
+    files: &'s [ChunkFile],
+    in_piece: usize,
+    checked: &mut Checked,
+    told: &mut Told<'_, '_, W, M>,
+) -> Result<(), Stop> {
+    let pieces = FilePieces {
+        array,
+        files,
+        in_piece,
+        is_index_alone: checked.is_index_alone,
+        is_json: told.is_json,
+    };
+    let count = files.len().div_ceil(in_piece.max(1));
+    for piece in run_in_parallel(array.rt, array.alloc(), count, &pieces)? {
+        tell_piece(piece, checked, told)?;
+    }
+    Ok(())
+}
+
+/// Checks the shards in these files by `jobs` threads, and tells what one thread tells, in its order: of several threads the lines of some
+/// shards at a time.
+pub fn check_all<R: SharedSystem, W: Write, M: Write>(
+    array: &SharedArray<'_, R>,
+    files: &[ChunkFile],
+    jobs: usize,
+    checked: &mut Checked,
+    told: &mut Told<'_, '_, W, M>,
+) -> Result<(), Stop> {
+    if jobs == 1 || files.len() < 2 {
+        return check_files(array, files, checked, told);
+    }
+    let in_piece = piece_length(files.len(), jobs, SHARDS_OF_A_PIECE);
+    let at_once = in_piece.saturating_mul(jobs).max(1);
+    for (number, some) in files.chunks(at_once).enumerate() {
+        let done = number.saturating_mul(at_once);
+        told.progress.step(done as u64, files.len() as u64);
+        check_pieces_of(&*array, some, in_piece, checked, told)?;
+    }
+    Ok(())
+}
