@@ -7,8 +7,9 @@ use Rattle.parts_subsets.specs.Grid.{grid_of}
 use Rattle.parts_row_major.specs.Subsets.{Subset, IsSubset, LiesIn, number_in, numbers_in}
 use Rattle.parts_subsets.specs.Touched.{Touches, AreTouched, IsTouchedSubset}
 use Rattle.parts_subsets.proofs.TouchedLaws.{touched_lies_in, are_touched}
+use Rattle.sharding_plans.proofs.RoundingLemmas.{lies_in_whole}
 use Rattle.array_grid.specs.Shards.{IsSharded}
-use Rattle.array_grid.proofs.RoundingLemmas.{lies_in_whole, shards_fit}
+use Rattle.array_grid.proofs.RoundingLemmas.{shards_fit}
 
 -- an array in shards, a subset of it, and the shards that it meets as a subset of the grid
 module _ (shape shard whole grid : List ℕ) (shards : ℕ) (i : IsSharded shape shard whole grid shards) (subset touched : Subset)

@@ -8,7 +8,8 @@ use Rattle.parts_subsets.specs.Grid.{grid_of}
 use Rattle.parts_subsets.specs.Touched.{AreTouched, IsTouchedSubset}
 use Rattle.parts_errors.specs.declared.error.CodecError.TheVariants.{IncompatibleDimensionality, OutOfBounds}
 use Rattle.sharding_gather.specs.SubchunkOverlaps.{IsSubchunkOverlap}
-use Rattle.array_grid.specs.Shards.{ShardedArray, whole_shards}
+use Rattle.sharding_plans.specs.Chunks.{whole_chunks}
+use Rattle.array_grid.specs.Shards.{ShardedArray}
 use Rattle.array_grid.specs.declared.parts.ShardPart.{ShardPart}
 
 -- a part of a subset in one of the shards in which a cell of the subset lies, of a count of them: the one with a place among
@@ -16,17 +17,17 @@ use Rattle.array_grid.specs.declared.parts.ShardPart.{ShardPart}
 -- rounded up to whole shards
 pub record IsPartAt (array : ShardedArray) (subset : Subset) (count position : ℕ) (part : ShardPart) : Type 0 where
   pub shards : List ℕ
-  pub touched : AreTouched (whole_shards array.shape array.shard) array.shard subset shards
+  pub touched : AreTouched (whole_chunks array.shape array.shard) array.shard subset shards
   pub counted : length shards ≡ count
   pub here : slice_index shards position ≡ part.shard
-  pub coordinates : let grid = grid_of (whole_shards array.shape array.shard) array.shard in
+  pub coordinates : let grid = grid_of (whole_chunks array.shape array.shard) array.shard in
       HasPoint part.shard grid × (part.coordinates.items ≡ point_of part.shard grid)
-  pub meets : IsSubchunkOverlap (whole_shards array.shape array.shard) array.shard subset part.shard part.in_shard part.in_subset
+  pub meets : IsSubchunkOverlap (whole_chunks array.shape array.shard) array.shard subset part.shard part.in_shard part.in_subset
 
 -- a subset meets this number of shards: those in which a cell of it lies
 pub record MeetsShards (array : ShardedArray) (subset : Subset) (count : ℕ) : Type 0 where
   pub shards : List ℕ
-  pub touched : AreTouched (whole_shards array.shape array.shard) array.shard subset shards
+  pub touched : AreTouched (whole_chunks array.shape array.shard) array.shard subset shards
   pub counted : length shards ≡ count
 
 -- a subset of an array, and in how many shards a cell of it lies

@@ -1,19 +1,11 @@
 -- The shards that an array is cut into.
-use Rattle.std.specs.Prelude.{◌≡◌, ◌<◌, ◌+◌, ◌-◌, ◌*◌, ◌/◌, ◌^◌, ℕ, List, length}
-use Rattle.std.specs.List.{All}
+use Rattle.std.specs.Prelude.{◌≡◌, ◌<◌, ◌^◌, ℕ, List, length}
 use Rattle.parts_errors.specs.Words.{Refusals}
 use Rattle.parts_errors.specs.Order.{◌or◌then◌, done}
-use Rattle.parts_row_major.specs.Numbering.{AllPositive, count_of, zip_with}
+use Rattle.parts_row_major.specs.Numbering.{AllPositive, count_of}
 use Rattle.parts_subsets.specs.Grid.{Divides, grid_of}
-use Rattle.parts_errors.specs.declared.error.CodecError.TheVariants.{IncompatibleDimensionality, TooLarge}
-
--- the cells along an axis, rounded up to whole shards: to one where there is no cell
-abbrev pub rounded_up : ℕ → ℕ → ℕ
-rounded_up cells part = ((cells - 1) / part + 1) * part
-
--- the shape of an array, rounded up to whole shards
-abbrev pub whole_shards : List ℕ → List ℕ → List ℕ
-whole_shards shape shard = zip_with rounded_up shape shard
+use Rattle.parts_errors.specs.declared.error.CodecError.TheVariants.{TooLarge}
+use Rattle.sharding_plans.specs.Chunks.{whole_chunks, AxesRefusals}
 
 -- an array whose chunks are shards: its shape, and that of a shard
 pub record ShardedArray : Type 0 where
@@ -24,21 +16,14 @@ pub record ShardedArray : Type 0 where
 pub record IsSharded (shape shard whole grid : List ℕ) (shards : ℕ) : Type 0 where
   pub same_axes : length shape ≡ length shard
   pub some : AllPositive shard
-  pub rounded : whole ≡ whole_shards shape shard
+  pub rounded : whole ≡ whole_chunks shape shard
   pub divided : Divides shard whole
   pub fits : count_of whole < 2 ^ 64
   pub cut : grid ≡ grid_of whole shard
   pub counted : AllPositive shape → shards ≡ count_of grid
   pub none : ¬ AllPositive shape → shards ≡ 0
 
--- the tests of the axes of an array and of a shard
-abbrev pub AxesRefusals : List ℕ → List ℕ → Refusals → Refusals
-AxesRefusals shape shard later =
-    length shape ≡ length shard or IncompatibleDimensionality then
-    All (λ axis. axis < 2 ^ 64) (whole_shards shape shard) or TooLarge then
-    later
-
 -- the tests of an array that is cut into shards
 abbrev pub ShardingRefusals : List ℕ → List ℕ → Refusals
 ShardingRefusals shape shard =
-    AxesRefusals shape shard (count_of (whole_shards shape shard) < 2 ^ 64 or TooLarge then done)
+    AxesRefusals shape shard (count_of (whole_chunks shape shard) < 2 ^ 64 or TooLarge then done)

@@ -4,12 +4,14 @@ ghost use Rattle.std.specs.List.{All};
 ghost use Rattle.parts_errors.specs.Order.{RefusedBy, done};
 ghost use Rattle.parts_row_major.specs.Numbering.{AllPositive, count_of, point_of, HasPoint};
 ghost use Rattle.parts_subsets.specs.Grid.{grid_of};
-ghost use Rattle.array_grid.specs.Shards.{rounded_up, whole_shards, AxesRefusals, ShardingRefusals};
+ghost use Rattle.sharding_plans.specs.Chunks.{whole_chunks};
+ghost use Rattle.array_grid.specs.Shards.{ShardingRefusals};
 
 use parts_errors::CodecError;
 use parts_row_major::unravel_index;
 use parts_subsets::{Axes, ChunkShape};
 use sharding_format::calculate_chunks_per_shard;
+use sharding_plans::whole_axes;
 use std::alloc::{AllocError, Global};
 use std::marker::Model;
 
@@ -38,36 +40,6 @@ impl Model for ShardGrid {
     ghost invariant = { λ grid. IsSharded grid.shape.items grid.shard grid.whole grid.grid grid.len };
 }
 
-// The cells along an axis, rounded up to whole shards.
-fn whole_axis(cells: u64, part: u64) -> Option<u64>
-    requires { 0 < part }
-    ensures { SomeIff result (rounded_up cells part < 2 ^ 64) (rounded_up cells part) }
-{
-    let before = cells.saturating_sub(1) / part;
-    before.checked_add(1)?.checked_mul(part)
-}
-
-// The shape of an array, rounded up to whole shards.
-fn whole_axes(alloc: Global, shape: &[u64], shard: &[u64]) -> Result<Axes, CodecError>
-    requires shard { AllPositive shard.now }
-    ensures whole { IfOk result (λ whole. whole.items ≡ whole_shards shape.now shard.now) }
-    ensures positive { IfOk result (λ whole. AllPositive whole.items) }
-    ensures served { OnOk result ((length shape.now ≡ length shard.now) × All (λ axis. axis < 2 ^ 64) (whole_shards shape.now shard.now)) }
-    ensures refused { IfErr result (RefusedBy (AxesRefusals shape.now shard.now done)) }
-{
-    if shape.len() != shard.len() {
-        return Err(CodecError::IncompatibleDimensionality);
-    }
-    let mut whole = Axes::new(alloc);
-    for axis in 0..shape.len() {
-        let Some(cells) = whole_axis(shape[axis], shard[axis]) else {
-            return Err(CodecError::TooLarge);
-        };
-        whole.push(cells)?;
-    }
-    Ok(whole)
-}
-
 // Whether an array of a shape has cells.
 fn has_cells(shape: &[u64]) -> bool
     ensures { IsTrue result ↔ AllPositive shape.now }
@@ -81,8 +53,8 @@ impl ShardGrid {
     /// more than `u64::MAX`; or as `OutOfMemory`.
     pub fn new(alloc: Global, shape: &[u64], shard: &ChunkShape) -> Result<Self, CodecError>
         ensures grid { IfOk result (λ grid. grid ≡ record { shape = shape.now; shard = shard.now }) }
-        ensures served { OnOk result ((length shape.now ≡ length shard.now) × (count_of (whole_shards shape.now shard.now) < 2 ^ 64)) }
-        ensures axes { OnOk result (All (λ axis. axis < 2 ^ 64) (whole_shards shape.now shard.now)) }
+        ensures served { OnOk result ((length shape.now ≡ length shard.now) × (count_of (whole_chunks shape.now shard.now) < 2 ^ 64)) }
+        ensures axes { OnOk result (All (λ axis. axis < 2 ^ 64) (whole_chunks shape.now shard.now)) }
         ensures refused { IfErr result (RefusedBy (ShardingRefusals shape.now shard.now)) }
     {
         let whole = ChunkShape::from_positive(whole_axes(alloc, shape, shard.as_slice())?);
@@ -105,7 +77,7 @@ impl ShardGrid {
 
     /// How many shards there are.
     pub fn len(&self) -> u64
-        ensures some { AllPositive self.now.shape → result ≡ count_of (grid_of (whole_shards self.now.shape self.now.shard) self.now.shard) }
+        ensures some { AllPositive self.now.shape → result ≡ count_of (grid_of (whole_chunks self.now.shape self.now.shard) self.now.shard) }
         ensures none { ¬ AllPositive self.now.shape → result ≡ 0 }
     {
         self.len
@@ -114,7 +86,7 @@ impl ShardGrid {
     /// The coordinates of a shard in the grid, of which its key is made (Zarr V3 core, "Chunk key encoding"); `None` past the
     /// last one. In an array without cells an axis that has none counts as one that a single shard holds. Refused only as out of memory.
     pub fn coordinates(&self, alloc: Global, number: u64) -> Result<Option<Vec<u64>>, AllocError>
-        ensures { let grid = grid_of (whole_shards self.now.shape self.now.shard) self.now.shard in
+        ensures { let grid = grid_of (whole_chunks self.now.shape self.now.shard) self.now.shard in
             IfOk result (λ found. MatchOption found (¬ HasPoint number grid) (λ point. HasPoint number grid × (point.items ≡ point_of number grid))) }
     {
         unravel_index(alloc, number, self.grid.as_slice())

@@ -6,11 +6,11 @@ use Rattle.parts_row_major.specs.Pieces.{piece}
 use Rattle.parts_row_major.specs.Subsets.{Subset, LiesIn, number_in, point_in}
 use Rattle.parts_subsets.specs.Grid.{Divides, grid_of, subchunk_of, position_of, position_number}
 use Rattle.parts_subsets.specs.Touched.{AreTouched}
+use Rattle.sharding_plans.specs.Chunks.{whole_chunks}
+use Rattle.sharding_plans.proofs.RoundingLemmas.{lies_in_whole, whole_divided}
 use Rattle.array_grid.specs.Cells.{CellsOfSubset}
 use Rattle.array_grid.specs.Parts.{IsPartAt}
-use Rattle.array_grid.specs.Shards.{whole_shards}
 use Rattle.array_grid.specs.declared.parts.ShardPart.{ShardPart}
-use Rattle.array_grid.proofs.RoundingLemmas.{whole_divided, lies_in_whole}
 use Rattle.array_store.specs.ArrayElements.{cell_of, object_of, element_at}
 use Rattle.array_store.specs.declared.format.ArrayFormat.{ArrayFormat}
 use Rattle.array_store.specs.steps.Reading.{IsPartPut, chunk_at, IsChunkRead}
@@ -20,7 +20,7 @@ use Rattle.array_store.proofs.ReadLemmas.{chunk_read}
 module _ (contents : Bytes → Option Bytes) (format : ArrayFormat) (cells : CellsOf) (subset : Subset)
     (same : length format.shape.now ≡ length format.chunk.now) (some : AllPositive format.chunk.now) (lies : LiesIn subset format.shape.now) where
   abbrev whole : List ℕ
-  whole = whole_shards format.shape.now format.chunk.now
+  whole = whole_chunks format.shape.now format.chunk.now
 
   divides : Divides format.chunk.now whole
   divides = whole_divided format.shape.now format.chunk.now same some

@@ -7,8 +7,8 @@ use Rattle.parts_row_major.specs.Numbering.{count_of, IsInside, number_of}
 use Rattle.parts_row_major.specs.Subsets.{Subset, point_in}
 use Rattle.parts_subsets.specs.Grid.{grid_of, subchunk_of}
 use Rattle.parts_subsets.specs.Touched.{AreTouched}
+use Rattle.sharding_plans.specs.Chunks.{whole_chunks}
 use Rattle.array_grid.specs.ChunkKeys.{chunk_key}
-use Rattle.array_grid.specs.Shards.{whole_shards}
 use Rattle.array_store.specs.ArrayElements.{element_at}
 use Rattle.array_store.specs.Stores.{StoreState}
 use Rattle.array_store.specs.declared.error.ArrayError.{ArrayError}
@@ -22,7 +22,7 @@ key_at format point = chunk_key format.keys (subchunk_of point format.chunk.now)
 -- the number of that chunk in the chunk grid
 abbrev pub chunk_number : ArrayFormat → List ℕ → ℕ
 chunk_number format point =
-    number_of (subchunk_of point format.chunk.now) (grid_of (whole_shards format.shape.now format.chunk.now) format.chunk.now)
+    number_of (subchunk_of point format.chunk.now) (grid_of (whole_chunks format.shape.now format.chunk.now) format.chunk.now)
 
 -- an array after a write of a subset: at the subset's points stand the elements that were written, and elsewhere what stood there
 pub record IsArrayWritten (old new : List ℕ → Option Bytes) (shape : List ℕ) (subset : Subset) (update : ℕ → Bytes) : Type 0 where
@@ -44,7 +44,7 @@ IsFaultAt (Chunk named e) key = (e ≡ Fault) × (string_bytes named ≡ key)
 -- elsewhere stands what stood there, save in a chunk that is named with a fault
 pub record IsWriteStopped (format : ArrayFormat) (cells : CellsOf) (subset : Subset) (update : ℕ → Bytes) (written : List ℕ)
     (error : ArrayError) (old new : Bytes → Option Bytes) : Type 0 where
-  pub first : (touched : List ℕ) → AreTouched (whole_shards format.shape.now format.chunk.now) format.chunk.now subset touched
+  pub first : (touched : List ℕ) → AreTouched (whole_chunks format.shape.now format.chunk.now) format.chunk.now subset touched
       → (length written ≤ length touched) × ((i : ℕ) → i < length written → slice_index touched i ≡ slice_index written i)
   pub inside : (q : ℕ) → q < count_of subset.shape → Contains written (chunk_number format (point_in subset q))
       → element_at new format cells (point_in subset q) ≡ Some (update q)

@@ -4,9 +4,10 @@ use Rattle.parts_errors.specs.Order.{RefusedBy}
 use Rattle.parts_errors.specs.declared.error.CodecError.TheVariants.{OutOfMemory}
 use Rattle.parts_row_major.specs.Numbering.{count_of}
 use Rattle.parts_row_major.specs.Subsets.{Subset, LiesIn, point_in}
+use Rattle.sharding_plans.specs.Chunks.{whole_chunks}
 use Rattle.array_grid.specs.Cells.{FillRefusals}
 use Rattle.array_grid.specs.Parts.{SubsetRefusals}
-use Rattle.array_grid.specs.Shards.{ShardingRefusals, whole_shards}
+use Rattle.array_grid.specs.Shards.{ShardingRefusals}
 use Rattle.array_store.specs.ArrayWrites.{key_at}
 use Rattle.array_store.specs.declared.error.ArrayError.{ArrayError}
 use Rattle.array_store.specs.declared.error.ArrayError.TheVariants.{Whole, Chunk}
@@ -21,7 +22,7 @@ IsRefusalIn format subset (Chunk named e) =
 -- the shape of an array is cut into chunks, whose elements can be counted
 abbrev pub IsCut : ArrayFormat → Type 0
 IsCut format =
-    (length format.shape.now ≡ length format.chunk.now) × (count_of (whole_shards format.shape.now format.chunk.now) < 2 ^ 64)
+    (length format.shape.now ≡ length format.chunk.now) × (count_of (whole_chunks format.shape.now format.chunk.now) < 2 ^ 64)
 
 -- a read is refused as the chunk grid is, or then as the subset is, or then as the room for its elements is, or then for a chunk
 abbrev pub IsReadRefusal : ArrayFormat → Subset → ArrayError → Type 0

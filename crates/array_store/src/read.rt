@@ -8,7 +8,7 @@ ghost use Rattle.parts_subsets.specs.Grid.{grid_of};
 ghost use Rattle.parts_subsets.specs.Touched.{AreTouched};
 ghost use Rattle.parts_arrays.specs.Types.{size_of};
 ghost use Rattle.parts_arrays.specs.declared.data_type.DataTypeSize.TheVariants.{Fixed};
-ghost use Rattle.array_grid.specs.Shards.{whole_shards};
+ghost use Rattle.sharding_plans.specs.Chunks.{whole_chunks};
 ghost use Rattle.array_grid.specs.Parts.{IsPartAt};
 ghost use Rattle.array_store.specs.ArrayElements.{AreElementsAt, chunk_spec, element_at, object_of};
 ghost use Rattle.array_grid.specs.ChunkKeys.{chunk_key};
@@ -84,7 +84,7 @@ impl<S: Store, C: ArrayToBytesCodecTraits> Array<'_, S, C> {
         requires number { number < parts.now.count }
         ensures same_size { cells.new.element_size ≡ cells.old.element_size }
         ensures same_shape { cells.new.shape ≡ cells.old.shape }
-        ensures read { let f = self.now.format in let subset = parts.now.subset in let whole = whole_shards f.shape.now f.chunk.now in
+        ensures read { let f = self.now.format in let subset = parts.now.subset in let whole = whole_chunks f.shape.now f.chunk.now in
             OnOk result (IsTrue (S.state self.now.store).transparent → (touched : List ℕ) → AreTouched whole f.chunk.now subset touched
             → IsChunkRead (λ q. element_at (S.state self.now.store).contents f (C.meaning self.now.codec.now (chunk_spec f)).cells (point_in subset q)) (chunk_at whole f.chunk.now subset)
             f.fill_value.now (count_of subset.shape) (slice_index touched number) (piece cells.old.element_size cells.old.bytes) (piece cells.old.element_size cells.new.bytes)) }
@@ -109,7 +109,7 @@ impl<S: Store, C: ArrayToBytesCodecTraits> Array<'_, S, C> {
         requires blank { (q : ℕ) → q < count_of parts.now.subset.shape → piece cells.old.element_size cells.old.bytes q ≡ self.now.format.fill_value.now }
         ensures same_size { cells.new.element_size ≡ cells.old.element_size }
         ensures same_shape { cells.new.shape ≡ cells.old.shape }
-        ensures read { let f = self.now.format in let subset = parts.now.subset in let whole = whole_shards f.shape.now f.chunk.now in
+        ensures read { let f = self.now.format in let subset = parts.now.subset in let whole = whole_chunks f.shape.now f.chunk.now in
             OnOk result (IsTrue (S.state self.now.store).transparent → (touched : List ℕ) → AreTouched whole f.chunk.now subset touched → length touched ≡ parts.now.count
             → AreReadTo (λ q. element_at (S.state self.now.store).contents f (C.meaning self.now.codec.now (chunk_spec f)).cells (point_in subset q)) (chunk_at whole f.chunk.now subset)
             f.fill_value.now (count_of subset.shape) touched parts.now.count (piece cells.old.element_size cells.new.bytes)) }

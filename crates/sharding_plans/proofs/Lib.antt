@@ -6,5 +6,5 @@ mod PackLemmas
 mod EncodeLemmas
 mod WriteLemmas
 mod StoredWriteLemmas
-mod RoundingLemmas
+pub mod RoundingLemmas
 mod ListedLemmas

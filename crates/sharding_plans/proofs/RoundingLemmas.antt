@@ -21,7 +21,7 @@ rounded_positive elements part some = omega (arith, some)
 rounded_divides : (elements part : ℕ) → 0 < part → rounded_up elements part % part ≡ 0
 rounded_divides elements part some = ap (λ t. t % part) (omega arith) ∙ mod-mul-add ((elements - 1) / part + 1) part 0 some
 
-rounded_fits : (elements part : ℕ) → 0 < part → elements ≤ rounded_up elements part
+pub rounded_fits : (elements part : ℕ) → 0 < part → elements ≤ rounded_up elements part
 rounded_fits elements zero some = absurd (omega (arith, some))
 rounded_fits elements (suc d) some = omega (arith, div-add-mod (elements - 1) (suc d), mul_comm ((elements - 1) / suc d) (suc d))
 
@@ -40,7 +40,7 @@ whole_divided (n ∷ shape) (p ∷ chunk) same some =
     (rounded_divides n p (some 0 0 (omega arith)), whole_divided shape chunk (omega (arith, same)) (λ j e under. some (suc j) e (omega (arith, under))))
 
 -- ends within a shape are ends within it rounded up
-ends_within_whole : (ends shape chunk : List ℕ) → length shape ≡ length chunk → AllPositive chunk → AllZip ◌≤◌ ends shape → AllZip ◌≤◌ ends (whole_chunks shape chunk)
+pub ends_within_whole : (ends shape chunk : List ℕ) → length shape ≡ length chunk → AllPositive chunk → AllZip ◌≤◌ ends shape → AllZip ◌≤◌ ends (whole_chunks shape chunk)
 ends_within_whole [] [] [] same some within = tt
 ends_within_whole [] [] (p ∷ chunk) same some within = absurd (omega (arith, same))
 ends_within_whole [] (n ∷ shape) chunk same some within = elim within [ ]

@@ -38,8 +38,9 @@ fn whole_axis(elements: u64, part: u64) -> Option<u64>
     before.checked_add(1)?.checked_mul(part)
 }
 
-// The shape of an array, rounded up to whole chunks.
-fn whole_axes(alloc: Global, shape: &[u64], chunk: &[u64]) -> Result<Axes, CodecError>
+/// The shape of an array, rounded up to whole chunks (Zarr V3 core, "Regular grids"): an axis without elements to one. Refused, in this order,
+/// as `IncompatibleDimensionality` where the numbers of axes differ, and as `TooLarge` where an axis passes `u64::MAX`; or as `OutOfMemory`.
+pub fn whole_axes(alloc: Global, shape: &[u64], chunk: &[u64]) -> Result<Axes, CodecError>
     requires chunk { AllPositive chunk.now }
     ensures whole { IfOk result (λ whole. whole.items ≡ whole_chunks shape.now chunk.now) }
     ensures positive { IfOk result (λ whole. AllPositive whole.items) }

@@ -12,7 +12,7 @@ mod put;
 mod read_plan;
 mod write_plan;
 
-pub use chunks::PlannedArray;
+pub use chunks::{PlannedArray, whole_axes};
 pub use fetches::{fetch_of, plan_fetches};
 pub use grid::{IndexNumbers, PlannedShard};
 pub use listed::{ListedPlan, listed_law};

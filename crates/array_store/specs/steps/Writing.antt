@@ -6,16 +6,16 @@ use Rattle.parts_row_major.specs.Numbering.{AllPositive, count_of, IsInside, poi
 use Rattle.parts_row_major.specs.Subsets.{Subset, LiesIn, point_in}
 use Rattle.parts_subsets.specs.Grid.{grid_of}
 use Rattle.parts_subsets.specs.Touched.{AreTouched}
+use Rattle.sharding_plans.specs.Chunks.{whole_chunks}
 use Rattle.array_grid.specs.ChunkKeys.{chunk_key}
 use Rattle.array_grid.specs.Parts.{MeetsShards, SubsetInArray}
-use Rattle.array_grid.specs.Shards.{whole_shards}
 use Rattle.array_store.specs.ArrayWrites.{IsFaultAt, key_at, chunk_number}
 use Rattle.array_store.specs.declared.error.ArrayError.{ArrayError}
 use Rattle.array_store.specs.declared.format.ArrayFormat.{ArrayFormat}
 
 -- the shape of an array, rounded up to whole chunks
 abbrev pub whole_of : ArrayFormat → List ℕ
-whole_of format = whole_shards format.shape.now format.chunk.now
+whole_of format = whole_chunks format.shape.now format.chunk.now
 
 -- the parts of a subset of an array are made by its chunk grid, whose axes fit 64 bits, one for each chunk that the subset touches
 pub record ArePartsOf (format : ArrayFormat) (subset : Subset) (parts : SubsetInArray) : Type 0 where

@@ -1,4 +1,4 @@
-use Rattle.array_grid.proofs.RoundingLemmas.{lies_in_whole}
+use Rattle.sharding_plans.proofs.RoundingLemmas.{lies_in_whole}
 use Rattle.array_grid.proofs.grid.ShardGrid.touched.Goals as goal
 
 pub touched_subset-requires-clause-inside : goal.touched_subset-requires-clause-inside

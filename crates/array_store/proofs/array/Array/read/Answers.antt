@@ -1,6 +1,6 @@
 use Rattle.parts_row_major.specs.Pieces.{piece}
 use Rattle.parts_row_major.specs.Subsets.{point_in}
-use Rattle.array_grid.specs.Shards.{whole_shards}
+use Rattle.sharding_plans.specs.Chunks.{whole_chunks}
 use Rattle.array_store.specs.ArrayElements.{chunk_spec, element_at}
 use Rattle.array_store.proofs.ReadLemmas.{read_all}
 use Rattle.array_store.proofs.PartLemmas.{read_refused}
@@ -19,7 +19,7 @@ returns-clause-elements g c = λ t.
     let f = c.args.self.now.format in
     let meets = rw c.in_ok-grid.ensures.grid at c.in_ok-parts.ensures.counted in
     let known = rw (c.in_ok-parts.ensures.same_subset, ← c.in_ok-read_parts.ensures.same_size) at (c.in_ok-read_parts.ensures.read t) in
-    read_all (whole_shards f.shape.now f.chunk.now) f.chunk.now c.args.subset.now
+    read_all (whole_chunks f.shape.now f.chunk.now) f.chunk.now c.args.subset.now
     (λ q. element_at (g.S.Store.state c.args.self.now.store).contents f (g.C.ArrayToBytesCodecTraits.meaning c.args.self.now.codec.now (chunk_spec f)).cells (point_in c.args.subset.now q))
     f.fill_value.now meets.shards c.in_ok-parts.parts.count (piece c.read_parts.new.cells.element_size c.read_parts.new.cells.bytes) meets.touched meets.counted
     (known meets.shards meets.touched meets.counted)
