@@ -471,7 +471,7 @@ def unpacked_stream(file, size):
     return content if stream.eof and not stream.unused_data and len(content) == size else None
 
 
-def changed(file):
+def damaged(file):
     """A file with each of its bits flipped, and cut after each of its bytes."""
     number = int.from_bytes(file, "little")
     flipped = [(number ^ 1 << bit).to_bytes(len(file), "little") for bit in range(8 * len(file))]
@@ -501,8 +501,8 @@ def damaged_gzip(program, top):
     for content in (text, bytes(64), bytes(range(64)), random.Random(1).randbytes(64)):
         for level in (0, 1, 9):
             file, stream = gzip.compress(content, level, mtime=0), zlib.compress(content, level)
-            files += changed(file) + [file + tail for tail in (b"", b"\0", b"\x1f", b"\x1f\x8b", bytes(8), file, gzip.compress(b""))]
-            streams += changed(stream) + [stream + tail for tail in (b"", b"\0", b"x", stream)]
+            files += damaged(file) + [file + tail for tail in (b"", b"\0", b"\x1f", b"\x1f\x8b", bytes(8), file, gzip.compress(b""))]
+            streams += damaged(stream) + [stream + tail for tail in (b"", b"\0", b"x", stream)]
     compare_damage(program, f"{top}/gzip", {"name": "gzip", "configuration": {"level": 9}}, files, [unpacked(it, 64) for it in files])
     codec = {"name": "numcodecs.zlib", "configuration": {"level": 9}}
     compare_damage(program, f"{top}/zlib", codec, streams, [unpacked_stream(it, 64) for it in streams])
