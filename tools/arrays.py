@@ -155,20 +155,24 @@ def test_write(program, name, path, expected):
     compare(name, "create", made, (0, b"", ""))
     whole = run(program, "read", path, "--raw")[1]
     compare(name, "what is to be written", hashlib.sha256(whole).hexdigest(), expected["raw_sha256"])
-    size = len(whole) // max(len(expected["cells"]), 1)
     write(program, name, new, file, [], whole)
     compare(name, "what was written", run(program, "compare", path, new), (0, b"no element differs\n", ""))
-    dice = random.Random(name)
+    update(program, name, new, expected, whole)
+    compare(name, "check of what was written", run(program, "check", new)[::2], (0, ""))
+
+
+def update(program, name, path, expected, whole):
+    """A subset of the array, whose elements are these, written over by chance: the other elements stay."""
+    shape, size, dice = expected["shape"], len(whole) // max(len(expected["cells"]), 1), random.Random(name)
     starts = [dice.randrange(length) if length else 0 for length in shape]
     ends = [dice.randrange(start, length) + 1 if length else 0 for start, length in zip(starts, shape)]
     places, cells = numbers(shape, starts, ends), [whole[place * size : (place + 1) * size] for place in range(len(expected["cells"]))]
-    update = [cells[-1 - place] for place in places]
+    new = [cells[-1 - place] for place in places]
     subset = ",".join(f"{start}..{end}" for start, end in zip(starts, ends))
-    write(program, name, new, file, [subset] if shape else [], b"".join(update))
-    for place, cell in zip(places, update):
+    write(program, name, path, f"{path}.raw", [subset] if shape else [], b"".join(new))
+    for place, cell in zip(places, new):
         cells[place] = cell
-    compare(name, f"elements behind a write of {subset}", run(program, "read", new, "--raw"), (0, b"".join(cells), ""))
-    compare(name, "check of what was written", run(program, "check", new)[::2], (0, ""))
+    compare(name, f"elements behind a write of {subset}", run(program, "read", path, "--raw"), (0, b"".join(cells), ""))
 
 
 def write(program, name, path, file, subset, content):
@@ -279,11 +283,21 @@ def test_json(program, name, path, expected):
         compare(name, "elements in JSON", cells, wanted)
 
 
+def take_as_shards(expected):
+    """Chunks that are no shards: each is one subchunk, whose bytes are the file's, and is never compacted."""
+    expected["subchunk_shape"] = expected["chunk_shape"]
+    for shard in expected["shards"].values():
+        if shard != "absent":
+            shard.update(index="ok", present=1, absent=0, dead=0, compacted_sha256=None)
+
+
 def test_array(program, name, folder, expected):
     path = f"{folder}/{name}"
     os.makedirs(os.path.dirname(path), exist_ok=True)
     shutil.copytree(f"{ARRAYS}/{name}", path)
-    if expected["zarr_format"] != 3 or not expected["subchunk_shape"] and expected["index_codecs"] is None or expected["before_sharding"]:
+    if expected["index_codecs"] is None and expected["inner_codecs"] in SERVED:
+        take_as_shards(expected)
+    if expected["zarr_format"] != 3 or expected["subchunk_shape"] is None or expected["before_sharding"]:
         for command in ("info", "check", "read", "compact"):
             refused(name, command, run(program, command, path))
         return False
@@ -305,6 +319,8 @@ def test_array(program, name, folder, expected):
     test_compact(program, name, path, expected["shards"])
     if not expected["damaged"]:
         test_read(program, name, path, expected, is_read)
+    if is_read and not expected["damaged"]:
+        update(program, name, path, expected, run(program, "read", path, "--raw")[1])
     return is_read
 
 

@@ -5,7 +5,7 @@ use crate::stop::Stop;
 use array_codecs::reversed_parts;
 use array_fields::{LONGEST_TEXT, MetadataError, escaped};
 use array_grid::ListPart;
-use array_metadata::{ArrayMetadata, reversed_size};
+use array_metadata::{ArrayCodec, ArrayMetadata, reversed_size};
 use array_store::{ChunkFile, ChunkFiles, ChunkGrid, document_length, list_chunks, read_document};
 use parts_arrays::FillValue;
 use parts_errors::CodecError;
@@ -58,7 +58,7 @@ pub fn turned(
     metadata: &ArrayMetadata,
     bytes: &[u8],
 ) -> Result<Option<Vec<u8>>, AllocError> {
-    match reversed_size(metadata.element_type, &metadata.codec.inner) {
+    match reversed_size(metadata.element_type, &metadata.codec) {
         Some(size) if size > 0 => Ok(Some(reversed_parts(alloc, bytes, size)?)),
         _ => Ok(None),
     }
@@ -72,7 +72,9 @@ fn read_metadata(
     order: SubchunkWriteOrder,
 ) -> Result<ArrayMetadata, MetadataError> {
     let mut metadata = ArrayMetadata::from_text(alloc, text)?;
-    metadata.codec.order = order;
+    if let ArrayCodec::First(shards) = &mut metadata.codec {
+        shards.order = order;
+    }
     if let Some(bytes) = turned(alloc, &metadata, metadata.fill_value.as_ne_bytes())? {
         metadata.fill_value = FillValue::new(bytes);
     }

@@ -1,6 +1,7 @@
 // What is done with the codec of an array's shards, whichever it is.
 use crate::shard_codec::ShardCodec;
-use array_metadata::ArrayMetadata;
+use crate::whole_chunks::WholeChunks;
+use array_metadata::{ArrayCodec, ArrayMetadata};
 use storage_handles::BytesPartialDecoderTraits;
 
 /// What is done with the codec of an array's shards, over files of a type.
@@ -12,10 +13,13 @@ pub trait CodecUse<F> {
     fn with<C: ShardCodec<F>>(self, codec: C) -> Self::Answer;
 }
 
-/// Does something with the codec that metadata names. It alone names the type of that codec; all else works with any.
+/// Does something with the codec that metadata names. It alone names the types of such codecs; all else works with any.
 pub fn with_codec<F: BytesPartialDecoderTraits, U: CodecUse<F>>(
     metadata: &ArrayMetadata,
     user: U,
 ) -> U::Answer {
-    user.with(&metadata.codec)
+    match &metadata.codec {
+        ArrayCodec::First(shards) => user.with(shards),
+        ArrayCodec::Second(codec) => user.with(WholeChunks { codec }),
+    }
 }

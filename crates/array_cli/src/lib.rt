@@ -15,6 +15,7 @@ mod shared_read;
 mod sound;
 mod stop;
 mod system;
+mod whole_chunks;
 
 pub use arrays::{Array, Shard, described, metadata_of, turned};
 pub use codec_use::{CodecUse, with_codec};

@@ -82,7 +82,7 @@ pub trait ShardEncoder {
     ) -> Result<Option<Vec<u8>>, CodecError>;
 }
 
-/// The codec of an array's shards.
+/// The codec of an array's shards; a chunk that is no shard is taken as one of one subchunk.
 pub trait ShardCodec<F>: Copy + ShardEncoder {
     /// A shard of this codec that is open.
     type Open: OpenShard<F>;
@@ -113,11 +113,12 @@ pub trait ShardCodec<F>: Copy + ShardEncoder {
         shape: &ChunkShape,
     ) -> Result<Interval, CodecError>;
 
-    /// The numbers of an index, which has these bytes.
+    /// The numbers of the index of a shard in an object of a length, which has these bytes.
     fn decode_index(
         self,
         alloc: Global,
         bytes: &[u8],
+        length: u64,
         subchunks: &ChunkShape,
     ) -> Result<Vec<u64>, CodecError>;
 
@@ -206,7 +207,11 @@ fn decode_subchunk<I: ArrayToBytesCodecTraits, X>(
 }
 
 // Room for the elements of a subset, which have a size.
-fn room_of(alloc: Global, subset: &ArraySubset, size: usize) -> Result<Vec<u8>, CodecError> {
+pub(crate) fn room_of(
+    alloc: Global,
+    subset: &ArraySubset,
+    size: usize,
+) -> Result<Vec<u8>, CodecError> {
     let Some(count) = subset.num_elements() else {
         return Err(CodecError::TooLarge);
     };
@@ -455,6 +460,7 @@ impl<
         self,
         alloc: Global,
         bytes: &[u8],
+        _length: u64,
         subchunks: &ChunkShape,
     ) -> Result<Vec<u64>, CodecError> {
         ShardingCodec::decode_index(self, alloc, bytes, subchunks, &CodecOptions::default())

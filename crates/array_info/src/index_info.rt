@@ -21,7 +21,7 @@ pub fn index_info<'a, R: Files + AllocGlobal, C: ShardCodec<ShardFile<'a, R>>>(
     length: u64,
 ) -> Result<IndexInfo, CodecError> {
     let codec = array.codec;
-    let mut numbers = codec.decode_index(array.alloc(), bytes, &array.subchunks)?;
+    let mut numbers = codec.decode_index(array.alloc(), bytes, length, &array.subchunks)?;
     info_of(
         &mut numbers,
         codec.index_location(),

@@ -6,7 +6,7 @@ use crate::text::{write_numbers, write_rows};
 use array_cli::{
     Array, Ending, Place, Progress, Refusal, Shard, ShardCodec, ShardFile, Stop, written,
 };
-use array_metadata::ArrayMetadata;
+use array_metadata::{ArrayCodec, ArrayMetadata};
 use array_store::{ChunkFile, ChunkFiles, Counted, FolderFiles, IndexInfo, info_of};
 use parts_errors::CodecError;
 use std::io;
@@ -185,11 +185,21 @@ fn write_type<W: Write>(out: &mut W, metadata: &ArrayMetadata) -> io::Result<()>
     write_rows(out, element_type, metadata.fill_value.as_ne_bytes(), &[])
 }
 
+// Writes the shape of a subchunk, where there are shards.
+fn write_subchunk<W: Write>(out: &mut W, metadata: &ArrayMetadata) -> io::Result<()> {
+    match metadata.codec {
+        ArrayCodec::First(_) => write_numbers(out, "subchunks", metadata.subchunk.as_slice()),
+        ArrayCodec::Second(_) => out.write_all(
+            b"subchunks: none, since the chunks are no shards\n",
+        ),
+    }
+}
+
 // Writes what the metadata says.
 fn write_metadata<W: Write>(out: &mut W, metadata: &ArrayMetadata) -> io::Result<()> {
     write_numbers(out, "shape", &metadata.shape)?;
     write_numbers(out, "chunks", metadata.shard.as_slice())?;
-    write_numbers(out, "subchunks", metadata.subchunk.as_slice())?;
+    write_subchunk(out, metadata)?;
     write_type(out, metadata)?;
     writeln!(out, "codecs: {}", metadata.codecs)
 }

@@ -2,7 +2,7 @@
 use crate::info::{ShardInfo, Sums};
 use crate::text::write_json_cell;
 use array_cli::{JsonLine, Place, Refusal};
-use array_metadata::ArrayMetadata;
+use array_metadata::{ArrayCodec, ArrayMetadata};
 use array_store::ChunkFiles;
 use std::io;
 use std::io::Write;
@@ -23,6 +23,14 @@ fn put_type<W: Write>(line: &mut JsonLine<'_, W>, metadata: &ArrayMetadata) -> i
     }
 }
 
+// Puts the shape of a subchunk, or `null` where the chunks are no shards.
+fn put_subchunk<W: Write>(line: &mut JsonLine<'_, W>, metadata: &ArrayMetadata) -> io::Result<()> {
+    match metadata.codec {
+        ArrayCodec::First(_) => line.numbers("subchunk_shape", metadata.subchunk.as_slice()),
+        ArrayCodec::Second(_) => line.member("subchunk_shape")?.write_all(b"null"),
+    }
+}
+
 /// Writes a line of the kind `array`: what the metadata says, and how many shards there could be, in digits. `unread` is the codec for
 /// which no subchunk is looked into.
 pub fn write_array<W: Write>(
@@ -34,7 +42,7 @@ pub fn write_array<W: Write>(
     let mut line = JsonLine::new(out, "array")?;
     line.numbers("shape", &metadata.shape)?;
     line.numbers("chunk_shape", metadata.shard.as_slice())?;
-    line.numbers("subchunk_shape", metadata.subchunk.as_slice())?;
+    put_subchunk(&mut line, metadata)?;
     put_type(&mut line, metadata)?;
     line.text("codecs", &metadata.codecs)?;
     if let Some(name) = unread {

@@ -6,16 +6,7 @@ use Rattle.parts_errors.specs.Words.{Bytes}
 use Rattle.codec_metadata.specs.CreateErrors.{Reading, Refusal, or_refused, and_then, missing_field, bad_field}
 use Rattle.codec_metadata.specs.Metadata.{first_refused, unless_refused}
 use Rattle.sharding_codec.specs.Configuration.{Configuration, configuration_in, is_configuration_member, field, shape_in}
-use Rattle.array_metadata.specs.declared.codecs.NamedCodec.{NamedCodec}
 use Rattle.array_fields.specs.MetadataFields.{configured_in}
-use Rattle.array_metadata.specs.UnreadCodecs.{sole_shards}
-use Rattle.array_metadata.specs.CodecNames.{listed}
-
--- a list of other than one codec names no shards alone
-pub not_sole : (codecs : List NamedCodec) → length codecs ≢ 1 → sole_shards (listed codecs) ≡ None
-not_sole [] other = refl
-not_sole (codec ∷ []) other = absurd (other refl)
-not_sole (codec ∷ next ∷ later) other = refl
 
 ok_same : {A : Type 0} (a b : A) → let first : Reading A = Ok a in first ≡ Ok b → a ≡ b
 ok_same a b e = cc

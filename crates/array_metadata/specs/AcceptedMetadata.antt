@@ -8,12 +8,11 @@ use Rattle.codec_metadata.specs.Metadata.{name_in, first_refused, members_in}
 use Rattle.parts_subsets.specs.Grid.{Divides}
 use Rattle.parts_arrays.specs.Types.{size_of, HasElements}
 use Rattle.parts_arrays.specs.declared.data_type.DataTypeSize.TheVariants.{Fixed}
-use Rattle.sharding_codec.specs.Configuration.{shape_in}
 use Rattle.array_fields.specs.MetadataFields.{member_in, configured_in, whole_number_in, whole_numbers_in, is_understood}
 use Rattle.array_grid.specs.ChunkKeys.{separator_of}
 use Rattle.array_metadata.specs.KeyEncodings.{encoding_name, default_separator}
 use Rattle.array_metadata.specs.FillValues.{IsFillIn}
-use Rattle.array_metadata.specs.ArrayCodecs.{shards_in, subchunks_in}
+use Rattle.array_metadata.specs.ArrayCodecs.{array_codec_in, subchunk_in, subchunk_of}
 use Rattle.array_metadata.specs.ElementTypes.{IsTypeIn, carrier}
 use Rattle.array_metadata.specs.UnreadCodecs.{chunks_in, unread_codec_in}
 use Rattle.array_metadata.specs.declared.metadata.ArrayMetadata.{ArrayMetadata}
@@ -37,19 +36,18 @@ pub record IsReadAs (text : Bytes) (metadata : ArrayMetadata) : Type 0 where
   pub separator : unwrap_or (option_and_then as_str (option_and_then (configured_in (codes "separator"))
       (member_in (codes "chunk_key_encoding") text))) (default_separator metadata.keys.encoding) ≡ separator_of metadata.keys.slashes
   pub fill_value : IsFillIn metadata.element_type (member_in (codes "fill_value") text) metadata.fill_value
-  pub subchunk : option_and_then shape_in (option_and_then (configured_in (codes "chunk_shape"))
-      (option_and_then chunks_in (member_in (codes "codecs") text))) ≡ Some metadata.subchunk
-  pub codecs : option_map (shards_in (subchunks_in (vec_len metadata.shape))) (option_and_then chunks_in (member_in (codes "codecs") text))
+  pub subchunk : subchunk_in (option_and_then chunks_in (member_in (codes "codecs") text)) metadata.shard ≡ Some metadata.subchunk
+  pub codecs : option_map (array_codec_in (vec_len metadata.shape)) (option_and_then as_array (member_in (codes "codecs") text))
       ≡ Some (Ok metadata.codec)
   pub unread : option_map string_bytes metadata.unread ≡ unread_codec_in (option_and_then chunks_in (member_in (codes "codecs") text))
 
--- the parts of metadata fit together: as many axes everywhere, subchunks that divide shards evenly, a fill value of the type's size
+-- the parts of metadata fit together: as many axes everywhere, subchunks that divide chunks evenly, a fill value of the type's size
 pub record FitsTogether (metadata : ArrayMetadata) : Type 0 where
   pub few : vec_len metadata.shape ≤ 64
   pub shard : length metadata.shard ≡ vec_len metadata.shape
   pub subchunk : length metadata.subchunk ≡ vec_len metadata.shape
   pub divides : Divides metadata.subchunk metadata.shard
-  pub codec : metadata.codec.subchunk_shape ≡ metadata.subchunk
+  pub codec : subchunk_of metadata.codec metadata.shard ≡ metadata.subchunk
   pub data_type : metadata.data_type ≡ carrier metadata.element_type
   pub elements : HasElements metadata.data_type
   pub fill_value : size_of metadata.data_type ≡ Fixed (length metadata.fill_value)

@@ -1,5 +1,5 @@
 -- The codecs that the metadata of an array names.
-use Rattle.std.specs.Prelude.{ℕ, Bool, true, false, Option, Ok, Err, Some, None, codes, bytes_eq}
+use Rattle.std.specs.Prelude.{ℕ, Bool, true, false, Option, Ok, Err, Some, None, List, option_and_then, codes, bytes_eq}
 use Rattle.parts_errors.specs.Words.{Bytes}
 use Rattle.serde_json.specs.Data.{Data, Items, no_items, item}
 use Rattle.codec_metadata.specs.CreateErrors.{Reading, and_then, unsupported_chain, bad_field}
@@ -12,8 +12,10 @@ use Rattle.codec_chains.specs.declared.either_codec.EitherCodec.{EitherCodec}
 use Rattle.codec_chains.specs.declared.either_codec.EitherCodec.TheVariants.{First, Second}
 use Rattle.sharding_codec.specs.declared.codec.ShardingCodec.{ShardingCodec}
 use Rattle.sharding_codec.specs.ShardMetadata.{shard_configured}
+use Rattle.sharding_codec.specs.Configuration.{shape_in}
 use Rattle.array_codecs.specs.declared.opaque_codec.OpaqueCodec.{OpaqueCodec}
 use Rattle.array_codecs.specs.declared.transpose_codec.TransposeCodec.{TransposeCodec}
+use Rattle.array_fields.specs.MetadataFields.{configured_in}
 use Rattle.array_metadata.specs.ByteCodecsMetadata.{byte_codecs_in}
 use Rattle.array_metadata.specs.Transposes.{transpose_in, transpose_before, untransposed}
 use Rattle.array_metadata.specs.UnreadCodecs.{sole_shards, innermost, unserved_in, have_names}
@@ -76,3 +78,25 @@ served_or (Some name) false served = Err (bad_field (codes "codecs"))
 
 abbrev pub subchunks_in : ℕ → Items → Reading Subchunks
 subchunks_in axes list = served_or (unserved_in (untransposed (innermost list))) (have_names (innermost list)) (served_in axes list)
+
+-- the codec of an array's chunks: of shards, or of elements
+abbrev pub Chunks : Type 0
+Chunks = EitherCodec (ShardingCodec Subchunks Elements) Arranged
+
+-- the codec of the chunks of an array with this number of axes that a list names: of shards where it names shards alone, else of elements
+abbrev pub chunks_or : ℕ → Option Data → Reading Arranged → Reading Chunks
+chunks_or axes (Some d) elements = and_then (shards_in (subchunks_in axes) d) (λ shards. Ok (First shards))
+chunks_or axes None elements = and_then elements (λ codec. Ok (Second codec))
+
+abbrev pub array_codec_in : ℕ → Items → Reading Chunks
+array_codec_in axes list = chunks_or axes (sole_shards list) (arranged_in axes list)
+
+-- the shape of a subchunk, by the metadata of shards; a chunk that is no shard is one subchunk
+abbrev pub subchunk_in : Option Data → List ℕ → Option (List ℕ)
+subchunk_in (Some shards) chunk = option_and_then shape_in (configured_in (codes "chunk_shape") shards)
+subchunk_in None chunk = Some chunk
+
+-- and by the codec of chunks
+abbrev pub subchunk_of : Chunks → List ℕ → List ℕ
+subchunk_of (First shards) chunk = shards.subchunk_shape
+subchunk_of (Second codec) chunk = chunk

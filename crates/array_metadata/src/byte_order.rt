@@ -1,8 +1,8 @@
 // The byte order of complex numbers.
 ghost use Rattle.std.specs.Prelude.{◌≡◌};
-ghost use Rattle.array_metadata.specs.ByteOrders.{order_of, arranged_order, subchunks_order, size_if_big, reversed_size};
+ghost use Rattle.array_metadata.specs.ByteOrders.{order_of, arranged_order, subchunks_order, chunks_order, size_if_big, reversed_size};
 
-use crate::codecs::{ArrangedCodec, ElementCodec, InnerCodec, ServedCodec};
+use crate::codecs::{ArrangedCodec, ArrayCodec, ElementCodec, InnerCodec, ServedCodec};
 use crate::element_types::ElementType;
 use codec_bytes::Endianness;
 use codec_chains::EitherCodec;
@@ -38,6 +38,16 @@ fn subchunks_order(codec: &InnerCodec) -> Option<Endianness>
     }
 }
 
+// The byte order of the codec of chunks, where it is known.
+fn chunks_order(codec: &ArrayCodec) -> Option<Endianness>
+    ensures { result ≡ chunks_order codec.now }
+{
+    match codec {
+        EitherCodec::First(shards) => subchunks_order(&shards.inner),
+        EitherCodec::Second(elements) => arranged_order(elements),
+    }
+}
+
 // A size, where the order is most significant byte first.
 fn size_if_big(size: usize, order: Option<Endianness>) -> Option<usize>
     ensures { result ≡ size_if_big size order }
@@ -61,8 +71,8 @@ fn size_of_parts(element_type: ElementType, order: Option<Endianness>) -> Option
 
 /// How many bytes each part has of elements whose parts the codecs give most significant byte first: of complex numbers that are stored
 /// so. `None` where elements come least significant byte first.
-pub fn reversed_size(element_type: ElementType, codec: &InnerCodec) -> Option<usize>
-    ensures { result ≡ reversed_size element_type (subchunks_order codec.now) }
+pub fn reversed_size(element_type: ElementType, codec: &ArrayCodec) -> Option<usize>
+    ensures { result ≡ reversed_size element_type (chunks_order codec.now) }
 {
-    size_of_parts(element_type, subchunks_order(codec))
+    size_of_parts(element_type, chunks_order(codec))
 }

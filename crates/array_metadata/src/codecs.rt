@@ -1,18 +1,20 @@
 // The codecs of an array on disk.
-ghost use Rattle.std.specs.Prelude.{◌≡◌, IsTrue, Some, Ok, IfOk, IfSome, length, option_map, option_and_then, codes};
+ghost use Rattle.std.specs.Prelude.{◌≡◌, IsTrue, Some, Ok, IfOk, IfSome, List, ℕ, length, option_map, option_and_then, codes};
 ghost use Rattle.std.specs.List.{All};
-ghost use Rattle.serde_json.specs.Find.{get};
+ghost use Rattle.serde_json.specs.Find.{as_array, get};
 ghost use Rattle.serde_json.specs.View.{view, items_view};
 ghost use Rattle.sharding_codec.specs.Configuration.{configuration_in, shape_in};
 ghost use Rattle.sharding_codec.specs.Configurations.{configuration_of};
 ghost use Rattle.array_fields.specs.MetadataFields.{configured_in};
-ghost use Rattle.array_metadata.specs.ArrayCodecs.{bytes_in, elements_in, arranged_in, shards_in, served_in, subchunks_in};
-ghost use Rattle.array_metadata.specs.UnreadCodecs.{sole_shards, chunks_in};
+ghost use Rattle.array_metadata.specs.ArrayCodecs.{bytes_in, elements_in, arranged_in, shards_in, served_in, subchunks_in, array_codec_in, subchunk_in, subchunk_of};
+ghost use Rattle.array_metadata.specs.UnreadCodecs.{chunks_in};
 ghost use Rattle.array_metadata.specs.CodecNames.{codec_name, IsByteCodec, IsNamed, Names, listed, metadata_of};
 
 use crate::byte_codecs::{are_byte_codecs, byte_codecs};
 use crate::transposes::{CodecValues, axis_order, codec_values};
-use crate::unread::{first_unserved, innermost, sole_shards as sole_value, test_names};
+use crate::unread::{
+    first_unserved, innermost, names_shards, sole_shards as sole_value, test_names,
+};
 use array_codecs::{ByteCodecs, OpaqueCodec, TransposeCodec};
 use array_fields::{MetadataError, Placed};
 use codec_bytes::BytesCodec;
@@ -39,8 +41,11 @@ pub type ServedCodec = EitherCodec<ArrangedCodec, ShardingCodec<ArrangedCodec, I
 /// The codec of a shard's subchunks, which are looked into or not.
 pub type InnerCodec = EitherCodec<ServedCodec, OpaqueCodec>;
 
-/// The codec of an array whose chunks are shards.
-pub type ArrayCodec = ShardingCodec<InnerCodec, IndexCodec>;
+/// The codec of chunks that are shards.
+pub type ShardsCodec = ShardingCodec<InnerCodec, IndexCodec>;
+
+/// The codec of an array's chunks: of shards, or of elements.
+pub type ArrayCodec = EitherCodec<ShardsCodec, ArrangedCodec>;
 
 // The codecs that are served.
 #[derive(Clone, Copy, PartialEq, Eq)]
@@ -110,7 +115,7 @@ pub fn unserved(name: &str) -> &'static str {
         "blosc" | "zlib" | "lz4" | "bz2" | "lzma" => {
             "of the codecs that compress, this program reads gzip, zstd and numcodecs.zlib alone"
         }
-        "transpose" => "this program reads transpose inside shards alone, where bytes follows it",
+        "transpose" => "this program reads transpose alone where bytes follows it",
         _ => "this program does not know this codec",
     }
 }
@@ -169,23 +174,6 @@ impl<'a> CodecList<'a> {
     fn refused(&self, alloc: Global, sentence: &str) -> MetadataError {
         let error = PluginCreateError::UnsupportedChain;
         MetadataError::refused(alloc, error, self.place.as_str(), sentence)
-    }
-
-    // The metadata of the only codec of a list, where it is the sharding codec.
-    #[tactic(auto, using(crate::proofs::Lists::not_sole))]
-    fn sole_sharding(&self) -> Option<&Placed<'a>>
-        requires named { All IsNamed self.now.codecs.items }
-        ensures sole { option_map (λ metadata. view metadata.now.value.now) result ≡ sole_shards (listed self.now.codecs.items) }
-        ensures named { IfSome result (λ metadata. Names (view metadata.now.value.now) (codes "sharding_indexed")) }
-    {
-        if self.codecs.len() != 1 {
-            return None;
-        }
-        let codec = &self.codecs[0];
-        if codec.name != CodecName::ShardingIndexed {
-            return None;
-        }
-        Some(&codec.metadata)
     }
 
     // The codec of elements. Refused as `UnsupportedChain`, or as one of its codecs is.
@@ -427,7 +415,7 @@ fn shards(
     metadata: &Placed,
     data_type: DataType,
     axes: usize,
-) -> Result<ArrayCodec, MetadataError>
+) -> Result<ShardsCodec, MetadataError>
     requires named { Names (view metadata.now.value.now) (codes "sharding_indexed") }
     ensures axes { IfOk result (λ codec. length codec.subchunk_shape ≡ axes) }
     ensures read { IfOk result (λ codec. shards_in (subchunks_in axes) (view metadata.now.value.now) ≡ Ok codec) }
@@ -453,28 +441,48 @@ fn shards(
     Ok(ShardingCodec::new(chunk_shape, inner, index_codec, index_location))
 }
 
-// The codec of the array's chunks, which are shards of so many axes.
+// The codec of chunks that are no shards. Refused as `UnsupportedChain` where shards have another codec before them or behind them.
+fn elements_of_chunks(
+    alloc: Global,
+    values: &[Value],
+    place: String,
+    data_type: DataType,
+    axes: usize,
+) -> Result<ArrangedCodec, MetadataError>
+    ensures read { IfOk result (λ codec. arranged_in axes (items_view values.now) ≡ Ok codec) }
+{
+    if names_shards(values) {
+        let error = PluginCreateError::UnsupportedChain;
+        let sentence = "sharding_indexed is read where no other codec stands beside it";
+        return Err(MetadataError::refused(alloc, error, place.as_str(), sentence));
+    }
+    arranged_codec(alloc, values, place, data_type, axes)
+}
+
+// The codec of the chunks of an array of so many axes.
 pub fn array_codec(
     alloc: Global,
     codecs: &Placed,
     data_type: DataType,
     axes: usize,
 ) -> Result<ArrayCodec, MetadataError>
-    ensures axes { IfOk result (λ codec. length codec.subchunk_shape ≡ axes) }
-    ensures read { IfOk result (λ codec. option_map (shards_in (subchunks_in axes)) (chunks_in (view codecs.now.value.now)) ≡ Some (Ok codec)) }
-    ensures shape { IfOk result (λ codec.
-        option_and_then shape_in (option_and_then (configured_in (codes "chunk_shape")) (chunks_in (view codecs.now.value.now))) ≡ Some codec.subchunk_shape) }
+    ensures axes { IfOk result (λ codec. (chunk : List ℕ) → length chunk ≡ axes → length (subchunk_of codec chunk) ≡ axes) }
+    ensures read { IfOk result (λ codec. option_map (array_codec_in axes) (as_array (view codecs.now.value.now)) ≡ Some (Ok codec)) }
+    ensures shape { IfOk result (λ codec. (chunk : List ℕ) → subchunk_in (chunks_in (view codecs.now.value.now)) chunk ≡ Some (subchunk_of codec chunk)) }
 {
     let Some(values) = codecs.value.as_array() else {
         return Err(codecs.bad(alloc, "this is no list of codecs"));
     };
     let place = String::from_str(alloc, codecs.place.as_str())?;
-    let list = CodecList::named(alloc, values, "codecs", place, 0)?;
-    match list.sole_sharding() {
-        Some(metadata) => shards(alloc, metadata, data_type, axes),
-        None => Err(list.refused(
-            alloc,
-            "only arrays whose chunks are shards are read: codecs is sharding_indexed alone",
-        )),
-    }
+    let Some(value) = sole_value(values) else {
+        let codec = elements_of_chunks(alloc, values, place, data_type, axes)?;
+        return Ok(EitherCodec::Second(codec));
+    };
+    let key = "codecs";
+    let list = place.as_str();
+    let place = format!(in alloc; "{list}[0]")?;
+    let metadata = Placed { value, key, place };
+    let _name = metadata.extension_name(alloc)?;
+    let codec = shards(alloc, &metadata, data_type, axes)?;
+    Ok(EitherCodec::First(codec))
 }

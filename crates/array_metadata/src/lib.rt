@@ -14,7 +14,9 @@ mod transposes;
 mod unread;
 
 pub use byte_order::reversed_size;
-pub use codecs::{ArrangedCodec, ArrayCodec, ElementCodec, IndexCodec, InnerCodec, ServedCodec};
+pub use codecs::{
+    ArrangedCodec, ArrayCodec, ElementCodec, IndexCodec, InnerCodec, ServedCodec, ShardsCodec,
+};
 pub use element_types::ElementType;
 pub use floats::{FloatFormat, half_to_f32};
 pub use metadata::{ArrayMetadata, MOST_AXES, TypeText};

@@ -7,15 +7,14 @@ ghost use Rattle.codec_metadata.specs.Metadata.{name_in, first_refused, members_
 ghost use Rattle.array_metadata.specs.AcceptedMetadata.{IsServedText, IsReadAs, FitsTogether};
 ghost use Rattle.array_fields.specs.MetadataFields.{configured_in, whole_number_in, whole_numbers_in, is_understood};
 ghost use Rattle.array_metadata.specs.FillValues.{IsFillIn};
-ghost use Rattle.array_metadata.specs.ArrayCodecs.{shards_in, subchunks_in};
+ghost use Rattle.array_metadata.specs.ArrayCodecs.{array_codec_in, subchunk_in, subchunk_of};
 ghost use Rattle.array_metadata.specs.UnreadCodecs.{chunks_in, unread_codec_in};
 ghost use Rattle.array_metadata.specs.ElementTypes.{IsTypeIn, IsRead, carrier};
-ghost use Rattle.sharding_codec.specs.Configuration.{shape_in};
 ghost use Rattle.parts_subsets.specs.Grid.{Divides};
 ghost use Rattle.parts_arrays.specs.Types.{size_of, HasElements};
 ghost use Rattle.parts_arrays.specs.declared.data_type.DataTypeSize.TheVariants.{Fixed};
 
-use crate::codecs::{ArrayCodec, InnerCodec, ServedCodec, array_codec, unserved};
+use crate::codecs::{ArrayCodec, InnerCodec, ServedCodec, ShardsCodec, array_codec, unserved};
 use crate::element_types::{ElementType, element_type_in, unread_type};
 use crate::fill::fill_value_in;
 use crate::keys::keys_in;
@@ -26,7 +25,7 @@ use codec_metadata::PluginCreateError;
 use parts_arrays::{DataType, FillValue};
 use parts_subsets::ChunkShape;
 use serde_json::{Map, Value};
-use std::alloc::Global;
+use std::alloc::{AllocError, Global};
 
 /// How many axes an array may have whose metadata is read. The codecs know no such bound.
 pub const MOST_AXES: usize = 64;
@@ -38,14 +37,14 @@ pub struct TypeText {
     pub fill_value: String,
 }
 
-/// The metadata of an array whose chunks are shards (Zarr V3 core, "Array metadata").
+/// The metadata of an array whose chunks are shards, or elements (Zarr V3 core, "Array metadata").
 #[derive(Drop)]
 pub struct ArrayMetadata {
     /// How many cells there are along each axis; 0 is served.
     pub shape: Vec<u64>,
-    /// The shape of a chunk, which is a shard.
+    /// The shape of a chunk, which is a shard or not.
     pub shard: ChunkShape,
-    /// The shape of a subchunk of a shard.
+    /// The shape of a subchunk of a shard; a chunk that is no shard is one subchunk.
     pub subchunk: ChunkShape,
     /// The names of the chunks' files.
     pub keys: ChunkKeys,
@@ -279,12 +278,8 @@ fn test_division(
     Err(MetadataError::refused(alloc, error, place, sentence.as_str()))
 }
 
-// Tests that subchunks divide the shards of an array evenly, and those of a subchunk that is a shard this. Refused as `BadField`.
-fn test_subchunks(
-    alloc: Global,
-    shard: &ChunkShape,
-    codec: &ArrayCodec,
-) -> Result<(), MetadataError>
+// Tests that subchunks divide shards evenly, and those of a subchunk that is a shard this. Refused as `BadField`.
+fn test_shards(alloc: Global, shard: &ChunkShape, codec: &ShardsCodec) -> Result<(), MetadataError>
     ensures { OnOk result (Divides codec.now.subchunk_shape shard.now) }
 {
     let place = "codecs[0].configuration.chunk_shape";
@@ -298,9 +293,37 @@ fn test_subchunks(
     }
 }
 
-// What the member `codecs` says: the codec of shards, the first codec inside that is not served, its text, and how the codec cuts shards.
+// Tests that subchunks divide the chunks of an array evenly. Refused as `BadField`.
+fn test_subchunks(
+    alloc: Global,
+    chunk: &ChunkShape,
+    codec: &ArrayCodec,
+) -> Result<(), MetadataError>
+    ensures { OnOk result (Divides (subchunk_of codec.now chunk.now) chunk.now) }
+{
+    match codec {
+        ArrayCodec::First(shards) => test_shards(alloc, chunk, shards),
+        ArrayCodec::Second(_) => test_division(alloc, "codecs", chunk, chunk),
+    }
+}
+
+// The shape of a subchunk of chunks with a codec.
+fn subchunk_of(
+    alloc: Global,
+    codec: &ArrayCodec,
+    chunk: &ChunkShape,
+) -> Result<ChunkShape, AllocError>
+    ensures { IfOk result (λ shape. shape ≡ subchunk_of codec.now chunk.now) }
+{
+    match codec {
+        ArrayCodec::First(shards) => shards.subchunk_shape.try_clone(alloc),
+        ArrayCodec::Second(_) => chunk.try_clone(alloc),
+    }
+}
+
+// What the member `codecs` says: the codec of chunks, the first codec inside that is not served, its text, and how the codec cuts chunks.
 #[derive(Drop)]
-struct ShardCodecs {
+struct ChunkCodecs {
     codec: ArrayCodec,
     unread: Option<String>,
     text: String,
@@ -312,21 +335,22 @@ fn codecs_of_cells(
     alloc: Global,
     codecs: &Placed,
     cells: &Cells,
-) -> Result<ShardCodecs, MetadataError>
+) -> Result<ChunkCodecs, MetadataError>
+    requires shard { length cells.now.shard ≡ vec_len cells.now.shape }
     ensures divides { IfOk result (λ found. Divides found.subchunk cells.now.shard) }
     ensures axes { IfOk result (λ found. length found.subchunk ≡ vec_len cells.now.shape) }
-    ensures codec { IfOk result (λ found. found.codec.subchunk_shape ≡ found.subchunk) }
-    ensures subchunk_read { IfOk result (λ found. option_and_then shape_in (option_and_then (configured_in (codes "chunk_shape")) (chunks_in (view codecs.now.value.now))) ≡ Some found.subchunk) }
-    ensures read { IfOk result (λ found. option_map (shards_in (subchunks_in (vec_len cells.now.shape))) (chunks_in (view codecs.now.value.now)) ≡ Some (Ok found.codec)) }
+    ensures codec { IfOk result (λ found. subchunk_of found.codec cells.now.shard ≡ found.subchunk) }
+    ensures subchunk_read { IfOk result (λ found. subchunk_in (chunks_in (view codecs.now.value.now)) cells.now.shard ≡ Some found.subchunk) }
+    ensures read { IfOk result (λ found. option_map (array_codec_in (vec_len cells.now.shape)) (as_array (view codecs.now.value.now)) ≡ Some (Ok found.codec)) }
     ensures unread { IfOk result (λ found. option_map string_bytes found.unread ≡ unread_codec_in (chunks_in (view codecs.now.value.now))) }
 {
     let part_type = cells.element_type.part_type();
     let codec = array_codec(alloc, codecs, part_type, cells.shape.len())?;
     test_subchunks(alloc, &cells.shard, &codec)?;
-    let subchunk = codec.subchunk_shape.try_clone(alloc)?;
+    let subchunk = subchunk_of(alloc, &codec, &cells.shard)?;
     let unread = unread_codec(alloc, codecs)?;
     let text = escaped_whole(alloc, codecs.value.to_string(alloc)?.as_str())?;
-    Ok(ShardCodecs {
+    Ok(ChunkCodecs {
         codec,
         unread,
         text,
@@ -342,6 +366,7 @@ fn with_codecs(
     keys: ChunkKeys,
     fill_value: FillValue,
 ) -> Result<ArrayMetadata, MetadataError>
+    requires shard { length cells.shard ≡ vec_len cells.shape }
     ensures shape { IfOk result (λ metadata. metadata.shape ≡ cells.shape) }
     ensures element_type { IfOk result (λ metadata. metadata.element_type ≡ cells.element_type) }
     ensures data_type { IfOk result (λ metadata. metadata.data_type ≡ carrier cells.element_type) }
@@ -350,11 +375,11 @@ fn with_codecs(
     ensures fill_value { IfOk result (λ metadata. metadata.fill_value ≡ fill_value) }
     ensures subchunk { IfOk result (λ metadata. length metadata.subchunk ≡ vec_len metadata.shape) }
     ensures divides { IfOk result (λ metadata. Divides metadata.subchunk metadata.shard) }
-    ensures codec { IfOk result (λ metadata. metadata.codec.subchunk_shape ≡ metadata.subchunk) }
+    ensures codec { IfOk result (λ metadata. subchunk_of metadata.codec metadata.shard ≡ metadata.subchunk) }
     ensures subchunk_read { IfOk result (λ metadata.
-        option_and_then shape_in (option_and_then (configured_in (codes "chunk_shape")) (option_and_then chunks_in (get (codes "codecs") (view whole.now.value.now)))) ≡ Some metadata.subchunk) }
+        subchunk_in (option_and_then chunks_in (get (codes "codecs") (view whole.now.value.now))) metadata.shard ≡ Some metadata.subchunk) }
     ensures codecs_read { IfOk result (λ metadata.
-        option_map (shards_in (subchunks_in (vec_len metadata.shape))) (option_and_then chunks_in (get (codes "codecs") (view whole.now.value.now))) ≡ Some (Ok metadata.codec)) }
+        option_map (array_codec_in (vec_len metadata.shape)) (option_and_then as_array (get (codes "codecs") (view whole.now.value.now))) ≡ Some (Ok metadata.codec)) }
     ensures unread { IfOk result (λ metadata.
         option_map string_bytes metadata.unread ≡ unread_codec_in (option_and_then chunks_in (get (codes "codecs") (view whole.now.value.now)))) }
 {
@@ -398,9 +423,10 @@ impl ArrayMetadata {
     /// nests deeper than is read, has a number past the range of a float, is no object, of another `zarr_format` than 3, of another
     /// `node_type` than `array`, has an unknown member that must be understood, or `storage_transformers`; and then for `shape` (whole
     /// numbers), `data_type` (`bool`, `int8` to `int64`, `uint8` to `uint64`, floats, complex numbers, raw bits or times), `chunk_grid` (`regular`), `chunk_key_encoding` (`default` or `v2`), `fill_value` (an element of the type, or of one that
-    /// is not read any value) and `codecs` (`sharding_indexed` alone, with `bytes` inside, up to three of `crc32c`, `gzip`, `numcodecs.zlib` and `zstd`
-    /// behind it, `transpose` before it, `sharding_indexed` once more inside, or codecs of other names, which are not looked into) in turn: each with its place, and a sentence that says what is not
-    /// served; or as `OutOfMemory`. Where elements go through a codec of another name, their type may have any name.
+    /// is not read any value) and `codecs` (`bytes`, up to three of `crc32c`, `gzip`, `numcodecs.zlib` and `zstd` behind it, `transpose`
+    /// before it; or `sharding_indexed` alone, with these inside, `sharding_indexed` once more, or codecs of other names, which are not
+    /// looked into) in turn: each with its place, and a sentence that says what is not served; or as `OutOfMemory`. Where elements of
+    /// shards go through a codec of another name, their type may have any name.
     pub fn from_text(alloc: Global, text: &str) -> Result<Self, MetadataError>
         ensures served { OnOk result (IsServedText text.now) }
         ensures read { IfOk result (IsReadAs text.now) }

@@ -28,6 +28,13 @@ pub fn sole_shards(values: &[Value]) -> Option<&Value>
     }
 }
 
+// Whether one of the values names shards.
+pub fn names_shards(values: &[Value]) -> bool {
+    values
+        .iter()
+        .any(|value| metadata_name(value) == Some("sharding_indexed"))
+}
+
 // The codecs in the configuration of one, or none.
 fn configured_codecs(metadata: &Value) -> &[Value]
     ensures { items_view result.now ≡ configured_codecs (view metadata.now) }

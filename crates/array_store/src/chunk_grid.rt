@@ -7,14 +7,6 @@ pub struct ChunkGrid {
     counts: Vec<u64>,
 }
 
-// How many chunks of a size hold the elements along an axis.
-fn count_along(elements: u64, size: u64) -> u64 {
-    if elements == 0 {
-        return 0;
-    }
-    ((elements - 1) / size.max(1)).saturating_add(1)
-}
-
 // Multiplies a number, of which these are the decimal digits, the last one first.
 fn multiply(digits: &mut Vec<u8>, factor: u64) -> Result<(), AllocError> {
     // never more than a factor of 64 bits, so that no sum wraps
@@ -41,7 +33,7 @@ impl ChunkGrid {
     pub fn new(alloc: Global, shape: &[u64], chunk: &[u64]) -> Result<Self, AllocError> {
         let mut counts: Vec<u64> = Vec::new(alloc);
         for (elements, size) in shape.iter().zip(chunk) {
-            counts.push(count_along(*elements, *size))?;
+            counts.push(elements.div_ceil((*size).max(1)))?;
         }
         Ok(ChunkGrid { counts })
     }

@@ -1,7 +1,7 @@
 // How an array is laid out anew, and its metadata then.
 use array_cli::Stop;
 use array_fields::escaped;
-use array_metadata::ArrayMetadata;
+use array_metadata::{ArrayCodec, ArrayMetadata};
 use serde_json::Value;
 use sharding_format::{ShardingIndexLocation, SubchunkWriteOrder};
 use std::alloc::{AllocError, Global};
@@ -93,7 +93,7 @@ fn inner_text(alloc: Global, word: Option<&str>, old: Option<&Value>) -> Result<
     Ok(format!(in alloc; "[{bytes}{behind}]")?)
 }
 
-// The codecs of an index as a list of JSON.
+// The codecs of an index as a list of JSON; where there was none, `bytes` and `crc32c`.
 fn index_text(
     alloc: Global,
     is_checked: Option<bool>,
@@ -101,8 +101,8 @@ fn index_text(
 ) -> Result<String, AllocError> {
     let behind = match (is_checked, old) {
         (None, Some(list)) => return list.to_string(alloc),
-        (None | Some(false), _) => "",
-        (Some(true), _) => ",{\"name\":\"crc32c\"}",
+        (Some(false), _) => "",
+        (Some(true), _) | (None, None) => ",{\"name\":\"crc32c\"}",
     };
     let bytes = bytes_text(alloc, old)?;
     format!(in alloc; "[{bytes}{behind}]")
@@ -121,6 +121,32 @@ fn location_text(
     }
 }
 
+// What the document of an array says of its layout.
+#[derive(Clone, Copy)]
+struct OldLayout<'d> {
+    // the codecs of elements
+    inner: Option<&'d Value>,
+    // those of an index, where there is one, and where it stands
+    index: Option<&'d Value>,
+    location: ShardingIndexLocation,
+}
+
+// What the document of an array, which has this metadata, says of its layout.
+fn old_layout<'d>(document: &'d Value, metadata: &ArrayMetadata) -> OldLayout<'d> {
+    match &metadata.codec {
+        ArrayCodec::First(shards) => OldLayout {
+            inner: document.pointer("/codecs/0/configuration/codecs"),
+            index: document.pointer("/codecs/0/configuration/index_codecs"),
+            location: shards.location,
+        },
+        ArrayCodec::Second(_) => OldLayout {
+            inner: document.pointer("/codecs"),
+            index: None,
+            location: ShardingIndexLocation::End,
+        },
+    }
+}
+
 // The value of `codecs` in a new layout.
 fn codecs_text(
     alloc: Global,
@@ -129,17 +155,10 @@ fn codecs_text(
     metadata: &ArrayMetadata,
 ) -> Result<String, Stop> {
     let chunk = shape_text(alloc, words.subchunk, metadata.subchunk.as_slice())?;
-    let inner = inner_text(
-        alloc,
-        words.inner,
-        document.pointer("/codecs/0/configuration/codecs"),
-    )?;
-    let index = index_text(
-        alloc,
-        words.is_checked,
-        document.pointer("/codecs/0/configuration/index_codecs"),
-    )?;
-    let location = location_text(alloc, words.index, metadata.codec.location)?;
+    let old = old_layout(document, metadata);
+    let inner = inner_text(alloc, words.inner, old.inner)?;
+    let index = index_text(alloc, words.is_checked, old.index)?;
+    let location = location_text(alloc, words.index, old.location)?;
     Ok(format!(in alloc;
         "[{{\"name\":\"sharding_indexed\",\"configuration\":{{\"chunk_shape\":{chunk},\"codecs\":{inner},\"index_codecs\":{index},\"index_location\":\"{location}\"}}}}]"
     )?)

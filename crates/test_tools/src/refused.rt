@@ -194,11 +194,19 @@ const MEMBERS: &[(&str, &str)] = &[
     ),
     (
         r#""codecs": [{"name": "bytes"}]"#,
-        "5 UnsupportedChain: in codecs: only arrays whose chunks are shards are read: codecs is sharding_indexed alone",
+        "3 MissingField endian: in codecs[0]: elements of more than one byte have no byte order",
+    ),
+    (
+        r#""codecs": [{"name": "bytes", "configuration": {"endian": "little"}}, "lz4"]"#,
+        "2 UnsupportedCodec lz4: in codecs[1]: of the codecs that compress, this program reads gzip, zstd and numcodecs.zlib alone",
     ),
     (
         r#""codecs": ["transpose", {"name": "sharding_indexed"}]"#,
-        "2 UnsupportedCodec transpose: in codecs[0]: this program reads transpose inside shards alone, where bytes follows it",
+        "5 UnsupportedChain: in codecs: sharding_indexed is read where no other codec stands beside it",
+    ),
+    (
+        r#""codecs": [{"name": "sharding_indexed"}, "gzip"]"#,
+        "5 UnsupportedChain: in codecs: sharding_indexed is read where no other codec stands beside it",
     ),
     (
         r#""codecs": ["sharding_indexed"]"#,

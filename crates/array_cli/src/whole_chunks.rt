@@ -1,0 +1,249 @@
+// Chunks that are no shards, by what commands do with shards: such a chunk is one subchunk, whose bytes are those of the file.
+use crate::shard_codec::{OpenShard, Planned, ShardCodec, ShardEncoder, encode_chunk, room_of};
+use array_metadata::ArrayMetadata;
+use codec_traits::{ArrayToBytesCodecTraits, StoredArray};
+use parts_arrays::{ArrayBytes, FixedTarget};
+use parts_errors::{CodecError, CodecOptions};
+use parts_subsets::{ArraySubset, ChunkShape};
+use sharding_format::{ShardIndex, ShardingIndexLocation, calculate_chunks_per_shard, of_stored};
+use std::alloc::{AllocError, Global};
+use storage_handles::{ByteRange, BytesPartialDecoderTraits, Interval, copy_range};
+
+/// The codec of chunks that are no shards.
+#[derive(Drop)]
+pub struct WholeChunks<'a, C> {
+    pub codec: &'a C,
+}
+
+impl<'a, C> Copy for WholeChunks<'a, C> {}
+
+impl<'a, C> Clone for WholeChunks<'a, C> {
+    ghost is_clone = { λ x y. y.codec.now ≡ x.codec.now };
+
+    ghost is_infallible = { λ _. ⊤ };
+
+    fn clone(&self) -> Result<Self, AllocError> {
+        Ok(WholeChunks { codec: self.codec })
+    }
+}
+
+/// A chunk that is open: its file, and how long that is, or `None` where there is none.
+#[derive(Drop)]
+pub struct WholeChunk<'a, C, H> {
+    codec: &'a C,
+    file: H,
+    length: Option<u64>,
+}
+
+// The bytes of a chunk that is open; `None` where there is no file.
+fn bytes_of<C, H: BytesPartialDecoderTraits>(
+    alloc: Global,
+    chunk: &mut WholeChunk<'_, C, H>,
+) -> Result<Option<Vec<u8>>, CodecError> {
+    match chunk.length {
+        Some(length) => copy_range(
+            &mut chunk.file,
+            alloc,
+            ByteRange::FromStart(0, Some(length)),
+        ),
+        None => Ok(None),
+    }
+}
+
+// Puts the elements of a subset of a chunk that is open into a target; fill values where there is no file.
+fn read_into<C: ArrayToBytesCodecTraits, H: BytesPartialDecoderTraits>(
+    alloc: Global,
+    chunk: &mut WholeChunk<'_, C, H>,
+    metadata: &ArrayMetadata,
+    subset: &ArraySubset,
+    target: &mut FixedTarget,
+) -> Result<(), CodecError> {
+    let Some(size) = chunk.length else {
+        return target.fill(&metadata.fill_value);
+    };
+    let stored = StoredArray {
+        interval: Interval { offset: 0, size },
+        shape: &metadata.shard,
+        data_type: &metadata.data_type,
+        fill_value: &metadata.fill_value,
+    };
+    let options = CodecOptions::default();
+    let (codec, file) = (chunk.codec, &mut chunk.file);
+    match codec.partial_decode_into(alloc, file, &stored, subset, target, &options) {
+        Ok(()) => Ok(()),
+        Err(error) => Err(of_stored(error)),
+    }
+}
+
+// Decodes the bytes of a chunk, and lets the elements go.
+fn decode<C: ArrayToBytesCodecTraits>(
+    alloc: Global,
+    codec: &C,
+    metadata: &ArrayMetadata,
+    bytes: &[u8],
+) -> Result<(), CodecError> {
+    let decoded = codec.decode(
+        alloc,
+        bytes,
+        &metadata.shard,
+        &metadata.data_type,
+        &metadata.fill_value,
+        &CodecOptions::default(),
+    );
+    match decoded {
+        Ok(_) => Ok(()),
+        Err(error) => Err(of_stored(error)),
+    }
+}
+
+// The numbers of the index that a shard of one subchunk with as many bytes would have.
+fn one_entry(alloc: Global, length: u64) -> Result<Vec<u64>, AllocError> {
+    Vec::from_slice(alloc, &[0, length])
+}
+
+impl<C: ArrayToBytesCodecTraits, H: BytesPartialDecoderTraits> OpenShard<H>
+    for WholeChunk<'_, C, H> {
+    fn read_subset(
+        &mut self,
+        alloc: Global,
+        metadata: &ArrayMetadata,
+        subset: &ArraySubset,
+    ) -> Result<Vec<u8>, CodecError> {
+        let size = metadata.fill_value.as_ne_bytes().len();
+        let mut bytes = room_of(alloc, subset, size)?;
+        let whole = ArraySubset::new_with_shape(alloc, Vec::from_slice(alloc, subset.shape())?)?;
+        let Some(mut target) = FixedTarget::new(&mut bytes, size, subset.shape(), &whole) else {
+            return Err(CodecError::InvalidNumberOfElements);
+        };
+        read_into(alloc, self, metadata, subset, &mut target)?;
+        Ok(bytes)
+    }
+
+    fn byte_range(&self, _subchunk: &[u64]) -> Result<Option<ByteRange>, CodecError> {
+        match self.length {
+            Some(length) => Ok(Some(ByteRange::FromStart(0, Some(length)))),
+            None => Ok(None),
+        }
+    }
+
+    fn stored_bytes(
+        &mut self,
+        alloc: Global,
+        _subchunk: &[u64],
+    ) -> Result<Option<Vec<u8>>, CodecError> {
+        bytes_of(alloc, self)
+    }
+
+    fn test_subchunk(
+        &mut self,
+        alloc: Global,
+        metadata: &ArrayMetadata,
+        _subchunk: &[u64],
+    ) -> Result<bool, CodecError> {
+        match bytes_of(alloc, self)? {
+            Some(bytes) => {
+                decode(alloc, self.codec, metadata, &bytes)?;
+                Ok(true)
+            }
+            None => Ok(false),
+        }
+    }
+
+    fn close(self) -> H {
+        self.file
+    }
+}
+
+impl<C: ArrayToBytesCodecTraits> ShardEncoder for WholeChunks<'_, C> {
+    fn encode(
+        &self,
+        alloc: Global,
+        elements: &ArrayBytes,
+        metadata: &ArrayMetadata,
+    ) -> Result<Option<Vec<u8>>, CodecError> {
+        encode_chunk(alloc, self.codec, elements, metadata)
+    }
+}
+
+impl<'a, C: ArrayToBytesCodecTraits, H: BytesPartialDecoderTraits> ShardCodec<H>
+    for WholeChunks<'a, C> {
+    type Open = WholeChunk<'a, C, H>;
+
+    fn subchunks(self, alloc: Global, metadata: &ArrayMetadata) -> Result<ChunkShape, CodecError> {
+        let (data_type, fill_value) = (&metadata.data_type, &metadata.fill_value);
+        self.codec
+            .check(alloc, &metadata.shard, data_type, fill_value)?;
+        calculate_chunks_per_shard(alloc, &metadata.shard, &metadata.subchunk)
+    }
+
+    fn open(
+        self,
+        _alloc: Global,
+        mut file: H,
+        _metadata: &ArrayMetadata,
+    ) -> Result<WholeChunk<'a, C, H>, (H, CodecError)> {
+        let codec = self.codec;
+        match file.len() {
+            Ok(length) => Ok(WholeChunk {
+                codec,
+                file,
+                length,
+            }),
+            Err(error) => Err((file, error)),
+        }
+    }
+
+    fn index_size(self, _alloc: Global, _subchunks: &ChunkShape) -> Result<u64, CodecError> {
+        Ok(0)
+    }
+
+    fn index_location(self) -> ShardingIndexLocation {
+        ShardingIndexLocation::End
+    }
+
+    fn index_interval(
+        self,
+        _alloc: Global,
+        length: u64,
+        _shape: &ChunkShape,
+    ) -> Result<Interval, CodecError> {
+        Ok(Interval {
+            offset: length,
+            size: 0,
+        })
+    }
+
+    fn decode_index(
+        self,
+        alloc: Global,
+        _bytes: &[u8],
+        length: u64,
+        _subchunks: &ChunkShape,
+    ) -> Result<Vec<u64>, CodecError> {
+        Ok(one_entry(alloc, length)?)
+    }
+
+    fn read_index(
+        self,
+        alloc: Global,
+        _file: &mut H,
+        length: u64,
+        _shape: &ChunkShape,
+    ) -> Result<ShardIndex, CodecError> {
+        let numbers = one_entry(alloc, length)?;
+        Ok(ShardIndex {
+            len: length,
+            numbers,
+        })
+    }
+
+    fn plan_compaction(
+        self,
+        _alloc: Global,
+        _file: &mut H,
+        _shape: &ChunkShape,
+        _is_dry: bool,
+    ) -> Result<Planned, CodecError> {
+        Ok(Planned::Nothing)
+    }
+}

@@ -1,0 +1,85 @@
+// Arrays in folders: two are made, one without shards and one with, and a subset of the first is written into the second.
+
+use array_store::{Array, FileStore, create_metadata, open_metadata};
+use std::alloc::{AllocError, Global};
+use std::ops::Range;
+use zarr_parts::{ArrayBytes, ArraySubset, CodecError};
+
+// The `zarr.json` of an array of 4 by 6 numbers whose chunks have 2 by 3.
+const PLAIN: &str =
+    r#"{"zarr_format": 3, "node_type": "array", "shape": [4, 6], "data_type": "uint16", "fill_value": 0,
+    "chunk_grid": {"name": "regular", "configuration": {"chunk_shape": [2, 3]}},
+    "chunk_key_encoding": {"name": "default"},
+    "codecs": [{"name": "bytes", "configuration": {"endian": "big"}}, {"name": "gzip", "configuration": {"level": 5}}]}"#;
+
+// And of one with a single shard, whose subchunks have 2 by 2.
+const SHARDED: &str =
+    r#"{"zarr_format": 3, "node_type": "array", "shape": [4, 6], "data_type": "uint16", "fill_value": 0,
+    "chunk_grid": {"name": "regular", "configuration": {"chunk_shape": [4, 6]}},
+    "chunk_key_encoding": {"name": "default"},
+    "codecs": [{"name": "sharding_indexed", "configuration": {"chunk_shape": [2, 2],
+        "codecs": [{"name": "bytes", "configuration": {"endian": "little"}}],
+        "index_codecs": [{"name": "bytes", "configuration": {"endian": "little"}}, {"name": "crc32c"}]}}]}"#;
+
+// Writes a subset of the array in one folder into the array of the same shape and type in another.
+fn copy_subset(rt: &HostRuntime, from: &str, to: &str, subset: &ArraySubset) -> anyhow::Result<()> {
+    let alloc = rt.alloc();
+    let source = FileStore::new(alloc, rt, from)?;
+    let metadata = open_metadata(alloc, &source)?;
+    let elements = Array::of(source, &metadata).read(alloc, subset)?;
+    let target = FileStore::new(alloc, rt, to)?;
+    let metadata = open_metadata(alloc, &target)?;
+    Array::of(target, &metadata).write(alloc, subset, &elements.array())?;
+    Ok(())
+}
+
+// Makes an array of this metadata in a folder, and writes numbers into a subset.
+fn make(
+    rt: &HostRuntime,
+    folder: &str,
+    text: &str,
+    subset: &ArraySubset,
+    numbers: &[u16],
+) -> anyhow::Result<()> {
+    let alloc = rt.alloc();
+    let mut store = FileStore::new(alloc, rt, folder)?;
+    let metadata = create_metadata(alloc, &mut store, text)?;
+    let elements = ArrayBytes::from_numbers(alloc, numbers)?;
+    Array::of(store, &metadata).write(alloc, subset, &elements)?;
+    Ok(())
+}
+
+// Prints the numbers of a subset of the array in a folder.
+fn print(rt: &HostRuntime, folder: &str, subset: &ArraySubset) -> anyhow::Result<()> {
+    let alloc = rt.alloc();
+    let store = FileStore::new(alloc, rt, folder)?;
+    let metadata = open_metadata(alloc, &store)?;
+    let elements = Array::of(store, &metadata).read(alloc, subset)?;
+    let numbers: Vec<u16> = elements.array().to_numbers(alloc)?;
+    println!(rt; "{numbers:?}")?;
+    Ok(())
+}
+
+fn subset(alloc: Global, rows: Range<u64>, columns: Range<u64>) -> Result<ArraySubset, CodecError> {
+    ArraySubset::from_ranges(alloc, &[rows, columns])
+}
+
+fn all_numbers(alloc: Global) -> Result<Vec<u16>, AllocError> {
+    (0..24u16).collect(alloc)
+}
+
+// Prints rows of the second array, once a subset of the first was written into it.
+pub fn print_copy(rt: &HostRuntime) -> anyhow::Result<()> {
+    let alloc = rt.alloc();
+    let whole = subset(alloc, 0..4, 0..6)?;
+    make(rt, "plain", PLAIN, &whole, &all_numbers(alloc)?)?;
+    make(
+        rt,
+        "sharded",
+        SHARDED,
+        &subset(alloc, 0..1, 0..2)?,
+        &[100, 101],
+    )?;
+    copy_subset(rt, "plain", "sharded", &subset(alloc, 1..3, 2..5)?)?;
+    print(rt, "sharded", &subset(alloc, 0..3, 0..6)?)
+}
