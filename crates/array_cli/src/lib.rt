@@ -1,12 +1,10 @@
 // What the commands over an array on disk share: an array that is open, the elements of a subset of it, why a shard is refused, and why
-// a command stops; how the progress of a command is written.
+// a command stops.
 #![tactic(auto)]
 
 mod arrays;
 mod codec_use;
-mod json_line;
 mod parallel;
-mod progress;
 mod read;
 mod refusal;
 mod shard_codec;
@@ -19,9 +17,7 @@ mod whole_chunks;
 
 pub use arrays::{Array, Shard, described, metadata_of, turned};
 pub use codec_use::{CodecUse, with_codec};
-pub use json_line::{JsonLine, write_json_numbers, write_json_text};
 pub use parallel::{ShardWork, piece_length, piece_of, run_in_parallel, threads_of};
-pub use progress::Progress;
 pub use read::{read_array, shards_of};
 pub use refusal::{Place, Refusal};
 pub use shard_codec::{OpenShard, Planned, ShardCodec, ShardEncoder, ShardFile, encode_chunk};

@@ -1,10 +1,10 @@
 // The elements of a subset of an array.
 use crate::arrays::{Array, Shard};
-use crate::progress::Progress;
 use crate::refusal::{Place, Refusal};
 use crate::shard_codec::{OpenShard, ShardCodec, ShardFile};
 use crate::sound::{put_elements, put_sound};
 use crate::stop::{Ending, Stop};
+use array_fields::Progress;
 use array_grid::{ShardGrid, ShardPart, ShardParts, SubsetCells, shared_elements};
 use parts_errors::CodecError;
 use parts_row_major::unravel_index;

@@ -154,7 +154,7 @@ pub struct OpenedShard<
 }
 
 // Tests whether a codec serves the shards of an array.
-fn check_served<C: ArrayToBytesCodecTraits>(
+pub(crate) fn check_served<C: ArrayToBytesCodecTraits>(
     alloc: Global,
     codec: &C,
     metadata: &ArrayMetadata,
@@ -185,17 +185,18 @@ fn opened<'c, I: ArrayToBytesCodecTraits, X: ArrayToBytesCodecTraits, H: BytesPa
     )
 }
 
-// Decodes the bytes of a subchunk, and lets the elements go.
-fn decode_subchunk<I: ArrayToBytesCodecTraits, X>(
+// Decodes the bytes of an array of a shape, of the elements of this metadata, and lets its elements go.
+pub(crate) fn test_decoding<C: ArrayToBytesCodecTraits>(
     alloc: Global,
-    codec: &ShardingCodec<I, X>,
+    codec: &C,
+    shape: &ChunkShape,
     metadata: &ArrayMetadata,
     bytes: &[u8],
 ) -> Result<(), CodecError> {
-    let decoded = codec.inner.decode(
+    let decoded = codec.decode(
         alloc,
         bytes,
-        &codec.subchunk_shape,
+        shape,
         &metadata.data_type,
         &metadata.fill_value,
         &CodecOptions::default(),
@@ -259,7 +260,7 @@ fn test_in<I: ArrayToBytesCodecTraits, X: ArrayToBytesCodecTraits, H: BytesParti
 ) -> Result<bool, CodecError> {
     match decoder.retrieve_subchunk_encoded(alloc, subchunk)? {
         Some(bytes) => {
-            decode_subchunk(alloc, codec, metadata, &bytes)?;
+            test_decoding(alloc, &codec.inner, &codec.subchunk_shape, metadata, &bytes)?;
             Ok(true)
         }
         None => Ok(false),

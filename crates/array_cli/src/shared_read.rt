@@ -2,12 +2,12 @@
 use crate::arrays::Array;
 use crate::codec_use::{CodecUse, with_codec};
 use crate::parallel::{ShardWork, piece_length, run_in_parallel};
-use crate::progress::Progress;
 use crate::read::{PartRead, held_cells, put_shard_part, read_array, read_numbered, shards_of};
 use crate::shard_codec::{ShardCodec, ShardFile};
 use crate::shared_array::SharedArray;
 use crate::stop::{Ending, Stop};
 use crate::system::SharedSystem;
+use array_fields::Progress;
 use array_grid::{ShardGrid, ShardPart, ShardParts, SubsetCells};
 use parts_subsets::ArraySubset;
 use std::io::Write;

@@ -1,9 +1,9 @@
 // What is sound of a part of a subset, where its shard or a subchunk is refused.
 use crate::arrays::{Array, Shard};
-use crate::progress::Progress;
 use crate::refusal::{Place, Refusal};
 use crate::shard_codec::{OpenShard, ShardCodec, ShardFile};
 use crate::stop::Stop;
+use array_fields::Progress;
 use array_grid::{ShardPart, SubsetCells, shared_elements};
 use array_metadata::ArrayMetadata;
 use parts_arrays::ArrayBytes;

@@ -1,5 +1,8 @@
 // Chunks that are no shards, by what commands do with shards: such a chunk is one subchunk, whose bytes are those of the file.
-use crate::shard_codec::{OpenShard, Planned, ShardCodec, ShardEncoder, encode_chunk, room_of};
+use crate::shard_codec::{
+    OpenShard, Planned, ShardCodec, ShardEncoder, check_served, encode_chunk, room_of,
+    test_decoding,
+};
 use array_metadata::ArrayMetadata;
 use codec_traits::{ArrayToBytesCodecTraits, StoredArray};
 use parts_arrays::{ArrayBytes, FixedTarget};
@@ -75,27 +78,6 @@ fn read_into<C: ArrayToBytesCodecTraits, H: BytesPartialDecoderTraits>(
     }
 }
 
-// Decodes the bytes of a chunk, and lets the elements go.
-fn decode<C: ArrayToBytesCodecTraits>(
-    alloc: Global,
-    codec: &C,
-    metadata: &ArrayMetadata,
-    bytes: &[u8],
-) -> Result<(), CodecError> {
-    let decoded = codec.decode(
-        alloc,
-        bytes,
-        &metadata.shard,
-        &metadata.data_type,
-        &metadata.fill_value,
-        &CodecOptions::default(),
-    );
-    match decoded {
-        Ok(_) => Ok(()),
-        Err(error) => Err(of_stored(error)),
-    }
-}
-
 // The numbers of the index that a shard of one subchunk with as many bytes would have.
 fn one_entry(alloc: Global, length: u64) -> Result<Vec<u64>, AllocError> {
     Vec::from_slice(alloc, &[0, length])
@@ -142,7 +124,7 @@ impl<C: ArrayToBytesCodecTraits, H: BytesPartialDecoderTraits> OpenShard<H>
     ) -> Result<bool, CodecError> {
         match bytes_of(alloc, self)? {
             Some(bytes) => {
-                decode(alloc, self.codec, metadata, &bytes)?;
+                test_decoding(alloc, self.codec, &metadata.shard, metadata, &bytes)?;
                 Ok(true)
             }
             None => Ok(false),
@@ -170,9 +152,7 @@ impl<'a, C: ArrayToBytesCodecTraits, H: BytesPartialDecoderTraits> ShardCodec<H>
     type Open = WholeChunk<'a, C, H>;
 
     fn subchunks(self, alloc: Global, metadata: &ArrayMetadata) -> Result<ChunkShape, CodecError> {
-        let (data_type, fill_value) = (&metadata.data_type, &metadata.fill_value);
-        self.codec
-            .check(alloc, &metadata.shard, data_type, fill_value)?;
+        check_served(alloc, self.codec, metadata)?;
         calculate_chunks_per_shard(alloc, &metadata.shard, &metadata.subchunk)
     }
 

@@ -2,9 +2,10 @@
 use crate::check_pieces::check_all;
 use crate::checked::{Checked, Found, Told, write_end, write_end_lines};
 use array_cli::{
-    Array, Ending, OpenShard, Place, Progress, Shard, ShardCodec, ShardFile, SharedArray,
-    SharedSystem, Stop, written,
+    Array, Ending, OpenShard, Place, Shard, ShardCodec, ShardFile, SharedArray, SharedSystem, Stop,
+    written,
 };
+use array_fields::Progress;
 use array_info::{Listing, check_subchunk};
 use array_store::ChunkFile;
 use parts_errors::CodecError;

@@ -2,9 +2,10 @@
 use crate::check::check_each_file;
 use crate::checked::{Checked, Told};
 use array_cli::{
-    Array, CodecUse, Ending, Progress, ShardCodec, ShardFile, ShardWork, SharedArray, SharedSystem,
-    Stop, piece_length, piece_of, run_in_parallel, with_codec, written,
+    Array, CodecUse, Ending, ShardCodec, ShardFile, ShardWork, SharedArray, SharedSystem, Stop,
+    piece_length, piece_of, run_in_parallel, with_codec, written,
 };
+use array_fields::Progress;
 use array_store::ChunkFile;
 use std::io;
 use std::io::Write;

@@ -1,5 +1,6 @@
 // What a check came to, and what is written of it.
-use array_cli::{Array, Ending, JsonLine, Progress, Refusal, Stop, written};
+use array_cli::{Array, Ending, Refusal, Stop, written};
+use array_fields::{JsonLine, Progress};
 use array_info::{put_refusal, write_folder, write_folder_lines};
 use array_store::{ChunkFiles, Counted};
 use std::io;

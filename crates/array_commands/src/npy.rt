@@ -1,6 +1,7 @@
 // A subset of an array as a file of NumPy's format.
 use crate::reading::{Reading, Sink, read_bands};
-use array_cli::{Array, Ending, Progress, SharedArray, SharedSystem, Stop};
+use array_cli::{Array, Ending, SharedArray, SharedSystem, Stop};
+use array_fields::Progress;
 use array_grid::{Requested, subset_of};
 use array_info::{begin_new, full_name};
 use array_store::{npy_beside, npy_header};

@@ -1,6 +1,7 @@
 // Elements that are written as they are read, band by band.
 use crate::command_line::Form;
-use array_cli::{Ending, Progress, SharedArray, SharedSystem, Stop, read_shared, written};
+use array_cli::{Ending, SharedArray, SharedSystem, Stop, read_shared, written};
+use array_fields::Progress;
 use array_grid::Bands;
 use array_info::{TextRows, begin_json, end_json, write_json_cells};
 use array_metadata::ElementType;

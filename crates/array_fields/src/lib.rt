@@ -1,14 +1,18 @@
 // The values of an array's metadata: what stands under which key of a JSON text, where, and why metadata is refused; and a
-// stranger's text on a terminal, which is short, and nothing in it acts.
+// stranger's text on a terminal, which is short, and nothing in it acts; lines of JSON that are written, and the progress of a command.
 #![tactic(auto)]
 
 mod error;
 mod escape;
 mod fields;
 mod json;
+mod json_line;
 mod printed;
+mod progress;
 
 pub use error::{LONGEST_TEXT, MetadataError};
 pub use escape::{escaped, escaped_whole};
 pub use fields::Placed;
 pub use json::value_in;
+pub use json_line::{JsonLine, write_json_numbers, write_json_text};
+pub use progress::Progress;

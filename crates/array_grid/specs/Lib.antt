@@ -4,3 +4,4 @@ pub mod Cells
 pub mod Subsets
 pub mod ListParts
 pub mod ChunkKeys
+pub mod KeyEncodings

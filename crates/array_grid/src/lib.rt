@@ -4,6 +4,7 @@
 mod bands;
 mod cells;
 mod grid;
+mod key_encodings;
 mod keys;
 mod list_part;
 mod parsing;
@@ -17,6 +18,7 @@ mod words;
 pub use bands::Bands;
 pub use cells::SubsetCells;
 pub use grid::ShardGrid;
+pub use key_encodings::keys_in;
 pub use keys::{ChunkKeys, KeyEncoding};
 pub use list_part::ListPart;
 pub use parsing::parse;

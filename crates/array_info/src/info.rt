@@ -3,9 +3,8 @@ use crate::folder::{Listing, write_folder};
 use crate::index_info::{index_info, index_range};
 use crate::json;
 use crate::text::{write_numbers, write_rows};
-use array_cli::{
-    Array, Ending, Place, Progress, Refusal, Shard, ShardCodec, ShardFile, Stop, written,
-};
+use array_cli::{Array, Ending, Place, Refusal, Shard, ShardCodec, ShardFile, Stop, written};
+use array_fields::Progress;
 use array_metadata::{ArrayCodec, ArrayMetadata};
 use array_store::{ChunkFile, ChunkFiles, Counted, FolderFiles, IndexInfo, info_of};
 use parts_errors::CodecError;

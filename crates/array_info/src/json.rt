@@ -1,7 +1,8 @@
 // What an array holds, as lines of JSON.
 use crate::info::{ShardInfo, Sums};
 use crate::text::write_json_cell;
-use array_cli::{JsonLine, Place, Refusal};
+use array_cli::{Place, Refusal};
+use array_fields::JsonLine;
 use array_metadata::{ArrayCodec, ArrayMetadata};
 use array_store::ChunkFiles;
 use std::io;

@@ -7,10 +7,8 @@ use crate::info::{ShardInfo, known_shards};
 use crate::new_file::save_bytes;
 use crate::picture::{write_array_picture, write_shard_picture};
 use crate::subchunks::check_subchunk;
-use array_cli::{
-    Array, Ending, OpenShard, Place, Progress, Shard, ShardCodec, ShardFile, Stop, written,
-};
-use array_fields::escaped;
+use array_cli::{Array, Ending, OpenShard, Place, Shard, ShardCodec, ShardFile, Stop, written};
+use array_fields::{Progress, escaped};
 use array_store::ChunkFiles;
 use parts_errors::CodecError;
 use parts_row_major::{ravel_indices, unravel_index};

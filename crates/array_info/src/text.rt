@@ -1,7 +1,7 @@
 // Cells as text and as JSON.
 ghost use Rattle.std.specs.Prelude.{◌<◌};
 
-use array_cli::write_json_numbers;
+use array_fields::write_json_numbers;
 use array_metadata::{ElementType, FloatFormat, half_to_f32};
 use parts_arrays::{DataType, DataTypeSize};
 use std::alloc::{AllocError, Global};

@@ -10,7 +10,7 @@ use Rattle.parts_arrays.specs.Types.{size_of, HasElements}
 use Rattle.parts_arrays.specs.declared.data_type.DataTypeSize.TheVariants.{Fixed}
 use Rattle.array_fields.specs.MetadataFields.{member_in, configured_in, whole_number_in, whole_numbers_in, is_understood}
 use Rattle.array_grid.specs.ChunkKeys.{separator_of}
-use Rattle.array_metadata.specs.KeyEncodings.{encoding_name, default_separator}
+use Rattle.array_grid.specs.KeyEncodings.{encoding_name, default_separator}
 use Rattle.array_metadata.specs.FillValues.{IsFillIn}
 use Rattle.array_metadata.specs.ArrayCodecs.{array_codec_in, subchunk_in, subchunk_of}
 use Rattle.array_metadata.specs.ElementTypes.{IsTypeIn, carrier}

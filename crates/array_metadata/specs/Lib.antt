@@ -1,4 +1,3 @@
-pub mod KeyEncodings
 pub mod ElementTypes
 pub mod Floats
 pub mod FillValues

@@ -459,7 +459,7 @@ fn elements_of_chunks(
     arranged_codec(alloc, values, place, data_type, axes)
 }
 
-// The codec of the chunks of an array of so many axes.
+// The codec of the chunks of an array with this number of axes.
 pub fn array_codec(
     alloc: Global,
     codecs: &Placed,

@@ -7,7 +7,6 @@ mod codecs;
 mod element_types;
 mod fill;
 mod floats;
-mod keys;
 mod metadata;
 mod raw_bits;
 mod transposes;

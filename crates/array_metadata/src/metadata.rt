@@ -17,10 +17,9 @@ ghost use Rattle.parts_arrays.specs.declared.data_type.DataTypeSize.TheVariants.
 use crate::codecs::{ArrayCodec, InnerCodec, ServedCodec, ShardsCodec, array_codec, unserved};
 use crate::element_types::{ElementType, element_type_in, unread_type};
 use crate::fill::fill_value_in;
-use crate::keys::keys_in;
 use crate::unread::unread_codec;
 use array_fields::{MetadataError, Placed, escaped, escaped_whole, value_in};
-use array_grid::ChunkKeys;
+use array_grid::{ChunkKeys, keys_in};
 use codec_metadata::PluginCreateError;
 use parts_arrays::{DataType, FillValue};
 use parts_subsets::ChunkShape;
@@ -358,32 +357,25 @@ fn codecs_of_cells(
     })
 }
 
-// The metadata of an array, but for its codecs: these cells, and their fill value. Refused for `codecs`.
+// The metadata of an array of these cells, with these codecs of its chunks.
 fn with_codecs(
     alloc: Global,
     whole: &Placed,
     cells: Cells,
+    codecs: ChunkCodecs,
     keys: ChunkKeys,
     fill_value: FillValue,
 ) -> Result<ArrayMetadata, MetadataError>
-    requires shard { length cells.shard ≡ vec_len cells.shape }
     ensures shape { IfOk result (λ metadata. metadata.shape ≡ cells.shape) }
     ensures element_type { IfOk result (λ metadata. metadata.element_type ≡ cells.element_type) }
     ensures data_type { IfOk result (λ metadata. metadata.data_type ≡ carrier cells.element_type) }
     ensures shard { IfOk result (λ metadata. metadata.shard ≡ cells.shard) }
     ensures keys { IfOk result (λ metadata. metadata.keys ≡ keys) }
     ensures fill_value { IfOk result (λ metadata. metadata.fill_value ≡ fill_value) }
-    ensures subchunk { IfOk result (λ metadata. length metadata.subchunk ≡ vec_len metadata.shape) }
-    ensures divides { IfOk result (λ metadata. Divides metadata.subchunk metadata.shard) }
-    ensures codec { IfOk result (λ metadata. subchunk_of metadata.codec metadata.shard ≡ metadata.subchunk) }
-    ensures subchunk_read { IfOk result (λ metadata.
-        subchunk_in (option_and_then chunks_in (get (codes "codecs") (view whole.now.value.now))) metadata.shard ≡ Some metadata.subchunk) }
-    ensures codecs_read { IfOk result (λ metadata.
-        option_map (array_codec_in (vec_len metadata.shape)) (option_and_then as_array (get (codes "codecs") (view whole.now.value.now))) ≡ Some (Ok metadata.codec)) }
-    ensures unread { IfOk result (λ metadata.
-        option_map string_bytes metadata.unread ≡ unread_codec_in (option_and_then chunks_in (get (codes "codecs") (view whole.now.value.now)))) }
+    ensures subchunk { IfOk result (λ metadata. metadata.subchunk ≡ codecs.subchunk) }
+    ensures codec { IfOk result (λ metadata. metadata.codec ≡ codecs.codec) }
+    ensures unread { IfOk result (λ metadata. metadata.unread ≡ codecs.unread) }
 {
-    let codecs = codecs_of_cells(alloc, &whole.required(alloc, "codecs")?, &cells)?;
     let type_text = type_text_in(alloc, whole, cells.element_type)?;
     Ok(ArrayMetadata {
         subchunk: codecs.subchunk,
@@ -439,6 +431,7 @@ impl ArrayMetadata {
         let cells = cells_in(alloc, &whole, &unread)?;
         let keys = keys_in(alloc, &whole.required(alloc, "chunk_key_encoding")?)?;
         let fill_value = fill_in(alloc, &whole, cells.element_type)?;
-        with_codecs(alloc, &whole, cells, keys, fill_value)
+        let codecs = codecs_of_cells(alloc, &whole.required(alloc, "codecs")?, &cells)?;
+        with_codecs(alloc, &whole, cells, codecs, keys, fill_value)
     }
 }

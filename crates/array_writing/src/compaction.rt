@@ -1,10 +1,9 @@
 // The compaction of an array's shards.
 use crate::rewriting::replace;
 use array_cli::{
-    Array, Ending, JsonLine, Place, Planned, Progress, Refusal, Shard, ShardCodec, ShardFile, Stop,
-    written,
+    Array, Ending, Place, Planned, Refusal, Shard, ShardCodec, ShardFile, Stop, written,
 };
-use array_fields::{LONGEST_TEXT, escaped};
+use array_fields::{JsonLine, LONGEST_TEXT, Progress, escaped};
 use array_info::{Listing, put_refusal, save};
 use array_store::{ChunkFiles, age_of, read_document};
 use sharding_layout::CompactionPlan;

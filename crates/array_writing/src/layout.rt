@@ -126,7 +126,7 @@ fn location_text(
 struct OldLayout<'d> {
     // the codecs of elements
     inner: Option<&'d Value>,
-    // those of an index, where there is one, and where it stands
+    // those of an index, or `None` of chunks without one, and where it stands
     index: Option<&'d Value>,
     location: ShardingIndexLocation,
 }

@@ -3,11 +3,10 @@ use crate::chunks::{chunks_of, elements_of};
 use crate::layout::{LayoutWords, new_document, order_of};
 use crate::new_folder::{begin_folder, encoded, end_folder, put, test_served};
 use array_cli::{
-    Array, CodecUse, Ending, Progress, ShardCodec, ShardFile, ShardWork, SharedArray, SharedSystem,
-    Stop, described, piece_length, piece_of, read_array, run_in_parallel, turned, with_codec,
-    written,
+    Array, CodecUse, Ending, ShardCodec, ShardFile, ShardWork, SharedArray, SharedSystem, Stop,
+    described, piece_length, piece_of, read_array, run_in_parallel, turned, with_codec, written,
 };
-use array_fields::{LONGEST_TEXT, escaped};
+use array_fields::{LONGEST_TEXT, Progress, escaped};
 use array_grid::SubsetCells;
 use array_metadata::ArrayMetadata;
 use array_store::{Counted, read_document};

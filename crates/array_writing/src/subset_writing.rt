@@ -2,9 +2,10 @@
 use crate::chunks::elements_of;
 use crate::elements::{ElementsFile, elements_of_file};
 use array_cli::{
-    Array, Ending, OpenShard, Place, Progress, Shard, ShardCodec, ShardFile, Stop, put_elements,
-    shards_of, turned, written,
+    Array, Ending, OpenShard, Place, Shard, ShardCodec, ShardFile, Stop, put_elements, shards_of,
+    turned, written,
 };
+use array_fields::Progress;
 use array_grid::{ShardGrid, ShardPart, ShardParts, SubsetCells, subset_of};
 use array_info::save;
 use array_metadata::ArrayMetadata;

@@ -5,13 +5,14 @@ ghost use Rattle.serde_json.specs.View.{view};
 ghost use Rattle.codec_metadata.specs.Metadata.{name_in};
 ghost use Rattle.array_fields.specs.MetadataFields.{configured_in};
 ghost use Rattle.array_grid.specs.ChunkKeys.{separator_of};
-ghost use Rattle.array_metadata.specs.KeyEncodings.{encoding_name, default_separator};
+ghost use Rattle.array_grid.specs.KeyEncodings.{encoding_name, default_separator};
 
+use crate::keys::{ChunkKeys, KeyEncoding};
 use array_fields::{MetadataError, Placed, escaped};
-use array_grid::{ChunkKeys, KeyEncoding};
 use std::alloc::Global;
 
-// The keys that a chunk key encoding names, `default` or `v2`, by the separator that it gives. Refused as `BadField`.
+/// The keys that the metadata of a chunk key encoding names, `default` or `v2`, by the separator that it gives (Zarr V3 core, "Chunk key
+/// encoding"). Refused as `BadField`; or as `OutOfMemory`.
 pub fn keys_in(alloc: Global, named: &Placed) -> Result<ChunkKeys, MetadataError>
     ensures encoding { IfOk result (λ keys. name_in (view named.now.value.now) ≡ Some (encoding_name keys.encoding)) }
     ensures separator { IfOk result (λ keys.
