@@ -528,6 +528,43 @@ def owners(program, top):
             bad.append(f"compact by user {user}: owner, group and permissions {kept}, wanted {want}")
 
 
+def unsharded(program, top):
+    """Chunks that are no shards: one that is whole, one too short, one too long, none, a folder, and one that unpacks to far more."""
+    path = f"{top}/unsharded"
+    array(path, [24], [4], [4])
+    with open(f"{path}/zarr.json", encoding="utf-8") as text:
+        document = json.load(text)
+    zipped, document["codecs"] = document["codecs"], [{"name": "bytes"}]
+    with open(f"{path}/zarr.json", "w", encoding="utf-8") as text:
+        json.dump(document, text)
+    for key, content in (("0", b"abcd"), ("1", b"abc"), ("2", b"abcde"), ("5", b"")):
+        with open(f"{path}/{key}", "wb") as file:
+            file.write(content)
+    expect([program, "info", path], 0, "subchunks: none, since the chunks are no shards")
+    expect([program, "check", path], 1, "4 shards: 3 are refused")
+    for chunk in (1, 2, 5):
+        elements = f"elements {4 * chunk}..{4 * chunk + 4}"
+        expect([program, "check", path], 1, f"{chunk}: 15 Damaged: subchunk 0 ({elements}) does not decode")
+        expect([program, "read", path, f"{4 * chunk}"], 1, f"{chunk}: 15 Damaged: subchunk 0 ({elements}) does not decode")
+        expect([program, "reshard", path, f"{path}.new"], 1, "1: 15 Damaged: subchunk 0")
+    expect([program, "read", path, "2..4"], 0, "99 100")
+    expect([program, "read", path, "12..16"], 0, "0 0 0 0")
+    os.mkdir(f"{path}/4")
+    expect([program, "read", path, "16"], 2, "4: is a folder, not a regular file")
+    document["codecs"] = [{"name": "bytes"}, {"name": "gzip", "configuration": {"level": 9}}]
+    with open(f"{path}/zarr.json", "w", encoding="utf-8") as text:
+        json.dump(document, text)
+    with open(f"{path}/0", "wb") as file:
+        file.write(gzip.compress(bytes(100 * MIB)))
+    expect([program, "read", path, "0"], 1, "0: 15 Damaged: subchunk 0 (elements 0..4) does not decode")
+    expect_small([program, "read", path, "0"], 1)
+    for beside in ([{"name": "bytes"}, *zipped], [*zipped, {"name": "crc32c"}], ["transpose", *zipped]):
+        document["codecs"] = beside
+        with open(f"{path}/zarr.json", "w", encoding="utf-8") as text:
+            json.dump(document, text)
+        expect([program, "info", path], 2, "in codecs: sharding_indexed is read where no other codec stands beside it")
+
+
 def limits(program, top):
     """What would take long or much memory if it were done for each axis, each slice, each chunk, or for a whole answer at once."""
     many = [1] * 40_000
@@ -557,7 +594,7 @@ if __name__ == "__main__":
         shutil.copyfile(built, f"{folder}/zarr_shard")
         os.chmod(f"{folder}/zarr_shard", 0o755)
         # The last three take memory of their own, and a command is said to take as much as the process that starts it.
-        for case in (strangers, malformed, closed, closed_write, killed, resharded, written, told_at_once, large, banded, indexed, bombs, owners, limits, damaged_gzip, compressed, joined):
+        for case in (strangers, malformed, closed, closed_write, killed, resharded, written, told_at_once, large, banded, indexed, bombs, unsharded, owners, limits, damaged_gzip, compressed, joined):
             case(f"{folder}/zarr_shard", folder)
     print("\n".join(bad) or "each command ended as it must")
     sys.exit(bool(bad))

@@ -1,6 +1,7 @@
 // The value that a text is, and why a text is none.
-ghost use Rattle.std.specs.Prelude.{◌≡◌, Some, IfOk};
-ghost use Rattle.serde_json.specs.Read.{read as read_text};
+ghost use Rattle.std.specs.Prelude.{◌≡◌, ◌≤◌, Some, IfOk};
+ghost use Rattle.serde_json.specs.Data.{depth};
+ghost use Rattle.serde_json.specs.Read.{read as read_text, max_depth};
 ghost use Rattle.serde_json.specs.View.{view};
 
 use crate::error::MetadataError;
@@ -113,7 +114,8 @@ fn sentence_of(alloc: Global, text: &str, error: &Error) -> Result<String, Alloc
 
 /// The value that a text is. Refused as `BadField` where it is no JSON, nests too deep, or has a number past a float's range.
 pub fn value_in(alloc: Global, text: &str) -> Result<Value, MetadataError>
-    ensures { IfOk result (λ value. read_text text.now ≡ Some (view value)) }
+    ensures read { IfOk result (λ value. read_text text.now ≡ Some (view value)) }
+    ensures nests { IfOk result (λ value. depth (view value) ≤ max_depth) }
 {
     match Value::from_str(alloc, text) {
         Ok(value) => Ok(value),

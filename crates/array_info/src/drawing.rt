@@ -178,16 +178,14 @@ fn column_of(byte: u64, length: u64) -> usize {
     place.unwrap_or(0).min(COLUMNS as u128) as usize
 }
 
-// Puts a mark into each column of a bar that has one of these bytes of a file of a length.
+// Puts a mark into each column of a bar in which one of these bytes begins, or which one fills, of a file of a length.
 fn paint(bar: &mut [u8], (start, end): (u64, u64), length: u64, mark: u8) {
     if start >= end {
         return;
     }
-    let (first, last) = (
-        column_of(start, length),
-        column_of(end.saturating_sub(1), length),
-    );
-    for column in first..last.saturating_add(1) {
+    let last = column_of(end.saturating_sub(1), length);
+    let behind = last.saturating_add(1).max(column_of(end, length));
+    for column in column_of(start, length)..behind {
         if let Some(place) = bar.get_mut(column) {
             *place = mark;
         }

@@ -5,6 +5,7 @@ use crate::json;
 use crate::text::{write_numbers, write_rows};
 use array_cli::{Array, Ending, Place, Refusal, Shard, ShardCodec, ShardFile, Stop, written};
 use array_fields::Progress;
+use array_grid::{ChunkKeys, KeyEncoding};
 use array_metadata::{ArrayCodec, ArrayMetadata};
 use array_store::{ChunkFile, ChunkFiles, Counted, FolderFiles, IndexInfo, info_of};
 use parts_errors::CodecError;
@@ -194,9 +195,28 @@ fn write_subchunk<W: Write>(out: &mut W, metadata: &ArrayMetadata) -> io::Result
     }
 }
 
+/// The name of the chunk key encoding, and the separator (Zarr V3 core, "Chunk key encoding").
+pub fn key_words(keys: ChunkKeys) -> (&'static str, &'static str) {
+    let encoding = match keys.encoding {
+        KeyEncoding::Default => "default",
+        KeyEncoding::V2 => "v2",
+    };
+    (encoding, if keys.slashes { "/" } else { "." })
+}
+
+// Writes the names of the axes, where there are any, and what the keys of chunks are.
+fn write_names<W: Write>(out: &mut W, metadata: &ArrayMetadata) -> io::Result<()> {
+    if let Some(names) = &metadata.dimension_names {
+        writeln!(out, "dimension names: {names}")?;
+    }
+    let (encoding, separator) = key_words(metadata.keys);
+    writeln!(out, "keys: {encoding} with {separator}")
+}
+
 // Writes what the metadata says.
 fn write_metadata<W: Write>(out: &mut W, metadata: &ArrayMetadata) -> io::Result<()> {
     write_numbers(out, "shape", &metadata.shape)?;
+    write_names(out, metadata)?;
     write_numbers(out, "chunks", metadata.shard.as_slice())?;
     write_subchunk(out, metadata)?;
     write_type(out, metadata)?;

@@ -1,5 +1,5 @@
 // What an array holds, as lines of JSON.
-use crate::info::{ShardInfo, Sums};
+use crate::info::{ShardInfo, Sums, key_words};
 use crate::text::write_json_cell;
 use array_cli::{Place, Refusal};
 use array_fields::JsonLine;
@@ -42,6 +42,12 @@ pub fn write_array<W: Write>(
 ) -> io::Result<()> {
     let mut line = JsonLine::new(out, "array")?;
     line.numbers("shape", &metadata.shape)?;
+    if let Some(names) = &metadata.dimension_names {
+        line.text("dimension_names", names)?;
+    }
+    let (encoding, separator) = key_words(metadata.keys);
+    line.text("chunk_key_encoding", encoding)?;
+    line.text("separator", separator)?;
     line.numbers("chunk_shape", metadata.shard.as_slice())?;
     put_subchunk(&mut line, metadata)?;
     put_type(&mut line, metadata)?;

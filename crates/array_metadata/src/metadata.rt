@@ -2,9 +2,10 @@
 ghost use Rattle.std.specs.Prelude.{◌≡◌, ◌≤◌, Some, None, Ok, IfOk, OnOk, IsTrue, codes, length, option_and_then, option_map, string_bytes, unwrap_or, vec_len};
 ghost use Rattle.serde_json.specs.Data.{no_items};
 ghost use Rattle.serde_json.specs.Find.{as_str, as_array, get};
+ghost use Rattle.parts_errors.specs.Words.{Bytes};
 ghost use Rattle.serde_json.specs.View.{view, members_view};
 ghost use Rattle.codec_metadata.specs.Metadata.{name_in, first_refused, members_in};
-ghost use Rattle.array_metadata.specs.AcceptedMetadata.{IsServedText, IsReadAs, FitsTogether};
+ghost use Rattle.array_metadata.specs.AcceptedMetadata.{IsServedText, IsReadAs, IsTextOf, FitsTogether};
 ghost use Rattle.array_fields.specs.MetadataFields.{configured_in, whole_number_in, whole_numbers_in, is_understood};
 ghost use Rattle.array_metadata.specs.FillValues.{IsFillIn};
 ghost use Rattle.array_metadata.specs.ArrayCodecs.{array_codec_in, subchunk_in, subchunk_of};
@@ -41,6 +42,8 @@ pub struct TypeText {
 pub struct ArrayMetadata {
     /// How many cells there are along each axis; 0 is served.
     pub shape: Vec<u64>,
+    /// The value of `dimension_names`, as it stands in the text, for a terminal; `None` where there are no names.
+    pub dimension_names: Option<String>,
     /// The shape of a chunk, which is a shard or not.
     pub shard: ChunkShape,
     /// The shape of a subchunk of a shard; a chunk that is no shard is one subchunk.
@@ -59,6 +62,8 @@ pub struct ArrayMetadata {
     pub type_text: Option<TypeText>,
     /// The value of `codecs`, as it stands in the text, for a terminal.
     pub codecs: String,
+    /// The JSON value of the text, with the members that are read nowhere here, as `attributes`.
+    pub document: Value,
 }
 
 // Whether a member of the metadata is known, or left with nothing in it, or says that it need not be understood.
@@ -231,6 +236,17 @@ fn type_text_in(
     }))
 }
 
+// The names of an array's dimensions, for a terminal.
+fn dimension_names_in(alloc: Global, whole: &Placed) -> Result<Option<String>, MetadataError> {
+    match whole.member(alloc, "dimension_names")? {
+        Some(names) if !names.value.is_null() => {
+            let text = names.value.to_string(alloc)?;
+            Ok(Some(escaped_whole(alloc, text.as_str())?))
+        }
+        _ => Ok(None),
+    }
+}
+
 // The name of the first codec that elements go through and that is not served.
 fn unread_in(alloc: Global, whole: &Placed) -> Result<Option<String>, MetadataError>
     ensures { IfOk result (λ unread. option_map string_bytes unread ≡ unread_codec_in (option_and_then chunks_in (get (codes "codecs") (view whole.now.value.now)))) }
@@ -377,7 +393,9 @@ fn with_codecs(
     ensures unread { IfOk result (λ metadata. metadata.unread ≡ codecs.unread) }
 {
     let type_text = type_text_in(alloc, whole, cells.element_type)?;
+    let dimension_names = dimension_names_in(alloc, whole)?;
     Ok(ArrayMetadata {
+        dimension_names,
         subchunk: codecs.subchunk,
         codecs: codecs.text,
         type_text,
@@ -389,6 +407,7 @@ fn with_codecs(
         fill_value,
         codec: codecs.codec,
         unread: codecs.unread,
+        document: Value::Null,
     })
 }
 
@@ -423,6 +442,7 @@ impl ArrayMetadata {
         ensures served { OnOk result (IsServedText text.now) }
         ensures read { IfOk result (IsReadAs text.now) }
         ensures fits { IfOk result FitsTogether }
+        ensures text { IfOk result (IsTextOf text.now) }
     {
         let value = value_in(alloc, text)?;
         let whole = Placed::whole(alloc, &value)?;
@@ -432,6 +452,17 @@ impl ArrayMetadata {
         let keys = keys_in(alloc, &whole.required(alloc, "chunk_key_encoding")?)?;
         let fill_value = fill_in(alloc, &whole, cells.element_type)?;
         let codecs = codecs_of_cells(alloc, &whole.required(alloc, "codecs")?, &cells)?;
-        with_codecs(alloc, &whole, cells, codecs, keys, fill_value)
+        let metadata = with_codecs(alloc, &whole, cells, codecs, keys, fill_value)?;
+        Ok(ArrayMetadata {
+            document: value,
+            ..metadata
+        })
+    }
+
+    /// The metadata as a text, with each member as it was read, of which `from_text` reads the same. Refused only as out of memory.
+    pub fn to_text(&self, alloc: Global) -> Result<String, AllocError>
+        ensures same { IfOk result (λ written. (text : Bytes) → IsTextOf text self.now → IsTextOf (string_bytes written) self.now) }
+    {
+        self.document.to_string(alloc)
     }
 }
