@@ -2,6 +2,7 @@
 ghost use Rattle.std.specs.Prelude.{◌≡◌, ◌≤◌, Some, None, Ok, IfOk, OnOk, IsTrue, codes, length, option_and_then, option_map, string_bytes, unwrap_or, vec_len};
 ghost use Rattle.serde_json.specs.Data.{no_items};
 ghost use Rattle.serde_json.specs.Find.{as_str, as_array, get};
+ghost use Rattle.serde_json.specs.Read.{read};
 ghost use Rattle.parts_errors.specs.Words.{Bytes};
 ghost use Rattle.serde_json.specs.View.{view, members_view};
 ghost use Rattle.codec_metadata.specs.Metadata.{name_in, first_refused, members_in};
@@ -411,6 +412,22 @@ fn with_codecs(
     })
 }
 
+// The metadata that a value of JSON is, but for the value itself. Refused as `from_text` refuses.
+fn metadata_of(alloc: Global, value: &Value) -> Result<ArrayMetadata, MetadataError>
+    ensures served { OnOk result ((text : Bytes) → read text ≡ Some (view value.now) → IsServedText text) }
+    ensures says { IfOk result (λ metadata. (text : Bytes) → read text ≡ Some (view value.now) → IsReadAs text metadata) }
+    ensures fits { IfOk result FitsTogether }
+{
+    let whole = Placed::whole(alloc, value)?;
+    test_members_of(alloc, &whole)?;
+    let unread = unread_in(alloc, &whole)?;
+    let cells = cells_in(alloc, &whole, &unread)?;
+    let keys = keys_in(alloc, &whole.required(alloc, "chunk_key_encoding")?)?;
+    let fill_value = fill_in(alloc, &whole, cells.element_type)?;
+    let codecs = codecs_of_cells(alloc, &whole.required(alloc, "codecs")?, &cells)?;
+    with_codecs(alloc, &whole, cells, codecs, keys, fill_value)
+}
+
 impl ArrayMetadata {
     /// Tests that the elements are read. Refused, in this order, as `UnsupportedCodec` with the codec that they go through and that is
     /// not served, and as `BadField` where their type is not read.
@@ -445,18 +462,9 @@ impl ArrayMetadata {
         ensures text { IfOk result (IsTextOf text.now) }
     {
         let value = value_in(alloc, text)?;
-        let whole = Placed::whole(alloc, &value)?;
-        test_members_of(alloc, &whole)?;
-        let unread = unread_in(alloc, &whole)?;
-        let cells = cells_in(alloc, &whole, &unread)?;
-        let keys = keys_in(alloc, &whole.required(alloc, "chunk_key_encoding")?)?;
-        let fill_value = fill_in(alloc, &whole, cells.element_type)?;
-        let codecs = codecs_of_cells(alloc, &whole.required(alloc, "codecs")?, &cells)?;
-        let metadata = with_codecs(alloc, &whole, cells, codecs, keys, fill_value)?;
-        Ok(ArrayMetadata {
-            document: value,
-            ..metadata
-        })
+        let mut metadata = metadata_of(alloc, &value)?;
+        metadata.document = value;
+        Ok(metadata)
     }
 
     /// The metadata as a text, with each member as it was read, of which `from_text` reads the same. Refused only as out of memory.
