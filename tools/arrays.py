@@ -51,6 +51,13 @@ def test_info(program, name, path, shards):
     there = {key: shard for key, shard in shards.items() if shard != "absent"}
     refusals = any(shard["index"] != "ok" for shard in there.values())
     compare(name, "status of info", (status, told), (1 if refusals else 0, ""))
+    with open(f"{path}/zarr.json", encoding="utf-8") as text:
+        document = json.load(text)
+    keys = document["chunk_key_encoding"]
+    separator = keys.get("configuration", {}).get("separator", "." if keys["name"] == "v2" else "/")
+    compare(name, "keys", lines.get("keys"), f"{keys['name']} with {separator}")
+    names = json.loads(lines.get("dimension names", "null"))
+    compare(name, "names of dimensions", names, document.get("dimension_names"))
     for key, shard in shards.items():
         if shard == "absent":
             compare(name, f"info of {key}", lines.get(key), None)
