@@ -60,7 +60,7 @@ fn push_next(
     Ok(())
 }
 
-// Content of so many bytes.
+// Content of `size` bytes.
 fn content(alloc: Global, kind: Kind, size: usize) -> Result<Vec<u8>, AllocError> {
     let mut content = Vec::new(alloc);
     let mut random = 1u32;
