@@ -36,28 +36,32 @@ const WORDS: [&[u8]; 8] = [
 
 const LEVELS: [i32; 5] = [-5, 1, 3, 9, 19];
 
-// Appends what comes at a place, by a random number.
+// The byte of a place, by a random one.
+fn byte_at(kind: Kind, place: usize, random: u8) -> u8 {
+    match kind {
+        Kind::Run => 7,
+        Kind::High => 128 + random % 64,
+        Kind::Bits => random % 2,
+        Kind::Period => (place % 7) as u8,
+        _ => random,
+    }
+}
+
+// Appends what comes at a place, by a random byte.
 fn push_next(
     content: &mut Vec<u8>,
     kind: Kind,
     place: usize,
-    random: u32,
+    random: u8,
 ) -> Result<(), AllocError> {
-    let high = (random >> 24) as usize;
-    let byte = match kind {
-        Kind::Run => 7,
-        Kind::Words => return content.extend_from_slice(WORDS[high % 8]),
+    match kind {
+        Kind::Words => content.extend_from_slice(WORDS[random as usize % 8]),
         Kind::Numbers => {
-            let number = (1000 + place % 4096 + high % 16) as u16;
-            return content.extend_from_slice(&number.to_le_bytes());
+            let number = 1000 + (place % 4096) as u16 + random as u16 % 16;
+            content.extend_from_slice(&number.to_le_bytes())
         }
-        Kind::Random => high,
-        Kind::High => 128 + high % 64,
-        Kind::Bits => high % 2,
-        Kind::Period => place % 7,
-    };
-    content.push(byte as u8)?;
-    Ok(())
+        _ => content.extend_from_slice(&[byte_at(kind, place, random)]),
+    }
 }
 
 // Content of `size` bytes.
@@ -66,7 +70,7 @@ fn content(alloc: Global, kind: Kind, size: usize) -> Result<Vec<u8>, AllocError
     let mut random = 1u32;
     for place in 0..size {
         random = random.wrapping_mul(1664525).wrapping_add(1013904223);
-        push_next(&mut content, kind, place, random)?;
+        push_next(&mut content, kind, place, (random >> 24) as u8)?;
     }
     content.truncate(size);
     Ok(content)
@@ -102,7 +106,7 @@ fn short_files_are_read_back(rt: HostRuntime) {
     for kind in KINDS {
         for size in SIZES {
             for level in LEVELS {
-                is_written(&rt, rt.alloc(), kind, size, level, size + 16);
+                is_written(&rt, rt.alloc(), kind, size, level, size.saturating_add(16));
             }
         }
     }
@@ -114,7 +118,7 @@ fn long_files_are_read_back(rt: HostRuntime) {
     const SIZES: [usize; 2] = [131072, 140001];
     for kind in KINDS {
         for size in SIZES {
-            is_written(&rt, rt.alloc(), kind, size, 1, size + 20);
+            is_written(&rt, rt.alloc(), kind, size, 1, size.saturating_add(20));
         }
     }
 }
@@ -131,6 +135,7 @@ fn files_are_short(rt: HostRuntime) {
         (Kind::Period, 24),
     ];
     for (kind, theirs) in ROWS {
-        is_written(&rt, rt.alloc(), kind, 65536, 3, theirs + theirs / 10 + 10);
+        let most = (theirs / 10).saturating_add(theirs).saturating_add(10);
+        is_written(&rt, rt.alloc(), kind, 65536, 3, most);
     }
 }
