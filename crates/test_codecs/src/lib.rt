@@ -49,3 +49,5 @@ mod writes;
 mod zlib;
 #[cfg(test)]
 mod zstd;
+#[cfg(test)]
+mod zstd_written;
