@@ -21,9 +21,11 @@ pub struct WholeChunks<'a, C> {
 impl<'a, C> Copy for WholeChunks<'a, C> {}
 
 impl<'a, C> Clone for WholeChunks<'a, C> {
+    ghost use Rattle.std.specs.Prelude.{◌≡◌};
+
     ghost is_clone = { λ x y. y.codec.now ≡ x.codec.now };
 
-    ghost is_infallible = { λ _. ⊤ };
+    ghost is_infallible = { λ _. Unit {0} };
 
     fn clone(&self) -> Result<Self, AllocError> {
         Ok(WholeChunks { codec: self.codec })
