@@ -1,9 +1,8 @@
 -- The metadata of an array that is accepted, by its text.
 use Rattle.std.specs.Prelude.{◌≡◌, ◌≤◌, Some, None, Ok, codes, length, option_and_then, option_map, string_bytes, unwrap_or, vec_len}
-use Rattle.serde_json.specs.Data.{depth, no_items}
+use Rattle.serde_json.specs.Data.{no_items}
 use Rattle.serde_json.specs.Find.{as_str, as_array}
-use Rattle.serde_json.specs.Read.{read, max_depth}
-use Rattle.serde_json.specs.View.{view}
+use Rattle.serde_json.specs.Read.{read}
 use Rattle.parts_errors.specs.Words.{Bytes}
 use Rattle.codec_metadata.specs.Metadata.{name_in, first_refused, members_in}
 use Rattle.parts_subsets.specs.Grid.{Divides}
@@ -41,13 +40,6 @@ pub record IsReadAs (text : Bytes) (metadata : ArrayMetadata) : Type 0 where
   pub codecs : option_map (array_codec_in (vec_len metadata.shape)) (option_and_then as_array (member_in (codes "codecs") text))
       ≡ Some (Ok metadata.codec)
   pub unread : option_map string_bytes metadata.unread ≡ unread_codec_in (option_and_then chunks_in (member_in (codes "codecs") text))
-
--- a text is that of metadata, which has its JSON value and says what it says
-pub record IsTextOf (text : Bytes) (metadata : ArrayMetadata) : Type 0 where
-  pub document : read text ≡ Some (view metadata.document)
-  pub nests : depth (view metadata.document) ≤ max_depth
-  pub served : IsServedText text
-  pub says : IsReadAs text metadata
 
 -- the parts of metadata fit together: as many axes everywhere, subchunks that divide chunks evenly, a fill value of the type's size
 pub record FitsTogether (metadata : ArrayMetadata) : Type 0 where

@@ -6,7 +6,7 @@ ghost use Rattle.serde_json.specs.Read.{read};
 ghost use Rattle.parts_errors.specs.Words.{Bytes};
 ghost use Rattle.serde_json.specs.View.{view, members_view};
 ghost use Rattle.codec_metadata.specs.Metadata.{name_in, first_refused, members_in};
-ghost use Rattle.array_metadata.specs.AcceptedMetadata.{IsServedText, IsReadAs, IsTextOf, FitsTogether};
+ghost use Rattle.array_metadata.specs.AcceptedMetadata.{IsServedText, IsReadAs, FitsTogether};
 ghost use Rattle.array_fields.specs.MetadataFields.{configured_in, whole_number_in, whole_numbers_in, is_understood};
 ghost use Rattle.array_metadata.specs.FillValues.{IsFillIn};
 ghost use Rattle.array_metadata.specs.ArrayCodecs.{array_codec_in, subchunk_in, subchunk_of};
@@ -63,8 +63,6 @@ pub struct ArrayMetadata {
     pub type_text: Option<TypeText>,
     /// The value of `codecs`, as it stands in the text, for a terminal.
     pub codecs: String,
-    /// The JSON value of the text, with the members that are read nowhere here, as `attributes`.
-    pub document: Value,
 }
 
 // Whether a member of the metadata is known, or left with nothing in it, or says that it need not be understood.
@@ -408,7 +406,6 @@ fn with_codecs(
         fill_value,
         codec: codecs.codec,
         unread: codecs.unread,
-        document: Value::Null,
     })
 }
 
@@ -459,18 +456,9 @@ impl ArrayMetadata {
         ensures served { OnOk result (IsServedText text.now) }
         ensures read { IfOk result (IsReadAs text.now) }
         ensures fits { IfOk result FitsTogether }
-        ensures text { IfOk result (IsTextOf text.now) }
     {
         let value = value_in(alloc, text)?;
-        let mut metadata = metadata_of(alloc, &value)?;
-        metadata.document = value;
+        let metadata = metadata_of(alloc, &value)?;
         Ok(metadata)
-    }
-
-    /// The metadata as a text, with each member as it was read, of which `from_text` reads the same. Refused only as out of memory.
-    pub fn to_text(&self, alloc: Global) -> Result<String, AllocError>
-        ensures same { IfOk result (λ written. (text : Bytes) → IsTextOf text self.now → IsTextOf (string_bytes written) self.now) }
-    {
-        self.document.to_string(alloc)
     }
 }
