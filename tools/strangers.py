@@ -444,6 +444,17 @@ def bombs(program, top):
     expect_small([program, "check", path], 1, 24_000_000)
     expect([program, "read", path, "4..8"], 0, "97 98 99 100")
     expect_small([program, "read", path, "0..1"], 1, 24_000_000)
+    # One inside another: what lies between is no subchunk, and may be longer, but not by as much.
+    path, packs = f"{top}/bombs_again", {"name": "gzip", "configuration": {"level": 9}}
+    array(path, [8], [8], [4], packs, packs)
+    shard(f"{path}/0", [gzip.compress(gzip.compress(bytes(MIB))), gzip.compress(gzip.compress(b"abcd"))], 0)
+    expect([program, "read", path, "4..8"], 0, "97 98 99 100")
+    expect([program, "read", path, "0..1"], 1, "0: 15 Damaged: subchunk 0 (elements 0..4) does not decode")
+    os.remove(f"{path}/0")
+    shard(f"{path}/0", [bomb, gzip.compress(gzip.compress(b"abcd"))], 0)
+    expect([program, "read", path, "4..8"], 0, "97 98 99 100")
+    expect([program, "read", path, "0..1"], 2, "out of memory")
+    expect_small([program, "read", path, "0..1"], 2, 24_000_000)
 
 
 def unpacked(file, size):

@@ -13,7 +13,8 @@ followed_invertible first second back again b encoded (between, written, is) =
 followed_bounded : (first second : Coding) → IsBounded first → IsBounded second → IsBounded (followed first second)
 followed_bounded first second bounded again = record {
   unbounded = ap second.representation (bounded.unbounded) ∙ again.unbounded;
-  within = λ told b encoded h written. again.within (first.representation told) written.0 encoded (bounded.within told b written.0 h written.1) written.2;
+  within = λ told b encoded h written. again.within (first.representation told) written.0 encoded
+      (bounded.within told b written.0 h written.1) written.2;
 }
 
 optional_invertible : (codec : Option ByteCodec) → IsInvertible (optional_coding codec)
@@ -29,10 +30,14 @@ optional_bounded (Some codec) = byte_bounded codec
 
 pub list_invertible : (codecs : ByteCodecs) → IsInvertible (list_coding codecs)
 list_invertible codecs =
-    let two = followed_invertible (byte_coding codecs.first) (optional_coding codecs.second) (byte_invertible codecs.first) (optional_invertible codecs.second) in
-    followed_invertible (followed (byte_coding codecs.first) (optional_coding codecs.second)) (optional_coding codecs.third) two (optional_invertible codecs.third)
+    let first = byte_coding codecs.first in
+    let second = optional_coding codecs.second in
+    let two = followed_invertible first second (byte_invertible codecs.first) (optional_invertible codecs.second) in
+    followed_invertible (followed first second) (optional_coding codecs.third) two (optional_invertible codecs.third)
 
 pub list_bounded : (codecs : ByteCodecs) → IsBounded (list_coding codecs)
 list_bounded codecs =
-    let two = followed_bounded (byte_coding codecs.first) (optional_coding codecs.second) (byte_bounded codecs.first) (optional_bounded codecs.second) in
-    followed_bounded (followed (byte_coding codecs.first) (optional_coding codecs.second)) (optional_coding codecs.third) two (optional_bounded codecs.third)
+    let first = byte_coding codecs.first in
+    let second = optional_coding codecs.second in
+    let two = followed_bounded first second (byte_bounded codecs.first) (optional_bounded codecs.second) in
+    followed_bounded (followed first second) (optional_coding codecs.third) two (optional_bounded codecs.third)

@@ -1,4 +1,10 @@
 // The codecs from bytes to bytes that are served.
+ghost use Rattle.std.specs.Prelude.{◌≡◌, Some, IfOk, IfErr, IsSome};
+ghost use Rattle.std.specs.Cow.{cow_slice_items};
+ghost use Rattle.parts_errors.specs.Order.{◌or◌then◌, done, RefusedBy};
+ghost use Rattle.parts_errors.specs.declared.error.CodecError.TheVariants.{Damaged};
+ghost use Rattle.array_codecs.specs.ByteCodec.{byte_coding};
+
 use codec_chains::BytesToBytesCodecTraits;
 use codec_checksums::Crc32cCodec;
 use codec_gzip::{GzipCodec, ZlibCodec};
@@ -15,6 +21,30 @@ pub enum ByteCodec {
     Gzip(GzipCodec),
     Zlib(ZlibCodec),
     Zstd(ZstdCodec),
+}
+
+impl ByteCodec {
+    /// The bytes that these are an encoding of, for which about this much memory is taken at most. Refused as `Damaged` where these are no
+    /// encoding; or as `OutOfMemory`, also where the bytes need more.
+    pub fn decode_in_memory<'a>(
+        &self,
+        alloc: Global,
+        bytes: &'a [u8],
+        memory: usize,
+    ) -> Result<CowSlice<'a, u8>, CodecError>
+        ensures decoded { IfOk result (λ decoded. (byte_coding self.now).decoding bytes.now ≡ Some (cow_slice_items decoded)) }
+        ensures refused { IfErr result (RefusedBy (
+            IsSome ((byte_coding self.now).decoding bytes.now) or Damaged then
+            done)) }
+    {
+        match self {
+            // The bytes are lent on.
+            ByteCodec::Crc32c(codec) => codec.decode(alloc, bytes),
+            ByteCodec::Gzip(codec) => codec.decode_in_memory(alloc, bytes, memory),
+            ByteCodec::Zlib(codec) => codec.decode_in_memory(alloc, bytes, memory),
+            ByteCodec::Zstd(codec) => codec.decode_in_memory(alloc, bytes, memory),
+        }
+    }
 }
 
 impl BytesToBytesCodecTraits for ByteCodec {

@@ -76,12 +76,21 @@ fn limit_behind(codec: Option<ByteCodec>, limit: Option<usize>) -> Option<usize>
     }
 }
 
-// The bytes of an encoding, where they are at most as many as a limit.
+// How much memory is taken for what lies between two codecs where it may have any length: for twice as many bytes as the limit, and 64 KiB.
+fn memory_between(limit: Option<usize>) -> usize {
+    match limit {
+        Some(limit) => limit.saturating_mul(2).saturating_add(65_536),
+        None => usize::MAX,
+    }
+}
+
+// The bytes of an encoding, where they are at most as many as a limit. Where there is none, about this much memory is taken at most.
 fn decode_slice<'a>(
     alloc: Global,
     codec: &ByteCodec,
     bytes: &'a [u8],
     limit: Option<usize>,
+    memory: usize,
 ) -> Result<CowSlice<'a, u8>, CodecError>
     ensures decoded { IfOk result (λ decoded. (byte_coding codec.now).decoding bytes.now ≡ Some (cow_slice_items decoded)) }
     ensures within { IfOk result (λ decoded. IsAtMost limit (length (cow_slice_items decoded))) }
@@ -89,7 +98,7 @@ fn decode_slice<'a>(
 {
     match limit {
         Some(limit) => codec.decode_within(alloc, bytes, limit),
-        None => codec.decode(alloc, bytes),
+        None => codec.decode_in_memory(alloc, bytes, memory),
     }
 }
 
@@ -99,12 +108,13 @@ fn decode_owned(
     codec: &ByteCodec,
     bytes: Vec<u8>,
     limit: Option<usize>,
+    memory: usize,
 ) -> Result<Vec<u8>, CodecError>
     ensures decoded { IfOk result (λ decoded. (byte_coding codec.now).decoding bytes.items ≡ Some decoded.items) }
     ensures within { IfOk result (λ decoded. IsAtMost limit (length decoded.items)) }
     ensures refused { IfErr result (RefusedOver limit ((byte_coding codec.now).decoding bytes.items)) }
 {
-    let decoded = decode_slice(alloc, codec, &bytes, limit)?;
+    let decoded = decode_slice(alloc, codec, &bytes, limit, memory)?;
     let owned = decoded.into_owned(alloc)?;
     Ok(owned)
 }
@@ -115,15 +125,16 @@ fn decode_by<'a>(
     codec: &ByteCodec,
     encoded: CowSlice<'a, u8>,
     limit: Option<usize>,
+    memory: usize,
 ) -> Result<CowSlice<'a, u8>, CodecError>
     ensures decoded { IfOk result (λ decoded. (byte_coding codec.now).decoding (cow_slice_items encoded.entry) ≡ Some (cow_slice_items decoded)) }
     ensures within { IfOk result (λ decoded. IsAtMost limit (length (cow_slice_items decoded))) }
     ensures refused { IfErr result (RefusedOver limit ((byte_coding codec.now).decoding (cow_slice_items encoded.entry))) }
 {
     match encoded {
-        CowSlice::Borrowed(bytes) => decode_slice(alloc, codec, bytes, limit),
+        CowSlice::Borrowed(bytes) => decode_slice(alloc, codec, bytes, limit, memory),
         CowSlice::Owned(bytes) => {
-            let decoded = decode_owned(alloc, codec, bytes, limit)?;
+            let decoded = decode_owned(alloc, codec, bytes, limit, memory)?;
             Ok(CowSlice::Owned(decoded))
         }
     }
@@ -135,12 +146,13 @@ fn decode_behind<'a>(
     codec: Option<ByteCodec>,
     encoded: CowSlice<'a, u8>,
     limit: Option<usize>,
+    memory: usize,
 ) -> Result<CowSlice<'a, u8>, CodecError>
     ensures decoded { IfOk result (λ decoded. (optional_coding codec).decoding (cow_slice_items encoded.entry) ≡ Some (cow_slice_items decoded)) }
     ensures refused { IfErr result (RefusedOver limit ((optional_coding codec).decoding (cow_slice_items encoded.entry))) }
 {
     match codec {
-        Some(codec) => decode_by(alloc, &codec, encoded, limit),
+        Some(codec) => decode_by(alloc, &codec, encoded, limit, memory),
         None => Ok(encoded),
     }
 }
@@ -175,10 +187,11 @@ impl ByteCodecs {
     {
         let by_first = limit_by(self.first, limit);
         let by_second = limit_behind(self.second, by_first);
+        let memory = memory_between(limit);
         let encoded = CowSlice::Borrowed(bytes);
-        let before_third = decode_behind(alloc, self.third, encoded, by_second)?;
-        let before_second = decode_behind(alloc, self.second, before_third, by_first)?;
-        decode_by(alloc, &self.first, before_second, limit)
+        let before_third = decode_behind(alloc, self.third, encoded, by_second, memory)?;
+        let before_second = decode_behind(alloc, self.second, before_third, by_first, memory)?;
+        decode_by(alloc, &self.first, before_second, limit, memory)
     }
 }
 

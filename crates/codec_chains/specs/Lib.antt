@@ -7,3 +7,5 @@ pub mod ChainLaws
 pub mod Trailers
 pub mod TrailerLaws
 pub mod EitherCodec
+pub mod Compressors
+pub mod CompressorLaws

@@ -1,5 +1,5 @@
-// A codec from arrays to bytes with a codec from arrays to arrays before it, or one from bytes to bytes behind it; and a codec that
-// is one of two.
+// A codec from arrays to bytes with a codec from arrays to arrays before it, or one from bytes to bytes behind it; a codec that
+// is one of two; and what a codec means that compresses.
 #![tactic(auto)]
 
 mod array_chain;

@@ -1,7 +1,7 @@
 -- The codec `gzip` keeps its bound.
 use Rattle.std.proofs.Common.{arith}
 use Rattle.codec_chains.specs.Codings.{IsBounded}
-use Rattle.codec_compression.specs.CompressorLaws.{compressor_bounded}
+use Rattle.codec_chains.specs.CompressorLaws.{compressor_bounded}
 use Rattle.codec_gzip.specs.Gzip.{gunzipped}
 use Rattle.codec_gzip.specs.Written.{gzip_bound}
 use Rattle.codec_gzip.specs.GzipCoding.{gzip_coding}

@@ -1,7 +1,7 @@
 -- The codec `zlib` keeps its bound.
 use Rattle.std.proofs.Common.{arith}
 use Rattle.codec_chains.specs.Codings.{IsBounded}
-use Rattle.codec_compression.specs.CompressorLaws.{compressor_bounded}
+use Rattle.codec_chains.specs.CompressorLaws.{compressor_bounded}
 use Rattle.codec_gzip.specs.Zlib.{zlib_content}
 use Rattle.codec_gzip.specs.ZlibWritten.{zlib_bound}
 use Rattle.codec_gzip.specs.ZlibCoding.{zlib_coding}

@@ -22,6 +22,8 @@ mod inverted;
 #[cfg(test)]
 mod laws;
 #[cfg(test)]
+mod lists;
+#[cfg(test)]
 mod metadata_accepted;
 #[cfg(test)]
 mod metadata_building;

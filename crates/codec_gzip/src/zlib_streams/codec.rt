@@ -1,6 +1,11 @@
 // The codec `zlib`.
+ghost use Rattle.std.specs.Prelude.{◌≡◌, Some, IfOk, IfErr, IsSome};
+ghost use Rattle.std.specs.Cow.{cow_slice_items};
+ghost use Rattle.parts_errors.specs.Order.{◌or◌then◌, done, RefusedBy};
+ghost use Rattle.parts_errors.specs.declared.error.CodecError.TheVariants.{Damaged};
+ghost use Rattle.codec_gzip.specs.Zlib.{zlib_content};
 
-use crate::frame::{Frame, decoded, decoded_within, representation};
+use crate::frame::{Frame, decoded_in_memory, decoded_within, representation};
 use crate::zlib_streams::reading::unzlib;
 use crate::zlib_streams::writing::zlib;
 use codec_chains::BytesToBytesCodecTraits;
@@ -37,6 +42,24 @@ impl Frame for ZlibStream {
     }
 }
 
+impl ZlibCodec {
+    /// The content of a stream, for which memory is asked for at most `memory` bytes and a little more. Refused as `Damaged` where the bytes
+    /// are no stream; or as `OutOfMemory`, also where the content is longer than `memory`.
+    pub fn decode_in_memory<'a>(
+        &self,
+        alloc: Global,
+        bytes: &'a [u8],
+        memory: usize,
+    ) -> Result<CowSlice<'a, u8>, CodecError>
+        ensures decoded { IfOk result (λ decoded. zlib_content bytes.now ≡ Some (cow_slice_items decoded)) }
+        ensures refused { IfErr result (RefusedBy (
+            IsSome (zlib_content bytes.now) or Damaged then
+            done)) }
+    {
+        decoded_in_memory::<ZlibStream>(alloc, bytes, memory)
+    }
+}
+
 impl BytesToBytesCodecTraits for ZlibCodec {
     ghost use Rattle.codec_gzip.specs.ZlibCoding.{zlib_coding};
     ghost use Rattle.codec_gzip.specs.ZlibLaws.{zlib_bounded};
@@ -55,7 +78,7 @@ impl BytesToBytesCodecTraits for ZlibCodec {
 
     /// The content of a stream. Refused as `Damaged` where the bytes are none; or as `OutOfMemory`.
     fn decode<'a>(&self, alloc: Global, bytes: &'a [u8]) -> Result<CowSlice<'a, u8>, CodecError> {
-        decoded::<ZlibStream>(alloc, bytes)
+        self.decode_in_memory(alloc, bytes, usize::MAX)
     }
 
     /// The content of a stream, of at most `limit` bytes. Memory is asked for `limit` bytes and a little more. Refused as `Damaged` where
