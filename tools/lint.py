@@ -125,14 +125,14 @@ def check_promises():
 
 
 def check_excerpt():
-    """The code in README.md stands so in crates/example_read_elements, which the gate proves and runs."""
-    source = read(f"{TOP}/crates/example_read_elements/src/main.rt")
+    """The code in README.md stands so in crates/example_library, which the gate proves and runs."""
+    source = read(f"{TOP}/crates/example_library/src/read_elements.rt")
     for block in re.findall(r"(?s)```rust\n(.*?)```", read(f"{TOP}/README.md")):
         for part in block.strip("\n").split("\n\n"):
             if part not in source:
-                say("README.md", 1, f"shows code that is not in crates/example_read_elements: {part.split(chr(10))[0]}")
-    if read(f"{TOP}/crates/example_read_elements/stdout").split("\n")[0] not in read(f"{TOP}/README.md"):
-        say("README.md", 1, "does not show what crates/example_read_elements prints first")
+                say("README.md", 1, f"shows code that is not in crates/example_library: {part.split(chr(10))[0]}")
+    if read(f"{TOP}/crates/example_library/stdout").split("\n")[0] not in read(f"{TOP}/README.md"):
+        say("README.md", 1, "does not show what crates/example_library prints first")
 
 
 def check_crates():

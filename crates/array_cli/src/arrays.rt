@@ -6,7 +6,7 @@ use array_codecs::reversed_parts;
 use array_fields::{LONGEST_TEXT, MetadataError, escaped};
 use array_grid::ListPart;
 use array_metadata::{ArrayCodec, ArrayMetadata, reversed_size};
-use array_store::{ChunkFile, ChunkFiles, ChunkGrid, document_length, list_chunks, read_document};
+use array_folder::{ChunkFile, ChunkFiles, ChunkGrid, document_length, list_chunks, read_document};
 use parts_arrays::FillValue;
 use parts_errors::CodecError;
 use parts_subsets::ChunkShape;

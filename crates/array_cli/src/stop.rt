@@ -5,7 +5,7 @@ ghost use Rattle.array_cli.specs.Statuses.{status_of};
 use crate::refusal::Refusal;
 use array_fields::MetadataError;
 use array_grid::SubsetError;
-use array_store::FolderError;
+use array_folder::FolderError;
 use parts_errors::CodecError;
 use std::alloc::{AllocError, AllocFailed, Global};
 use std::io;

@@ -7,7 +7,7 @@ use array_cli::{
 };
 use array_fields::Progress;
 use array_info::{Listing, check_subchunk};
-use array_store::ChunkFile;
+use array_folder::ChunkFile;
 use parts_errors::CodecError;
 use std::io;
 use std::io::Write;

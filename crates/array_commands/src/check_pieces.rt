@@ -6,7 +6,7 @@ use array_cli::{
     piece_length, piece_of, run_in_parallel, with_codec, written,
 };
 use array_fields::Progress;
-use array_store::ChunkFile;
+use array_folder::ChunkFile;
 use std::io;
 use std::io::Write;
 use std::rt::Files;

@@ -2,7 +2,7 @@
 use array_cli::{Array, Ending, Refusal, Stop, written};
 use array_fields::{JsonLine, Progress};
 use array_info::{put_refusal, write_folder, write_folder_lines};
-use array_store::{ChunkFiles, Counted};
+use array_folder::{ChunkFiles, Counted};
 use std::io;
 use std::io::Write;
 use std::rt::{Clock, Files};

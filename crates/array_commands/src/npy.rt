@@ -4,7 +4,7 @@ use array_cli::{Array, Ending, SharedArray, SharedSystem, Stop};
 use array_fields::Progress;
 use array_grid::{Requested, subset_of};
 use array_info::{begin_new, full_name};
-use array_store::{npy_beside, npy_header};
+use array_folder::{npy_beside, npy_header};
 use std::alloc::Global;
 use std::io;
 use std::io::Write;

@@ -2,7 +2,7 @@
 use array_cli::{Array, Shard, Stop};
 use array_fields::escaped;
 use array_grid::ListPart;
-use array_store::{ChunkFiles, age_of};
+use array_folder::{ChunkFiles, age_of};
 use std::io;
 use std::io::Write;
 use std::rt::{Clock, Files};

@@ -1,6 +1,6 @@
 // What the index of a shard says.
 use array_cli::{Array, ShardCodec, ShardFile};
-use array_store::{IndexInfo, info_of};
+use array_folder::{IndexInfo, info_of};
 use parts_errors::CodecError;
 use sharding_format::ShardingIndexLocation;
 use std::rt::Files;

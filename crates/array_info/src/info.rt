@@ -7,7 +7,7 @@ use array_cli::{Array, Ending, Place, Refusal, Shard, ShardCodec, ShardFile, Sto
 use array_fields::Progress;
 use array_grid::{ChunkKeys, KeyEncoding};
 use array_metadata::{ArrayCodec, ArrayMetadata};
-use array_store::{ChunkFile, ChunkFiles, Counted, FolderFiles, IndexInfo, info_of};
+use array_folder::{ChunkFile, ChunkFiles, Counted, FolderFiles, IndexInfo, info_of};
 use parts_errors::CodecError;
 use std::io;
 use std::io::Write;

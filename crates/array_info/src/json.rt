@@ -4,7 +4,7 @@ use crate::text::write_json_cell;
 use array_cli::{Place, Refusal};
 use array_fields::JsonLine;
 use array_metadata::{ArrayCodec, ArrayMetadata};
-use array_store::ChunkFiles;
+use array_folder::ChunkFiles;
 use std::io;
 use std::io::Write;
 

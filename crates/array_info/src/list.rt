@@ -2,7 +2,7 @@
 use array_cli::{Ending, Stop, metadata_of, written};
 use array_fields::{MetadataError, escaped};
 use array_metadata::ArrayMetadata;
-use array_store::list_members;
+use array_folder::list_members;
 use std::alloc::{AllocError, Global};
 use std::io;
 use std::io::Write;

@@ -9,7 +9,7 @@ use crate::picture::{write_array_picture, write_shard_picture};
 use crate::subchunks::check_subchunk;
 use array_cli::{Array, Ending, OpenShard, Place, Shard, ShardCodec, ShardFile, Stop, written};
 use array_fields::{Progress, escaped};
-use array_store::ChunkFiles;
+use array_folder::ChunkFiles;
 use parts_errors::CodecError;
 use parts_row_major::{ravel_indices, unravel_index};
 use parts_subsets::ChunkShape;

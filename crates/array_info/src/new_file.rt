@@ -1,7 +1,7 @@
 // A new file that is put at a path once it is whole.
 use array_cli::{Array, Stop};
 use array_fields::escaped;
-use array_store::{npy_beside, write_npy};
+use array_folder::{npy_beside, write_npy};
 use std::io;
 use std::io::{ErrorKind, Write};
 use std::rt::Files;

@@ -4,7 +4,7 @@ use crate::info::{ShardInfo, write_shard};
 use crate::json;
 use array_cli::{Array, Ending, Place, ShardCodec, ShardFile, Stop, written};
 use array_fields::{JsonLine, escaped};
-use array_store::{DeadBytes, IndexInfo, index_interval, info_of, slice_of};
+use array_folder::{DeadBytes, IndexInfo, index_interval, info_of, slice_of};
 use parts_errors::CodecError;
 use parts_row_major::unravel_index;
 use sharding_format::ShardingIndexLocation;

@@ -4,6 +4,4 @@ pub mod ChunkWrites
 pub mod ArrayWrites
 pub mod ReadRefusals
 pub mod Opening
-pub mod Shown
-pub mod Npy
 pub mod steps

@@ -5,7 +5,7 @@ use array_cli::{
 };
 use array_fields::{JsonLine, LONGEST_TEXT, Progress, escaped};
 use array_info::{Listing, put_refusal, save};
-use array_store::{ChunkFiles, age_of, read_document};
+use array_folder::{ChunkFiles, age_of, read_document};
 use sharding_layout::CompactionPlan;
 use std::io::{ErrorKind, Write};
 use std::rt::{Clock, Files};

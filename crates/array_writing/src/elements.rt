@@ -3,7 +3,7 @@ use array_cli::{Array, Stop};
 use array_fields::escaped;
 use array_grid::Requested;
 use array_info::full_name;
-use array_store::npy_header;
+use array_folder::npy_header;
 use std::alloc::Global;
 use std::io;
 use std::io::ErrorKind;

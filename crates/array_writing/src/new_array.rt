@@ -9,7 +9,7 @@ use array_cli::{
 use array_fields::{LONGEST_TEXT, Progress, escaped};
 use array_grid::SubsetCells;
 use array_metadata::ArrayMetadata;
-use array_store::{Counted, read_document};
+use array_folder::{Counted, read_document};
 use parts_arrays::ArrayBytes;
 use parts_errors::CodecError;
 use parts_subsets::ArraySubset;

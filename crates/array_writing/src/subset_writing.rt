@@ -9,7 +9,7 @@ use array_fields::Progress;
 use array_grid::{ShardGrid, ShardPart, ShardParts, SubsetCells, subset_of};
 use array_info::save;
 use array_metadata::ArrayMetadata;
-use array_store::Counted;
+use array_folder::Counted;
 use parts_arrays::ArrayBytes;
 use parts_errors::CodecError;
 use parts_subsets::ArraySubset;

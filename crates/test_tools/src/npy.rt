@@ -1,6 +1,6 @@
 // Headers of NumPy's format, as NumPy writes them for these arrays.
 use crate::compared::same_at;
-use array_store::npy_header;
+use array_folder::npy_header;
 use std::alloc::{AllocError, Global};
 
 // How many bytes a header has, and the text in it after the mark and the size; or why it is refused.

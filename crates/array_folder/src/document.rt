@@ -1,6 +1,6 @@
 // The text of an array's metadata.
 ghost use Rattle.std.specs.Prelude.{IfErr};
-ghost use Rattle.array_store.specs.Shown.{IsPathPrinted};
+ghost use Rattle.array_folder.specs.Shown.{IsPathPrinted};
 
 use crate::folder_error::FolderError;
 use std::alloc::Global;

@@ -1,6 +1,5 @@
 // Stores numbers as a shard, opens it through a handle, and reads a subset and three coordinates. Of the object only the index
 // and the slices that these need are read.
-#![tactic(auto)]
 
 use std::alloc::Global;
 use zarr_codecs::{ArrayToBytesCodecTraits, BytesCodec, MemoryHandle};
@@ -63,7 +62,8 @@ fn read(alloc: Global, shard: Vec<u8>) -> Result<[Vec<u16>; 2], CodecError> {
     }
 }
 
-fn main(rt: HostRuntime) -> anyhow::Result<()> {
+// Prints both of a shard in memory.
+pub fn print_elements(rt: &HostRuntime) -> anyhow::Result<()> {
     let shard = store(rt.alloc())?;
     for numbers in read(rt.alloc(), shard)? {
         println!(rt; "{:?}", numbers)?;

@@ -1,5 +1,5 @@
 // Why a folder is not read.
-ghost use Rattle.array_store.specs.Shown.{IsPathPrinted};
+ghost use Rattle.array_folder.specs.Shown.{IsPathPrinted};
 
 use array_fields::escaped;
 use std::alloc::{AllocError, AllocFailed, Global};

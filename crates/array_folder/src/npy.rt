@@ -1,7 +1,7 @@
 // A file of NumPy's format, version 1.0.
 ghost use Rattle.std.specs.Prelude.{◌≤◌, IfOk, IfErr, length};
-ghost use Rattle.array_store.specs.Npy.{IsHeader};
-ghost use Rattle.array_store.specs.Shown.{IsPathPrinted};
+ghost use Rattle.array_folder.specs.Npy.{IsHeader};
+ghost use Rattle.array_folder.specs.Shown.{IsPathPrinted};
 
 use crate::document::named;
 use crate::folder_error::FolderError;

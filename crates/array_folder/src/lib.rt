@@ -1,0 +1,24 @@
+// What stands in the folder of an array or a group: its metadata, the files of its chunks, and what the index of one says of it; the members
+// of the group. A file of NumPy's format.
+#![tactic(auto)]
+
+mod age;
+mod chunk_files;
+mod chunk_grid;
+mod document;
+mod folder_error;
+mod folder_files;
+mod index_info;
+mod members;
+mod names;
+mod npy;
+
+pub use age::{Age, Counted, age_of};
+pub use chunk_files::{ChunkFile, ChunkFiles, list_chunks};
+pub use chunk_grid::ChunkGrid;
+pub use document::{document_length, read_document};
+pub use folder_error::FolderError;
+pub use folder_files::FolderFiles;
+pub use index_info::{DeadBytes, IndexInfo, index_interval, info_of, slice_of};
+pub use members::list_members;
+pub use npy::{npy_beside, npy_header, write_npy};
