@@ -19,7 +19,7 @@ pub use arrays::{Array, Shard, described, metadata_of, turned};
 pub use codec_use::{CodecUse, with_codec};
 pub use parallel::{ShardWork, piece_length, piece_of, run_in_parallel, threads_of};
 pub use read::{read_array, shards_of};
-pub use refusal::{Place, Refusal};
+pub use refusal::{Place, Refusal, put_refusal};
 pub use shard_codec::{OpenShard, Planned, ShardCodec, ShardEncoder, ShardFile, encode_chunk};
 pub use shared_array::{SharedArray, open_shared};
 pub use shared_read::read_shared;

@@ -1,11 +1,13 @@
 // Why a shard is refused, and where.
 use crate::arrays::Shard;
+use array_fields::JsonLine;
 use array_metadata::ArrayMetadata;
 use parts_errors::CodecError;
 use parts_row_major::unravel_index;
 use parts_subsets::ChunkShape;
 use std::alloc::{AllocError, Global};
-use std::fmt;
+use std::io::Write;
+use std::{fmt, io};
 
 /// Where in a shard something is refused.
 #[derive(Debug, Clone, Copy, PartialEq, Eq)]
@@ -179,4 +181,16 @@ impl fmt::Display for Reason<'_> {
             others => write!(f, "; {others} more"),
         }
     }
+}
+
+/// Puts why something is refused, and where, into a line: `number`, `name`, `subchunk` where it is one, with how many others are
+/// refused so, and the `sentence` that stands in a line of text, which has no character that JSON knows otherwise.
+pub fn put_refusal<W: Write>(line: &mut JsonLine<'_, W>, refusal: &Refusal) -> io::Result<()> {
+    line.number("number", refusal.error.number() as u64)?;
+    line.text("name", refusal.error.name())?;
+    if let Place::Subchunk(number) = refusal.position {
+        line.each(&[("subchunk", number), ("others", refusal.others)])?;
+    }
+    let reason = refusal.reason();
+    write!(line.member("sentence")?, "\"{reason}\"")
 }

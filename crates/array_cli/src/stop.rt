@@ -4,8 +4,8 @@ ghost use Rattle.array_cli.specs.Statuses.{status_of};
 
 use crate::refusal::Refusal;
 use array_fields::MetadataError;
-use array_grid::SubsetError;
 use array_folder::FolderError;
+use array_grid::SubsetError;
 use parts_errors::CodecError;
 use std::alloc::{AllocError, AllocFailed, Global};
 use std::io;
@@ -137,14 +137,6 @@ impl Stop {
         FolderError::system(alloc, path, error).into()
     }
 
-    /// What the system said where no new file could be made in a folder, or that memory ran out.
-    pub fn folder(alloc: Global, path: &str, error: io::Error) -> Stop {
-        match Stop::system(alloc, path, error) {
-            Stop::System { path, error } => Stop::Folder { path, error },
-            stop => stop,
-        }
-    }
-
     /// Why an answer could not be written of a command that ends so, as far as it has come.
     pub fn output(error: io::Error, ending: Ending) -> Stop {
         if error.kind() == io::ErrorKind::BrokenPipe {
@@ -183,6 +175,7 @@ impl From<FolderError> for Stop {
         match error {
             FolderError::OutOfMemory => Stop::OutOfMemory,
             FolderError::System { path, error } => Stop::System { path, error },
+            FolderError::Folder { path, error } => Stop::Folder { path, error },
         }
     }
 }

@@ -6,8 +6,8 @@ use array_cli::{
     written,
 };
 use array_fields::Progress;
-use array_info::{Listing, check_subchunk};
-use array_folder::ChunkFile;
+use array_folder::{ChunkFile, Listing};
+use array_info::check_subchunk;
 use parts_errors::CodecError;
 use std::io;
 use std::io::Write;

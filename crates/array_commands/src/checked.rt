@@ -1,8 +1,8 @@
 // What a check came to, and what is written of it.
-use array_cli::{Array, Ending, Refusal, Stop, written};
+use array_cli::{Array, Ending, Refusal, Stop, put_refusal, written};
 use array_fields::{JsonLine, Progress};
-use array_info::{put_refusal, write_folder, write_folder_lines};
 use array_folder::{ChunkFiles, Counted};
+use array_info::{write_folder, write_folder_lines};
 use std::io;
 use std::io::Write;
 use std::rt::{Clock, Files};

@@ -3,6 +3,7 @@ ghost use Rattle.std.specs.Prelude.{◌≤◌, IfOk};
 
 use crate::check::check;
 use crate::command_line::{ArrayWork, Scope, SharedWork, Target, Work, program, work_of};
+use crate::differences::compare;
 use crate::extract::extract;
 use crate::npy::save_subset;
 use crate::reading::{Reading, print_subset};
@@ -12,10 +13,11 @@ use array_cli::{
     open_shared, threads_of, with_codec,
 };
 use array_fields::{Progress, escaped};
+use array_folder::Listing;
 use array_grid::{ListPart, subset_of};
-use array_info::{Listing, info_of_array, info_of_shard, list_nodes, map_array, map_shard};
+use array_info::{info_of_array, info_of_shard, list_nodes, map_array, map_shard};
 use array_metadata::ArrayMetadata;
-use array_writing::{Way, compact, compare, create, reshard, write_subset};
+use array_writing::{Way, compact, create, reshard, write_subset};
 use clap::ArgMatches;
 use std::alloc::Global;
 use std::convert::AsStr;

@@ -1,5 +1,5 @@
-// The commands over an array on disk whose chunks are shards: whether it is sound, and its elements. What it holds, array_info says; what
-// is written, array_writing.
+// The commands over an array on disk whose chunks are shards: whether it is sound, its elements, and how two arrays differ. What it holds,
+// array_info says; what is written, array_writing.
 #![tactic(auto)]
 
 mod check;
@@ -7,6 +7,7 @@ mod check_pieces;
 mod checked;
 mod command;
 mod command_line;
+mod differences;
 mod extract;
 mod npy;
 mod reading;

@@ -2,9 +2,8 @@
 use crate::reading::{Reading, Sink, read_bands};
 use array_cli::{Array, Ending, SharedArray, SharedSystem, Stop};
 use array_fields::Progress;
+use array_folder::{begin_new, npy_beside, npy_header};
 use array_grid::{Requested, subset_of};
-use array_info::{begin_new, full_name};
-use array_folder::{npy_beside, npy_header};
 use std::alloc::Global;
 use std::io;
 use std::io::Write;
@@ -19,7 +18,8 @@ fn header_of<R: Files + AllocGlobal, C>(
 ) -> Result<Vec<u8>, Stop> {
     let alloc = array.alloc();
     let shape = requested.kept_shape(alloc)?;
-    let name = full_name(alloc, array.metadata.element_type)?;
+    let element_type = array.metadata.element_type;
+    let name = format!(in alloc; "{element_type}")?;
     Ok(npy_header(alloc, path, &name, &shape)?)
 }
 
@@ -92,7 +92,7 @@ pub fn save_subset<R: SharedSystem, W: Write, M: Write>(
     let requested = subset_of(alloc, requested, &array.metadata.shape)?;
     let beside = npy_beside(array.rt, path)?;
     let header = header_of(array, &requested, path)?;
-    let file = begin_new(array, path, &beside, out)?;
+    let file = begin_new(array.rt, path, &beside, out)?;
     let mut new = NewFile { alloc, file, path };
     let wrote = fill(array, &requested, reading, &header, &mut new, progress);
     progress.clear();

@@ -15,6 +15,9 @@ pub enum FolderError {
     /// What the system said of a file or folder, whose path is escaped for a terminal.
     #[error("{path}: {error}")]
     System { path: String, error: io::Error },
+    /// What the system said where no new file could be made in a folder, whose path is escaped for a terminal.
+    #[error("{path}: no new file can be made in this folder: {error}")]
+    Folder { path: String, error: io::Error },
 }
 
 impl FolderError {
@@ -28,6 +31,16 @@ impl FolderError {
         match escaped(alloc, path) {
             Ok(path) => FolderError::System { path, error },
             Err(_) => FolderError::OutOfMemory,
+        }
+    }
+
+    /// What the system said where no new file could be made in the folder at a path, or that memory ran out.
+    pub fn folder(alloc: Global, path: &str, error: io::Error) -> FolderError
+        ensures printed { IsPathPrinted result }
+    {
+        match FolderError::system(alloc, path, error) {
+            FolderError::System { path, error } => FolderError::Folder { path, error },
+            refusal => refusal,
         }
     }
 }

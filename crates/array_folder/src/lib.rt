@@ -1,5 +1,5 @@
 // What stands in the folder of an array or a group: its metadata, the files of its chunks, and what the index of one says of it; the members
-// of the group. A file of NumPy's format.
+// of the group. A new file that replaces another one, and a file of NumPy's format.
 #![tactic(auto)]
 
 mod age;
@@ -9,8 +9,10 @@ mod document;
 mod folder_error;
 mod folder_files;
 mod index_info;
+mod listing;
 mod members;
 mod names;
+mod new_file;
 mod npy;
 
 pub use age::{Age, Counted, age_of};
@@ -20,5 +22,7 @@ pub use document::{document_length, read_document};
 pub use folder_error::FolderError;
 pub use folder_files::FolderFiles;
 pub use index_info::{DeadBytes, IndexInfo, index_interval, info_of, slice_of};
+pub use listing::Listing;
 pub use members::list_members;
+pub use new_file::{begin, begin_new, save, save_bytes, tell_owner};
 pub use npy::{npy_beside, npy_header, write_npy};

@@ -1,18 +1,10 @@
 // What stands in an array's folder: the shard that has a key, and what is no shard.
 use array_cli::{Array, Shard, Stop};
 use array_fields::escaped;
-use array_grid::ListPart;
 use array_folder::{ChunkFiles, age_of};
 use std::io;
 use std::io::Write;
 use std::rt::{Clock, Files};
-
-/// Which shards of an array a command goes over, and whether it tells of them in lines of JSON.
-#[derive(Drop)]
-pub struct Listing {
-    pub part: ListPart,
-    pub is_json: bool,
-}
 
 /// The shard of an array that has a key, among the files of its chunks. Refused as `Stop::NoShard` where none has it.
 pub fn shard_of<'s, R: Files + AllocGlobal, C>(

@@ -1,13 +1,13 @@
 // What an array on disk holds, and its shards.
-use crate::folder::{Listing, write_folder};
+use crate::folder::write_folder;
 use crate::index_info::{index_info, index_range};
 use crate::json;
 use crate::text::{write_numbers, write_rows};
 use array_cli::{Array, Ending, Place, Refusal, Shard, ShardCodec, ShardFile, Stop, written};
 use array_fields::Progress;
+use array_folder::{ChunkFile, ChunkFiles, Counted, FolderFiles, IndexInfo, Listing, info_of};
 use array_grid::{ChunkKeys, KeyEncoding};
 use array_metadata::{ArrayCodec, ArrayMetadata};
-use array_folder::{ChunkFile, ChunkFiles, Counted, FolderFiles, IndexInfo, info_of};
 use parts_errors::CodecError;
 use std::io;
 use std::io::Write;

@@ -1,10 +1,10 @@
 // What an array holds, as lines of JSON.
 use crate::info::{ShardInfo, Sums, key_words};
 use crate::text::write_json_cell;
-use array_cli::{Place, Refusal};
+use array_cli::put_refusal;
 use array_fields::JsonLine;
-use array_metadata::{ArrayCodec, ArrayMetadata};
 use array_folder::ChunkFiles;
+use array_metadata::{ArrayCodec, ArrayMetadata};
 use std::io;
 use std::io::Write;
 
@@ -58,18 +58,6 @@ pub fn write_array<W: Write>(
     line.member("possible_shards")?
         .write_all(possible.as_bytes())?;
     line.end()
-}
-
-/// Puts why something is refused, and where, into a line: `number`, `name`, `subchunk` where it is one, with how many others are
-/// refused so, and the `sentence` that stands in a line of text, which has no character that JSON knows otherwise.
-pub fn put_refusal<W: Write>(line: &mut JsonLine<'_, W>, refusal: &Refusal) -> io::Result<()> {
-    line.number("number", refusal.error.number() as u64)?;
-    line.text("name", refusal.error.name())?;
-    if let Place::Subchunk(number) = refusal.position {
-        line.each(&[("subchunk", number), ("others", refusal.others)])?;
-    }
-    let reason = refusal.reason();
-    write!(line.member("sentence")?, "\"{reason}\"")
 }
 
 /// Writes a line of the kind `shard`.

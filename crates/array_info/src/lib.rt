@@ -9,21 +9,18 @@ mod info;
 mod json;
 mod list;
 mod map;
-mod new_file;
 mod picture;
 mod shard_info;
 mod subchunks;
 mod text;
 
-pub use folder::{Listing, shard_of, write_folder};
+pub use folder::{shard_of, write_folder};
 pub use info::info_of_array;
-pub use json::{put_refusal, write_folder_lines};
+pub use json::write_folder_lines;
 pub use list::list_nodes;
 pub use map::{map_array, map_shard};
-pub use new_file::{begin, begin_new, save, tell_owner};
 pub use shard_info::info_of_shard;
 pub use subchunks::check_subchunk;
 pub use text::{
-    TextRows, begin_json, end_json, full_name, write_json_cell, write_json_cells, write_numbers,
-    write_rows,
+    TextRows, begin_json, end_json, write_json_cell, write_json_cells, write_numbers, write_rows,
 };

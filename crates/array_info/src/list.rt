@@ -1,8 +1,8 @@
 // The arrays below a group.
 use array_cli::{Ending, Stop, metadata_of, written};
 use array_fields::{MetadataError, escaped};
-use array_metadata::ArrayMetadata;
 use array_folder::list_members;
+use array_metadata::ArrayMetadata;
 use std::alloc::{AllocError, Global};
 use std::io;
 use std::io::Write;

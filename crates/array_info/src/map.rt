@@ -4,12 +4,11 @@ use crate::drawing::{
 };
 use crate::folder::shard_of;
 use crate::info::{ShardInfo, known_shards};
-use crate::new_file::save_bytes;
 use crate::picture::{write_array_picture, write_shard_picture};
 use crate::subchunks::check_subchunk;
 use array_cli::{Array, Ending, OpenShard, Place, Shard, ShardCodec, ShardFile, Stop, written};
 use array_fields::{Progress, escaped};
-use array_folder::ChunkFiles;
+use array_folder::{ChunkFiles, save_bytes};
 use parts_errors::CodecError;
 use parts_row_major::{ravel_indices, unravel_index};
 use parts_subsets::ChunkShape;
@@ -215,7 +214,7 @@ pub fn map_shard<'a, R: Files + AllocGlobal, C: ShardCodec<ShardFile<'a, R>>, W:
         Some(path) => {
             let mut picture: Vec<u8> = Vec::new(array.alloc());
             write_shard_picture(&mut picture, shard.key, &map, grid)?;
-            save_bytes(array, path, &picture, out)?;
+            save_bytes(array.rt, path, &picture, out)?;
         }
         None => written(
             write_shard_map(out, array.alloc(), shard.key, &map, grid),
@@ -266,7 +265,7 @@ pub fn map_array<'a, R: Files + AllocGlobal, C: ShardCodec<ShardFile<'a, R>>, W:
         Some(path) => {
             let mut picture: Vec<u8> = Vec::new(array.alloc());
             write_array_picture(&mut picture, &marks, counts)?;
-            save_bytes(array, path, &picture, out)?;
+            save_bytes(array.rt, path, &picture, out)?;
         }
         None => written(write_array_map(out, &marks, counts), ending)?,
     }

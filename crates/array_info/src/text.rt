@@ -4,7 +4,6 @@ ghost use Rattle.std.specs.Prelude.{◌<◌};
 use array_fields::write_json_numbers;
 use array_metadata::{ElementType, FloatFormat, half_to_f32};
 use parts_arrays::{DataType, DataTypeSize};
-use std::alloc::{AllocError, Global};
 use std::io;
 use std::io::Write;
 use std::num::{f32_from_bits_with_nan, f64_from_bits_with_nan};
@@ -180,27 +179,6 @@ fn write_element<W: Write>(
     }
 }
 
-// The number of bits in bytes.
-fn bits_of(size: usize) -> u64 {
-    (size as u64).saturating_mul(8)
-}
-
-/// The Zarr name of a type that is read.
-pub fn full_name(alloc: Global, element_type: ElementType) -> Result<String, AllocError> {
-    match element_type {
-        ElementType::RawBits(size) => format!(in alloc; "r{}", bits_of(size)),
-        _ => String::from_str(alloc, element_type.name()),
-    }
-}
-
-// Writes the Zarr name of a type that is read.
-fn write_name<W: Write>(out: &mut W, element_type: ElementType) -> io::Result<()> {
-    match element_type {
-        ElementType::RawBits(size) => write!(out, "r{}", bits_of(size)),
-        _ => out.write_all(element_type.name().as_bytes()),
-    }
-}
-
 // How many bytes a cell of a type has, at least 1.
 fn cell_size(element_type: ElementType) -> usize
     ensures { 0 < result }
@@ -334,8 +312,7 @@ pub fn write_json_cells<W: Write>(
 /// Ends the object of JSON of a subset of a shape, behind its last cell.
 pub fn end_json<W: Write>(out: &mut W, element_type: ElementType, shape: &[u64]) -> io::Result<()> {
     out.write_all(b"],\"data_type\":\"")?;
-    write_name(out, element_type)?;
-    out.write_all(b"\",\"shape\":")?;
+    write!(out, "{element_type}\",\"shape\":")?;
     write_json_numbers(out, shape)?;
     out.write_all(b"}\n")
 }

@@ -10,6 +10,7 @@ use array_fields::{MetadataError, Placed, escaped};
 use codec_metadata::PluginCreateError;
 use parts_arrays::DataType;
 use std::alloc::{AllocError, Global};
+use std::fmt;
 
 // How many bytes an element may have of a type that is named by its bits: 64 KiB.
 const MOST_BYTES: usize = 65_536;
@@ -75,6 +76,16 @@ impl ElementType {
         match self {
             ElementType::DateTime64 | ElementType::TimeDelta64 => &["scale_factor", "unit"],
             _ => &[],
+        }
+    }
+}
+
+impl fmt::Display for ElementType {
+    /// Writes the Zarr name of a type that is read.
+    fn fmt<W: fmt::Write>(&self, f: &mut fmt::Formatter<W>) -> fmt::Result {
+        match self {
+            ElementType::RawBits(size) => write!(f, "r{}", (*size as u64).saturating_mul(8)),
+            _ => f.write_str(self.name()),
         }
     }
 }

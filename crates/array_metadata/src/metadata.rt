@@ -63,6 +63,8 @@ pub struct ArrayMetadata {
     pub type_text: Option<TypeText>,
     /// The value of `codecs`, as it stands in the text, for a terminal.
     pub codecs: String,
+    /// The text of the `zarr.json` that says this, as it stands there, with attributes and all members that need not be understood.
+    pub text: String,
 }
 
 // Whether a member of the metadata is known, or left with nothing in it, or says that it need not be understood.
@@ -406,10 +408,11 @@ fn with_codecs(
         fill_value,
         codec: codecs.codec,
         unread: codecs.unread,
+        text: String::new(alloc),
     })
 }
 
-// The metadata that a value of JSON is, but for the value itself. Refused as `from_text` refuses.
+// The metadata that a value of JSON is, but for its text. Refused as `from_text` refuses.
 fn metadata_of(alloc: Global, value: &Value) -> Result<ArrayMetadata, MetadataError>
     ensures served { OnOk result ((text : Bytes) → read text ≡ Some (view value.now) → IsServedText text) }
     ensures says { IfOk result (λ metadata. (text : Bytes) → read text ≡ Some (view value.now) → IsReadAs text metadata) }
@@ -451,14 +454,16 @@ impl ArrayMetadata {
     /// is not read any value) and `codecs` (`bytes`, up to three of `crc32c`, `gzip`, `numcodecs.zlib` and `zstd` behind it, `transpose`
     /// before it; or `sharding_indexed` alone, with these inside, `sharding_indexed` once more, or codecs of other names, which are not
     /// looked into) in turn: each with its place, and a sentence that says what is not served; or as `OutOfMemory`. Where elements of
-    /// shards go through a codec of another name, their type may have any name.
+    /// shards go through a codec of another name, their type may have any name. The text is kept: it is how the metadata is written.
     pub fn from_text(alloc: Global, text: &str) -> Result<Self, MetadataError>
         ensures served { OnOk result (IsServedText text.now) }
         ensures read { IfOk result (IsReadAs text.now) }
         ensures fits { IfOk result FitsTogether }
+        ensures text { IfOk result (λ metadata. string_bytes metadata.text ≡ text.now) }
     {
         let value = value_in(alloc, text)?;
-        let metadata = metadata_of(alloc, &value)?;
+        let mut metadata = metadata_of(alloc, &value)?;
+        metadata.text = String::from_str(alloc, text)?;
         Ok(metadata)
     }
 }

@@ -6,3 +6,4 @@ pub mod UpdateLemmas
 pub mod WriteLemmas
 pub mod ProgressLemmas
 pub mod PartLemmas
+pub mod CompactLemmas

@@ -1,5 +1,5 @@
 -- What a write of a whole chunk leaves.
-use Rattle.std.specs.Prelude.{◌≡◌, ◌<◌, ◌⊎◌, ℕ, IsTrue, List, [], Option, Some, None, length, map, slice_index_or, string_bytes}
+use Rattle.std.specs.Prelude.{◌≡◌, ◌<◌, ◌⊎◌, ℕ, Bool, true, false, IsTrue, List, [], Option, Some, None, length, map, slice_index_or, string_bytes}
 use Rattle.parts_errors.specs.Words.{Bytes, Elements}
 use Rattle.parts_errors.specs.declared.error.CodecError.{CodecError}
 use Rattle.parts_errors.specs.declared.error.CodecError.TheVariants.{OutOfMemory, Fault}
@@ -28,6 +28,12 @@ pub record IsUpdatedObject (m : Meaning) (chunk : List ℕ) (in_chunk : Subset) 
   pub elements : Elements
   pub updated : AreUpdated chunk in_chunk update old elements
   pub encoded : HoldsEncoding m elements object
+
+-- what stands under a chunk's key once it is compacted: what the codec makes of the object, or what stood there
+abbrev pub IsCompacted : Meaning → Bool → Option Bytes → Option Bytes → Type 0
+IsCompacted m true (Some old) (Some new) = m.compacted old new
+IsCompacted m true old new = ⊥
+IsCompacted m false old new = new ≡ old
 
 -- a refusal that is no fault leaves what stands under a key
 abbrev pub IsKeptUnlessFault : StoreState → StoreState → Bytes → CodecError → Type 0

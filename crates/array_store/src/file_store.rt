@@ -1,7 +1,9 @@
 // A store whose objects are files.
 ghost use Rattle.std.specs.Prelude.{false, None};
 
+use crate::array::Array;
 use crate::store::Store;
+use array_folder::{ChunkFiles, ChunkGrid, FolderError, list_chunks};
 use parts_errors::CodecError;
 use std::alloc::{AllocError, Global};
 use std::rt::Files;
@@ -47,5 +49,14 @@ impl<'a, R: Files> Store for FileStore<'a, R> {
 
     fn erase(&mut self, alloc: Global, key: &str) -> Result<(), CodecError> {
         self.handle(alloc, key)?.erase()
+    }
+}
+
+impl<R: Files + AllocGlobal, C> Array<'_, FileStore<'_, R>, C> {
+    /// The files that stand in the array's folder: those of chunks, in row-major order of their coordinates, and how many others. Refused
+    /// where one of the folders that keys name is none, or cannot be read.
+    pub fn chunks(&self, alloc: Global) -> Result<ChunkFiles, FolderError> {
+        let grid = ChunkGrid::new(alloc, self.format.shape, self.format.chunk.as_slice())?;
+        list_chunks(self.store.files, &self.store.path, self.format.keys, &grid)
     }
 }

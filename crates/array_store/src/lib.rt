@@ -3,6 +3,7 @@
 
 mod array;
 mod chunks;
+mod compaction;
 mod error;
 mod file_store;
 mod format;
@@ -19,5 +20,5 @@ pub use error::{ArrayError, WriteError};
 pub use file_store::FileStore;
 pub use format::ArrayFormat;
 pub use memory_store::MemoryStore;
-pub use opening::{OpenError, create_metadata, open_metadata};
+pub use opening::{OpenError, create_metadata, open_metadata, put_metadata};
 pub use store::Store;

@@ -1,5 +1,5 @@
 // The metadata of the array of a store.
-ghost use Rattle.std.specs.Prelude.{◌≡◌, Some, IsTrue, IfOk, IfErr, OnOk, codes};
+ghost use Rattle.std.specs.Prelude.{◌≡◌, Some, IsTrue, IfOk, IfErr, OnOk, codes, string_bytes};
 ghost use Rattle.array_store.specs.Opening.{IsMetadataIn};
 ghost use Rattle.array_store.specs.Stores.{AreKept};
 
@@ -84,6 +84,31 @@ pub fn open_metadata<S: Store>(alloc: Global, store: &S) -> Result<ArrayMetadata
     Ok(metadata)
 }
 
+/// Puts the text of metadata under the key `zarr.json` of a store, as it stood in the array that it was read from: from it
+/// `ArrayMetadata::from_text` reads what the metadata says, and attributes and members that need not be understood stand there too. So an
+/// array is created without chunks, of which every element is the fill value. Refused, in this order, as `Store` where the store refuses,
+/// and as `Present`; no other key is touched.
+pub fn put_metadata<S: Store>(
+    alloc: Global,
+    store: &mut S,
+    metadata: &ArrayMetadata,
+) -> Result<(), OpenError>
+    ensures others { AreKept (S.state store.old) (S.state store.new) (codes "zarr.json") }
+    ensures written { OnOk result (IsTrue (S.state store.old).transparent
+        → (S.state store.new).contents (codes "zarr.json") ≡ Some (string_bytes metadata.now.text)) }
+{
+    let mut handle = store.open(alloc, KEY)?;
+    if handle.exists()? {
+        return Err(OpenError::Present);
+    }
+    store.put(
+        alloc,
+        KEY,
+        Vec::from_slice(alloc, metadata.text.as_bytes())?,
+    )?;
+    Ok(())
+}
+
 /// Creates the array of a store without chunks, of which every element is the fill value: puts the text of its metadata under the key
 /// `zarr.json`. Refused, in this order, as `Metadata` where `ArrayMetadata::from_text` refuses the text, as `Store` where the store
 /// refuses, and as `Present`; no other key is touched.
@@ -97,10 +122,6 @@ pub fn create_metadata<S: Store>(
         → ((S.state store.new).contents (codes "zarr.json") ≡ Some text.now) × IsMetadataIn (Some text.now) metadata) }
 {
     let metadata = ArrayMetadata::from_text(alloc, text)?;
-    let mut handle = store.open(alloc, KEY)?;
-    if handle.exists()? {
-        return Err(OpenError::Present);
-    }
-    store.put(alloc, KEY, Vec::from_slice(alloc, text.as_bytes())?)?;
+    put_metadata(alloc, store, &metadata)?;
     Ok(metadata)
 }

@@ -1,7 +1,7 @@
 // The chunks of a grid that have elements in the files of an array.
 use array_cli::{Array, Stop};
-use array_metadata::ArrayMetadata;
 use array_folder::ChunkFile;
+use array_metadata::ArrayMetadata;
 use parts_row_major::unravel_index;
 use parts_subsets::{ArraySubset, ChunkShape};
 use std::alloc::{AllocError, Global};

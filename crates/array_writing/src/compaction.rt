@@ -1,11 +1,11 @@
 // The compaction of an array's shards.
 use crate::rewriting::replace;
 use array_cli::{
-    Array, Ending, Place, Planned, Refusal, Shard, ShardCodec, ShardFile, Stop, written,
+    Array, Ending, Place, Planned, Refusal, Shard, ShardCodec, ShardFile, Stop, put_refusal,
+    written,
 };
 use array_fields::{JsonLine, LONGEST_TEXT, Progress, escaped};
-use array_info::{Listing, put_refusal, save};
-use array_folder::{ChunkFiles, age_of, read_document};
+use array_folder::{ChunkFiles, Listing, age_of, read_document, save};
 use sharding_layout::CompactionPlan;
 use std::io::{ErrorKind, Write};
 use std::rt::{Clock, Files};
@@ -351,7 +351,8 @@ fn copy_metadata<R: Files + AllocGlobal, C, W: Write>(
     let text = read_document(array.rt, &array.path_of("zarr.json")?, LONGEST_TEXT)?;
     let path = format!(in alloc; "{folder}/zarr.json")?;
     let beside = beside_of(array, &path)?;
-    save(array, &path, &beside, text.as_bytes(), &[], out)
+    save(array.rt, &path, &beside, text.as_bytes(), &[], out)?;
+    Ok(())
 }
 
 /// Compacts each shard that a part has, and writes a line for each that is not compact and how many bytes were saved in all. As a copy,

@@ -1,9 +1,8 @@
 // The elements that are written into an array, from a file.
 use array_cli::{Array, Stop};
 use array_fields::escaped;
-use array_grid::Requested;
-use array_info::full_name;
 use array_folder::npy_header;
+use array_grid::Requested;
 use std::alloc::Global;
 use std::io;
 use std::io::ErrorKind;
@@ -130,7 +129,8 @@ fn npy_elements<R: Files + AllocGlobal, C>(
     bytes: Vec<u8>,
 ) -> Result<FileElements, Stop> {
     let alloc = array.alloc();
-    let name = full_name(alloc, array.metadata.element_type)?;
+    let element_type = array.metadata.element_type;
+    let name = format!(in alloc; "{element_type}")?;
     let header = npy_header(alloc, path, &name, &requested.kept_shape(alloc)?)?;
     let wanted = described(&header).map_or("", |(text, _)| text);
     match described(&bytes) {

@@ -1,11 +1,10 @@
 // Arrays that are written: new ones, of no elements or of those of another array that is laid out anew; elements that are put into an
-// array; shards that are compacted; and two arrays compared.
+// array; and shards that are compacted.
 #![tactic(auto)]
 
 mod chunks;
 mod compaction;
 mod creating;
-mod differences;
 mod elements;
 mod layout;
 mod new_array;
@@ -13,9 +12,9 @@ mod new_folder;
 mod rewriting;
 mod subset_writing;
 
+pub use chunks::{chunks_of, elements_of};
 pub use compaction::{Way, compact};
 pub use creating::{ArrayWords, create};
-pub use differences::compare;
 pub use elements::ElementsFile;
 pub use layout::LayoutWords;
 pub use new_array::reshard;

@@ -7,9 +7,9 @@ use array_cli::{
     described, piece_length, piece_of, read_array, run_in_parallel, turned, with_codec, written,
 };
 use array_fields::{LONGEST_TEXT, Progress, escaped};
+use array_folder::{Counted, read_document};
 use array_grid::SubsetCells;
 use array_metadata::ArrayMetadata;
-use array_folder::{Counted, read_document};
 use parts_arrays::ArrayBytes;
 use parts_errors::CodecError;
 use parts_subsets::ArraySubset;

@@ -1,6 +1,6 @@
 // A compact shard that is written in the place of a shard's file.
 use array_cli::{Array, Place, Shard, ShardFile, Stop};
-use array_info::{begin, tell_owner};
+use array_folder::{begin, tell_owner};
 use parts_errors::CodecError;
 use sharding_format::ShardingIndexLocation;
 use sharding_layout::CompactionPlan;
@@ -157,7 +157,7 @@ pub fn replace<'a, R: Files + AllocGlobal, C, W: Write>(
     plan: Option<&CompactionPlan>,
     out: &mut W,
 ) -> Result<bool, Stop> {
-    let Some(new) = begin(array, path, beside)? else {
+    let Some(new) = begin(array.rt, path, beside)? else {
         return Ok(false);
     };
     // a line that nobody reads stops nothing

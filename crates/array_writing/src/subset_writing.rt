@@ -6,10 +6,9 @@ use array_cli::{
     turned, written,
 };
 use array_fields::Progress;
+use array_folder::{Counted, save};
 use array_grid::{ShardGrid, ShardPart, ShardParts, SubsetCells, subset_of};
-use array_info::save;
 use array_metadata::ArrayMetadata;
-use array_folder::Counted;
 use parts_arrays::ArrayBytes;
 use parts_errors::CodecError;
 use parts_subsets::ArraySubset;
@@ -145,7 +144,7 @@ fn replace<R: Files + AllocGlobal, C, W: Write>(
         Ok(beside) => beside,
         Err(error) => return Err(Stop::system(array.alloc(), &path, error)),
     };
-    save(array, &path, &beside, &[], bytes, out)?;
+    save(array.rt, &path, &beside, &[], bytes, out)?;
     let length = bytes.len();
     let _ = writeln!(out, "{key}: {length} bytes");
     Ok(())

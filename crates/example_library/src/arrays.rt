@@ -60,6 +60,19 @@ fn print(rt: &HostRuntime, folder: &str, subset: &ArraySubset) -> anyhow::Result
     Ok(())
 }
 
+// Compacts each shard of the array in a folder, and prints which.
+fn compact(rt: &HostRuntime, folder: &str) -> anyhow::Result<()> {
+    let alloc = rt.alloc();
+    let store = FileStore::new(alloc, rt, folder)?;
+    let metadata = open_metadata(alloc, &store)?;
+    let mut array = Array::of(store, &metadata);
+    for shard in array.chunks(alloc)?.chunks {
+        let changed = array.compact_chunk(alloc, &shard.coordinates)?;
+        println!(rt; "{}: compacted: {changed}", shard.key)?;
+    }
+    Ok(())
+}
+
 fn subset(alloc: Global, rows: Range<u64>, columns: Range<u64>) -> Result<ArraySubset, CodecError> {
     ArraySubset::from_ranges(alloc, &[rows, columns])
 }
@@ -81,5 +94,6 @@ pub fn print_copy(rt: &HostRuntime) -> anyhow::Result<()> {
         &[100, 101],
     )?;
     copy_subset(rt, "plain", "sharded", &subset(alloc, 1..3, 2..5)?)?;
-    print(rt, "sharded", &subset(alloc, 0..3, 0..6)?)
+    print(rt, "sharded", &subset(alloc, 0..3, 0..6)?)?;
+    compact(rt, "sharded")
 }

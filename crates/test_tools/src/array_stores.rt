@@ -1,7 +1,10 @@
 // A subset that lies in four chunks, of which two are there: three rows of four elements of one byte, in chunks of two rows of two. The
 // sharding codec encodes them, by subchunks of one row; the fill value is 9.
 use array_grid::{ChunkKeys, KeyEncoding};
-use array_store::{Array, ArrayError, ArrayFormat, MemoryStore, Store};
+use array_store::{
+    Array, ArrayError, ArrayFormat, MemoryStore, OpenError, Store, create_metadata, open_metadata,
+    put_metadata,
+};
 use std::alloc::Global;
 use std::borrow::CowSlice;
 use std::process::Abort;
@@ -150,4 +153,59 @@ fn a_refused_write_lists_the_chunks_before(rt: HostRuntime) {
     read_back(&rt, alloc, &array, &first, &[1, 2, 9, 9, 3, 10, 11, 9]);
     let last = ArraySubset::from_ranges(alloc, &[2..3, 2..4]).expect(&rt, "refused");
     read_back(&rt, alloc, &array, &last, &[5, 6]);
+}
+
+// A shard of two subchunks of two elements, with three dead bytes between; and compacted, by hand.
+const LOOSE: &[u8] = &[
+    1, 2, 7, 7, 7, 3, 4, 0, 0, 0, 0, 0, 0, 0, 0, 2, 0, 0, 0, 0, 0, 0, 0, 5, 0, 0, 0, 0, 0, 0, 0, 2,
+    0, 0, 0, 0, 0, 0, 0,
+];
+
+const COMPACT: &[u8] = &[
+    1, 2, 3, 4, 0, 0, 0, 0, 0, 0, 0, 0, 2, 0, 0, 0, 0, 0, 0, 0, 2, 0, 0, 0, 0, 0, 0, 0, 2, 0, 0, 0,
+    0, 0, 0, 0,
+];
+
+#[test]
+fn a_chunk_is_compacted_where_it_is_there_and_not_compact(rt: HostRuntime) {
+    let alloc = rt.alloc();
+    let codec = codec_of(&rt, alloc);
+    let chunk = shape_of(&rt, alloc, &[2, 2]);
+    let fill_value = FillValue::new([9u8].as_slice().to_vec(alloc).expect(&rt, "refused"));
+    let mut array = Array {
+        store: MemoryStore::new(alloc),
+        codec: &codec,
+        format: format_of(&chunk, &fill_value),
+    };
+    let loose = LOOSE.to_vec(alloc).expect(&rt, "refused");
+    array
+        .store
+        .put(alloc, "c/0/1", loose)
+        .expect(&rt, "refused");
+    for (column, want) in [(1, true), (1, false), (0, false)] {
+        let changed = array.compact_chunk(alloc, &[0, column]);
+        assert_eq!(rt; changed.expect(&rt, "refused"), want);
+        assert_eq!(rt; array.store.get("c/0/1"), Some(COMPACT));
+    }
+    let rows = ArraySubset::from_ranges(alloc, &[0..2, 1..4]).expect(&rt, "refused");
+    read_back(&rt, alloc, &array, &rows, &[9, 1, 2, 9, 3, 4]);
+}
+
+// The metadata of an array, with a member that need not be understood.
+const TEXT: &str =
+    r#"{"zarr_format": 3, "node_type": "array", "shape": [3], "data_type": "uint8", "fill_value": 9,
+    "chunk_grid": {"name": "regular", "configuration": {"chunk_shape": [2]}}, "chunk_key_encoding": {"name": "default"},
+    "codecs": [{"name": "bytes"}], "attributes": {"unit": "m"}, "later": {"must_understand": false}}"#;
+
+#[test]
+fn metadata_is_written_as_it_was_read(rt: HostRuntime) {
+    let alloc = rt.alloc();
+    let mut one = MemoryStore::new(alloc);
+    create_metadata(alloc, &mut one, TEXT).expect(&rt, "refused");
+    let metadata = open_metadata(alloc, &one).expect(&rt, "refused");
+    let mut other = MemoryStore::new(alloc);
+    put_metadata(alloc, &mut other, &metadata).expect(&rt, "refused");
+    assert_eq!(rt; other.get("zarr.json"), Some(TEXT.as_bytes()));
+    let refused = put_metadata(alloc, &mut other, &metadata);
+    assert!(rt; matches!(refused, Err(OpenError::Present)));
 }

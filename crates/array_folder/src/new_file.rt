@@ -1,22 +1,22 @@
 // A new file that is put at a path once it is whole.
-use array_cli::{Array, Stop};
+use crate::folder_error::FolderError;
+use crate::npy::{npy_beside, write_npy};
 use array_fields::escaped;
-use array_folder::{npy_beside, write_npy};
 use std::io;
 use std::io::{ErrorKind, Write};
 use std::rt::Files;
 use storage_files::{Replacement, folder_of};
 
 /// The new file of a path, or `None` where one stands there already.
-pub fn begin<'a, R: Files + AllocGlobal, C>(
-    array: &Array<'a, R, C>,
+pub fn begin<'a, R: Files + AllocGlobal>(
+    rt: &'a R,
     path: &str,
     beside: &str,
-) -> Result<Option<Replacement<&'a R>>, Stop> {
-    match Replacement::begin(array.alloc(), array.rt, path) {
+) -> Result<Option<Replacement<&'a R>>, FolderError> {
+    match Replacement::begin(rt.alloc(), rt, path) {
         Ok(replacement) => Ok(Some(replacement)),
         Err(error) if error.kind() == ErrorKind::AlreadyExists => Ok(None),
-        Err(error) => Err(Stop::folder(array.alloc(), folder_of(beside), error)),
+        Err(error) => Err(FolderError::folder(rt.alloc(), folder_of(beside), error)),
     }
 }
 
@@ -45,15 +45,15 @@ fn busy() -> io::Error {
 }
 
 /// The new file of a path, which is refused where one stands there already. A line says so where it has not the owner of the old one.
-pub fn begin_new<'a, R: Files + AllocGlobal, C, W: Write>(
-    array: &Array<'a, R, C>,
+pub fn begin_new<'a, R: Files + AllocGlobal, W: Write>(
+    rt: &'a R,
     path: &str,
     beside: &str,
     out: &mut W,
-) -> Result<Replacement<&'a R>, Stop> {
-    let shown = escaped(array.alloc(), path)?;
-    let Some(new) = begin(array, path, beside)? else {
-        return Err(Stop::system(array.alloc(), beside, busy()));
+) -> Result<Replacement<&'a R>, FolderError> {
+    let shown = escaped(rt.alloc(), path)?;
+    let Some(new) = begin(rt, path, beside)? else {
+        return Err(FolderError::system(rt.alloc(), beside, busy()));
     };
     // a line that nobody reads stops nothing
     let _ = tell_owner(out, &shown, &new);
@@ -61,28 +61,28 @@ pub fn begin_new<'a, R: Files + AllocGlobal, C, W: Write>(
 }
 
 /// Makes the file at a path of a header and what follows it. A file of that name is replaced once the new one is whole.
-pub fn save<R: Files + AllocGlobal, C, W: Write>(
-    array: &Array<'_, R, C>,
+pub fn save<R: Files + AllocGlobal, W: Write>(
+    rt: &R,
     path: &str,
     beside: &str,
     header: &[u8],
     rest: &[u8],
     out: &mut W,
-) -> Result<(), Stop> {
-    let new = begin_new(array, path, beside, out)?;
+) -> Result<(), FolderError> {
+    let new = begin_new(rt, path, beside, out)?;
     match write_npy(new, header, rest) {
         Ok(()) => Ok(()),
-        Err(error) => Err(Stop::system(array.alloc(), path, error)),
+        Err(error) => Err(FolderError::system(rt.alloc(), path, error)),
     }
 }
 
 /// Makes a file at a path of bytes. A file of that name is replaced once the new one is whole.
-pub fn save_bytes<R: Files + AllocGlobal, C, W: Write>(
-    array: &Array<'_, R, C>,
+pub fn save_bytes<R: Files + AllocGlobal, W: Write>(
+    rt: &R,
     path: &str,
     bytes: &[u8],
     out: &mut W,
-) -> Result<(), Stop> {
-    let beside = npy_beside(array.rt, path)?;
-    save(array, path, &beside, &[], bytes, out)
+) -> Result<(), FolderError> {
+    let beside = npy_beside(rt, path)?;
+    save(rt, path, &beside, &[], bytes, out)
 }

@@ -1,9 +1,9 @@
 // Two arrays, compared element by element.
-use crate::chunks::{chunks_of, elements_of};
 use array_cli::{Array, Ending, ShardCodec, ShardFile, Stop, read_array, written};
 use array_fields::Progress;
 use array_info::{write_numbers, write_rows};
 use array_metadata::ElementType;
+use array_writing::{chunks_of, elements_of};
 use parts_row_major::unravel_index;
 use parts_subsets::ArraySubset;
 use std::alloc::Global;
