@@ -374,7 +374,7 @@ fn codecs_of_cells(
     })
 }
 
-// The metadata of an array of these cells, with these codecs of its chunks.
+// The metadata of an array of these cells, with these codecs of its chunks, and of this text.
 fn with_codecs(
     alloc: Global,
     whole: &Placed,
@@ -382,6 +382,7 @@ fn with_codecs(
     codecs: ChunkCodecs,
     keys: ChunkKeys,
     fill_value: FillValue,
+    text: String,
 ) -> Result<ArrayMetadata, MetadataError>
     ensures shape { IfOk result (λ metadata. metadata.shape ≡ cells.shape) }
     ensures element_type { IfOk result (λ metadata. metadata.element_type ≡ cells.element_type) }
@@ -392,6 +393,7 @@ fn with_codecs(
     ensures subchunk { IfOk result (λ metadata. metadata.subchunk ≡ codecs.subchunk) }
     ensures codec { IfOk result (λ metadata. metadata.codec ≡ codecs.codec) }
     ensures unread { IfOk result (λ metadata. metadata.unread ≡ codecs.unread) }
+    ensures text { IfOk result (λ metadata. metadata.text ≡ text) }
 {
     let type_text = type_text_in(alloc, whole, cells.element_type)?;
     let dimension_names = dimension_names_in(alloc, whole)?;
@@ -408,15 +410,16 @@ fn with_codecs(
         fill_value,
         codec: codecs.codec,
         unread: codecs.unread,
-        text: String::new(alloc),
+        text,
     })
 }
 
-// The metadata that a value of JSON is, but for its text. Refused as `from_text` refuses.
-fn metadata_of(alloc: Global, value: &Value) -> Result<ArrayMetadata, MetadataError>
+// The metadata that a value of JSON is, which a text says. Refused as `from_text` refuses.
+fn metadata_of(alloc: Global, value: &Value, text: String) -> Result<ArrayMetadata, MetadataError>
     ensures served { OnOk result ((text : Bytes) → read text ≡ Some (view value.now) → IsServedText text) }
     ensures says { IfOk result (λ metadata. (text : Bytes) → read text ≡ Some (view value.now) → IsReadAs text metadata) }
     ensures fits { IfOk result FitsTogether }
+    ensures text { IfOk result (λ metadata. metadata.text ≡ text) }
 {
     let whole = Placed::whole(alloc, value)?;
     test_members_of(alloc, &whole)?;
@@ -425,7 +428,7 @@ fn metadata_of(alloc: Global, value: &Value) -> Result<ArrayMetadata, MetadataEr
     let keys = keys_in(alloc, &whole.required(alloc, "chunk_key_encoding")?)?;
     let fill_value = fill_in(alloc, &whole, cells.element_type)?;
     let codecs = codecs_of_cells(alloc, &whole.required(alloc, "codecs")?, &cells)?;
-    with_codecs(alloc, &whole, cells, codecs, keys, fill_value)
+    with_codecs(alloc, &whole, cells, codecs, keys, fill_value, text)
 }
 
 impl ArrayMetadata {
@@ -462,8 +465,8 @@ impl ArrayMetadata {
         ensures text { IfOk result (λ metadata. string_bytes metadata.text ≡ text.now) }
     {
         let value = value_in(alloc, text)?;
-        let mut metadata = metadata_of(alloc, &value)?;
-        metadata.text = String::from_str(alloc, text)?;
+        let kept = String::from_str(alloc, text)?;
+        let metadata = metadata_of(alloc, &value, kept)?;
         Ok(metadata)
     }
 }
