@@ -53,6 +53,13 @@ def shown(file):
     return file.hex() if len(file) < 600 else f"{file[:300].hex()} and {len(file) - 300} bytes more"
 
 
+def differ(text):
+    """Notes what differs, and stops where that is too much to read."""
+    bad.append(text)
+    if len(bad) == 40:
+        sys.exit("\n".join(bad))
+
+
 def say(text):
     print(text, flush=True)
 
@@ -66,9 +73,9 @@ def whole(decode, files):
     for name, file, content in files:
         found = decode(file, len(content))
         if found != content:
-            bad.append(f"{name}, {len(content)} bytes: {found if isinstance(found, int) else 'another content'}: {shown(file)}")
+            differ(f"{name}, {len(content)} bytes: {found if isinstance(found, int) else 'another content'}: {shown(file)}")
         if content and len(content) < 1_000_000 and decode(file, len(content) - 1) != ROOM_TOO_SMALL:
-            bad.append(f"{name}, {len(content)} bytes: taken into less room: {shown(file)}")
+            differ(f"{name}, {len(content)} bytes: taken into less room: {shown(file)}")
         count, total = count + 1, total + len(content)
     return count, total
 
@@ -82,7 +89,7 @@ def whole_streams(program, folder):
     ran = subprocess.run([program, "read", "--raw", f"{folder}/zlib"], capture_output=True, timeout=MOST, check=False)
     if ran.stdout != b"".join(contents):
         differing = [at for at, content in enumerate(contents) if ran.stdout[size * at : size * (at + 1)] != content]
-        bad.append(f"zlib streams: {len(differing)} are read otherwise, {ran.stderr[:300]!r}: {shown(streams[differing[0]]) if differing else ''}")
+        differ(f"zlib streams: {len(differing)} are read otherwise, {ran.stderr[:300]!r}: {shown(streams[differing[0]]) if differing else ''}")
     return len(streams)
 
 
@@ -90,18 +97,18 @@ def whole_streams(program, folder):
 
 
 class OneKind:
-    """Files of one format, how they are decoded here and elsewhere, and which rules the other one is known not to test."""
+    """Files of one format, how they are decoded here and elsewhere, and by rules: which of them the other decoder alone asks for, and which it
+    does not test."""
 
-    def __init__(self, name, decode, other, reference, not_read=()):
-        self.name, self.decode, self.other, self.reference = name, decode, other, reference
-        self.let_go, self.not_read = reference.LET_GO, not_read
+    def __init__(self, name, decode, other, by_rules, not_asked):
+        self.name, self.decode, self.other, self._by_rules, self.not_asked = name, decode, other, by_rules, not_asked
+        self.let_go = self.not_read = ()
         self.counts, self.rules = collections.Counter(), collections.Counter()
 
-    def content(self, file, without):
+    def content(self, file, without=()):
         """The content of a file by the slow decoder, or the rule that it breaks."""
-        call = self.reference.zstd_content if self.name == "zstd" else self.reference.gzip_content
         try:
-            return call(file, without)
+            return self._by_rules(file, without)
         except Broken as broken:
             return broken.args[0]
 
@@ -118,32 +125,27 @@ def try_damaged(kind, file, room, is_checked):
     """A damaged file, of which both decoders say the same, or one breaks a rule that is named."""
     ours, (theirs, why) = kind.decode(file, room), kind.other(file, room)
     if ours == OUT_OF_MEMORY:
-        bad.append(f"{kind.name}: out of memory: {shown(file)}")
+        differ(f"{kind.name}: out of memory: {shown(file)}")
     elif isinstance(ours, int) and theirs is None:
         kind.counts["refused"] += 1
     elif ours == theirs:
         kind.counts["read"] += 1
-        if is_checked and kind.content(file, ()) != ours:
-            bad.append(f"{kind.name}: read against the rule that {kind.content(file, ())}: {shown(file)}")
+        if is_checked and kind.content(file) != ours:
+            differ(f"{kind.name}: read against the rule that {kind.content(file)!r}: {shown(file)}")
     elif is_named(kind, file, ours, theirs):
         kind.counts["differing"] += 1
     else:
-        bad.append(f"{kind.name}: {ours if isinstance(ours, int) else 'read'} here, {why or 'read'} elsewhere, {kind.content(file, ())}: {shown(file)}")
+        differ(f"{kind.name}: {ours if isinstance(ours, int) else 'read'} here, {why or 'read'} elsewhere, {kind.content(file)!r}: {shown(file)}")
 
 
 def is_named(kind, file, ours, theirs):
-    """Whether a file that the decoders differ on breaks a rule that one of them does not test, and has the other's content without it."""
-    rule, content = kind.content(file, ()), kind.content(file, kind.let_go)
+    """Whether a file that the decoders differ on breaks a rule that one of them does not ask for, and has its content without that."""
+    rule, is_refused = kind.content(file), isinstance(ours, int)
     kind.rules[rule] += 1
-    if isinstance(ours, int):
-        is_read = content == theirs or content in kind.not_read
-        return rule in (*kind.let_go, *kind.not_read) and is_read and not is_ours(rule)
-    return theirs is None and (content == ours == kind.content(file, (rule,))) and is_ours(rule)
-
-
-def is_ours(rule):
-    """Whether a rule is one that is let go here, and not elsewhere."""
-    return rule in (packed_reference.WINDOW_SIZE, *packed_inflate.LET_GO)
+    content = kind.content(file, kind.let_go if is_refused else kind.not_asked)
+    if is_refused:
+        return rule in (*kind.let_go, *kind.not_read) and (content == theirs or content in kind.not_read)
+    return rule in kind.not_asked and content == ours and theirs is None
 
 
 def try_kind(kind, bases, tails, dice):
@@ -152,7 +154,7 @@ def try_kind(kind, bases, tails, dice):
     limited(SPARE)
     for file, size in bases:
         several = damaged(file) if len(file) < 300 else []
-        several += [file + tail for tail in (*tails, file, file[:9])] + [by_chance(dice, file) for _ in range(40)]
+        several += [file + tail for tail in (b"", *tails, file, file[:9])] + [by_chance(dice, file) for _ in range(40)]
         for one in several:
             number += 1
             try_damaged(kind, one, 2 * size + 100, number % 40 == 0)
@@ -193,19 +195,21 @@ def damaged_gzip(decode):
                 announced = dice.choice((0, 0, 0, dice.randrange(32)))
                 file = member(content, packed_files.deflated(content, level, strategy=strategy), announced, b"ab", b"name", b"said")
                 bases.append((file if dice.randrange(6) else file + gzip.compress(b"behind", 9), len(content) + 6))
-    kind = OneKind("gzip", decode, gzip_elsewhere, packed_inflate)
+    kind = OneKind("gzip", decode, gzip_elsewhere, packed_inflate.gzip_content, packed_inflate.NOT_ASKED)
+    for file in packed_files.gzip_by_hand():
+        try_damaged(kind, file, 100, True)
     try_kind(kind, bases, (b"\0", b"\x1f", b"\x1f\x8b", bytes(8), gzip.compress(b""), gzip.compress(bytes(100_000))), dice)
     return told(kind, "zlib")
 
 
 def damaged_zstd(decode, zstd):
     dice, bases = random.Random(7), []
-    if not zstd:
-        kind = OneKind("zstd", decode, zstd_by_rules, packed_reference)
-        bases += [(file, len(content)) for _, file, content in packed_files.zstd_by_hand(dice)]
-    else:
-        kind = OneKind("zstd", decode, zstd_elsewhere(zstd), packed_reference, packed_reference.NOT_READ)
+    kind = OneKind("zstd", decode, zstd_elsewhere(zstd) if zstd else zstd_by_rules, packed_reference.zstd_content, packed_reference.NOT_ASKED)
+    if zstd:
         bases += zstd_bases(zstd, dice)
+        kind.let_go, kind.not_read = packed_reference.LET_GO, packed_reference.NOT_READ
+    else:
+        bases += [(file, len(content)) for _, file, content in packed_files.zstd_by_hand(dice)]
     try_kind(kind, bases, (b"\0", b"\x28", b"\x28\xb5\x2f\xfd", bytes(8), skippable(dice, 3), skippable(dice, 300)[:200]), dice)
     return told(kind, f"libzstd {zstd.version}" if zstd else "the rules alone")
 
@@ -225,7 +229,7 @@ def zstd_bases(zstd, dice):
 
 def zstd_by_rules(file, most):
     try:
-        content = packed_reference.zstd_content(file, (packed_reference.WINDOW_SIZE,))
+        content = packed_reference.zstd_content(file, packed_reference.NOT_ASKED)
     except Broken as broken:
         return None, broken.args[0]
     return (content, "") if len(content) <= most else (None, "too long")
@@ -264,13 +268,12 @@ def bombs(gunzip, unzstd, zstd):
     block, last = (100_000 << 3 | 2).to_bytes(3, "little") + b"\0", (100_000 << 3 | 3).to_bytes(3, "little") + b"\0"
     tried = [(gunzip, file), (unzstd, header + block * (size // 100_000) + last)]
     tried += [(unzstd, zstd.streamed([bytes(100_000)] * (size // 100_000), level=1))] if zstd else []
-    tried += [(unzstd, header + (b"\1\0\0" if name else b"") + file[:20]) for name in (0, 1)]
-    for decode, file in tried[:3]:
+    for decode, file in tried:
         limited(1_000_000)
         found = decode(file, 100)
         unlimited()
         if found != ROOM_TOO_SMALL:
-            bad.append(f"10 MB of zeros in {len(file)} bytes: {found}")
+            differ(f"10 MB of zeros in {len(file)} bytes: {found}")
 
 
 # --- what is written here ---
@@ -328,7 +331,7 @@ def written(program, folder, zstd, module):
                 count += 1
                 for reader, call in readers(name, zstd, module).items():
                     if call(file) != content:
-                        bad.append(f"{len(content)} bytes of {kind} by {name}, level {level}: read otherwise by {reader}: {shown(file)}")
+                        differ(f"{len(content)} bytes of {kind} by {name}, level {level}: read otherwise by {reader}: {shown(file)}")
     return count
 
 
@@ -343,7 +346,7 @@ def lengths(program, folder, zstd):
             other = len(gzip.compress(content, level) if name == "gzip" else zstd.frame(content, level=level) if zstd else packed_files.piped(["zstd", "-1", "-c"], content))
             rows.append(f"{kind} {name} {level} {size / other:.3f}")
             if size > most * other:
-                bad.append(f"{kind} by {name}, level {level}: {size} bytes, and {other} by another program")
+                differ(f"{kind} by {name}, level {level}: {size} bytes, and {other} by another program")
     return "lengths beside those of zlib and libzstd: " + ", ".join(rows)
 
 
@@ -379,7 +382,7 @@ def main(program, library):
         say("{} zstd files of {} bytes are decoded".format(*whole(unzstd, packed_files.zstd_files(2, zstd, module))))
         say(f"{written(program, folder, zstd, module)} files are written, and read by others")
         say(lengths(program, folder, zstd))
-    say("\n".join(bad[:40]) or "each file is read as it must be")
+    say("\n".join(bad) or "each file is read as it must be")
     return bool(bad)
 
 

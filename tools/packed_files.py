@@ -157,6 +157,28 @@ def gzip_headers(dice):
             yield f"a header with flags {flags} and fields of {size} bytes", file, content
 
 
+def dynamic(literals, distances, content):
+    """A last block by the code lengths of its literals and distances, each of which takes four bits, without matches (RFC 1951, 3.2.7)."""
+    counts = (len(literals) - 257, 5), (len(distances) - 1, 5), (15, 4), *[(0 if place < 3 else 4, 3) for place in range(19)]
+    bits = "101" + "".join(f"{number:0{width}b}"[::-1] for number, width in counts) + "".join(f"{it:04b}" for it in [*literals, *distances])
+    codes, number = {}, 0
+    for width, symbol in sorted((width, symbol) for symbol, width in enumerate(literals) if width):
+        number <<= width - len(codes[last]) if codes else 0
+        codes[symbol], last, number = f"{number:0{width}b}"[-width:], symbol, number + 1
+    bits += "".join(codes[symbol] for symbol in (*content, 256))
+    return int(bits[::-1], 2).to_bytes((len(bits) + 7) // 8, "little")
+
+
+def gzip_by_hand():
+    """Blocks whose codes are just as many as their lengths allow, fewer and more, and that name few and many distances."""
+    for one, other, end in ((1, 2, 2), (2, 2, 2), (3, 3, 1), (1, 1, 1), (1, 0, 2), (1, 0, 1), (15, 15, 15)):
+        for distances in ([0], [1], [2], [1, 1], [1, 2], [1, 1, 1], [5] * 30, [5] * 31, [5] * 32, [5] * 30 + [1, 0], [15] * 30):
+            literals = [0] * 257
+            literals[97], literals[98], literals[256] = one, other, end
+            content = b"abba" if other else b"aaa"
+            yield member(content, dynamic(literals, distances, content))
+
+
 def gzip_in_pieces(dice):
     """Streams that are flushed in each way, so that blocks are empty, short and of all kinds, and files of several members."""
     for how in (zlib.Z_PARTIAL_FLUSH, zlib.Z_SYNC_FLUSH, zlib.Z_FULL_FLUSH, zlib.Z_BLOCK):
