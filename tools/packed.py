@@ -134,6 +134,7 @@ def try_damaged(kind, file, room, is_checked):
             differ(f"{kind.name}: read against the rule that {kind.content(file)!r}: {shown(file)}")
     elif is_named(kind, file, ours, theirs):
         kind.counts["differing"] += 1
+        kind.rules[kind.content(file)] += 1
     else:
         differ(f"{kind.name}: {ours if isinstance(ours, int) else 'read'} here, {why or 'read'} elsewhere, {kind.content(file)!r}: {shown(file)}")
 
@@ -141,7 +142,6 @@ def try_damaged(kind, file, room, is_checked):
 def is_named(kind, file, ours, theirs):
     """Whether a file that the decoders differ on breaks a rule that one of them does not ask for, and has its content without that."""
     rule, is_refused = kind.content(file), isinstance(ours, int)
-    kind.rules[rule] += 1
     content = kind.content(file, kind.let_go if is_refused else kind.not_asked)
     if is_refused:
         return rule in (*kind.let_go, *kind.not_read) and (content == theirs or content in kind.not_read)
@@ -157,7 +157,7 @@ def try_kind(kind, bases, tails, dice):
         several += [file + tail for tail in (b"", *tails, file, file[:9])] + [by_chance(dice, file) for _ in range(40)]
         for one in several:
             number += 1
-            try_damaged(kind, one, 2 * size + 100, number % 40 == 0)
+            try_damaged(kind, one, 2 * size + 100, number % 40 == 0 or one == file and size < 3000)
     unlimited()
 
 
@@ -222,6 +222,10 @@ def zstd_bases(zstd, dice):
                 content = make(dice, dice.randrange(most // 8, most))
                 yield zstd.frame(content, level=level, **flags(dice)), len(content)
                 yield zstd.streamed(in_pieces(dice, content, 5), level=level, **flags(dice)), len(content)
+    for distance in range(1021, 1029):
+        content = dice.randbytes(distance) * 2
+        file = zstd.streamed([content[start : start + 600] for start in range(0, len(content), 600)], level=3, says_size=0)
+        yield file[:5] + b"\0" + file[6:], len(content)  # a window of 1024 bytes
     content = KINDS["text"](dice, 2000)
     yield zstd.frame(content, level=9, window=10), len(content)
     yield skippable(dice, 9) + zstd.frame(content[:50]) + zstd.frame(b"") + skippable(dice, 0) + zstd.frame(content[:300]), 350

@@ -81,6 +81,16 @@ def distant(dice, size):
     return (dice.randbytes(size // 3 + 1) * 3)[:size]
 
 
+def edited(dice, size):
+    """A line that is written again and again, with a byte put in or left out each time, so that matches go on from a byte nearer or farther."""
+    line, found = bytearray(dice.randbytes(min(size, 90) + 10)), b""
+    while len(found) < size:
+        place = dice.randrange(len(line))
+        line[place : place + 1] = line[place : place + 1] * dice.choice((0, 2)) if len(line) > 10 else dice.randbytes(60)
+        found += line * (1 + size // 200_000)
+    return found[:size]
+
+
 def mixed(dice, size):
     """Stretches of the other kinds."""
     kinds, found, left = [it for name, it in KINDS.items() if name != "mixed"], [], size
@@ -93,7 +103,7 @@ def mixed(dice, size):
 
 KINDS = {
     "zeros": zeros, "noise": noise, "text": text, "letters": letters, "uint16": uint16, "uint32": uint32, "float64": float64, "runs": runs,
-    "distant": distant, "mixed": mixed,
+    "distant": distant, "edited": edited, "mixed": mixed,
 }
 
 
@@ -251,8 +261,7 @@ def zstd_by_level(zstd, dice):
 def zstd_by_parameters(zstd, dice):
     """Each strategy, with windows that are shorter than the content, and matches from three bytes on."""
     for strategy in range(1, 10):
-        for window in range(10, 20):
-            kind = dice.choice(sorted(KINDS))
+        for window, kind in [(window, kind) for window in range(10, 20) for kind in ("edited", *dice.sample(sorted(KINDS), 3))]:
             content = KINDS[kind](dice, length(dice, 200_000))
             how = {"strategy": strategy, "window": window, "shortest": dice.randrange(3, 8), "search": dice.randrange(1, 6)}
             yield f"{kind} by libzstd, {how}", zstd.frame(content, **how, **flags(dice)), content
