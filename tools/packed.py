@@ -30,7 +30,7 @@ from strangers import array, damaged, shard
 TOP = os.path.dirname(os.path.dirname(os.path.abspath(__file__)))
 BUILT = f"{TOP}/crates/zarr_shard/out/zarr_shard"
 LIBRARY = f"{TOP}/out/libzarr_sharding.so"
-MOST = 600  # seconds, after which something hangs
+MOST = 600  # seconds for a line of what is said
 SPARE = 64_000_000  # bytes of address space while damaged files are decoded
 ROOM_TOO_SMALL, OUT_OF_MEMORY = 64, 1
 bad = []
@@ -61,7 +61,9 @@ def differ(text):
 
 
 def say(text):
+    """Says how far this is. What comes next must end in time, or else where it hangs is shown."""
     print(text, flush=True)
+    faulthandler.dump_traceback_later(MOST, exit=True)
 
 
 # --- whole files ---
@@ -136,7 +138,9 @@ def try_damaged(kind, file, room, is_checked):
         kind.counts["differing"] += 1
         kind.rules[kind.content(file)] += 1
     else:
-        differ(f"{kind.name}: {ours if isinstance(ours, int) else 'read'} here, {why or 'read'} elsewhere, {kind.content(file)!r}: {shown(file)}")
+        rule, here = kind.content(file), f"refused as {ours}" if isinstance(ours, int) else "read"
+        by_rules = f"against the rule that {rule}" if isinstance(rule, str) else "read by the rules"
+        differ(f"{kind.name}: {here} here, {why or 'read'} elsewhere, {by_rules}: {shown(file)}")
 
 
 def is_named(kind, file, ours, theirs):
@@ -375,8 +379,7 @@ def main(program, library):
     zstd, module = packed_libzstd.libzstd(), zstandard()
     missing = [name for name, is_there in (("libzstd.so.1", zstd), ("Python's module zstandard", module)) if not is_there]
     missing += [f"the command {name}" for name in ("gzip", "zstd") if not shutil.which(name)]
-    if missing:
-        say(f"not here, and so not tried: {', '.join(missing)}")
+    say(f"not here, and so not tried: {', '.join(missing) or 'nothing'}")
     bombs(gunzip, unzstd, zstd)
     say(damaged_gzip(gunzip))
     say(damaged_zstd(unzstd, zstd))
@@ -395,5 +398,4 @@ if __name__ == "__main__":
     for path, made_by in zip(here, ("the merge gate, `rt ci`", "tools/library.py")):
         if not os.path.isfile(path):
             sys.exit(f"{path}: is not there; {made_by}, leaves one")
-    faulthandler.dump_traceback_later(MOST, exit=True)
     sys.exit(main(*here))

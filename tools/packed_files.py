@@ -119,8 +119,16 @@ def in_pieces(dice, content, most):
 
 
 def piped(words, content):
-    """What a command makes of a content."""
-    return subprocess.run(words, input=content, stdout=subprocess.PIPE, check=True).stdout
+    """What a command makes of a content, or None if it refuses, as an old one does an option that it does not know."""
+    ran = subprocess.run(words, input=content, capture_output=True, check=False)
+    return None if ran.returncode else ran.stdout
+
+
+def by_command(name, words, content):
+    """The file that a command makes, if it makes one."""
+    file = piped(words, content)
+    if file is not None:
+        yield name, file, content
 
 
 # --- gzip files ---
@@ -207,7 +215,7 @@ def gzip_by_programs(dice):
         for level in (1, 4, 6, 9) if shutil.which("gzip") else ():
             content = make(dice, length(dice, 200_000))
             words = ["gzip", "-c", f"-{level}", *(["--rsyncable"] if level == 6 else [])]
-            yield f"{kind} by the command gzip, level {level}", piped(words, content), content
+            yield from by_command(f"{kind} by the command gzip, level {level}", words, content)
         content, file = make(dice, length(dice, 200_000)), io.BytesIO()
         with gzip.GzipFile("a name", "wb", 9, file, 0) as writer:
             for piece in in_pieces(dice, content, 5):
@@ -334,7 +342,7 @@ def zstd_by_command(dice):
     for options in COMMANDS:
         for kind in dice.sample(sorted(KINDS), 3):
             content = KINDS[kind](dice, 40_000 if "stream" in options else length(dice, 100_000))
-            yield f"{kind} by the command zstd {options}", piped(["zstd", "-q", "-c", *options.split()], content), content
+            yield from by_command(f"{kind} by the command zstd {options}", ["zstd", "-q", "-c", *options.split()], content)
 
 
 def zstd_by_module(module, dice):
