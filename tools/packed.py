@@ -114,6 +114,11 @@ class OneKind:
         except Broken as broken:
             return broken.args[0]
 
+    def told(self, file):
+        """What the slow decoder says of a file."""
+        content = self.content(file)
+        return f"against the rule that {content}" if isinstance(content, str) else f"by the rules {len(content)} bytes with the CRC-32 {zlib.crc32(content):08x}"
+
 
 def by_chance(dice, file):
     """A file with a piece of it replaced, cut out, written twice or reversed."""
@@ -132,15 +137,14 @@ def try_damaged(kind, file, room, is_checked):
         kind.counts["refused"] += 1
     elif ours == theirs:
         kind.counts["read"] += 1
-        if is_checked and kind.content(file) != ours:
-            differ(f"{kind.name}: read against the rule that {kind.content(file)!r}: {shown(file)}")
+        if is_checked and kind.content(file, kind.not_asked) != ours:
+            differ(f"{kind.name}: read here and elsewhere, {kind.told(file)}: {shown(file)}")
     elif is_named(kind, file, ours, theirs):
         kind.counts["differing"] += 1
         kind.rules[kind.content(file)] += 1
     else:
-        rule, here = kind.content(file), f"refused as {ours}" if isinstance(ours, int) else "read"
-        by_rules = f"against the rule that {rule}" if isinstance(rule, str) else "read by the rules"
-        differ(f"{kind.name}: {here} here, {why or 'read'} elsewhere, {by_rules}: {shown(file)}")
+        here = f"refused as {ours}" if isinstance(ours, int) else "read"
+        differ(f"{kind.name}: {here} here, {why or 'read'} elsewhere, {kind.told(file)}: {shown(file)}")
 
 
 def is_named(kind, file, ours, theirs):
@@ -327,6 +331,14 @@ def readers(name, zstd, module):
     return found
 
 
+def read_by(call, file):
+    """The content of a file by another program, or what it refuses it with."""
+    try:
+        return call(file)
+    except Exception as error:  # of each its own
+        return repr(error)
+
+
 def written(program, folder, zstd, module):
     """Contents of each kind, compressed at several levels, and read by others. How many files they were."""
     dice, count = random.Random(8), 0
@@ -338,8 +350,10 @@ def written(program, folder, zstd, module):
                 file = compressed(program, folder, content, name, configuration)
                 count += 1
                 for reader, call in readers(name, zstd, module).items():
-                    if call(file) != content:
-                        differ(f"{len(content)} bytes of {kind} by {name}, level {level}: read otherwise by {reader}: {shown(file)}")
+                    found = read_by(call, file)
+                    if found != content:
+                        said = found if isinstance(found, str) else "another content"
+                        differ(f"{len(content)} bytes of {kind} by {name}, level {level}: {said} by {reader}: {shown(file)}")
     return count
 
 
