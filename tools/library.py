@@ -2,7 +2,8 @@
 """The C library of `sharding_indexed`: made, installed, and tried from C and from Python.
 
     python3 tools/library.py install DIR   DIR/include, DIR/lib (.a, .so, pkg-config) and DIR/python, after its proof
-    python3 tools/library.py               reads of shards that are written here, by a C program under address checks and by the module
+    python3 tools/library.py               reads of shards that are written here, by a C program under address checks and by the module;
+                                           leaves out/libzarr_sharding.so, which tools/packed.py decodes by
     python3 tools/library.py header        status 1 where include/zarr_sharding.h and the exports differ
 """
 import ctypes
@@ -225,6 +226,8 @@ def words_of_case(case):
 def test():
     with tempfile.TemporaryDirectory() as folder:
         build(folder)
+        os.makedirs(f"{TOP}/out", exist_ok=True)
+        shutil.copy(f"{folder}/libzarr_sharding.so", f"{TOP}/out")
         strict = ["-std=c99", "-D_POSIX_C_SOURCE=200809L", "-Wall", "-Wextra", "-Wpedantic", "-Werror", "-g", f"-I{TOP}/include"]
         checks = ["-fsanitize=address,undefined", "-fno-sanitize-recover=all"]
         for name in ("read_subset", "change_shard", "fuzz"):
