@@ -8,7 +8,6 @@ mod element_types;
 mod fill;
 mod floats;
 mod metadata;
-mod raw_bits;
 mod transposes;
 mod unread;
 

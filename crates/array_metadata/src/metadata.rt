@@ -1,13 +1,12 @@
 // An array's metadata.
-ghost use Rattle.std.specs.Prelude.{◌≡◌, ◌≤◌, Some, None, Ok, IfOk, OnOk, IsTrue, codes, length, option_and_then, option_map, string_bytes, unwrap_or, vec_len};
-ghost use Rattle.serde_json.specs.Data.{no_items};
-ghost use Rattle.serde_json.specs.Find.{as_str, as_array, get};
+ghost use Rattle.std.specs.Prelude.{◌≡◌, ◌≤◌, Some, None, Ok, IfOk, OnOk, IsTrue, codes, length, option_and_then, option_map, string_bytes, vec_len};
+ghost use Rattle.serde_json.specs.Find.{as_array, get};
 ghost use Rattle.serde_json.specs.Read.{read};
 ghost use Rattle.parts_errors.specs.Words.{Bytes};
-ghost use Rattle.serde_json.specs.View.{view, members_view};
-ghost use Rattle.codec_metadata.specs.Metadata.{name_in, first_refused, members_in};
+ghost use Rattle.serde_json.specs.View.{view};
+ghost use Rattle.codec_metadata.specs.Metadata.{name_in};
 ghost use Rattle.array_metadata.specs.AcceptedMetadata.{IsServedText, IsReadAs, FitsTogether};
-ghost use Rattle.array_fields.specs.MetadataFields.{configured_in, whole_number_in, whole_numbers_in, is_understood};
+ghost use Rattle.array_fields.specs.MetadataFields.{configured_in, whole_numbers_in};
 ghost use Rattle.array_metadata.specs.FillValues.{IsFillIn};
 ghost use Rattle.array_metadata.specs.ArrayCodecs.{array_codec_in, subchunk_in, subchunk_of};
 ghost use Rattle.array_metadata.specs.UnreadCodecs.{chunks_in, unread_codec_in};
@@ -20,12 +19,12 @@ use crate::codecs::{ArrayCodec, InnerCodec, ServedCodec, ShardsCodec, array_code
 use crate::element_types::{ElementType, element_type_in, unread_type};
 use crate::fill::fill_value_in;
 use crate::unread::unread_codec;
-use array_fields::{MetadataError, Placed, escaped, escaped_whole, value_in};
+use array_fields::{MetadataError, Placed, escaped, escaped_whole, test_array, value_in};
 use array_grid::{ChunkKeys, keys_in};
 use codec_metadata::PluginCreateError;
 use parts_arrays::{DataType, FillValue};
 use parts_subsets::ChunkShape;
-use serde_json::{Map, Value};
+use serde_json::Value;
 use std::alloc::{AllocError, Global};
 
 /// How many axes an array may have whose metadata is read. The codecs know no such bound.
@@ -63,71 +62,6 @@ pub struct ArrayMetadata {
     pub type_text: Option<TypeText>,
     /// The value of `codecs`, as it stands in the text, for a terminal.
     pub codecs: String,
-}
-
-// Whether a member of the metadata is known, or left with nothing in it, or says that it need not be understood.
-fn is_understood(key: &str, value: &Value) -> bool
-    ensures { result ≡ is_understood key.now (view value.now) }
-{
-    match key {
-        "zarr_format" | "node_type" | "shape" | "data_type" | "chunk_grid" => true,
-        "chunk_key_encoding" | "fill_value" | "codecs" | "attributes" => true,
-        "dimension_names" | "storage_transformers" => true,
-        "consolidated_metadata" if value.is_null() => true,
-        _ => value.get("must_understand").and_then(Value::as_bool) == Some(false),
-    }
-}
-
-// The key of the first member, in the order of keys, that is not understood.
-fn first_unknown(members: &Map<String, Value>) -> Option<&str>
-    ensures { option_map (λ key. key.now) result ≡ first_refused is_understood (members_view members.now.entries) }
-{
-    for (key, value) in members.iter() {
-        if !is_understood(key.as_str(), value) {
-            return Some(key.as_str());
-        }
-    }
-    None
-}
-
-// Tests that the value is the metadata of an array of Zarr V3, whose members are all understood.
-fn test_members_of(alloc: Global, whole: &Placed) -> Result<(), MetadataError>
-    ensures format { OnOk result (option_and_then whole_number_in (get (codes "zarr_format") (view whole.now.value.now)) ≡ Some 3) }
-    ensures node_type { OnOk result (option_and_then as_str (get (codes "node_type") (view whole.now.value.now)) ≡ Some (codes "array")) }
-    ensures understood { OnOk result (first_refused is_understood (members_in (view whole.now.value.now)) ≡ None) }
-    ensures transformers { OnOk result (unwrap_or (option_map as_array (get (codes "storage_transformers") (view whole.now.value.now))) (Some no_items) ≡ Some no_items) }
-{
-    let Some(members) = whole.value.as_object() else {
-        return Err(whole.bad(alloc, "the text is JSON, but no object"));
-    };
-    let format = whole.required(alloc, "zarr_format")?;
-    if format.value.as_u64() != Some(3) {
-        return Err(format.bad(alloc, "only arrays of Zarr V3 are read"));
-    }
-    let node_type = whole.required(alloc, "node_type")?;
-    match node_type.value.as_str() {
-        Some("array") => {}
-        Some("group") => return Err(node_type.bad(alloc, "this is a group, not an array")),
-        _ => return Err(node_type.bad(alloc, "this is not an array")),
-    }
-    if let Some(key) = first_unknown(members) {
-        let error = PluginCreateError::bad_field(alloc, key);
-        let sentence = "the key is not known, and must be understood";
-        return Err(MetadataError::refused(alloc, error, key, sentence));
-    }
-    match whole.member(alloc, "storage_transformers")? {
-        Some(transformers) if !is_empty_list(transformers.value) => {
-            Err(transformers.bad(alloc, "storage transformers are not served"))
-        }
-        _ => Ok(()),
-    }
-}
-
-// Whether a value is a list of nothing.
-fn is_empty_list(value: &Value) -> bool
-    ensures { IsTrue result → as_array (view value.now) ≡ Some no_items }
-{
-    value.as_array().is_some_and(|list| list.is_empty())
 }
 
 // The shape of a chunk of the regular grid. Refused as `BadField` where the grid is another, or as `MissingField`.
@@ -416,7 +350,7 @@ fn metadata_of(alloc: Global, value: &Value) -> Result<ArrayMetadata, MetadataEr
     ensures fits { IfOk result FitsTogether }
 {
     let whole = Placed::whole(alloc, value)?;
-    test_members_of(alloc, &whole)?;
+    test_array(alloc, &whole)?;
     let unread = unread_in(alloc, &whole)?;
     let cells = cells_in(alloc, &whole, &unread)?;
     let keys = keys_in(alloc, &whole.required(alloc, "chunk_key_encoding")?)?;
