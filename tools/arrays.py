@@ -100,6 +100,20 @@ def test_map(program, name, path, expected, is_decoded):
         compare(name, f"map of {key}", tuple(grid.count(mark) for mark in "#.x"), wanted)
 
 
+def test_extract(program, name, path, shards):
+    """The bytes of each shard's first and last subchunk that is present, where `info` says that they lie."""
+    for key, shard in shards.items():
+        if shard == "absent" or shard["index"] != "ok":
+            continue
+        with open(f"{path}/{key}", "rb") as file:
+            content = file.read()
+        found = [line for line in lines_of(run(program, "info", path, key, "--json")) if line["kind"] == "subchunk"]
+        compare(name, f"subchunks of {key}", len(found), shard["present"])
+        for line in found[:1] + found[1:][-1:]:
+            wanted = content[line["offset"] : line["offset"] + line["size"]]
+            compare(name, f"subchunk {line['number']} of {key}", run(program, "extract", path, key, str(line["number"])), (0, wanted, ""))
+
+
 def test_filled(program, name, path, expected):
     """A read in which what is damaged has the fill value."""
     status, out, told = run(program, "read", path, "--raw", "--fill-damaged")
@@ -304,11 +318,12 @@ def test_array(program, name, folder, expected):
     shutil.copytree(f"{ARRAYS}/{name}", path)
     if expected["index_codecs"] is None and expected["inner_codecs"] in SERVED:
         take_as_shards(expected)
-    if expected["zarr_format"] != 3 or expected["subchunk_shape"] is None or expected["before_sharding"]:
+    is_transposed = expected["before_sharding"] == ["transpose"]
+    if expected["zarr_format"] != 3 or expected["subchunk_shape"] is None or expected["before_sharding"] and not is_transposed:
         for command in ("info", "check", "read", "compact"):
             refused(name, command, run(program, command, path))
         return False
-    is_decoded = expected["inner_codecs"] in SERVED
+    is_decoded = expected["inner_codecs"] in SERVED and not is_transposed
     is_read = is_decoded and (expected["data_type"] in FORMATS or is_raw(expected["data_type"]))
     test_info(program, name, path, expected["shards"])
     test_check(program, name, path, expected, is_decoded)
@@ -319,6 +334,7 @@ def test_array(program, name, folder, expected):
         test_filled(program, name, path, expected)
     test_lines(program, name, path, expected["shards"])
     test_map(program, name, path, expected, is_decoded)
+    test_extract(program, name, path, expected["shards"])
     test_copy(program, name, path, expected["shards"])
     if is_read and not expected["damaged"]:
         test_reshard(program, name, path, expected)

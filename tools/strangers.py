@@ -569,7 +569,7 @@ def unsharded(program, top):
         file.write(gzip.compress(bytes(100 * MIB)))
     expect([program, "read", path, "0"], 1, "0: 15 Damaged: subchunk 0 (elements 0..4) does not decode")
     expect_small([program, "read", path, "0"], 1)
-    for beside in ([{"name": "bytes"}, *zipped], [*zipped, {"name": "crc32c"}], ["transpose", *zipped]):
+    for beside in ([{"name": "bytes"}, *zipped], [*zipped, {"name": "crc32c"}], ["transpose", *zipped, "crc32c"]):
         document["codecs"] = beside
         with open(f"{path}/zarr.json", "w", encoding="utf-8") as text:
             json.dump(document, text)

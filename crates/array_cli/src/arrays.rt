@@ -6,7 +6,7 @@ use array_codecs::reversed_parts;
 use array_fields::{LONGEST_TEXT, MetadataError, escaped};
 use array_folder::{ChunkFile, ChunkFiles, ChunkGrid, document_length, list_chunks, read_document};
 use array_grid::ListPart;
-use array_metadata::{ArrayCodec, ArrayMetadata, reversed_size};
+use array_metadata::{ArrayCodec, ArrayMetadata, ChunkShards, reversed_size};
 use parts_arrays::FillValue;
 use parts_errors::CodecError;
 use parts_subsets::ChunkShape;
@@ -72,7 +72,7 @@ fn read_metadata(
     order: SubchunkWriteOrder,
 ) -> Result<ArrayMetadata, MetadataError> {
     let mut metadata = ArrayMetadata::from_text(alloc, text)?;
-    if let ArrayCodec::First(shards) = &mut metadata.codec {
+    if let ArrayCodec::First(ChunkShards::First(shards)) = &mut metadata.codec {
         shards.order = order;
     }
     if let Some(bytes) = turned(alloc, &metadata, metadata.fill_value.as_ne_bytes())? {
@@ -265,6 +265,6 @@ impl<'a, R: Files + AllocGlobal, C: ShardCodec<ShardFile<'a, R>>> Array<'a, R, C
         is_dry: bool,
     ) -> Result<Planned, CodecError> {
         self.codec
-            .plan_compaction(self.alloc(), file, &self.metadata.shard, is_dry)
+            .plan_compaction(self.alloc(), file, &self.metadata.encoded, is_dry)
     }
 }

@@ -1,7 +1,7 @@
 // What is done with the codec of an array's shards, whichever it is.
 use crate::shard_codec::ShardCodec;
 use crate::whole_chunks::WholeChunks;
-use array_metadata::{ArrayCodec, ArrayMetadata};
+use array_metadata::{ArrayCodec, ArrayMetadata, sharding_of};
 use storage_handles::BytesPartialDecoderTraits;
 
 /// What is done with the codec of an array's shards, over files of a type.
@@ -13,13 +13,14 @@ pub trait CodecUse<F> {
     fn with<C: ShardCodec<F>>(self, codec: C) -> Self::Answer;
 }
 
-/// Does something with the codec that metadata names. It alone names the types of such codecs; all else works with any.
+/// Does something with the codec that metadata names, without `transpose` before shards. It alone names the types of such codecs; all else
+/// works with any.
 pub fn with_codec<F: BytesPartialDecoderTraits, U: CodecUse<F>>(
     metadata: &ArrayMetadata,
     user: U,
 ) -> U::Answer {
     match &metadata.codec {
-        ArrayCodec::First(shards) => user.with(shards),
+        ArrayCodec::First(shards) => user.with(sharding_of(shards)),
         ArrayCodec::Second(codec) => user.with(WholeChunks { codec }),
     }
 }

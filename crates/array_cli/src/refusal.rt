@@ -91,7 +91,7 @@ fn elements_at(
     Ok(text)
 }
 
-// The elements of the array that a place in a shard has, in words.
+// The elements of the array that a place in a shard has, in words; none where its axes are in another order.
 fn elements_of(
     alloc: Global,
     metadata: &ArrayMetadata,
@@ -99,8 +99,9 @@ fn elements_of(
     shard: &Shard<'_>,
     position: Place,
 ) -> Result<String, AllocError> {
-    let Place::Subchunk(number) = position else {
-        return Ok(String::new(alloc));
+    let number = match position {
+        Place::Subchunk(number) if !metadata.is_transposed() => number,
+        _ => return Ok(String::new(alloc)),
     };
     match unravel_index(alloc, number, subchunks.as_slice())? {
         Some(subchunk) => elements_at(alloc, metadata, shard.coordinates, &subchunk),

@@ -161,7 +161,7 @@ pub(crate) fn check_served<C: ArrayToBytesCodecTraits>(
 ) -> Result<(), CodecError> {
     codec.check(
         alloc,
-        &metadata.shard,
+        &metadata.encoded,
         &metadata.data_type,
         &metadata.fill_value,
     )
@@ -178,7 +178,7 @@ fn opened<'c, I: ArrayToBytesCodecTraits, X: ArrayToBytesCodecTraits, H: BytesPa
     codec.partial_decoder(
         alloc,
         file,
-        &metadata.shard,
+        &metadata.encoded,
         &metadata.data_type,
         &metadata.fill_value,
         &options,
@@ -419,7 +419,7 @@ impl<
 
     fn subchunks(self, alloc: Global, metadata: &ArrayMetadata) -> Result<ChunkShape, CodecError> {
         check_served(alloc, self, metadata)?;
-        calculate_chunks_per_shard(alloc, &metadata.shard, &metadata.subchunk)
+        calculate_chunks_per_shard(alloc, &metadata.encoded, &metadata.subchunk)
     }
 
     fn open(

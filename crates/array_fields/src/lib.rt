@@ -7,12 +7,16 @@ mod escape;
 mod fields;
 mod json;
 mod json_line;
+mod members;
 mod printed;
 mod progress;
+mod raw_bits;
 
 pub use error::{LONGEST_TEXT, MetadataError};
 pub use escape::{escaped, escaped_whole};
 pub use fields::Placed;
 pub use json::value_in;
 pub use json_line::{JsonLine, write_json_numbers, write_json_text};
+pub use members::{MOST_AXES, axes_in, dimension_names_in, test_array};
 pub use progress::Progress;
+pub use raw_bits::raw_bytes;

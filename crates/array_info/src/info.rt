@@ -77,7 +77,7 @@ fn info_in_pieces<'a, R: Files + AllocGlobal, C: ShardCodec<ShardFile<'a, R>>>(
     let Some(length) = file.len()? else {
         return Ok(None);
     };
-    let (codec, shape) = (array.codec, &array.metadata.shard);
+    let (codec, shape) = (array.codec, &array.metadata.encoded);
     let info = match codec.read_index(array.alloc(), file, length, shape) {
         Ok(mut index) => info_of(&mut index.numbers, codec.index_location(), size, length),
         Err(error) => Err(error),

@@ -154,7 +154,7 @@ fn map_of<'a, R: Files + AllocGlobal, C: ShardCodec<ShardFile<'a, R>>, M: Write>
     let alloc = array.alloc();
     let index = array
         .codec
-        .index_interval(alloc, length, &array.metadata.shard)?;
+        .index_interval(alloc, length, &array.metadata.encoded)?;
     let subchunks = draw_each(array, opened, count, progress)?;
     let order = order_of(alloc, &subchunks, &array.subchunks)?;
     Ok(ShardMap {

@@ -70,7 +70,7 @@ fn layout_of<'a, R: Files + AllocGlobal, C: ShardCodec<ShardFile<'a, R>>>(
         return Ok(None);
     };
     let (alloc, codec) = (array.alloc(), array.codec);
-    let index = codec.read_index(alloc, file, length, &array.metadata.shard)?;
+    let index = codec.read_index(alloc, file, length, &array.metadata.encoded)?;
     let layout = Layout::new(alloc, index.numbers, codec.index_location(), size, length)?;
     Ok(Some(layout))
 }

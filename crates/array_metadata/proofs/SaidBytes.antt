@@ -1,20 +1,18 @@
--- What values say of complex numbers and of raw bits.
-use Rattle.std.proofs.Common.{◌≡◌, List, [], ◌∷◌, Option, None, Some, ◌++◌, length, get_or, take, drop, refl, sym, ap, subst, ◌∙◌, arith}
+-- What values say of complex numbers.
+use Rattle.std.proofs.Common.{◌≡◌, List, [], ◌∷◌, Option, Some, ◌++◌, length, get_or, take, drop, refl, sym, ap, subst, ◌∙◌, arith}
 use Rattle.std.proofs.Math.Seq.{take-append_seam, drop-append_seam}
-use Rattle.serde_json.specs.Data.{Data, Items, null, boolean, number, string, array, object, no_items, item}
-use Rattle.serde_json.specs.Find.{as_str}
+use Rattle.serde_json.specs.Data.{Data, Items, no_items, item}
 use Rattle.serde_json.specs.View.{view, items_view}
 use Rattle.serde_json.specs.declared.value.Value.{Value}
 use Rattle.parts_arrays.specs.Types.{size_of}
 use Rattle.parts_arrays.specs.declared.data_type.DataTypeSize.TheVariants.{Fixed}
 use Rattle.parts_errors.specs.Words.{Bytes as Text}
-use Rattle.array_fields.specs.MetadataFields.{whole_numbers_in}
 use Rattle.array_metadata.specs.declared.floats.FloatFormat.{FloatFormat}
 use Rattle.array_metadata.specs.declared.floats.FloatFormat.TheVariants.{Float16, BFloat16, Float32, Float64}
 use Rattle.array_metadata.specs.declared.element_types.ElementType.{ElementType}
 use Rattle.array_metadata.specs.declared.element_types.ElementType.TheVariants as of
 use Rattle.array_metadata.specs.ElementTypes.{carrier, float_carrier, float_size}
-use Rattle.array_metadata.specs.FillValues.{number_of, base64_in, IsElementIn, IsComplexIn, IsRawIn, IsValueIn}
+use Rattle.array_metadata.specs.FillValues.{number_of, IsElementIn, IsComplexIn, IsValueIn}
 
 -- a value that says an element as a number says it
 pub number_said : (element_type : ElementType) (d : Data) (element : Text) → IsElementIn element_type d (number_of (carrier element_type) element)
@@ -26,9 +24,6 @@ number_said (of.RawBits size) d element h = absurd h
 number_said of.DateTime64 d element h = h
 number_said of.TimeDelta64 d element h = h
 number_said (of.Unread size) d element h = h
-
-some_same : {A : Type 0} (a b : A) → Some a ≡ Some b → a ≡ b
-some_same a b e = cc
 
 -- two floats, one after the other
 pub complex_said : (format : FloatFormat) (real imaginary : Data) (o : Option Items) (a b : Text) → o ≡ Some (item real (item imaginary no_items))
@@ -64,21 +59,3 @@ pub complex_pair : (format : FloatFormat) (values : List Value) (real imaginary 
 complex_pair format values real imaginary o a b is two first second long real_said imaginary_said =
     complex_said format (view real) (view imaginary) o a b (sym is ∙ ap Some (two_items values real imaginary two first second)) (float_long format a long) real_said
     imaginary_said
-
--- a text says the bytes that it is the base64 of
-pub raw_text : (d : Data) (text element : Text) → as_str d ≡ Some text → base64_in text ≡ Some element → IsRawIn d element
-raw_text null text element is h = absurd (cc)
-raw_text (boolean b) text element is h = absurd (cc)
-raw_text (number n) text element is h = absurd (cc)
-raw_text (string s) text element is h = subst (λ (t : Text). base64_in t ≡ Some element) (sym (some_same s text is)) h
-raw_text (array ds) text element is h = absurd (cc)
-raw_text (object ms) text element is h = absurd (cc)
-
--- and what is no text, those of a list
-pub raw_list : (d : Data) (element : Text) → as_str d ≡ None → whole_numbers_in d ≡ Some element → IsRawIn d element
-raw_list null element none h = h
-raw_list (boolean b) element none h = h
-raw_list (number n) element none h = h
-raw_list (string s) element none h = absurd (cc)
-raw_list (array ds) element none h = h
-raw_list (object ms) element none h = h

@@ -12,7 +12,7 @@ use Rattle.array_fields.specs.MetadataFields.{member_in, configured_in, whole_nu
 use Rattle.array_grid.specs.ChunkKeys.{separator_of}
 use Rattle.array_grid.specs.KeyEncodings.{encoding_name, default_separator}
 use Rattle.array_metadata.specs.FillValues.{IsFillIn}
-use Rattle.array_metadata.specs.ArrayCodecs.{array_codec_in, subchunk_in, subchunk_of}
+use Rattle.array_metadata.specs.ArrayCodecs.{array_codec_in, encoded_of, subchunk_in, subchunk_of}
 use Rattle.array_metadata.specs.ElementTypes.{IsTypeIn, carrier}
 use Rattle.array_metadata.specs.UnreadCodecs.{chunks_in, unread_codec_in}
 use Rattle.array_metadata.specs.declared.metadata.ArrayMetadata.{ArrayMetadata}
@@ -39,14 +39,17 @@ pub record IsReadAs (text : Bytes) (metadata : ArrayMetadata) : Type 0 where
   pub subchunk : subchunk_in (option_and_then chunks_in (member_in (codes "codecs") text)) metadata.shard ≡ Some metadata.subchunk
   pub codecs : option_map (array_codec_in (vec_len metadata.shape)) (option_and_then as_array (member_in (codes "codecs") text))
       ≡ Some (Ok metadata.codec)
-  pub unread : option_map string_bytes metadata.unread ≡ unread_codec_in (option_and_then chunks_in (member_in (codes "codecs") text))
+  pub unread : option_map string_bytes metadata.unread ≡ unread_codec_in (option_and_then as_array (member_in (codes "codecs") text))
 
--- the parts of metadata fit together: as many axes everywhere, subchunks that divide chunks evenly, a fill value of the type's size
+-- the parts of metadata fit together: as many axes everywhere, subchunks that divide chunks evenly as these are encoded, a fill value of
+-- the type's size
 pub record FitsTogether (metadata : ArrayMetadata) : Type 0 where
   pub few : vec_len metadata.shape ≤ 64
   pub shard : length metadata.shard ≡ vec_len metadata.shape
   pub subchunk : length metadata.subchunk ≡ vec_len metadata.shape
-  pub divides : Divides metadata.subchunk metadata.shard
+  pub encoded : encoded_of metadata.codec metadata.shard ≡ metadata.encoded
+  pub encoded_axes : length metadata.encoded ≡ vec_len metadata.shape
+  pub divides : Divides metadata.subchunk metadata.encoded
   pub codec : subchunk_of metadata.codec metadata.shard ≡ metadata.subchunk
   pub data_type : metadata.data_type ≡ carrier metadata.element_type
   pub elements : HasElements metadata.data_type

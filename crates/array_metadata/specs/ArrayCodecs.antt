@@ -1,5 +1,5 @@
 -- The codecs that the metadata of an array names.
-use Rattle.std.specs.Prelude.{ℕ, Bool, true, false, Option, Ok, Err, Some, None, List, option_and_then, codes, bytes_eq}
+use Rattle.std.specs.Prelude.{◌≡◌, ℕ, Bool, true, false, Option, Ok, Err, Some, None, List, length, option_and_then, codes, bytes_eq}
 use Rattle.parts_errors.specs.Words.{Bytes}
 use Rattle.serde_json.specs.Data.{Data, Items, no_items, item}
 use Rattle.codec_metadata.specs.CreateErrors.{Reading, and_then, unsupported_chain, bad_field}
@@ -13,12 +13,13 @@ use Rattle.codec_chains.specs.declared.either_codec.EitherCodec.TheVariants.{Fir
 use Rattle.sharding_codec.specs.declared.codec.ShardingCodec.{ShardingCodec}
 use Rattle.sharding_codec.specs.ShardMetadata.{shard_configured}
 use Rattle.sharding_codec.specs.Configuration.{shape_in}
+use Rattle.array_codecs.specs.AxisOrders.{permuted}
 use Rattle.array_codecs.specs.declared.opaque_codec.OpaqueCodec.{OpaqueCodec}
 use Rattle.array_codecs.specs.declared.transpose_codec.TransposeCodec.{TransposeCodec}
 use Rattle.array_fields.specs.MetadataFields.{configured_in}
 use Rattle.array_metadata.specs.ByteCodecsMetadata.{byte_codecs_in}
 use Rattle.array_metadata.specs.Transposes.{transpose_in, transpose_before, untransposed}
-use Rattle.array_metadata.specs.UnreadCodecs.{sole_shards, innermost, unserved_in, have_names}
+use Rattle.array_metadata.specs.UnreadCodecs.{sole_shards, shards_of, innermost, unserved_in, have_names}
 
 -- `bytes` by its byte order, or `bytes` and codecs from bytes to bytes behind it
 abbrev pub Elements : Type 0
@@ -55,7 +56,7 @@ arranged_or axes (Some d) elements =
     and_then (transpose_in axes d) (λ order. and_then elements (λ codec. Ok (Second (record { order = order; codec = codec }))))
 
 abbrev pub arranged_in : ℕ → Items → Reading Arranged
-arranged_in axes list = arranged_or axes (transpose_before list) (elements_in (untransposed list))
+arranged_in axes list = arranged_or axes (transpose_before (codes "bytes") list) (elements_in (untransposed (codes "bytes") list))
 
 -- the codec of the name `sharding_indexed`, by how the list of its subchunks' codecs is read
 abbrev pub shards_in : {I : Type 0} → (Items → Reading I) → Data → Reading (ShardingCodec I Elements)
@@ -69,27 +70,52 @@ shards_or axes None elements = and_then elements (λ codec. Ok (First codec))
 abbrev pub served_in : ℕ → Items → Reading Served
 served_in axes list = shards_or axes (sole_shards list) (arranged_in axes list)
 
--- the codec of subchunks that a list names: where elements go through a codec that is not served, one that isn't looked into, if each
--- of these codecs has a name
+-- a codec that is not looked into, where each codec of a list has a name
+abbrev pub opaque_if : Bool → Reading Subchunks
+opaque_if true = Ok (Second (record {}))
+opaque_if false = Err (bad_field (codes "codecs"))
+
+-- the codec of subchunks that a list names: where elements go through a codec that is not served, one that isn't looked into
 abbrev pub served_or : Option Bytes → Bool → Reading Served → Reading Subchunks
 served_or None named served = and_then served (λ codec. Ok (First codec))
-served_or (Some name) true served = Ok (Second (record {}))
-served_or (Some name) false served = Err (bad_field (codes "codecs"))
+served_or (Some name) named served = opaque_if named
 
 abbrev pub subchunks_in : ℕ → Items → Reading Subchunks
-subchunks_in axes list = served_or (unserved_in (untransposed (innermost list))) (have_names (innermost list)) (served_in axes list)
+subchunks_in axes list =
+    served_or (unserved_in (untransposed (codes "bytes") (innermost list))) (have_names (innermost list)) (served_in axes list)
+
+-- and of shards behind `transpose`
+abbrev pub opaque_in : Items → Reading Subchunks
+opaque_in list = opaque_if (have_names (innermost list))
+
+-- the codec of chunks that are shards: `transpose` stands before it or not
+abbrev pub ChunkShards : Type 0
+ChunkShards = EitherCodec (ShardingCodec Subchunks Elements) (TransposeCodec (ShardingCodec Subchunks Elements))
+
+-- the codec of these shards itself
+abbrev pub sharding_of : ChunkShards → ShardingCodec Subchunks Elements
+sharding_of (First shards) = shards
+sharding_of (Second transposed) = transposed.codec
 
 -- the codec of an array's chunks: of shards, or of elements
 abbrev pub Chunks : Type 0
-Chunks = EitherCodec (ShardingCodec Subchunks Elements) Arranged
+Chunks = EitherCodec ChunkShards Arranged
 
--- the codec of the chunks of an array with this number of axes that a list names: of shards where it names shards alone, else of elements
-abbrev pub chunks_or : ℕ → Option Data → Reading Arranged → Reading Chunks
-chunks_or axes (Some d) elements = and_then (shards_in (subchunks_in axes) d) (λ shards. Ok (First shards))
-chunks_or axes None elements = and_then elements (λ codec. Ok (Second codec))
+-- the codec of shards in an array with this number of axes, by the metadata of `transpose` before it
+abbrev pub chunk_shards_or : ℕ → Option Data → Data → Reading ChunkShards
+chunk_shards_or axes None d = and_then (shards_in (subchunks_in axes) d) (λ shards. Ok (First shards))
+chunk_shards_or axes (Some transpose) d =
+    and_then (transpose_in axes transpose) (λ order. and_then (shards_in opaque_in d) (λ shards.
+    Ok (Second (record { order = order; codec = shards }))))
+
+-- the codec of the chunks of an array with this number of axes that a list names: of shards where it names these alone or behind
+-- `transpose`, else of elements
+abbrev pub chunks_or : ℕ → Option Data → Option Data → Reading Arranged → Reading Chunks
+chunks_or axes transpose (Some d) elements = and_then (chunk_shards_or axes transpose d) (λ shards. Ok (First shards))
+chunks_or axes transpose None elements = and_then elements (λ codec. Ok (Second codec))
 
 abbrev pub array_codec_in : ℕ → Items → Reading Chunks
-array_codec_in axes list = chunks_or axes (sole_shards list) (arranged_in axes list)
+array_codec_in axes list = chunks_or axes (transpose_before (codes "sharding_indexed") list) (shards_of list) (arranged_in axes list)
 
 -- the shape of a subchunk, by the metadata of shards; a chunk that is no shard is one subchunk
 abbrev pub subchunk_in : Option Data → List ℕ → Option (List ℕ)
@@ -98,5 +124,23 @@ subchunk_in None chunk = Some chunk
 
 -- and by the codec of chunks
 abbrev pub subchunk_of : Chunks → List ℕ → List ℕ
-subchunk_of (First shards) chunk = shards.subchunk_shape
+subchunk_of (First shards) chunk = (sharding_of shards).subchunk_shape
 subchunk_of (Second codec) chunk = chunk
+
+-- the shape in which chunks of a shape are cut into subchunks: behind `transpose` that of the transposed chunk
+abbrev pub encoded_of : Chunks → List ℕ → List ℕ
+encoded_of (First (First shards)) chunk = chunk
+encoded_of (First (Second transposed)) chunk = permuted transposed.order chunk
+encoded_of (Second codec) chunk = chunk
+
+-- the codec of chunks has this number of axes, where it says how many
+abbrev pub HasAxes : ℕ → Chunks → Type 0
+HasAxes axes (First (First shards)) = length shards.subchunk_shape ≡ axes
+HasAxes axes (First (Second transposed)) = (length transposed.codec.subchunk_shape ≡ axes) × (length transposed.order ≡ axes)
+HasAxes axes (Second codec) = Unit {0}
+
+-- `transpose` stands before the shards
+abbrev pub are_transposed : Chunks → Bool
+are_transposed (First (Second transposed)) = true
+are_transposed (First (First shards)) = false
+are_transposed (Second codec) = false

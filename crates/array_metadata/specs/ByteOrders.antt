@@ -3,7 +3,7 @@ use Rattle.std.specs.Prelude.{ℕ, Option, Some, None}
 use Rattle.codec_bytes.specs.declared.bytes_codec.Endianness.{Endianness}
 use Rattle.codec_bytes.specs.declared.bytes_codec.Endianness.TheVariants.{Big, Little}
 use Rattle.codec_chains.specs.declared.either_codec.EitherCodec.TheVariants.{First, Second}
-use Rattle.array_metadata.specs.ArrayCodecs.{Elements, Arranged, Served, Subchunks, Chunks}
+use Rattle.array_metadata.specs.ArrayCodecs.{Elements, Arranged, Served, Subchunks, Chunks, sharding_of}
 use Rattle.array_metadata.specs.ElementTypes.{float_size}
 use Rattle.array_metadata.specs.declared.element_types.ElementType.{ElementType}
 use Rattle.array_metadata.specs.declared.element_types.ElementType.TheVariants.{Complex}
@@ -26,7 +26,7 @@ subchunks_order (First served) = served_order served
 subchunks_order (Second opaque) = None
 
 abbrev pub chunks_order : Chunks → Option Endianness
-chunks_order (First shards) = subchunks_order shards.inner
+chunks_order (First shards) = subchunks_order (sharding_of shards).inner
 chunks_order (Second elements) = arranged_order elements
 
 -- how many bytes each part has of elements whose parts are stored most significant byte first

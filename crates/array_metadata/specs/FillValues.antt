@@ -7,9 +7,7 @@ use Rattle.parts_arrays.specs.declared.data_type.DataType.{DataType}
 use Rattle.parts_arrays.specs.declared.data_type.DataType.TheVariants.{Bool, Int8, Int16, Int32, Int64, UInt8, UInt16, UInt32, UInt64, Raw, Bytes, Optional}
 use Rattle.serde_json.specs.Data.{Data, Items, number, string, no_items, item}
 use Rattle.serde_json.specs.Find.{as_array, as_bool, as_number, as_integer, to_float}
-use Rattle.base64.specs.Engines.{standard}
-use Rattle.base64.specs.GeneralPurpose.{decoded_of}
-use Rattle.array_fields.specs.MetadataFields.{whole_numbers_in}
+use Rattle.array_fields.specs.RawBits.{IsRawIn}
 use Rattle.array_metadata.specs.declared.floats.FloatFormat.{FloatFormat}
 use Rattle.array_metadata.specs.declared.element_types.ElementType.{ElementType}
 use Rattle.array_metadata.specs.declared.element_types.ElementType.TheVariants.{Number, Float, Complex, RawBits, DateTime64, TimeDelta64, Unread}
@@ -70,15 +68,6 @@ IsComplexIn format (Some no_items) element = ⊥
 IsComplexIn format (Some (item real no_items)) element = ⊥
 IsComplexIn format (Some (item real (item imaginary no_items))) element = IsComplexOf format real imaginary element
 IsComplexIn format (Some (item real (item imaginary (item d later)))) element = ⊥
-
--- the bytes that a text is the base64 of (RFC 4648)
-unfoldable pub base64_in : Text → Option Text
-base64_in text = decoded_of standard text
-
--- raw bits are the bytes of a list, or those that a text is the base64 of
-abbrev pub IsRawIn : Data → Text → Type 0
-IsRawIn (string text) element = base64_in text ≡ Some element
-IsRawIn d element = whole_numbers_in d ≡ Some element
 
 -- what a value says of an element with these bytes
 abbrev pub IsValueIn : ElementType → Data → Text → Type 0

@@ -1,5 +1,6 @@
 -- The codec `transpose` that metadata names (Zarr V3, codec `transpose`).
 use Rattle.std.specs.Prelude.{ℕ, Bool, false, ◌==◌, ◌&&◌, List, length, Option, Ok, Some, None, codes, bytes_eq, if◌then◌else◌, option_and_then}
+use Rattle.parts_errors.specs.Words.{Bytes}
 use Rattle.serde_json.specs.Data.{Data, Items, no_items, item}
 use Rattle.serde_json.specs.Find.{get}
 use Rattle.codec_metadata.specs.CreateErrors.{Reading, or_refused, bad_field}
@@ -23,10 +24,10 @@ transpose_configured axes d = or_refused (option_and_then (order_in axes) d) (ba
 abbrev pub transpose_in : ℕ → Data → Reading (List ℕ)
 transpose_in axes = codec_of (bytes_eq (codes "transpose")) (λ name. transpose_configured axes)
 
--- a list begins with `transpose`, and `bytes` stands behind it
-abbrev pub is_transposed : Items → Bool
-is_transposed (item d (item e later)) = is_named (codes "transpose") d && is_named (codes "bytes") e
-is_transposed list = false
+-- a list begins with `transpose`, and the codec of a name stands behind it
+abbrev pub is_transposed : Bytes → Items → Bool
+is_transposed name (item d (item e later)) = is_named (codes "transpose") d && is_named name e
+is_transposed name list = false
 
 abbrev pub first_of : Items → Option Data
 first_of no_items = None
@@ -37,8 +38,8 @@ behind_first no_items = no_items
 behind_first (item d later) = later
 
 -- the metadata of `transpose` there, and the codecs behind it, or the whole list
-abbrev pub transpose_before : Items → Option Data
-transpose_before list = if is_transposed list then first_of list else None
+abbrev pub transpose_before : Bytes → Items → Option Data
+transpose_before name list = if is_transposed name list then first_of list else None
 
-abbrev pub untransposed : Items → Items
-untransposed list = if is_transposed list then behind_first list else list
+abbrev pub untransposed : Bytes → Items → Items
+untransposed name list = if is_transposed name list then behind_first list else list

@@ -5,16 +5,19 @@ use Rattle.serde_json.specs.Data.{Data, Items, no_items, item}
 use Rattle.serde_json.specs.Find.{as_array}
 use Rattle.codec_metadata.specs.Metadata.{name_in, is_metadata_member, first_refused, members_in}
 use Rattle.array_fields.specs.MetadataFields.{configured_in}
-use Rattle.array_metadata.specs.Transposes.{untransposed}
+use Rattle.array_metadata.specs.Transposes.{transpose_before, untransposed}
 
 -- the metadata of the only codec of a list, where its name is `sharding_indexed`
 abbrev pub sole_shards : Items → Option Data
 sole_shards (item d no_items) = if unwrap_or (option_map (bytes_eq (codes "sharding_indexed")) (name_in d)) false then Some d else None
 sole_shards list = None
 
--- the metadata of the codec of chunks, where a list has that of shards alone
+-- the metadata of the codec of chunks, where a list has that of shards, alone or behind `transpose`
+abbrev pub shards_of : Items → Option Data
+shards_of list = sole_shards (untransposed (codes "sharding_indexed") list)
+
 abbrev pub chunks_in : Data → Option Data
-chunks_in d = option_and_then sole_shards (as_array d)
+chunks_in d = option_and_then shards_of (as_array d)
 
 -- the codecs in the configuration of one
 abbrev pub configured_codecs : Data → Items
@@ -50,7 +53,13 @@ abbrev pub have_names : Items → Bool
 have_names no_items = true
 have_names (item d later) = has_name d && have_names later
 
--- the name of the first codec that the elements of an array's subchunks go through and are not served with
-abbrev pub unread_codec_in : Option Data → Option Bytes
+-- the name of the codec for which no subchunk is looked into: `transpose` where it stands before shards, else the first codec that the
+-- elements of an array's subchunks go through and are not served with
+abbrev pub unread_or : Option Data → Option Data → Option Bytes
+unread_or transpose None = None
+unread_or (Some d) (Some shards) = Some (codes "transpose")
+unread_or None (Some shards) = unserved_in (untransposed (codes "bytes") (innermost (configured_codecs shards)))
+
+abbrev pub unread_codec_in : Option Items → Option Bytes
 unread_codec_in None = None
-unread_codec_in (Some shards) = unserved_in (untransposed (innermost (configured_codecs shards)))
+unread_codec_in (Some list) = unread_or (transpose_before (codes "sharding_indexed") list) (shards_of list)

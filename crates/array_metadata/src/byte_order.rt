@@ -2,7 +2,9 @@
 ghost use Rattle.std.specs.Prelude.{◌≡◌};
 ghost use Rattle.array_metadata.specs.ByteOrders.{order_of, arranged_order, subchunks_order, chunks_order, size_if_big, reversed_size};
 
-use crate::codecs::{ArrangedCodec, ArrayCodec, ElementCodec, InnerCodec, ServedCodec};
+use crate::codecs::{
+    ArrangedCodec, ArrayCodec, ElementCodec, InnerCodec, ServedCodec, sharding_of,
+};
 use crate::element_types::ElementType;
 use codec_bytes::Endianness;
 use codec_chains::EitherCodec;
@@ -43,7 +45,7 @@ fn chunks_order(codec: &ArrayCodec) -> Option<Endianness>
     ensures { result ≡ chunks_order codec.now }
 {
     match codec {
-        EitherCodec::First(shards) => subchunks_order(&shards.inner),
+        EitherCodec::First(shards) => subchunks_order(&sharding_of(shards).inner),
         EitherCodec::Second(elements) => arranged_order(elements),
     }
 }

@@ -12,8 +12,7 @@ ghost use Rattle.array_metadata.specs.FillValues.{number_in, number_of, time_in,
 
 use crate::element_types::ElementType;
 use crate::floats::FloatFormat;
-use crate::raw_bits::raw_bytes;
-use array_fields::{MetadataError, Placed};
+use array_fields::{MetadataError, Placed, raw_bytes};
 use parts_arrays::{DataType, DataTypeSize, FillValue};
 use serde_json::Value;
 use std::alloc::{AllocError, Global};

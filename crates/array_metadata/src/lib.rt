@@ -3,19 +3,20 @@
 
 mod byte_codecs;
 mod byte_order;
+mod chunk_codecs;
 mod codecs;
 mod element_types;
 mod fill;
 mod floats;
 mod metadata;
-mod raw_bits;
 mod transposes;
 mod unread;
 
 pub use byte_order::reversed_size;
 pub use codecs::{
-    ArrangedCodec, ArrayCodec, ElementCodec, IndexCodec, InnerCodec, ServedCodec, ShardsCodec,
+    ArrangedCodec, ArrayCodec, ChunkShards, ElementCodec, IndexCodec, InnerCodec, ServedCodec,
+    ShardsCodec, sharding_of,
 };
 pub use element_types::ElementType;
 pub use floats::{FloatFormat, half_to_f32};
-pub use metadata::{ArrayMetadata, MOST_AXES, TypeText};
+pub use metadata::{ArrayMetadata, TypeText};

@@ -1,35 +1,37 @@
 // An array's metadata.
-ghost use Rattle.std.specs.Prelude.{◌≡◌, ◌≤◌, Some, None, Ok, IfOk, OnOk, IsTrue, codes, length, option_and_then, option_map, string_bytes, unwrap_or, vec_len};
-ghost use Rattle.serde_json.specs.Data.{no_items};
-ghost use Rattle.serde_json.specs.Find.{as_str, as_array, get};
+ghost use Rattle.std.specs.Prelude.{◌≡◌, ◌≤◌, ℕ, List, Some, None, Ok, IfOk, OnOk, IsTrue, codes, length, option_and_then, option_map, string_bytes, vec_len};
+ghost use Rattle.serde_json.specs.Find.{as_array, get};
 ghost use Rattle.serde_json.specs.Read.{read};
 ghost use Rattle.parts_errors.specs.Words.{Bytes};
-ghost use Rattle.serde_json.specs.View.{view, members_view};
-ghost use Rattle.codec_metadata.specs.Metadata.{name_in, first_refused, members_in};
+ghost use Rattle.serde_json.specs.View.{view};
+ghost use Rattle.codec_metadata.specs.Metadata.{name_in};
 ghost use Rattle.array_metadata.specs.AcceptedMetadata.{IsServedText, IsReadAs, FitsTogether};
-ghost use Rattle.array_fields.specs.MetadataFields.{configured_in, whole_number_in, whole_numbers_in, is_understood};
+ghost use Rattle.array_fields.specs.MetadataFields.{configured_in, whole_numbers_in};
 ghost use Rattle.array_metadata.specs.FillValues.{IsFillIn};
-ghost use Rattle.array_metadata.specs.ArrayCodecs.{array_codec_in, subchunk_in, subchunk_of};
+ghost use Rattle.array_metadata.specs.ArrayCodecs.{array_codec_in, encoded_of, subchunk_in, subchunk_of, HasAxes, are_transposed};
 ghost use Rattle.array_metadata.specs.UnreadCodecs.{chunks_in, unread_codec_in};
 ghost use Rattle.array_metadata.specs.ElementTypes.{IsTypeIn, IsRead, carrier};
 ghost use Rattle.parts_subsets.specs.Grid.{Divides};
 ghost use Rattle.parts_arrays.specs.Types.{size_of, HasElements};
 ghost use Rattle.parts_arrays.specs.declared.data_type.DataTypeSize.TheVariants.{Fixed};
 
-use crate::codecs::{ArrayCodec, InnerCodec, ServedCodec, ShardsCodec, array_codec, unserved};
+use crate::chunk_codecs::array_codec;
+use crate::codecs::{
+    ArrayCodec, ChunkShards, InnerCodec, ServedCodec, ShardsCodec, sharding_of, unserved,
+};
 use crate::element_types::{ElementType, element_type_in, unread_type};
 use crate::fill::fill_value_in;
 use crate::unread::unread_codec;
-use array_fields::{MetadataError, Placed, escaped, escaped_whole, value_in};
+use array_fields::{
+    MetadataError, Placed, axes_in, dimension_names_in, escaped, escaped_whole, test_array,
+    value_in,
+};
 use array_grid::{ChunkKeys, keys_in};
 use codec_metadata::PluginCreateError;
 use parts_arrays::{DataType, FillValue};
 use parts_subsets::ChunkShape;
-use serde_json::{Map, Value};
+use serde_json::Value;
 use std::alloc::{AllocError, Global};
-
-/// How many axes an array may have whose metadata is read. The codecs know no such bound.
-pub const MOST_AXES: usize = 64;
 
 /// The values of `data_type` and `fill_value` of an array, as they stand in the text, for a terminal.
 #[derive(Debug, Drop)]
@@ -47,6 +49,8 @@ pub struct ArrayMetadata {
     pub dimension_names: Option<String>,
     /// The shape of a chunk, which is a shard or not.
     pub shard: ChunkShape,
+    /// The shape in which a chunk is cut into subchunks: where `transpose` stands before shards, that of the transposed chunk.
+    pub encoded: ChunkShape,
     /// The shape of a subchunk of a shard; a chunk that is no shard is one subchunk.
     pub subchunk: ChunkShape,
     /// The names of the chunks' files.
@@ -56,7 +60,8 @@ pub struct ArrayMetadata {
     pub data_type: DataType,
     pub fill_value: FillValue,
     pub codec: ArrayCodec,
-    /// The name of the first codec that elements go through and that is not served; then no subchunk is looked into.
+    /// The name of the codec for which no subchunk is looked into: `transpose` where it stands before shards, else the first codec that
+    /// elements go through and that is not served.
     pub unread: Option<String>,
     /// Of elements that are no whole numbers and no `bool`, what stands in the text. Where they are not read, `fill_value` has zeros in
     /// the place of its own.
@@ -65,71 +70,6 @@ pub struct ArrayMetadata {
     pub codecs: String,
     /// The text of the `zarr.json` that says this, as it stands there, with attributes and all members that need not be understood.
     pub text: String,
-}
-
-// Whether a member of the metadata is known, or left with nothing in it, or says that it need not be understood.
-fn is_understood(key: &str, value: &Value) -> bool
-    ensures { result ≡ is_understood key.now (view value.now) }
-{
-    match key {
-        "zarr_format" | "node_type" | "shape" | "data_type" | "chunk_grid" => true,
-        "chunk_key_encoding" | "fill_value" | "codecs" | "attributes" => true,
-        "dimension_names" | "storage_transformers" => true,
-        "consolidated_metadata" if value.is_null() => true,
-        _ => value.get("must_understand").and_then(Value::as_bool) == Some(false),
-    }
-}
-
-// The key of the first member, in the order of keys, that is not understood.
-fn first_unknown(members: &Map<String, Value>) -> Option<&str>
-    ensures { option_map (λ key. key.now) result ≡ first_refused is_understood (members_view members.now.entries) }
-{
-    for (key, value) in members.iter() {
-        if !is_understood(key.as_str(), value) {
-            return Some(key.as_str());
-        }
-    }
-    None
-}
-
-// Tests that the value is the metadata of an array of Zarr V3, whose members are all understood.
-fn test_members_of(alloc: Global, whole: &Placed) -> Result<(), MetadataError>
-    ensures format { OnOk result (option_and_then whole_number_in (get (codes "zarr_format") (view whole.now.value.now)) ≡ Some 3) }
-    ensures node_type { OnOk result (option_and_then as_str (get (codes "node_type") (view whole.now.value.now)) ≡ Some (codes "array")) }
-    ensures understood { OnOk result (first_refused is_understood (members_in (view whole.now.value.now)) ≡ None) }
-    ensures transformers { OnOk result (unwrap_or (option_map as_array (get (codes "storage_transformers") (view whole.now.value.now))) (Some no_items) ≡ Some no_items) }
-{
-    let Some(members) = whole.value.as_object() else {
-        return Err(whole.bad(alloc, "the text is JSON, but no object"));
-    };
-    let format = whole.required(alloc, "zarr_format")?;
-    if format.value.as_u64() != Some(3) {
-        return Err(format.bad(alloc, "only arrays of Zarr V3 are read"));
-    }
-    let node_type = whole.required(alloc, "node_type")?;
-    match node_type.value.as_str() {
-        Some("array") => {}
-        Some("group") => return Err(node_type.bad(alloc, "this is a group, not an array")),
-        _ => return Err(node_type.bad(alloc, "this is not an array")),
-    }
-    if let Some(key) = first_unknown(members) {
-        let error = PluginCreateError::bad_field(alloc, key);
-        let sentence = "the key is not known, and must be understood";
-        return Err(MetadataError::refused(alloc, error, key, sentence));
-    }
-    match whole.member(alloc, "storage_transformers")? {
-        Some(transformers) if !is_empty_list(transformers.value) => {
-            Err(transformers.bad(alloc, "storage transformers are not served"))
-        }
-        _ => Ok(()),
-    }
-}
-
-// Whether a value is a list of nothing.
-fn is_empty_list(value: &Value) -> bool
-    ensures { IsTrue result → as_array (view value.now) ≡ Some no_items }
-{
-    value.as_array().is_some_and(|list| list.is_empty())
 }
 
 // The shape of a chunk of the regular grid. Refused as `BadField` where the grid is another, or as `MissingField`.
@@ -156,22 +96,6 @@ struct Cells {
     shape: Vec<u64>,
     element_type: ElementType,
     shard: ChunkShape,
-}
-
-// How many cells an array has along each axis. Refused as `BadField` where these are no whole numbers, or more than `MOST_AXES`.
-fn axes_in(alloc: Global, shape: &Placed) -> Result<Vec<u64>, MetadataError>
-    ensures read { IfOk result (λ axes. whole_numbers_in (view shape.now.value.now) ≡ Some axes.items) }
-    ensures few { IfOk result (λ axes. vec_len axes ≤ 64) }
-{
-    let axes = shape.numbers(alloc)?;
-    let many = axes.len();
-    if many > MOST_AXES {
-        let sentence = format!(in alloc;
-            "arrays of more than {MOST_AXES} axes are not read, and this has {many}"
-        )?;
-        return Err(shape.bad(alloc, sentence.as_str()));
-    }
-    Ok(axes)
 }
 
 // The cells of an array, whose elements go through a codec that is not served where one is named. Refused for `shape`, `data_type` and
@@ -237,20 +161,9 @@ fn type_text_in(
     }))
 }
 
-// The names of an array's dimensions, for a terminal.
-fn dimension_names_in(alloc: Global, whole: &Placed) -> Result<Option<String>, MetadataError> {
-    match whole.member(alloc, "dimension_names")? {
-        Some(names) if !names.value.is_null() => {
-            let text = names.value.to_string(alloc)?;
-            Ok(Some(escaped_whole(alloc, text.as_str())?))
-        }
-        _ => Ok(None),
-    }
-}
-
-// The name of the first codec that elements go through and that is not served.
+// The name of the codec for which no subchunk is looked into.
 fn unread_in(alloc: Global, whole: &Placed) -> Result<Option<String>, MetadataError>
-    ensures { IfOk result (λ unread. option_map string_bytes unread ≡ unread_codec_in (option_and_then chunks_in (get (codes "codecs") (view whole.now.value.now)))) }
+    ensures { IfOk result (λ unread. option_map string_bytes unread ≡ unread_codec_in (option_and_then as_array (get (codes "codecs") (view whole.now.value.now)))) }
 {
     match whole.member(alloc, "codecs")? {
         Some(codecs) => Ok(unread_codec(alloc, &codecs)?),
@@ -309,17 +222,39 @@ fn test_shards(alloc: Global, shard: &ChunkShape, codec: &ShardsCodec) -> Result
     }
 }
 
-// Tests that subchunks divide the chunks of an array evenly. Refused as `BadField`.
+// Tests that subchunks divide the chunks of an array evenly, in the shape in which these are cut. Refused as `BadField`.
 fn test_subchunks(
     alloc: Global,
-    chunk: &ChunkShape,
+    encoded: &ChunkShape,
     codec: &ArrayCodec,
 ) -> Result<(), MetadataError>
-    ensures { OnOk result (Divides (subchunk_of codec.now chunk.now) chunk.now) }
+    ensures { OnOk result ((chunk : List ℕ) → encoded_of codec.now chunk ≡ encoded.now → Divides (subchunk_of codec.now chunk) encoded.now) }
 {
     match codec {
-        ArrayCodec::First(shards) => test_shards(alloc, chunk, shards),
-        ArrayCodec::Second(_) => test_division(alloc, "codecs", chunk, chunk),
+        ArrayCodec::First(ChunkShards::First(shards)) => test_shards(alloc, encoded, shards),
+        ArrayCodec::First(ChunkShards::Second(transposed)) => {
+            let place = "codecs[1].configuration.chunk_shape";
+            test_division(alloc, place, encoded, &transposed.codec.subchunk_shape)
+        }
+        ArrayCodec::Second(_) => test_division(alloc, "codecs", encoded, encoded),
+    }
+}
+
+// The shape in which chunks with a codec are cut into subchunks.
+fn encoded_of(
+    alloc: Global,
+    codec: &ArrayCodec,
+    chunk: &ChunkShape,
+) -> Result<ChunkShape, AllocError>
+    requires axes { HasAxes (length chunk.now) codec.now }
+    ensures shape { IfOk result (λ shape. shape ≡ encoded_of codec.now chunk.now) }
+    ensures axes { IfOk result (λ shape. length shape ≡ length chunk.now) }
+{
+    match codec {
+        ArrayCodec::First(ChunkShards::Second(transposed)) => {
+            transposed.order.transposed_shape(alloc, chunk)
+        }
+        _ => chunk.try_clone(alloc),
     }
 }
 
@@ -332,17 +267,18 @@ fn subchunk_of(
     ensures { IfOk result (λ shape. shape ≡ subchunk_of codec.now chunk.now) }
 {
     match codec {
-        ArrayCodec::First(shards) => shards.subchunk_shape.try_clone(alloc),
+        ArrayCodec::First(shards) => sharding_of(shards).subchunk_shape.try_clone(alloc),
         ArrayCodec::Second(_) => chunk.try_clone(alloc),
     }
 }
 
-// What the member `codecs` says: the codec of chunks, the first codec inside that is not served, its text, and how the codec cuts chunks.
+// What the member `codecs` says: the codec of chunks, the one for which no subchunk is looked into, its text, and how the codec cuts chunks.
 #[derive(Drop)]
 struct ChunkCodecs {
     codec: ArrayCodec,
     unread: Option<String>,
     text: String,
+    encoded: ChunkShape,
     subchunk: ChunkShape,
 }
 
@@ -353,16 +289,19 @@ fn codecs_of_cells(
     cells: &Cells,
 ) -> Result<ChunkCodecs, MetadataError>
     requires shard { length cells.now.shard ≡ vec_len cells.now.shape }
-    ensures divides { IfOk result (λ found. Divides found.subchunk cells.now.shard) }
+    ensures encoded { IfOk result (λ found. encoded_of found.codec cells.now.shard ≡ found.encoded) }
+    ensures encoded_axes { IfOk result (λ found. length found.encoded ≡ vec_len cells.now.shape) }
+    ensures divides { IfOk result (λ found. Divides found.subchunk found.encoded) }
     ensures axes { IfOk result (λ found. length found.subchunk ≡ vec_len cells.now.shape) }
     ensures codec { IfOk result (λ found. subchunk_of found.codec cells.now.shard ≡ found.subchunk) }
     ensures subchunk_read { IfOk result (λ found. subchunk_in (chunks_in (view codecs.now.value.now)) cells.now.shard ≡ Some found.subchunk) }
     ensures read { IfOk result (λ found. option_map (array_codec_in (vec_len cells.now.shape)) (as_array (view codecs.now.value.now)) ≡ Some (Ok found.codec)) }
-    ensures unread { IfOk result (λ found. option_map string_bytes found.unread ≡ unread_codec_in (chunks_in (view codecs.now.value.now))) }
+    ensures unread { IfOk result (λ found. option_map string_bytes found.unread ≡ unread_codec_in (as_array (view codecs.now.value.now))) }
 {
     let part_type = cells.element_type.part_type();
     let codec = array_codec(alloc, codecs, part_type, cells.shape.len())?;
-    test_subchunks(alloc, &cells.shard, &codec)?;
+    let encoded = encoded_of(alloc, &codec, &cells.shard)?;
+    test_subchunks(alloc, &encoded, &codec)?;
     let subchunk = subchunk_of(alloc, &codec, &cells.shard)?;
     let unread = unread_codec(alloc, codecs)?;
     let text = escaped_whole(alloc, codecs.value.to_string(alloc)?.as_str())?;
@@ -370,6 +309,7 @@ fn codecs_of_cells(
         codec,
         unread,
         text,
+        encoded,
         subchunk,
     })
 }
@@ -390,6 +330,7 @@ fn with_codecs(
     ensures shard { IfOk result (λ metadata. metadata.shard ≡ cells.shard) }
     ensures keys { IfOk result (λ metadata. metadata.keys ≡ keys) }
     ensures fill_value { IfOk result (λ metadata. metadata.fill_value ≡ fill_value) }
+    ensures encoded { IfOk result (λ metadata. metadata.encoded ≡ codecs.encoded) }
     ensures subchunk { IfOk result (λ metadata. metadata.subchunk ≡ codecs.subchunk) }
     ensures codec { IfOk result (λ metadata. metadata.codec ≡ codecs.codec) }
     ensures unread { IfOk result (λ metadata. metadata.unread ≡ codecs.unread) }
@@ -399,6 +340,7 @@ fn with_codecs(
     let dimension_names = dimension_names_in(alloc, whole)?;
     Ok(ArrayMetadata {
         dimension_names,
+        encoded: codecs.encoded,
         subchunk: codecs.subchunk,
         codecs: codecs.text,
         type_text,
@@ -422,7 +364,7 @@ fn metadata_of(alloc: Global, value: &Value, text: String) -> Result<ArrayMetada
     ensures text { IfOk result (λ metadata. metadata.text ≡ text) }
 {
     let whole = Placed::whole(alloc, value)?;
-    test_members_of(alloc, &whole)?;
+    test_array(alloc, &whole)?;
     let unread = unread_in(alloc, &whole)?;
     let cells = cells_in(alloc, &whole, &unread)?;
     let keys = keys_in(alloc, &whole.required(alloc, "chunk_key_encoding")?)?;
@@ -432,15 +374,26 @@ fn metadata_of(alloc: Global, value: &Value, text: String) -> Result<ArrayMetada
 }
 
 impl ArrayMetadata {
-    /// Tests that the elements are read. Refused, in this order, as `UnsupportedCodec` with the codec that they go through and that is
-    /// not served, and as `BadField` where their type is not read.
+    /// Whether `transpose` stands before shards, so that their subchunks have the axes of the array in another order.
+    pub fn is_transposed(&self) -> bool
+        ensures { result ≡ are_transposed self.now.codec }
+    {
+        matches!(&self.codec, ArrayCodec::First(ChunkShards::Second(_)))
+    }
+
+    /// Tests that the elements are read. Refused, in this order, as `UnsupportedCodec` with the codec for which no subchunk is looked
+    /// into, and as `BadField` where their type is not read.
     pub fn test_read(&self, alloc: Global) -> Result<(), MetadataError>
         ensures codec { OnOk result (self.now.unread ≡ None) }
         ensures element_type { OnOk result (IsRead self.now.element_type) }
     {
         if let Some(name) = &self.unread {
             let error = PluginCreateError::unsupported_codec(alloc, name);
-            let place = "codecs[0].configuration.codecs";
+            let place = if self.is_transposed() {
+                "codecs[0]"
+            } else {
+                "codecs[0].configuration.codecs"
+            };
             return Err(MetadataError::refused(alloc, error, place, unserved(name)));
         }
         match (self.element_type, &self.type_text) {
@@ -456,8 +409,9 @@ impl ArrayMetadata {
     /// numbers), `data_type` (`bool`, `int8` to `int64`, `uint8` to `uint64`, floats, complex numbers, raw bits or times), `chunk_grid` (`regular`), `chunk_key_encoding` (`default` or `v2`), `fill_value` (an element of the type, or of one that
     /// is not read any value) and `codecs` (`bytes`, up to three of `crc32c`, `gzip`, `numcodecs.zlib` and `zstd` behind it, `transpose`
     /// before it; or `sharding_indexed` alone, with these inside, `sharding_indexed` once more, or codecs of other names, which are not
-    /// looked into) in turn: each with its place, and a sentence that says what is not served; or as `OutOfMemory`. Where elements of
-    /// shards go through a codec of another name, their type may have any name. The text is kept: it is how the metadata is written.
+    /// looked into; or `transpose` and `sharding_indexed`, of which no subchunk is looked into) in turn: each with its place, and a
+    /// sentence that says what is not served; or as `OutOfMemory`. Where no subchunk of shards is looked into, the type of elements may
+    /// have any name. The text is kept: it is how the metadata is written.
     pub fn from_text(alloc: Global, text: &str) -> Result<Self, MetadataError>
         ensures served { OnOk result (IsServedText text.now) }
         ensures read { IfOk result (IsReadAs text.now) }

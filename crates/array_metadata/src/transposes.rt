@@ -1,5 +1,5 @@
 // The codec `transpose` in the metadata of an array.
-ghost use Rattle.std.specs.Prelude.{◌≡◌, Ok, Some, IfOk, IfSome, codes, option_map};
+ghost use Rattle.std.specs.Prelude.{◌≡◌, Ok, Some, IfOk, IfSome, codes, length, option_map};
 ghost use Rattle.serde_json.specs.View.{view, items_view};
 ghost use Rattle.codec_metadata.specs.Metadata.{name_in};
 ghost use Rattle.array_metadata.specs.ByteCodecsMetadata.{is_named};
@@ -11,11 +11,11 @@ use codec_metadata::metadata_name;
 use serde_json::Value;
 use std::alloc::Global;
 
-// A list of the metadata of codecs: that of `transpose` where it stands before `bytes` at the head, and that of the codecs of elements.
+// A list of the metadata of codecs: that of `transpose` where it begins the list, and that of the codecs behind it.
 #[derive(Clone, Copy)]
 pub struct CodecValues<'a> {
     pub transpose: Option<&'a Value>,
-    pub elements: &'a [Value],
+    pub codecs: &'a [Value],
 }
 
 // Whether metadata has a name.
@@ -25,33 +25,33 @@ fn is_named(metadata: &Value, name: &str) -> bool
     metadata_name(metadata) == Some(name)
 }
 
-// Whether a list begins with `transpose`, and `bytes` stands behind it.
+// Whether a list begins with `transpose`, and the codec of a name stands behind it.
 #[tactic(auto, using(crate::proofs::TransposedLists::short_list, crate::proofs::TransposedLists::long_list))]
-fn is_transposed(values: &[Value]) -> bool
-    ensures { result ≡ is_transposed (items_view values.now) }
+fn is_transposed(values: &[Value], name: &str) -> bool
+    ensures { result ≡ is_transposed name.now (items_view values.now) }
 {
     if values.len() < 2 {
         return false;
     }
-    is_named(&values[0], "transpose") && is_named(&values[1], "bytes")
+    is_named(&values[0], "transpose") && is_named(&values[1], name)
 }
 
-// The codecs of a list, and `transpose` before them.
+// The codecs of a list, and `transpose` before them where the codec of a name stands behind it.
 #[tactic(auto, using(crate::proofs::TransposedLists::transposed_long, crate::proofs::TransposedLists::transposed_named, crate::proofs::TransposedLists::first_list, crate::proofs::TransposedLists::behind_list))]
-pub fn codec_values(values: &[Value]) -> CodecValues<'_>
-    ensures transpose { option_map (λ metadata. view metadata.now) result.transpose ≡ transpose_before (items_view values.now) }
-    ensures elements { items_view result.elements.now ≡ untransposed (items_view values.now) }
+pub fn codec_values<'a>(values: &'a [Value], name: &str) -> CodecValues<'a>
+    ensures transpose { option_map (λ metadata. view metadata.now) result.transpose ≡ transpose_before name.now (items_view values.now) }
+    ensures codecs { items_view result.codecs.now ≡ untransposed name.now (items_view values.now) }
     ensures named { IfSome result.transpose (λ metadata. name_in (view metadata.now) ≡ Some (codes "transpose")) }
 {
-    if !is_transposed(values) {
+    if !is_transposed(values, name) {
         return CodecValues {
             transpose: None,
-            elements: values,
+            codecs: values,
         };
     }
     CodecValues {
         transpose: Some(&values[0]),
-        elements: &values[1..],
+        codecs: &values[1..],
     }
 }
 
@@ -64,7 +64,8 @@ pub fn axis_order(
     axes: usize,
 ) -> Result<AxisOrder, MetadataError>
     requires named { name_in (view value.now) ≡ Some (codes "transpose") }
-    ensures { IfOk result (λ order. transpose_in axes (view value.now) ≡ Ok order) }
+    ensures axes { IfOk result (λ order. length order ≡ axes) }
+    ensures read { IfOk result (λ order. transpose_in axes (view value.now) ≡ Ok order) }
 {
     let key = "codecs";
     let place = format!(in alloc; "{list}[0]")?;

@@ -1,11 +1,12 @@
 // Codecs of elements that are not served, by their names.
 ghost use Rattle.std.specs.Prelude.{◌≡◌, true, Some, OnOk, IfOk, IfSome, codes, option_map, string_bytes};
+ghost use Rattle.serde_json.specs.Find.{as_array};
 ghost use Rattle.serde_json.specs.View.{view, items_view};
 ghost use Rattle.codec_metadata.specs.Metadata.{name_in};
-ghost use Rattle.array_metadata.specs.Transposes.{untransposed};
-ghost use Rattle.array_metadata.specs.UnreadCodecs.{sole_shards, chunks_in, configured_codecs, innermost, is_element_codec, unserved_in, has_name, have_names, unread_codec_in};
+ghost use Rattle.array_metadata.specs.Transposes.{transpose_before, untransposed};
+ghost use Rattle.array_metadata.specs.UnreadCodecs.{sole_shards, shards_of, configured_codecs, innermost, is_element_codec, unserved_in, has_name, have_names, unread_codec_in};
 
-use crate::transposes::codec_values;
+use crate::transposes::{CodecValues, codec_values};
 use array_fields::{MetadataError, Placed};
 use codec_metadata::metadata_name;
 use serde_json::Value;
@@ -100,19 +101,28 @@ pub fn test_names(alloc: Global, values: &[Value], list: &str) -> Result<(), Met
     Ok(())
 }
 
-// The name of the first codec that the elements of an array's subchunks go through and are not served with, where its chunks are
-// shards.
+// The name of the codec for which no subchunk is looked into, where chunks are shards.
+fn unread_name(values: &[Value]) -> Option<&str>
+    ensures { option_map (λ name. name.now) result ≡ unread_codec_in (Some (items_view values.now)) }
+{
+    let CodecValues { transpose, codecs } = codec_values(values, "sharding_indexed");
+    let metadata = sole_shards(codecs)?;
+    if transpose.is_some() {
+        return Some("transpose");
+    }
+    let elements = innermost(configured_codecs(metadata));
+    first_unserved(codec_values(elements, "bytes").codecs)
+}
+
+// The name of the codec for which no subchunk is looked into: `transpose` where it stands before shards, else the first codec that the
+// elements of an array's subchunks go through and are not served with.
 pub fn unread_codec(alloc: Global, codecs: &Placed) -> Result<Option<String>, AllocError>
-    ensures { IfOk result (λ name. option_map string_bytes name ≡ unread_codec_in (chunks_in (view codecs.now.value.now))) }
+    ensures { IfOk result (λ name. option_map string_bytes name ≡ unread_codec_in (as_array (view codecs.now.value.now))) }
 {
     let Some(values) = codecs.value.as_array() else {
         return Ok(None);
     };
-    let Some(metadata) = sole_shards(values) else {
-        return Ok(None);
-    };
-    let elements = innermost(configured_codecs(metadata));
-    match first_unserved(codec_values(elements).elements) {
+    match unread_name(values) {
         Some(name) => Ok(Some(String::from_str(alloc, name)?)),
         None => Ok(None),
     }

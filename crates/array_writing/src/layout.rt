@@ -1,7 +1,7 @@
 // How an array is laid out anew, and its metadata then.
 use array_cli::Stop;
 use array_fields::escaped;
-use array_metadata::{ArrayCodec, ArrayMetadata};
+use array_metadata::{ArrayCodec, ArrayMetadata, sharding_of};
 use serde_json::Value;
 use sharding_format::{ShardingIndexLocation, SubchunkWriteOrder};
 use std::alloc::{AllocError, Global};
@@ -137,7 +137,7 @@ fn old_layout<'d>(document: &'d Value, metadata: &ArrayMetadata) -> OldLayout<'d
         ArrayCodec::First(shards) => OldLayout {
             inner: document.pointer("/codecs/0/configuration/codecs"),
             index: document.pointer("/codecs/0/configuration/index_codecs"),
-            location: shards.location,
+            location: sharding_of(shards).location,
         },
         ArrayCodec::Second(_) => OldLayout {
             inner: document.pointer("/codecs"),

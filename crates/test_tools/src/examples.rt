@@ -50,9 +50,13 @@ pub fn told_inside(alloc: Global, codecs: &str) -> Result<String, AllocError> {
     told_with(alloc, members_inside(alloc, codecs)?.as_str())
 }
 
-// The first codec of this list that is not served, where its subchunks are not looked into, or why the metadata is refused.
+// The codec for which no subchunk of the array of two axes with this list of codecs of subchunks is looked into, or why it is refused.
 pub fn unread_inside(alloc: Global, codecs: &str) -> Result<String, AllocError> {
-    let members = members_inside(alloc, codecs)?;
+    unread_with(alloc, members_inside(alloc, codecs)?.as_str())
+}
+
+// The codec for which no subchunk of the array of two axes with these members in place of its own is looked into, or why it is refused.
+pub fn unread_with(alloc: Global, members: &str) -> Result<String, AllocError> {
     let text = format!(in alloc; "{{{ARRAY}, {members}}}")?;
     match ArrayMetadata::from_text(alloc, text.as_str()) {
         Ok(metadata) => format!(in alloc; "{}", metadata.unread.as_deref().unwrap_or("")),

@@ -1,6 +1,6 @@
 // Metadata of arrays that is read.
 use crate::compared::same;
-use crate::examples::{told_inside, told_with, unread_inside};
+use crate::examples::{told_inside, told_with, unread_inside, unread_with};
 
 // The arrays: start of the index and big endian elements, an axis of no cells, no axes, times, and one byte for each element.
 const ARRAYS: &[(&str, &str)] = &[
@@ -158,6 +158,12 @@ const UNREAD_CODECS: &[(&str, &str)] = &[
     ),
 ];
 
+// An array of shards behind `transpose`, whose subchunks divide the transposed chunk, of a type of which nothing is known.
+const TRANSPOSED: &str =
+    r#""data_type": "string", "fill_value": "", "chunk_grid": {"name": "regular", "configuration": {"chunk_shape": [4, 6]}},
+    "codecs": [{"name": "transpose", "configuration": {"order": [1, 0]}}, {"name": "sharding_indexed", "configuration": {
+        "chunk_shape": [3, 2], "codecs": ["bytes"], "index_codecs": [{"name": "bytes", "configuration": {"endian": "little"}}]}}]"#;
+
 #[test]
 fn arrays_are_read(rt: HostRuntime) {
     for (members, want) in ARRAYS {
@@ -208,4 +214,8 @@ fn other_codecs_are_not_looked_into(rt: HostRuntime) {
         let unread = unread_inside(rt.alloc(), codecs).expect(&rt, "refused");
         same(&rt, unread.as_str(), *name);
     }
+    let told = told_with(rt.alloc(), TRANSPOSED).expect(&rt, "refused");
+    same(&rt, told.as_str(), "[8, 8] [4, 6] [3, 2] [0] c/8/8");
+    let unread = unread_with(rt.alloc(), TRANSPOSED).expect(&rt, "refused");
+    same(&rt, unread.as_str(), "transpose");
 }

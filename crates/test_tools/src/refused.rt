@@ -202,6 +202,24 @@ const MEMBERS: &[(&str, &str)] = &[
     ),
     (
         r#""codecs": ["transpose", {"name": "sharding_indexed"}]"#,
+        "3 MissingField configuration: in codecs[0]: the key configuration is missing",
+    ),
+    (
+        r#""codecs": [{"name": "transpose", "configuration": {"order": [1, 1]}}, "sharding_indexed"]"#,
+        "4 BadField order: in codecs[0].configuration.order: an order names each axis once, from 0 on",
+    ),
+    (
+        r#""codecs": [{"name": "transpose", "configuration": {"order": [1, 0]}}, "sharding_indexed"]"#,
+        "3 MissingField configuration: in codecs[1]: the key configuration is missing",
+    ),
+    (
+        r#""chunk_grid": {"name": "regular", "configuration": {"chunk_shape": [4, 6]}},
+        "codecs": [{"name": "transpose", "configuration": {"order": [1, 0]}}, {"name": "sharding_indexed", "configuration": {
+            "chunk_shape": [2, 3], "codecs": ["bytes"], "index_codecs": [{"name": "bytes", "configuration": {"endian": "little"}}]}}]"#,
+        "4 BadField chunk_shape: in codecs[1].configuration.chunk_shape: subchunks of the shape [2, 3] do not divide a shard of the shape [6, 4] evenly",
+    ),
+    (
+        r#""codecs": [{"name": "transpose", "configuration": {"order": [1, 0]}}, {"name": "sharding_indexed"}, "crc32c"]"#,
         "5 UnsupportedChain: in codecs: sharding_indexed is read where no other codec stands beside it",
     ),
     (

@@ -2,7 +2,7 @@ use Rattle.std.proofs.Common.{◌≡◌}
 use Rattle.serde_json.specs.View.{members_view}
 use Rattle.codec_metadata.specs.Metadata.{first_refused}
 use Rattle.array_fields.specs.MetadataFields.{is_understood}
-use Rattle.array_metadata.proofs.metadata.first_unknown.Given as goal
+use Rattle.array_fields.proofs.members.first_unknown.Given as goal
 
 -- the members up to here are understood
 abbrev pub invariant-loop-key : goal.invariant-loop-key

@@ -1,5 +1,5 @@
 use Rattle.std.proofs.Common.{◌≡◌, take}
-use Rattle.array_metadata.proofs.raw_bits.bytes_of.Given as goal
+use Rattle.array_fields.proofs.raw_bits.bytes_of.Given as goal
 
 -- the numbers up to here
 abbrev pub invariant-loop-number : goal.invariant-loop-number

@@ -1,15 +1,16 @@
 // Raw bits in metadata.
 ghost use Rattle.std.specs.Prelude.{◌≡◌, Some, IfOk, IfSome, length};
 ghost use Rattle.serde_json.specs.View.{view};
-ghost use Rattle.array_metadata.specs.FillValues.{base64_in, IsRawIn};
+ghost use Rattle.array_fields.specs.RawBits.{base64_in, IsRawIn};
 
-use array_fields::{MetadataError, Placed};
+use crate::error::MetadataError;
+use crate::fields::Placed;
 use base64::DecodeAllocError;
 use base64::engine::general_purpose::STANDARD;
 use std::alloc::{AllocError, Global};
 
 // The bytes that a text is the base64 of.
-#[tactic(auto, unfolding(crate::specs::FillValues::base64_in, base64::specs::GeneralPurpose::decoded_of))]
+#[tactic(auto, unfolding(crate::specs::RawBits::base64_in, base64::specs::GeneralPurpose::decoded_of))]
 fn base64_bytes(alloc: Global, text: &str) -> Result<Option<Vec<u8>>, AllocError>
     ensures { IfOk result (λ found. IfSome found (λ bytes. base64_in text.now ≡ Some bytes.items)) }
 {
@@ -35,7 +36,7 @@ fn bytes_of(alloc: Global, numbers: &[u64]) -> Result<Option<Vec<u8>>, AllocErro
 }
 
 // The bytes that a value is: a list of them, or their base64. Refused as `BadField` where it is neither a list of whole numbers nor a text.
-#[tactic(auto, using(crate::proofs::SaidBytes::raw_text, crate::proofs::SaidBytes::raw_list))]
+#[tactic(auto, using(crate::proofs::SaidRawBits::raw_text, crate::proofs::SaidRawBits::raw_list))]
 fn said_bytes(alloc: Global, fill: &Placed) -> Result<Option<Vec<u8>>, MetadataError>
     ensures { IfOk result (λ found. IfSome found (λ bytes. IsRawIn (view fill.now.value.now) bytes.items)) }
 {
@@ -45,7 +46,8 @@ fn said_bytes(alloc: Global, fill: &Placed) -> Result<Option<Vec<u8>>, MetadataE
     }
 }
 
-// The same, where they are as many.
+/// The bytes that the value of a member is: a list of `size` of them, or their base64 (RFC 4648). `None` where these are not as many, or no
+/// bytes; refused as `BadField` where the value is neither a list of whole numbers nor a text.
 pub fn raw_bytes(
     alloc: Global,
     fill: &Placed,
