@@ -6,4 +6,3 @@ pub mod UpdateLemmas
 pub mod WriteLemmas
 pub mod ProgressLemmas
 pub mod PartLemmas
-pub mod CompactLemmas
