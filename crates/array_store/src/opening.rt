@@ -1,6 +1,6 @@
 // The metadata of the array of a store.
-ghost use Rattle.std.specs.Prelude.{◌≡◌, Some, IsTrue, IfOk, IfErr, OnOk, codes, string_bytes};
-ghost use Rattle.array_store.specs.Opening.{IsMetadataIn};
+ghost use Rattle.std.specs.Prelude.{◌≡◌, Some, None, IsTrue, IfOk, IfErr, OnOk, codes, string_bytes};
+ghost use Rattle.array_store.specs.Opening.{IsCreateRefusal, IsMetadataIn, IsOpenRefusal};
 ghost use Rattle.array_store.specs.Stores.{AreKept};
 
 use crate::store::Store;
@@ -36,18 +36,31 @@ pub enum OpenError {
 }
 
 impl From<CodecError> for OpenError {
+    ghost use Rattle.array_store.specs.declared.opening.OpenError.TheVariants.{Store};
+
+    ghost from_gives = { λ error refusal. refusal ≡ Store error };
+
     fn from(error: CodecError) -> OpenError {
         OpenError::Store(error)
     }
 }
 
 impl From<AllocError> for OpenError {
+    ghost use Rattle.parts_errors.specs.declared.error.CodecError.TheVariants.{OutOfMemory};
+    ghost use Rattle.array_store.specs.declared.opening.OpenError.TheVariants.{Store};
+
+    ghost from_gives = { λ _ refusal. refusal ≡ Store OutOfMemory };
+
     fn from(_error: AllocError) -> OpenError {
         OpenError::Store(CodecError::OutOfMemory)
     }
 }
 
 impl From<MetadataError> for OpenError {
+    ghost use Rattle.array_store.specs.declared.opening.OpenError.TheVariants.{Metadata};
+
+    ghost from_gives = { λ error refusal. refusal ≡ Metadata error };
+
     fn from(error: MetadataError) -> OpenError {
         OpenError::Metadata(error)
     }
@@ -56,6 +69,7 @@ impl From<MetadataError> for OpenError {
 // The bytes of the object of the key `zarr.json`.
 fn bytes_in<S: Store>(alloc: Global, store: &S) -> Result<Vec<u8>, OpenError>
     ensures read { IfOk result (λ bytes. IsTrue (S.state store.now).transparent → (S.state store.now).contents (codes "zarr.json") ≡ Some bytes.items) }
+    ensures refused { IfErr result (IsOpenRefusal (S.state store.now) (codes "zarr.json")) }
 {
     let mut handle = store.open(alloc, KEY)?;
     let Some(size) = handle.len()? else {
@@ -75,6 +89,7 @@ fn bytes_in<S: Store>(alloc: Global, store: &S) -> Result<Vec<u8>, OpenError>
 /// and as `Metadata` where `ArrayMetadata::from_text` refuses the text.
 pub fn open_metadata<S: Store>(alloc: Global, store: &S) -> Result<ArrayMetadata, OpenError>
     ensures read { IfOk result (λ metadata. IsTrue (S.state store.now).transparent → IsMetadataIn ((S.state store.now).contents (codes "zarr.json")) metadata) }
+    ensures refused { IfErr result (IsOpenRefusal (S.state store.now) (codes "zarr.json")) }
 {
     let bytes = bytes_in(alloc, store)?;
     let Ok(text) = str::from_utf8(&bytes) else {
@@ -94,6 +109,8 @@ pub fn put_metadata<S: Store>(
     metadata: &ArrayMetadata,
 ) -> Result<(), OpenError>
     ensures others { AreKept (S.state store.old) (S.state store.new) (codes "zarr.json") }
+    ensures absent { OnOk result (IsTrue (S.state store.old).transparent → (S.state store.old).contents (codes "zarr.json") ≡ None) }
+    ensures kept { IfErr result (IsCreateRefusal (S.state store.old) (S.state store.new) (codes "zarr.json")) }
     ensures written { OnOk result (IsTrue (S.state store.old).transparent
         → (S.state store.new).contents (codes "zarr.json") ≡ Some (string_bytes metadata.now.text)) }
 {
@@ -101,12 +118,11 @@ pub fn put_metadata<S: Store>(
     if handle.exists()? {
         return Err(OpenError::Present);
     }
-    store.put(
-        alloc,
-        KEY,
-        Vec::from_slice(alloc, metadata.text.as_bytes())?,
-    )?;
-    Ok(())
+    let bytes = Vec::from_slice(alloc, metadata.text.as_bytes())?;
+    match store.put(alloc, KEY, bytes) {
+        Ok(()) => Ok(()),
+        Err(error) => Err(OpenError::Store(error)),
+    }
 }
 
 /// Creates the array of a store without chunks, of which every element is the fill value: puts the text of its metadata under the key
@@ -118,6 +134,8 @@ pub fn create_metadata<S: Store>(
     text: &str,
 ) -> Result<ArrayMetadata, OpenError>
     ensures others { AreKept (S.state store.old) (S.state store.new) (codes "zarr.json") }
+    ensures absent { OnOk result (IsTrue (S.state store.old).transparent → (S.state store.old).contents (codes "zarr.json") ≡ None) }
+    ensures kept { IfErr result (IsCreateRefusal (S.state store.old) (S.state store.new) (codes "zarr.json")) }
     ensures written { IfOk result (λ metadata. IsTrue (S.state store.old).transparent
         → ((S.state store.new).contents (codes "zarr.json") ≡ Some text.now) × IsMetadataIn (Some text.now) metadata) }
 {
