@@ -6,7 +6,7 @@ use array_codecs::reversed_parts;
 use array_fields::{LONGEST_TEXT, MetadataError, escaped};
 use array_folder::{ChunkFile, ChunkFiles, ChunkGrid, document_length, list_chunks, read_document};
 use array_grid::ListPart;
-use array_metadata::{ArrayCodec, ArrayMetadata, ChunkShards, reversed_size};
+use array_metadata::{ArrayCodec, ArrayMetadata, ChunkShards, Obstacles, reversed_size};
 use parts_arrays::FillValue;
 use parts_errors::CodecError;
 use parts_subsets::ChunkShape;
@@ -36,18 +36,11 @@ pub struct Array<'a, R, C> {
     pub subchunks: ChunkShape,
 }
 
-// What was read of the array's `zarr.json`, with its path where that was refused.
-fn named<T: Drop>(
-    alloc: Global,
-    document: &str,
-    read: Result<T, MetadataError>,
-) -> Result<T, Stop> {
-    match read {
-        Ok(value) => Ok(value),
-        Err(error) => Err(Stop::Metadata {
-            path: escaped(alloc, document)?,
-            error,
-        }),
+// Why metadata is refused; or that memory ran out before that was known.
+fn refused(obstacles: Result<Obstacles, MetadataError>) -> Stop {
+    match obstacles {
+        Ok(obstacles) => Stop::Metadata(obstacles),
+        Err(_) => Stop::OutOfMemory,
     }
 }
 
@@ -89,7 +82,10 @@ pub fn described(
     order: SubchunkWriteOrder,
 ) -> Result<ArrayMetadata, Stop> {
     let document = format!(in alloc; "{path}/zarr.json")?;
-    named(alloc, &document, read_metadata(alloc, text, order))
+    match read_metadata(alloc, text, order) {
+        Ok(metadata) => Ok(metadata),
+        Err(error) => Err(refused(Obstacles::of_text(alloc, &document, text, error))),
+    }
 }
 
 /// The metadata of the array whose folder has this path. How long the text is, is tested before it is read.
@@ -97,10 +93,11 @@ pub fn metadata_of<R: Files + AllocGlobal>(rt: &R, path: &str) -> Result<ArrayMe
     let alloc = rt.alloc();
     let document = format!(in alloc; "{path}/zarr.json")?;
     let length = document_length(rt, path, &document)?;
-    named(alloc, &document, MetadataError::test_length(length))?;
+    if let Err(error) = MetadataError::test_length(length) {
+        return Err(Stop::Metadata(Obstacles::one(alloc, &document, error)?));
+    }
     let text = read_document(rt, &document, LONGEST_TEXT)?;
-    let order = SubchunkWriteOrder::C;
-    named(alloc, &document, read_metadata(alloc, &text, order))
+    described(alloc, path, &text, SubchunkWriteOrder::C)
 }
 
 // The files that a part has of a list of them, in its order.
@@ -134,12 +131,13 @@ impl<'a, R: Files + AllocGlobal, C> Array<'a, R, C> {
 
     /// Tests that the elements of the array are read.
     pub fn test_read(&self) -> Result<(), Stop> {
+        let Err(error) = self.metadata.test_read(self.alloc()) else {
+            return Ok(());
+        };
         let document = self.path_of("zarr.json")?;
-        named(
-            self.alloc(),
-            &document,
-            self.metadata.test_read(self.alloc()),
-        )
+        let alloc = self.alloc();
+        let obstacles = Obstacles::of_reading(alloc, &document, self.metadata, error);
+        Err(refused(obstacles))
     }
 
     /// Bytes of elements that the codecs gave, each number of them least significant byte first.

@@ -143,7 +143,7 @@ fn read_shard<'a, R: Files + AllocGlobal, C: ShardCodec<ShardFile<'a, R>>>(
 }
 
 // A shard of a grid: its key and its coordinates.
-#[derive(Debug, Drop)]
+#[derive(Drop)]
 struct GridShard {
     key: String,
     coordinates: Vec<u64>,

@@ -10,7 +10,7 @@ use std::io::Write;
 use std::{fmt, io};
 
 /// Where in a shard something is refused.
-#[derive(Debug, Clone, Copy, PartialEq, Eq)]
+#[derive(Debug, Clone, Copy)]
 pub enum Place {
     /// Nowhere in particular.
     Shard,
@@ -140,7 +140,7 @@ fn reason_of(error: &CodecError, position: Place) -> &'static str {
 }
 
 /// Why a shard is refused, to be written without its key.
-#[derive(Debug, Clone, Copy)]
+#[derive(Clone, Copy)]
 pub struct Reason<'r>(&'r Refusal);
 
 impl Refusal {

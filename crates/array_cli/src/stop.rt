@@ -3,9 +3,9 @@ ghost use Rattle.std.specs.Prelude.{◌≡◌, ◌≤◌};
 ghost use Rattle.array_cli.specs.Statuses.{status_of};
 
 use crate::refusal::Refusal;
-use array_fields::MetadataError;
 use array_folder::FolderError;
 use array_grid::SubsetError;
+use array_metadata::Obstacles;
 use parts_errors::CodecError;
 use std::alloc::{AllocError, AllocFailed, Global};
 use std::io;
@@ -70,11 +70,8 @@ pub enum Stop {
         error: io::Error,
     },
     /// Metadata that is refused.
-    #[error("{path}: {error}")]
-    Metadata {
-        path: String,
-        error: MetadataError,
-    },
+    #[error("{0}")]
+    Metadata(Obstacles),
     /// An array that the codecs do not serve.
     #[error("the codecs do not serve the array: {0}")]
     Codec(CodecError),

@@ -15,7 +15,7 @@ use std::rt::Files;
 use storage_handles::BytesPartialDecoderTraits;
 
 // What reading the subchunks of a shard came to.
-#[derive(Debug, Clone, Copy)]
+#[derive(Clone, Copy)]
 struct Read {
     // how many are present
     present: u64,

@@ -8,7 +8,7 @@ use std::io::Write;
 use std::rt::{Clock, Files};
 
 /// What was checked so far, and what is refused.
-#[derive(Debug, Clone, Copy, PartialEq, Eq)]
+#[derive(Clone, Copy)]
 pub struct Checked {
     /// Shards, and of these the refused ones.
     pub shards: u64,
@@ -22,7 +22,7 @@ pub struct Checked {
 }
 
 /// What was found of a shard: how many subchunks are present, and whether it is refused.
-#[derive(Debug, Clone, Copy, PartialEq, Eq)]
+#[derive(Clone, Copy)]
 pub struct Found {
     pub present: u64,
     pub is_refused: bool,

@@ -7,7 +7,7 @@ use clap::{Arg, ArgAction, ArgMatches, Command};
 use std::alloc::{AllocError, Global};
 
 /// How cells are written.
-#[derive(Debug, Clone, Copy, PartialEq, Eq)]
+#[derive(Clone, Copy)]
 pub enum Form {
     Text,
     Json,
@@ -15,14 +15,14 @@ pub enum Form {
 }
 
 /// Where cells are written: in a form to the answer, or into a file of NumPy's format, which has a path.
-#[derive(Debug, Clone, Copy, PartialEq, Eq)]
+#[derive(Clone, Copy)]
 pub enum Target<'a> {
     Answer(Form),
     NumPy(&'a str),
 }
 
 /// Over which shards a command goes, and how it tells of them.
-#[derive(Debug, Clone, Copy, PartialEq, Eq)]
+#[derive(Clone, Copy)]
 pub struct Scope<'a> {
     /// A part of the list of shards, as `2/8`; all of them where it is `None`.
     pub part: Option<&'a str>,
@@ -31,7 +31,7 @@ pub struct Scope<'a> {
 }
 
 /// What one thread does with an array.
-#[derive(Debug, Clone, Copy, PartialEq, Eq)]
+#[derive(Clone, Copy)]
 pub enum Work<'a> {
     Info {
         scope: Scope<'a>,
@@ -60,7 +60,7 @@ pub enum Work<'a> {
 }
 
 /// What several threads do with an array.
-#[derive(Debug, Clone, Copy, PartialEq, Eq)]
+#[derive(Clone, Copy)]
 pub enum SharedWork<'a> {
     Check {
         is_index_alone: bool,
@@ -78,7 +78,7 @@ pub enum SharedWork<'a> {
 }
 
 /// What is done with an array.
-#[derive(Debug, Clone, Copy, PartialEq, Eq)]
+#[derive(Clone, Copy)]
 pub enum ArrayWork<'a> {
     Alone(Work<'a>),
     /// By how many threads, a word may say.

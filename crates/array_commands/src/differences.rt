@@ -1,8 +1,6 @@
 // Two arrays, compared element by element.
 use array_cli::{Array, Ending, ShardCodec, ShardFile, Stop, read_array, written};
-use array_fields::Progress;
-use array_info::{write_numbers, write_rows};
-use array_metadata::ElementType;
+use array_fields::{ElementType, Progress, write_numbers, write_rows};
 use array_writing::{chunks_of, elements_of};
 use parts_row_major::unravel_index;
 use parts_subsets::ArraySubset;

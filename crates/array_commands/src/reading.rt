@@ -1,10 +1,8 @@
 // Elements that are written as they are read, band by band.
 use crate::command_line::Form;
 use array_cli::{Ending, SharedArray, SharedSystem, Stop, read_shared, written};
-use array_fields::Progress;
+use array_fields::{ElementType, Progress, TextRows, begin_json, end_json, write_json_cells};
 use array_grid::Bands;
-use array_info::{TextRows, begin_json, end_json, write_json_cells};
-use array_metadata::ElementType;
 use parts_errors::CodecError;
 use parts_subsets::ArraySubset;
 use std::io;
@@ -14,7 +12,7 @@ use std::io::Write;
 const MOST_BYTES: u64 = 1 << 40;
 
 /// How elements are read.
-#[derive(Debug, Clone, Copy, PartialEq, Eq)]
+#[derive(Clone, Copy)]
 pub struct Reading {
     /// Whether what is refused has fill values.
     pub fills: bool,
@@ -124,7 +122,7 @@ pub fn print_subset<R: SharedSystem, W: Write, M: Write>(
         is_first: true,
     };
     let ending = read_bands(array, subset, reading, &mut printed, progress)?;
-    if form == Form::Json {
+    if matches!(form, Form::Json) {
         written(end_json(printed.out, element_type, subset.shape()), ending)?;
     }
     Ok(ending)

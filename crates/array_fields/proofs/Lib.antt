@@ -1,2 +1,6 @@
 mod ShownLemmas
 mod SaidRawBits
+mod Elements
+mod SaidFloats
+mod Types
+mod SaidBytes

@@ -1,3 +1,6 @@
 pub mod Printed
 pub mod MetadataFields
 pub mod RawBits
+pub mod ElementTypes
+pub mod Floats
+pub mod FillValues

@@ -13,14 +13,14 @@ use std::alloc::{AllocError, Global};
 const MOST_BRACKETS: usize = 127;
 
 // A place in a text, whose lines and columns count from 1; columns are in bytes.
-#[derive(Debug, Clone, Copy, PartialEq, Eq)]
+#[derive(Clone, Copy)]
 struct Position {
     line: usize,
     column: usize,
 }
 
 // What stands before a place in a text: how many brackets are open, and whether a string is.
-#[derive(Debug, Clone, Copy)]
+#[derive(Clone, Copy)]
 struct Scan {
     position: Position,
     brackets: usize,

@@ -2,21 +2,31 @@
 // stranger's text on a terminal, which is short, and nothing in it acts; lines of JSON that are written, and the progress of a command.
 #![tactic(auto)]
 
+mod element_types;
 mod error;
 mod escape;
 mod fields;
+mod fill;
+mod floats;
 mod json;
 mod json_line;
 mod members;
 mod printed;
 mod progress;
 mod raw_bits;
+mod text;
 
+pub use element_types::{ElementType, element_type_in, unread_type};
 pub use error::{LONGEST_TEXT, MetadataError};
 pub use escape::{escaped, escaped_whole};
 pub use fields::Placed;
+pub use fill::fill_value_in;
+pub use floats::{FloatFormat, half_to_f32};
 pub use json::value_in;
 pub use json_line::{JsonLine, write_json_numbers, write_json_text};
-pub use members::{MOST_AXES, axes_in, dimension_names_in, test_array};
+pub use members::{MOST_AXES, axes_in, dimension_names_in, test_array, test_understood};
 pub use progress::Progress;
 pub use raw_bits::raw_bytes;
+pub use text::{
+    TextRows, begin_json, end_json, write_json_cell, write_json_cells, write_numbers, write_rows,
+};

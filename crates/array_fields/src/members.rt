@@ -38,28 +38,39 @@ fn first_unknown(members: &Map<String, Value>) -> Option<&str>
     None
 }
 
-/// Tests that a value is the metadata of an array of Zarr V3, whose members are all understood (Zarr V3 core, "Array metadata"). Refused, in
-/// this order, where it is no object, of another `zarr_format` than 3, of another `node_type` than `array`, has an unknown member that must
-/// be understood, or `storage_transformers`.
+// What a value is that is no object.
+const NO_OBJECT: &str = "the text is JSON, but no object";
+
+/// Tests that a value is the metadata of an array of Zarr V3 (Zarr V3 core, "Array metadata"). Refused, in this order, where it is no
+/// object, of another `zarr_format` than 3, or of another `node_type` than `array`.
 pub fn test_array(alloc: Global, whole: &Placed) -> Result<(), MetadataError>
     ensures format { OnOk result (option_and_then whole_number_in (get (codes "zarr_format") (view whole.now.value.now)) ≡ Some 3) }
     ensures node_type { OnOk result (option_and_then as_str (get (codes "node_type") (view whole.now.value.now)) ≡ Some (codes "array")) }
-    ensures understood { OnOk result (first_refused is_understood (members_in (view whole.now.value.now)) ≡ None) }
-    ensures transformers { OnOk result (unwrap_or (option_map as_array (get (codes "storage_transformers") (view whole.now.value.now))) (Some no_items) ≡ Some no_items) }
 {
-    let Some(members) = whole.value.as_object() else {
-        return Err(whole.bad(alloc, "the text is JSON, but no object"));
-    };
+    if !whole.value.is_object() {
+        return Err(whole.bad(alloc, NO_OBJECT));
+    }
     let format = whole.required(alloc, "zarr_format")?;
     if format.value.as_u64() != Some(3) {
         return Err(format.bad(alloc, "only arrays of Zarr V3 are read"));
     }
     let node_type = whole.required(alloc, "node_type")?;
     match node_type.value.as_str() {
-        Some("array") => {}
-        Some("group") => return Err(node_type.bad(alloc, "this is a group, not an array")),
-        _ => return Err(node_type.bad(alloc, "this is not an array")),
+        Some("array") => Ok(()),
+        Some("group") => Err(node_type.bad(alloc, "this is a group, not an array")),
+        _ => Err(node_type.bad(alloc, "this is not an array")),
     }
+}
+
+/// Tests that all members of an array's metadata are understood (Zarr V3 core, "Array metadata"). Refused, in this order, where it is no
+/// object, has an unknown member that must be understood, or `storage_transformers`.
+pub fn test_understood(alloc: Global, whole: &Placed) -> Result<(), MetadataError>
+    ensures understood { OnOk result (first_refused is_understood (members_in (view whole.now.value.now)) ≡ None) }
+    ensures transformers { OnOk result (unwrap_or (option_map as_array (get (codes "storage_transformers") (view whole.now.value.now))) (Some no_items) ≡ Some no_items) }
+{
+    let Some(members) = whole.value.as_object() else {
+        return Err(whole.bad(alloc, NO_OBJECT));
+    };
     if let Some(key) = first_unknown(members) {
         let error = PluginCreateError::bad_field(alloc, key);
         let sentence = "the key is not known, and must be understood";

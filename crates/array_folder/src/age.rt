@@ -4,7 +4,7 @@ use std::time::{Duration, SystemTime};
 use std::{fmt, fs, io};
 
 /// So many of something, which is written as `1 shard` or `2 shards`.
-#[derive(Debug, Clone, Copy)]
+#[derive(Clone, Copy)]
 pub struct Counted(pub u64, pub &'static str);
 
 impl fmt::Display for Counted {
@@ -15,7 +15,7 @@ impl fmt::Display for Counted {
 }
 
 /// How old something is, or `None` where that is not known. It is written as `, 3 minutes old`, or not at all.
-#[derive(Debug, Clone, Copy)]
+#[derive(Clone, Copy)]
 pub struct Age(Option<Duration>);
 
 // A duration in a unit of which it has two or more, or in seconds.

@@ -3,7 +3,7 @@ use parts_errors::CodecError;
 use sharding_format::ShardingIndexLocation;
 
 /// What the index of a shard says.
-#[derive(Debug, Clone, Copy, PartialEq, Eq)]
+#[derive(Clone, Copy)]
 pub struct IndexInfo {
     /// Subchunks that have a slice.
     pub present: u64,

@@ -4,7 +4,7 @@ use std::alloc::{AllocError, Global};
 
 // The names in a folder that are parts of keys: so much text, and behind it a coordinate for each count, which it is below,
 // with `.` between.
-#[derive(Debug, Drop)]
+#[derive(Drop)]
 pub struct Level<'a> {
     text: &'static str,
     counts: &'a [u64],

@@ -11,7 +11,7 @@ pub struct SharedElements {
 }
 
 // An axis of what a part and a subchunk share: the first element in the shard, how many there are, and the first one in the subset.
-#[derive(Debug, Clone, Copy)]
+#[derive(Clone, Copy)]
 struct SharedAxis {
     in_shard: u64,
     count: u64,

@@ -1,7 +1,7 @@
 // The words that a subset is named by.
 
 /// A position along an axis.
-#[derive(Debug, Clone, Copy)]
+#[derive(Clone, Copy)]
 pub enum Position {
     /// The coordinate of this number.
     FromStart(u64),
@@ -10,7 +10,7 @@ pub enum Position {
 }
 
 /// What is named of one axis; or, of the ellipsis, of as many as are missing.
-#[derive(Debug, Clone, Copy)]
+#[derive(Clone, Copy)]
 pub enum Word {
     /// One coordinate.
     Coordinate(Position),

@@ -2,9 +2,8 @@
 use crate::folder::write_folder;
 use crate::index_info::{index_info, index_range};
 use crate::json;
-use crate::text::{write_numbers, write_rows};
 use array_cli::{Array, Ending, Place, Refusal, Shard, ShardCodec, ShardFile, Stop, written};
-use array_fields::Progress;
+use array_fields::{Progress, write_numbers, write_rows};
 use array_folder::{ChunkFile, ChunkFiles, Counted, FolderFiles, IndexInfo, Listing, info_of};
 use array_grid::{ChunkKeys, KeyEncoding};
 use array_metadata::{ArrayCodec, ArrayMetadata};
@@ -15,7 +14,7 @@ use std::rt::{Clock, Files};
 use storage_handles::BytesPartialDecoderTraits;
 
 /// What is known of a shard that is there.
-#[derive(Debug, Drop)]
+#[derive(Drop)]
 pub struct ShardInfo {
     pub length: u64,
     /// What its index says, or why it is refused.
@@ -23,7 +22,7 @@ pub struct ShardInfo {
 }
 
 /// What is known of all shards.
-#[derive(Debug, Clone, Copy, PartialEq, Eq)]
+#[derive(Clone, Copy)]
 pub struct Sums {
     pub shards: u64,
     pub bytes: u64,

@@ -1,8 +1,7 @@
 // What an array holds, as lines of JSON.
 use crate::info::{ShardInfo, Sums, key_words};
-use crate::text::write_json_cell;
 use array_cli::put_refusal;
-use array_fields::JsonLine;
+use array_fields::{JsonLine, write_json_cell};
 use array_folder::ChunkFiles;
 use array_metadata::{ArrayCodec, ArrayMetadata};
 use std::io;

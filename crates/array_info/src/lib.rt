@@ -2,17 +2,14 @@
 // its folder, and the arrays below a group.
 #![tactic(auto)]
 
-mod drawing;
 mod folder;
 mod index_info;
 mod info;
 mod json;
 mod list;
 mod map;
-mod picture;
 mod shard_info;
 mod subchunks;
-mod text;
 
 pub use folder::{shard_of, write_folder};
 pub use info::info_of_array;
@@ -21,6 +18,3 @@ pub use list::list_nodes;
 pub use map::{map_array, map_shard};
 pub use shard_info::info_of_shard;
 pub use subchunks::check_subchunk;
-pub use text::{
-    TextRows, begin_json, end_json, write_json_cell, write_json_cells, write_numbers, write_rows,
-};

@@ -2,19 +2,18 @@
 use array_cli::{Ending, Stop, metadata_of, written};
 use array_fields::{MetadataError, escaped};
 use array_folder::list_members;
-use array_metadata::ArrayMetadata;
+use array_metadata::{ArrayMetadata, Obstacles};
 use std::alloc::{AllocError, Global};
 use std::io;
 use std::io::Write;
 use std::rt::Files;
 
 // Whether what is refused is the metadata of a group.
-fn is_group(stop: &Stop) -> bool {
-    match stop {
-        Stop::Metadata {
-            error: MetadataError::Refused { sentence, .. },
-            ..
-        } => sentence.as_str() == "this is a group, not an array",
+fn is_group(obstacles: &Obstacles) -> bool {
+    match &obstacles.first {
+        MetadataError::Refused { sentence, .. } => {
+            sentence.as_str() == "this is a group, not an array"
+        }
         _ => false,
     }
 }
@@ -45,9 +44,17 @@ enum Node {
     Refused(Stop),
 }
 
+// Whether what stops a listing is the metadata of a group.
+fn is_at_group(stop: &Stop) -> bool {
+    match stop {
+        Stop::Metadata(obstacles) => is_group(obstacles),
+        _ => false,
+    }
+}
+
 // What stands at a path where no metadata of an array is read.
 fn other_node(stop: Stop) -> Result<Node, Stop> {
-    if is_group(&stop) {
+    if is_at_group(&stop) {
         return Ok(Node::Group);
     }
     if matches!(&stop, Stop::OutOfMemory) {

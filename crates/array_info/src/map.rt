@@ -1,14 +1,13 @@
 // A map of an array's shards, or of the subchunks of one shard.
-use crate::drawing::{
-    Drawn, Mark, ShardMap, SliceOrder, ending_of, write_array_map, write_shard_map,
-};
 use crate::folder::shard_of;
 use crate::info::{ShardInfo, known_shards};
-use crate::picture::{write_array_picture, write_shard_picture};
 use crate::subchunks::check_subchunk;
 use array_cli::{Array, Ending, OpenShard, Place, Shard, ShardCodec, ShardFile, Stop, written};
 use array_fields::{Progress, escaped};
-use array_folder::{ChunkFiles, save_bytes};
+use array_folder::{
+    ChunkFiles, Drawn, Mark, ShardMap, SliceOrder, save_bytes, write_array_map,
+    write_array_picture, write_shard_map, write_shard_picture,
+};
 use parts_errors::CodecError;
 use parts_row_major::{ravel_indices, unravel_index};
 use parts_subsets::ChunkShape;
@@ -39,6 +38,15 @@ fn bytes_of(range: ByteRange) -> (u64, u64) {
     match range {
         ByteRange::FromStart(offset, size) => { (offset, offset.saturating_add(size.unwrap_or(0))) }
         ByteRange::Suffix(size) => (0, size),
+    }
+}
+
+// How a command ends that found this.
+fn ending_of(marks: &[Mark]) -> Ending {
+    if marks.contains(&Mark::Refused) {
+        Ending::Refused
+    } else {
+        Ending::Done
     }
 }
 

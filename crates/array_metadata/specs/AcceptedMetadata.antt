@@ -11,9 +11,9 @@ use Rattle.parts_arrays.specs.declared.data_type.DataTypeSize.TheVariants.{Fixed
 use Rattle.array_fields.specs.MetadataFields.{member_in, configured_in, whole_number_in, whole_numbers_in, is_understood}
 use Rattle.array_grid.specs.ChunkKeys.{separator_of}
 use Rattle.array_grid.specs.KeyEncodings.{encoding_name, default_separator}
-use Rattle.array_metadata.specs.FillValues.{IsFillIn}
+use Rattle.array_fields.specs.FillValues.{IsFillIn}
 use Rattle.array_metadata.specs.ArrayCodecs.{array_codec_in, encoded_of, subchunk_in, subchunk_of}
-use Rattle.array_metadata.specs.ElementTypes.{IsTypeIn, carrier}
+use Rattle.array_fields.specs.ElementTypes.{IsTypeIn, carrier}
 use Rattle.array_metadata.specs.UnreadCodecs.{chunks_in, unread_codec_in}
 use Rattle.array_metadata.specs.declared.metadata.ArrayMetadata.{ArrayMetadata}
 

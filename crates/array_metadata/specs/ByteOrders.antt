@@ -4,9 +4,9 @@ use Rattle.codec_bytes.specs.declared.bytes_codec.Endianness.{Endianness}
 use Rattle.codec_bytes.specs.declared.bytes_codec.Endianness.TheVariants.{Big, Little}
 use Rattle.codec_chains.specs.declared.either_codec.EitherCodec.TheVariants.{First, Second}
 use Rattle.array_metadata.specs.ArrayCodecs.{Elements, Arranged, Served, Subchunks, Chunks, sharding_of}
-use Rattle.array_metadata.specs.ElementTypes.{float_size}
-use Rattle.array_metadata.specs.declared.element_types.ElementType.{ElementType}
-use Rattle.array_metadata.specs.declared.element_types.ElementType.TheVariants.{Complex}
+use Rattle.array_fields.specs.ElementTypes.{float_size}
+use Rattle.array_fields.specs.declared.element_types.ElementType.{ElementType}
+use Rattle.array_fields.specs.declared.element_types.ElementType.TheVariants.{Complex}
 
 -- the byte order that the codec `bytes` of elements has
 abbrev pub order_of : Elements → Option Endianness

@@ -1,6 +1,3 @@
-pub mod ElementTypes
-pub mod Floats
-pub mod FillValues
 pub mod UnreadCodecs
 pub mod ByteCodecsMetadata
 pub mod ArrayCodecs

@@ -5,7 +5,7 @@ ghost use Rattle.array_metadata.specs.ByteOrders.{order_of, arranged_order, subc
 use crate::codecs::{
     ArrangedCodec, ArrayCodec, ElementCodec, InnerCodec, ServedCodec, sharding_of,
 };
-use crate::element_types::ElementType;
+use array_fields::ElementType;
 use codec_bytes::Endianness;
 use codec_chains::EitherCodec;
 

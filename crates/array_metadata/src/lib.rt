@@ -5,10 +5,8 @@ mod byte_codecs;
 mod byte_order;
 mod chunk_codecs;
 mod codecs;
-mod element_types;
-mod fill;
-mod floats;
 mod metadata;
+mod obstacles;
 mod transposes;
 mod unread;
 
@@ -17,6 +15,5 @@ pub use codecs::{
     ArrangedCodec, ArrayCodec, ChunkShards, ElementCodec, IndexCodec, InnerCodec, ServedCodec,
     ShardsCodec, sharding_of,
 };
-pub use element_types::ElementType;
-pub use floats::{FloatFormat, half_to_f32};
 pub use metadata::{ArrayMetadata, TypeText};
+pub use obstacles::Obstacles;

@@ -7,10 +7,10 @@ ghost use Rattle.serde_json.specs.View.{view};
 ghost use Rattle.codec_metadata.specs.Metadata.{name_in};
 ghost use Rattle.array_metadata.specs.AcceptedMetadata.{IsServedText, IsReadAs, FitsTogether};
 ghost use Rattle.array_fields.specs.MetadataFields.{configured_in, whole_numbers_in};
-ghost use Rattle.array_metadata.specs.FillValues.{IsFillIn};
+ghost use Rattle.array_fields.specs.FillValues.{IsFillIn};
 ghost use Rattle.array_metadata.specs.ArrayCodecs.{array_codec_in, encoded_of, subchunk_in, subchunk_of, HasAxes, are_transposed};
 ghost use Rattle.array_metadata.specs.UnreadCodecs.{chunks_in, unread_codec_in};
-ghost use Rattle.array_metadata.specs.ElementTypes.{IsTypeIn, IsRead, carrier};
+ghost use Rattle.array_fields.specs.ElementTypes.{IsTypeIn, IsRead, carrier};
 ghost use Rattle.parts_subsets.specs.Grid.{Divides};
 ghost use Rattle.parts_arrays.specs.Types.{size_of, HasElements};
 ghost use Rattle.parts_arrays.specs.declared.data_type.DataTypeSize.TheVariants.{Fixed};
@@ -19,12 +19,10 @@ use crate::chunk_codecs::array_codec;
 use crate::codecs::{
     ArrayCodec, ChunkShards, InnerCodec, ServedCodec, ShardsCodec, sharding_of, unserved,
 };
-use crate::element_types::{ElementType, element_type_in, unread_type};
-use crate::fill::fill_value_in;
 use crate::unread::unread_codec;
 use array_fields::{
-    MetadataError, Placed, axes_in, dimension_names_in, escaped, escaped_whole, test_array,
-    value_in,
+    ElementType, MetadataError, Placed, axes_in, dimension_names_in, element_type_in, escaped,
+    escaped_whole, fill_value_in, test_array, test_understood, unread_type, value_in,
 };
 use array_grid::{ChunkKeys, keys_in};
 use codec_metadata::PluginCreateError;
@@ -34,7 +32,7 @@ use serde_json::Value;
 use std::alloc::{AllocError, Global};
 
 /// The values of `data_type` and `fill_value` of an array, as they stand in the text, for a terminal.
-#[derive(Debug, Drop)]
+#[derive(Drop)]
 pub struct TypeText {
     pub data_type: String,
     pub fill_value: String,
@@ -73,7 +71,11 @@ pub struct ArrayMetadata {
 }
 
 // The shape of a chunk of the regular grid. Refused as `BadField` where the grid is another, or as `MissingField`.
-fn shard_in(alloc: Global, grid: &Placed, axes: usize) -> Result<ChunkShape, MetadataError>
+pub(crate) fn shard_in(
+    alloc: Global,
+    grid: &Placed,
+    axes: usize,
+) -> Result<ChunkShape, MetadataError>
     ensures axes { IfOk result (λ shape. length shape ≡ axes) }
     ensures regular { OnOk result (name_in (view grid.now.value.now) ≡ Some (codes "regular")) }
     ensures read { IfOk result (λ shape. option_and_then whole_numbers_in (configured_in (codes "chunk_shape") (view grid.now.value.now)) ≡ Some shape) }
@@ -92,10 +94,10 @@ fn shard_in(alloc: Global, grid: &Placed, axes: usize) -> Result<ChunkShape, Met
 
 // What the metadata says of an array's cells: how many there are along each axis, their type, and how they are cut into chunks.
 #[derive(Drop)]
-struct Cells {
-    shape: Vec<u64>,
-    element_type: ElementType,
-    shard: ChunkShape,
+pub(crate) struct Cells {
+    pub(crate) shape: Vec<u64>,
+    pub(crate) element_type: ElementType,
+    pub(crate) shard: ChunkShape,
 }
 
 // The cells of an array, whose elements go through a codec that is not served where one is named. Refused for `shape`, `data_type` and
@@ -121,7 +123,7 @@ fn cells_in(alloc: Global, whole: &Placed, codec: &Option<String>) -> Result<Cel
 }
 
 // The fill value of an array whose elements are of this type. Refused for `fill_value`.
-fn fill_in(
+pub(crate) fn fill_in(
     alloc: Global,
     whole: &Placed,
     element_type: ElementType,
@@ -130,9 +132,6 @@ fn fill_in(
     ensures read { IfOk result (IsFillIn element_type (get (codes "fill_value") (view whole.now.value.now))) }
 {
     let fill = whole.required(alloc, "fill_value")?;
-    if let ElementType::Unread(size) = element_type {
-        return Ok(FillValue::new(Vec::from_elem(alloc, 0u8, size)?));
-    }
     fill_value_in(alloc, &fill, element_type)
 }
 
@@ -162,7 +161,7 @@ fn type_text_in(
 }
 
 // The name of the codec for which no subchunk is looked into.
-fn unread_in(alloc: Global, whole: &Placed) -> Result<Option<String>, MetadataError>
+pub(crate) fn unread_in(alloc: Global, whole: &Placed) -> Result<Option<String>, MetadataError>
     ensures { IfOk result (λ unread. option_map string_bytes unread ≡ unread_codec_in (option_and_then as_array (get (codes "codecs") (view whole.now.value.now)))) }
 {
     match whole.member(alloc, "codecs")? {
@@ -274,7 +273,7 @@ fn subchunk_of(
 
 // What the member `codecs` says: the codec of chunks, the one for which no subchunk is looked into, its text, and how the codec cuts chunks.
 #[derive(Drop)]
-struct ChunkCodecs {
+pub(crate) struct ChunkCodecs {
     codec: ArrayCodec,
     unread: Option<String>,
     text: String,
@@ -283,7 +282,7 @@ struct ChunkCodecs {
 }
 
 // What the member `codecs` says of an array of these cells. Refused for `codecs`.
-fn codecs_of_cells(
+pub(crate) fn codecs_of_cells(
     alloc: Global,
     codecs: &Placed,
     cells: &Cells,
@@ -365,6 +364,7 @@ fn metadata_of(alloc: Global, value: &Value, text: String) -> Result<ArrayMetada
 {
     let whole = Placed::whole(alloc, value)?;
     test_array(alloc, &whole)?;
+    test_understood(alloc, &whole)?;
     let unread = unread_in(alloc, &whole)?;
     let cells = cells_in(alloc, &whole, &unread)?;
     let keys = keys_in(alloc, &whole.required(alloc, "chunk_key_encoding")?)?;
@@ -387,6 +387,14 @@ impl ArrayMetadata {
         ensures codec { OnOk result (self.now.unread ≡ None) }
         ensures element_type { OnOk result (IsRead self.now.element_type) }
     {
+        self.test_subchunks(alloc)?;
+        self.test_type(alloc)
+    }
+
+    // Tests that subchunks are looked into. Refused as `UnsupportedCodec`.
+    fn test_subchunks(&self, alloc: Global) -> Result<(), MetadataError>
+        ensures { OnOk result (self.now.unread ≡ None) }
+    {
         if let Some(name) = &self.unread {
             let error = PluginCreateError::unsupported_codec(alloc, name);
             let place = if self.is_transposed() {
@@ -396,6 +404,13 @@ impl ArrayMetadata {
             };
             return Err(MetadataError::refused(alloc, error, place, unserved(name)));
         }
+        Ok(())
+    }
+
+    // Tests that elements of the type are read. Refused as `BadField`.
+    pub(crate) fn test_type(&self, alloc: Global) -> Result<(), MetadataError>
+        ensures { OnOk result (IsRead self.now.element_type) }
+    {
         match (self.element_type, &self.type_text) {
             (ElementType::Unread(_), Some(text)) => Err(unread_type(alloc, &text.data_type)?),
             (ElementType::Unread(_), None) => Err(unread_type(alloc, "raw")?),

@@ -13,7 +13,7 @@ use std::{fs, io};
 use storage_files::path_beside;
 
 // How shards are compacted.
-#[derive(Debug, Clone, Copy)]
+#[derive(Clone, Copy)]
 struct Rule<'r> {
     // whether no file is written
     is_dry: bool,
@@ -24,7 +24,7 @@ struct Rule<'r> {
 }
 
 /// Where compact shards go.
-#[derive(Debug, Clone, Copy, PartialEq, Eq)]
+#[derive(Clone, Copy)]
 pub enum Way<'w> {
     /// In the place of the shards.
     Replace,
@@ -45,7 +45,7 @@ impl<'w> Way<'w> {
 }
 
 /// What was gained, and what was not done.
-#[derive(Debug, Clone, Copy, PartialEq, Eq)]
+#[derive(Clone, Copy)]
 pub struct Gained {
     /// Shards that were not compact.
     pub shards: u64,
@@ -377,7 +377,7 @@ pub fn compact<
     let files = array.files_in(&listing.part)?;
     let all = files.chunks.len();
     let rule = Rule {
-        is_dry: way == Way::Dry,
+        is_dry: matches!(way, Way::Dry),
         folder: way.folder(),
         is_json: listing.is_json,
     };

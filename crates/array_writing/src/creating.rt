@@ -10,7 +10,7 @@ use std::fs;
 use std::rt::Files;
 
 /// What a new array is, by the words of a command line.
-#[derive(Debug, Clone, Copy, PartialEq, Eq)]
+#[derive(Clone, Copy)]
 pub struct ArrayWords<'a> {
     /// The shapes of the array, of a shard and of a subchunk, as `512,512`.
     pub shape: &'a str,

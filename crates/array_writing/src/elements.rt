@@ -11,7 +11,7 @@ use storage_files::{file_length, read_file_range};
 use storage_handles::ByteRange;
 
 /// A file of elements, by its path.
-#[derive(Debug, Clone, Copy, PartialEq, Eq)]
+#[derive(Clone, Copy)]
 pub enum ElementsFile<'f> {
     /// Of NumPy's format.
     Npy(&'f str),

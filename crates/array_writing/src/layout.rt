@@ -7,7 +7,7 @@ use sharding_format::{ShardingIndexLocation, SubchunkWriteOrder};
 use std::alloc::{AllocError, Global};
 
 /// How an array is laid out anew, by the words of a command line. What is `None` stays as it is.
-#[derive(Debug, Clone, Copy, PartialEq, Eq)]
+#[derive(Clone, Copy)]
 pub struct LayoutWords<'a> {
     /// The shapes of a shard and of a subchunk, as `512,512`.
     pub shard: Option<&'a str>,

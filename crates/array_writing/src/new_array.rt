@@ -31,7 +31,7 @@ struct NewArray<'n> {
 }
 
 // What was written.
-#[derive(Debug, Clone, Copy)]
+#[derive(Clone, Copy)]
 struct Written {
     shards: u64,
     bytes: u64,

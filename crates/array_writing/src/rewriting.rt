@@ -15,7 +15,7 @@ use storage_handles::{ByteRange, BytesPartialDecoderTraits, read_range};
 const PIECE: usize = 1_048_576;
 
 // Why a compact shard is not written: what was said of the old file, or of the new one.
-#[derive(Debug, Clone, Copy)]
+#[derive(Clone, Copy)]
 enum Failure {
     Old(CodecError),
     New(io::Error),

@@ -20,7 +20,7 @@ use std::rt::Files;
 use storage_files::path_beside;
 
 // The elements that are written, and the subset that they are.
-#[derive(Debug, Clone, Copy)]
+#[derive(Clone, Copy)]
 struct Update<'u> {
     subset: &'u ArraySubset,
     elements: &'u ArrayBytes<'u>,

@@ -3,10 +3,12 @@ ghost use Rattle.std.specs.Prelude.{◌≡◌, ◌<◌, Some, None, IfOk, IfSome
 ghost use Rattle.serde_json.specs.View.{view};
 ghost use Rattle.codec_metadata.specs.Metadata.{name_in};
 ghost use Rattle.parts_arrays.specs.Types.{type_name, HasElements};
-ghost use Rattle.array_metadata.specs.ElementTypes.{IsTypeIn, IsTypeOf, IsListedOr, IsUnnamed, IsRaw, IsNameOf, carrier, listed_type};
+ghost use Rattle.array_fields.specs.ElementTypes.{IsTypeIn, IsTypeOf, IsListedOr, IsUnnamed, IsRaw, IsNameOf, carrier, listed_type};
 
+use crate::error::MetadataError;
+use crate::escape::escaped;
+use crate::fields::Placed;
 use crate::floats::FloatFormat;
-use array_fields::{MetadataError, Placed, escaped};
 use codec_metadata::PluginCreateError;
 use parts_arrays::DataType;
 use std::alloc::{AllocError, Global};
@@ -49,7 +51,7 @@ impl ElementType {
         }
     }
 
-    // What has a byte order: of a complex number its parts.
+    /// What has a byte order: of a complex number its parts.
     pub fn part_type(self) -> DataType {
         match self {
             ElementType::Complex(format) => format.carrier(),
@@ -134,7 +136,7 @@ fn raw_size(name: &str) -> Option<usize>
     Some(bits / 8)
 }
 
-// Why elements of a type are not read.
+/// Why elements of a type of a name are not read (Zarr V3 core, "Data types"): `BadField` with the place `data_type`.
 pub fn unread_type(alloc: Global, name: &str) -> Result<MetadataError, AllocError> {
     let name = escaped(alloc, name)?;
     let sentence = format!(in alloc;
@@ -178,8 +180,8 @@ fn named_type(
     }
 }
 
-// The type of elements that a value names: one that is read, or the number of its bytes. Where a codec of elements is not served, which is
-// named, elements of an unknown size are one byte. Refused as `BadField`.
+/// The type of elements that a value names (Zarr V3 core, "Data types"): one that is read, or the number of its bytes. Where a codec of
+/// elements is not served, which is named, elements of an unknown size are one byte. Refused as `BadField`.
 pub fn element_type_in(
     alloc: Global,
     value: &Placed,

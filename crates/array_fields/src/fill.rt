@@ -6,13 +6,15 @@ ghost use Rattle.serde_json.specs.View.{view};
 ghost use Rattle.parts_arrays.specs.Types.{size_of, byte_size};
 ghost use Rattle.parts_arrays.specs.declared.data_type.DataTypeSize.TheVariants.{Fixed};
 ghost use Rattle.parts_arrays.specs.declared.data_type.DataType.TheVariants.{Int64};
-ghost use Rattle.array_metadata.specs.ElementTypes.{carrier, float_size};
-ghost use Rattle.array_metadata.specs.Floats.{sign_of};
-ghost use Rattle.array_metadata.specs.FillValues.{number_in, number_of, time_in, IsFloatIn, IsElementIn, IsComplexIn, IsValueIn, IsFillIn};
+ghost use Rattle.array_fields.specs.ElementTypes.{carrier, float_size};
+ghost use Rattle.array_fields.specs.Floats.{sign_of};
+ghost use Rattle.array_fields.specs.FillValues.{number_in, number_of, time_in, IsFloatIn, IsElementIn, IsComplexIn, IsValueIn, IsFillIn};
 
 use crate::element_types::ElementType;
+use crate::error::MetadataError;
+use crate::fields::Placed;
 use crate::floats::FloatFormat;
-use array_fields::{MetadataError, Placed, raw_bytes};
+use crate::raw_bits::raw_bytes;
 use parts_arrays::{DataType, DataTypeSize, FillValue};
 use serde_json::Value;
 use std::alloc::{AllocError, Global};
@@ -153,7 +155,7 @@ fn complex_bytes(
     Ok(Some(bytes))
 }
 
-// The bytes of an element that a value is.
+// The bytes of an element that a value is; zeros of a type whose elements are not read.
 #[tactic(auto, using(crate::proofs::SaidBytes::number_said))]
 fn element_bytes(
     alloc: Global,
@@ -166,6 +168,7 @@ fn element_bytes(
     match element_type {
         ElementType::Complex(format) => Ok(complex_bytes(alloc, fill.value, format)?),
         ElementType::RawBits(size) => raw_bytes(alloc, fill, size),
+        ElementType::Unread(size) => Ok(Some(Vec::from_elem(alloc, 0u8, size)?)),
         _ => Ok(number_bytes(alloc, fill.value, element_type)?),
     }
 }
@@ -188,7 +191,8 @@ fn sentence_of(
     }
 }
 
-// The fill value that a value is. Refused as `BadField`.
+/// The fill value of elements of a type that a value is (Zarr V3 core, "Fill value"); zeros of a type whose elements are not read. Refused
+/// as `BadField`.
 pub fn fill_value_in(
     alloc: Global,
     fill: &Placed,

@@ -13,7 +13,7 @@ const BAR: u64 = 28;
 const LENGTH: u64 = 768;
 
 // A rectangle of a picture, by its left upper corner.
-#[derive(Debug, Clone, Copy)]
+#[derive(Clone, Copy)]
 struct Rectangle {
     x: u64,
     y: u64,

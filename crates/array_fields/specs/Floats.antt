@@ -4,8 +4,8 @@ use Rattle.std.specs.Float.{binary32, binary64, is_sign_negative, float_with_sig
 use Rattle.std.specs.Float.Ieee.{le, lt, neg, div, of_int}
 use Rattle.std.specs.Str.Parse.{AllDigits, digits_value}
 use Rattle.parts_errors.specs.Words.{Bytes as Text}
-use Rattle.array_metadata.specs.declared.floats.FloatFormat.{FloatFormat}
-use Rattle.array_metadata.specs.declared.floats.FloatFormat.TheVariants.{Float16, BFloat16, Float32, Float64}
+use Rattle.array_fields.specs.declared.floats.FloatFormat.{FloatFormat}
+use Rattle.array_fields.specs.declared.floats.FloatFormat.TheVariants.{Float16, BFloat16, Float32, Float64}
 
 -- how many hexadecimal digits the bits have
 abbrev pub digits_of : FloatFormat → ℕ

@@ -3,7 +3,7 @@ use Rattle.std.proofs.Common.{◌≡◌, ℕ, Option, Some, None, refl, sym, ap,
 use Rattle.parts_errors.specs.Words.{Bytes as Text}
 use Rattle.parts_arrays.specs.Types.{type_name}
 use Rattle.parts_arrays.specs.declared.data_type.DataType.TheVariants.{Bool, Int8, Int16, Int32, Int64, UInt8, UInt16, UInt32, UInt64, Raw, Bytes, Optional}
-use Rattle.array_metadata.specs.ElementTypes.{IsUnnamed}
+use Rattle.array_fields.specs.ElementTypes.{IsUnnamed}
 
 -- the second letter of a name, in which `bytes` differs from the others
 abbrev second : Option Text → ℕ

@@ -5,10 +5,10 @@ use Rattle.parts_errors.specs.Words.{Bytes as Text}
 use Rattle.parts_arrays.specs.Types.{type_name}
 use Rattle.parts_arrays.specs.declared.data_type.DataType.{DataType}
 use Rattle.parts_arrays.specs.declared.data_type.DataType.TheVariants.{UInt16, UInt32, UInt64, Int64, Raw, Bytes}
-use Rattle.array_metadata.specs.declared.floats.FloatFormat.{FloatFormat}
-use Rattle.array_metadata.specs.declared.floats.FloatFormat.TheVariants.{Float16, BFloat16, Float32, Float64}
-use Rattle.array_metadata.specs.declared.element_types.ElementType.{ElementType}
-use Rattle.array_metadata.specs.declared.element_types.ElementType.TheVariants.{Number, Float, Complex, RawBits, DateTime64, TimeDelta64, Unread}
+use Rattle.array_fields.specs.declared.floats.FloatFormat.{FloatFormat}
+use Rattle.array_fields.specs.declared.floats.FloatFormat.TheVariants.{Float16, BFloat16, Float32, Float64}
+use Rattle.array_fields.specs.declared.element_types.ElementType.{ElementType}
+use Rattle.array_fields.specs.declared.element_types.ElementType.TheVariants.{Number, Float, Complex, RawBits, DateTime64, TimeDelta64, Unread}
 
 -- the types of the names that the codecs do not know: floats, pairs of them, and times
 abbrev pub listed_type : Text → Option ElementType

@@ -1,8 +1,8 @@
 use Rattle.std.proofs.Common.{◌≡◌, ◌∙◌, ◌++◌, Some, length, ap, arith}
 use Rattle.serde_json.specs.Find.{as_array}
 use Rattle.serde_json.specs.View.{view, items_view}
-use Rattle.array_metadata.proofs.SaidBytes.{complex_pair}
-use Rattle.array_metadata.proofs.fill.complex_bytes.Goals as goal
+use Rattle.array_fields.proofs.SaidBytes.{complex_pair}
+use Rattle.array_fields.proofs.fill.complex_bytes.Goals as goal
 
 pub returns-clause-read : goal.returns-clause-read
 returns-clause-read c =

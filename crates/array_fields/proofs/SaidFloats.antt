@@ -7,13 +7,13 @@ use Rattle.serde_json.specs.Data.{Data, null, boolean, number, string, array, ob
 use Rattle.serde_json.specs.Find.{as_str, as_number, as_integer, to_float}
 use Rattle.parts_errors.specs.Words.{Bytes as Text}
 use Rattle.parts_arrays.specs.Types.{size_of, byte_size}
-use Rattle.array_metadata.specs.declared.floats.FloatFormat.{FloatFormat}
-use Rattle.array_metadata.specs.declared.floats.FloatFormat.TheVariants.{Float16, BFloat16, Float32, Float64}
-use Rattle.array_metadata.specs.declared.element_types.ElementType.TheVariants as of
-use Rattle.array_metadata.specs.ElementTypes.{float_carrier}
-use Rattle.array_metadata.specs.Floats.{sign_of, IsFloatText, IsFloatNumber}
-use Rattle.array_metadata.specs.FillValues.{number_of, time_in, IsFloatIn, IsElementIn}
-use Rattle.array_metadata.proofs.Elements.{read_2, read_4}
+use Rattle.array_fields.specs.declared.floats.FloatFormat.{FloatFormat}
+use Rattle.array_fields.specs.declared.floats.FloatFormat.TheVariants.{Float16, BFloat16, Float32, Float64}
+use Rattle.array_fields.specs.declared.element_types.ElementType.TheVariants as of
+use Rattle.array_fields.specs.ElementTypes.{float_carrier}
+use Rattle.array_fields.specs.Floats.{sign_of, IsFloatText, IsFloatNumber}
+use Rattle.array_fields.specs.FillValues.{number_of, time_in, IsFloatIn, IsElementIn}
+use Rattle.array_fields.proofs.Elements.{read_2, read_4}
 
 some_same : {A : Type 0} (a b : A) → Some a ≡ Some b → a ≡ b
 some_same a b e = cc

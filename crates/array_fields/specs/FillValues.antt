@@ -8,11 +8,11 @@ use Rattle.parts_arrays.specs.declared.data_type.DataType.TheVariants.{Bool, Int
 use Rattle.serde_json.specs.Data.{Data, Items, number, string, no_items, item}
 use Rattle.serde_json.specs.Find.{as_array, as_bool, as_number, as_integer, to_float}
 use Rattle.array_fields.specs.RawBits.{IsRawIn}
-use Rattle.array_metadata.specs.declared.floats.FloatFormat.{FloatFormat}
-use Rattle.array_metadata.specs.declared.element_types.ElementType.{ElementType}
-use Rattle.array_metadata.specs.declared.element_types.ElementType.TheVariants.{Number, Float, Complex, RawBits, DateTime64, TimeDelta64, Unread}
-use Rattle.array_metadata.specs.ElementTypes.{carrier, float_carrier, float_size}
-use Rattle.array_metadata.specs.Floats.{IsFloatText, IsFloatNumber}
+use Rattle.array_fields.specs.declared.floats.FloatFormat.{FloatFormat}
+use Rattle.array_fields.specs.declared.element_types.ElementType.{ElementType}
+use Rattle.array_fields.specs.declared.element_types.ElementType.TheVariants.{Number, Float, Complex, RawBits, DateTime64, TimeDelta64, Unread}
+use Rattle.array_fields.specs.ElementTypes.{carrier, float_carrier, float_size}
+use Rattle.array_fields.specs.Floats.{IsFloatText, IsFloatNumber}
 
 -- the whole number that an element is, its bytes least significant first, of a signed type in two's complement; of the types that are read
 abbrev pub number_of : DataType → Text → ℤ

@@ -1,15 +1,16 @@
 // Cells as text and as JSON.
 ghost use Rattle.std.specs.Prelude.{◌<◌};
 
-use array_fields::write_json_numbers;
-use array_metadata::{ElementType, FloatFormat, half_to_f32};
+use crate::element_types::ElementType;
+use crate::floats::{FloatFormat, half_to_f32};
+use crate::json_line::write_json_numbers;
 use parts_arrays::{DataType, DataTypeSize};
 use std::io;
 use std::io::Write;
 use std::num::{f32_from_bits_with_nan, f64_from_bits_with_nan};
 
 // What a cell holds. A byte of a `bool` that is not 0 is true.
-#[derive(Debug, Clone, Copy, PartialEq)]
+#[derive(Clone, Copy)]
 enum Cell {
     Bool(bool),
     Signed(i64),
@@ -201,7 +202,7 @@ pub fn write_numbers<W: Write>(out: &mut W, name: &str, numbers: &[u64]) -> io::
 }
 
 /// Cells that are written as text piece by piece: a row of the last axis a line, and an empty line between planes of the last two.
-#[derive(Debug, Clone, Copy, PartialEq, Eq)]
+#[derive(Clone, Copy)]
 pub struct TextRows {
     // how many cells a row has, and how many rows a plane, before the next of which an empty line stands
     row: u64,

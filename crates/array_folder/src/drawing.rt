@@ -1,11 +1,10 @@
 // Maps as text.
-use array_cli::Ending;
 use std::alloc::{AllocError, Global};
 use std::io;
 use std::io::Write;
 
 /// What stands at a place of a grid.
-#[derive(Debug, Clone, Copy, PartialEq, Eq)]
+#[derive(Clone, Copy, PartialEq, Eq)]
 pub enum Mark {
     /// A shard whose index is sound, or a subchunk that decodes or whose codec is not served.
     Present,
@@ -16,14 +15,14 @@ pub enum Mark {
 }
 
 /// A subchunk of a shard: what it is, and the first byte of its slice and the one behind the last, if it has one.
-#[derive(Debug, Clone, Copy, PartialEq, Eq)]
+#[derive(Clone, Copy)]
 pub struct Drawn {
     pub mark: Mark,
     pub bytes: Option<(u64, u64)>,
 }
 
 /// In which order of subchunks the slices of a shard lie in its file.
-#[derive(Debug, Clone, Copy, PartialEq, Eq)]
+#[derive(Clone, Copy)]
 pub enum SliceOrder {
     RowMajor,
     Morton,
@@ -31,7 +30,7 @@ pub enum SliceOrder {
 }
 
 /// What the file of a shard holds.
-#[derive(Debug, Drop)]
+#[derive(Drop)]
 pub struct ShardMap {
     /// How many bytes it has.
     pub length: u64,
@@ -79,15 +78,6 @@ impl Drawn {
     /// A subchunk that has no slice.
     pub fn without_bytes(mark: Mark) -> Self {
         Drawn { mark, bytes: None }
-    }
-}
-
-/// How a command ends that found this.
-pub fn ending_of(marks: &[Mark]) -> Ending {
-    if marks.contains(&Mark::Refused) {
-        Ending::Refused
-    } else {
-        Ending::Done
     }
 }
 

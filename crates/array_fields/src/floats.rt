@@ -1,9 +1,9 @@
 // Floats: their formats, and the bits that metadata gives them.
 ghost use Rattle.std.specs.Prelude.{◌≡◌, ◌↔◌, ◌≤◌, ◌<◌, ◌^◌, ◌%◌, IfSome, true};
 ghost use Rattle.std.specs.Float.{NotNan, is_sign_negative};
-ghost use Rattle.array_metadata.specs.ElementTypes.{float_carrier, float_size, IsNameOf};
-ghost use Rattle.array_metadata.specs.declared.element_types.ElementType.TheVariants.{Complex, Float};
-ghost use Rattle.array_metadata.specs.Floats.{digits_of, infinity_of, nan_of, sign_of, named_bits, IsHexadecimal, IsFloatText, finer_half, finer_brain, is_between, is_nearest, half_size, half_value, IsFloatNumber};
+ghost use Rattle.array_fields.specs.ElementTypes.{float_carrier, float_size, IsNameOf};
+ghost use Rattle.array_fields.specs.declared.element_types.ElementType.TheVariants.{Complex, Float};
+ghost use Rattle.array_fields.specs.Floats.{digits_of, infinity_of, nan_of, sign_of, named_bits, IsHexadecimal, IsFloatText, finer_half, finer_brain, is_between, is_nearest, half_size, half_value, IsFloatNumber};
 
 use parts_arrays::DataType;
 use std::num::{

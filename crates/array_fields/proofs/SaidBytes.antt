@@ -7,12 +7,12 @@ use Rattle.serde_json.specs.declared.value.Value.{Value}
 use Rattle.parts_arrays.specs.Types.{size_of}
 use Rattle.parts_arrays.specs.declared.data_type.DataTypeSize.TheVariants.{Fixed}
 use Rattle.parts_errors.specs.Words.{Bytes as Text}
-use Rattle.array_metadata.specs.declared.floats.FloatFormat.{FloatFormat}
-use Rattle.array_metadata.specs.declared.floats.FloatFormat.TheVariants.{Float16, BFloat16, Float32, Float64}
-use Rattle.array_metadata.specs.declared.element_types.ElementType.{ElementType}
-use Rattle.array_metadata.specs.declared.element_types.ElementType.TheVariants as of
-use Rattle.array_metadata.specs.ElementTypes.{carrier, float_carrier, float_size}
-use Rattle.array_metadata.specs.FillValues.{number_of, IsElementIn, IsComplexIn, IsValueIn}
+use Rattle.array_fields.specs.declared.floats.FloatFormat.{FloatFormat}
+use Rattle.array_fields.specs.declared.floats.FloatFormat.TheVariants.{Float16, BFloat16, Float32, Float64}
+use Rattle.array_fields.specs.declared.element_types.ElementType.{ElementType}
+use Rattle.array_fields.specs.declared.element_types.ElementType.TheVariants as of
+use Rattle.array_fields.specs.ElementTypes.{carrier, float_carrier, float_size}
+use Rattle.array_fields.specs.FillValues.{number_of, IsElementIn, IsComplexIn, IsValueIn}
 
 -- a value that says an element as a number says it
 pub number_said : (element_type : ElementType) (d : Data) (element : Text) → IsElementIn element_type d (number_of (carrier element_type) element)
