@@ -39,9 +39,10 @@ def compare(name, what, found, wanted):
 
 
 def refused(name, command, ran):
-    """A command that is refused: status 2, nothing on standard output, one sentence."""
+    """A command that is refused: status 2, nothing on standard output, and a sentence on a line for each thing that is in the way."""
     status, out, told = ran
-    if status != 2 or out or told.count("\n") != 1:
+    lines = told.splitlines()
+    if status != 2 or out or not 1 <= len(lines) <= 6 or not lines[0].startswith("zarr_shard: ") or any("/zarr.json: " not in line for line in lines[1:]):
         bad.append(f"{name}: {command}: status {status}, {out[:200]!r}, {told[:300]!r}")
 
 

@@ -6,6 +6,7 @@ theirs. Where zlib or libzstd takes another file, a slow decoder must name the r
     python3 tools/packed.py [PROGRAM [LIBRARY]]   the program that the merge gate built and the C library that tools/library.py left, if no others are named
 """
 import collections
+import contextlib
 import faulthandler
 import gzip
 import json
@@ -33,6 +34,7 @@ LIBRARY = f"{TOP}/out/libzarr_sharding.so"
 MOST = 600  # seconds for a line of what is said
 SPARE = 64_000_000  # bytes of address space while damaged files are decoded
 ROOM_TOO_SMALL, OUT_OF_MEMORY = 64, 1
+GZIP_LEVELS = 1, 6, 9  # by which the contents of the gzip files are compressed here; the longest ones not by the last, which takes long
 bad = []
 
 
@@ -302,14 +304,16 @@ def levels(dice):
 def compressed(program, folder, content, name, configuration):
     """The file of an array whose only chunk is a content."""
     path = f"{folder}/compressed"
-    shutil.rmtree(path, ignore_errors=True)
-    array(path, [len(content)], [len(content)], [1])
-    with open(f"{path}/zarr.json", encoding="utf-8") as file:
-        document = json.load(file)
-    document["codecs"] = [{"name": "bytes"}, {"name": name, "configuration": configuration}]
-    document["fill_value"] = (content[0] + 1) % 256
+    os.makedirs(path, exist_ok=True)
+    document = {
+        "zarr_format": 3, "node_type": "array", "shape": [len(content)], "data_type": "uint8", "fill_value": (content[0] + 1) % 256,
+        "chunk_grid": {"name": "regular", "configuration": {"chunk_shape": [len(content)]}}, "chunk_key_encoding": {"name": "v2"},
+        "codecs": [{"name": "bytes"}, {"name": name, "configuration": configuration}],
+    }
     with open(f"{path}/zarr.json", "w", encoding="utf-8") as file:
         json.dump(document, file)
+    with contextlib.suppress(FileNotFoundError):
+        os.remove(f"{path}/0")
     with open(f"{path}/raw", "wb") as file:
         file.write(content)
     subprocess.run([program, "write", path, "--raw", f"{path}/raw"], stdout=subprocess.DEVNULL, timeout=MOST, check=True)
@@ -339,22 +343,47 @@ def read_by(call, file):
         return repr(error)
 
 
+def read_back(calls, file, content, how):
+    """A file that is written here is read as its content by each of these calls."""
+    for reader, call in calls.items():
+        found = read_by(call, file)
+        if found != content:
+            said = found if isinstance(found, str) else "another content"
+            differ(f"{len(content)} bytes {how}: {said} by {reader}: {shown(file)}")
+
+
 def written(program, folder, zstd, module):
-    """Contents of each kind, compressed at several levels, and read by others. How many files they were."""
-    dice, count = random.Random(8), 0
+    """Contents of each kind, compressed at several levels, and read by others. How many files they were of each codec."""
+    dice, counts = random.Random(8), collections.Counter()
     for kind, make in KINDS.items():
         for most in (20, 2000, 50_000, 300_000):
             content = make(dice, dice.randrange(most // 4, most) + 1)
             for name, level in levels(dice):
                 configuration = {"level": level, **({"checksum": level % 2 == 0} if name == "zstd" else {})}
                 file = compressed(program, folder, content, name, configuration)
-                count += 1
-                for reader, call in readers(name, zstd, module).items():
-                    found = read_by(call, file)
-                    if found != content:
-                        said = found if isinstance(found, str) else "another content"
-                        differ(f"{len(content)} bytes of {kind} by {name}, level {level}: {said} by {reader}: {shown(file)}")
-    return count
+                counts[name] += 1
+                read_back(readers(name, zstd, module), file, content, f"of {kind} by {name}, level {level}")
+    return ", ".join(f"{count} by {name}" for name, count in sorted(counts.items()))
+
+
+def written_gzip(program, folder, files):
+    """The content of each gzip file that was decoded, compressed at several levels: Python's gzip and zlib read the files, and `gzip -t`, in one
+    call, takes them. How many they were, and of how many contents: all but that of no bytes, which no chunk has."""
+    calls = {"Python's gzip": gzip.decompress, "zlib": lambda file: zlib.decompress(file, 31)}
+    made, contents = f"{folder}/files", [content for content in dict.fromkeys(content for _, _, content in files) if content]
+    os.mkdir(made)
+    for number, content in enumerate(contents):
+        for level in GZIP_LEVELS if len(content) < 1_000_000 else GZIP_LEVELS[:-1]:
+            file = compressed(program, folder, content, "gzip", {"level": level})
+            read_back(calls, file, content, f"of file {number}, level {level}")
+            with open(f"{made}/{number}.{level}.gz", "wb") as out:
+                out.write(file)
+    names = os.listdir(made)
+    if shutil.which("gzip"):
+        ran = subprocess.run(["gzip", "-t", *names], cwd=made, capture_output=True, timeout=MOST, check=False)
+        if ran.returncode:
+            differ(f"gzip -t: {ran.stderr[:1000]!r}")
+    return len(names), len(contents)
 
 
 def lengths(program, folder, zstd):
@@ -399,9 +428,11 @@ def main(program, library):
     say(damaged_zstd(unzstd, zstd))
     with tempfile.TemporaryDirectory(prefix="packed-") as folder:
         say(f"{whole_streams(program, folder)} zlib streams are read")
-        say("{} gzip files of {} bytes are decoded".format(*whole(gunzip, packed_files.gzip_files(1))))
+        files = list(packed_files.gzip_files(1))
+        say("{} gzip files of {} bytes are decoded".format(*whole(gunzip, files)))
         say("{} zstd files of {} bytes are decoded".format(*whole(unzstd, packed_files.zstd_files(2, zstd, module))))
-        say(f"{written(program, folder, zstd, module)} files are written, and read by others")
+        say(f"files are written, and read by others: {written(program, folder, zstd, module)}")
+        say("{} gzip files of {} of these contents are written, and read by others".format(*written_gzip(program, folder, files)))
         say(lengths(program, folder, zstd))
     say("\n".join(bad) or "each file is read as it must be")
     return bool(bad)

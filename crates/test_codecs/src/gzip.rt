@@ -147,6 +147,33 @@ fn a_file_is_written_without_compression(rt: HostRuntime) {
     same(&rt, found.as_slice(), STORED);
 }
 
+// No bytes are one block, the last: without compression, or the end of a block by the fixed codes, as zlib writes them.
+#[test]
+fn a_file_of_no_bytes_is_written(rt: HostRuntime) {
+    const ROWS: &[(u8, &[u8])] = &[
+        (
+            0,
+            b"\x1f\x8b\x08\x00\x00\x00\x00\x00\x00\xff\x01\x00\x00\xff\xff\x00\x00\x00\x00\x00\x00\x00\x00",
+        ),
+        (
+            1,
+            b"\x1f\x8b\x08\x00\x00\x00\x00\x00\x04\xff\x03\x00\x00\x00\x00\x00\x00\x00\x00\x00",
+        ),
+        (
+            6,
+            b"\x1f\x8b\x08\x00\x00\x00\x00\x00\x00\xff\x03\x00\x00\x00\x00\x00\x00\x00\x00\x00",
+        ),
+        (
+            9,
+            b"\x1f\x8b\x08\x00\x00\x00\x00\x00\x02\xff\x03\x00\x00\x00\x00\x00\x00\x00\x00\x00",
+        ),
+    ];
+    for (level, want) in ROWS {
+        let found = gzip(rt.alloc(), b"", *level).expect(&rt, "refused");
+        same(&rt, found.as_slice(), *want);
+    }
+}
+
 // A copy of sixteen bytes, a copy from one byte back, and bytes that do not come again.
 #[test]
 fn a_file_is_compressed(rt: HostRuntime) {
