@@ -6,7 +6,7 @@ use array_codecs::reversed_parts;
 use array_fields::{LONGEST_TEXT, MetadataError, escaped};
 use array_folder::{ChunkFile, ChunkFiles, ChunkGrid, document_length, list_chunks, read_document};
 use array_grid::ListPart;
-use array_metadata::{ArrayCodec, ArrayMetadata, ChunkShards, Obstacles, reversed_size};
+use array_metadata::{ArrayCodec, ArrayMetadata, Obstacles, reversed_size};
 use parts_arrays::FillValue;
 use parts_errors::CodecError;
 use parts_subsets::ChunkShape;
@@ -65,7 +65,7 @@ fn read_metadata(
     order: SubchunkWriteOrder,
 ) -> Result<ArrayMetadata, MetadataError> {
     let mut metadata = ArrayMetadata::from_text(alloc, text)?;
-    if let ArrayCodec::First(ChunkShards::First(shards)) = &mut metadata.codec {
+    if let ArrayCodec::Sharded(shards) = &mut metadata.codec {
         shards.order = order;
     }
     if let Some(bytes) = turned(alloc, &metadata, metadata.fill_value.as_ne_bytes())? {

@@ -1,7 +1,7 @@
 // What is done with the codec of an array's shards, whichever it is.
 use crate::shard_codec::ShardCodec;
 use crate::whole_chunks::WholeChunks;
-use array_metadata::{ArrayCodec, ArrayMetadata, sharding_of};
+use array_metadata::{ArrayCodec, ArrayMetadata};
 use storage_handles::BytesPartialDecoderTraits;
 
 /// What is done with the codec of an array's shards, over files of a type.
@@ -20,7 +20,8 @@ pub fn with_codec<F: BytesPartialDecoderTraits, U: CodecUse<F>>(
     user: U,
 ) -> U::Answer {
     match &metadata.codec {
-        ArrayCodec::First(shards) => user.with(sharding_of(shards)),
-        ArrayCodec::Second(codec) => user.with(WholeChunks { codec }),
+        ArrayCodec::Sharded(shards) => user.with(shards),
+        ArrayCodec::Transposed(transposed) => user.with(&transposed.codec),
+        ArrayCodec::Unsharded(codec) => user.with(WholeChunks { codec }),
     }
 }

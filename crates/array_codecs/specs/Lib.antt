@@ -1,6 +1,7 @@
 pub mod ByteCodec
 pub mod ByteCodecs
 pub mod ByteCodecsLaws
+pub mod ElementCodec
 pub mod OpaqueCodec
 pub mod OpaqueLaws
 pub mod ReversedParts

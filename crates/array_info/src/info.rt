@@ -187,10 +187,10 @@ fn write_type<W: Write>(out: &mut W, metadata: &ArrayMetadata) -> io::Result<()>
 // Writes the shape of a subchunk, where there are shards.
 fn write_subchunk<W: Write>(out: &mut W, metadata: &ArrayMetadata) -> io::Result<()> {
     match metadata.codec {
-        ArrayCodec::First(_) => write_numbers(out, "subchunks", metadata.subchunk.as_slice()),
-        ArrayCodec::Second(_) => out.write_all(
+        ArrayCodec::Unsharded(_) => out.write_all(
             b"subchunks: none, since the chunks are no shards\n",
         ),
+        _ => write_numbers(out, "subchunks", metadata.subchunk.as_slice()),
     }
 }
 

@@ -26,8 +26,8 @@ fn put_type<W: Write>(line: &mut JsonLine<'_, W>, metadata: &ArrayMetadata) -> i
 // Puts the shape of a subchunk, or `null` where the chunks are no shards.
 fn put_subchunk<W: Write>(line: &mut JsonLine<'_, W>, metadata: &ArrayMetadata) -> io::Result<()> {
     match metadata.codec {
-        ArrayCodec::First(_) => line.numbers("subchunk_shape", metadata.subchunk.as_slice()),
-        ArrayCodec::Second(_) => line.member("subchunk_shape")?.write_all(b"null"),
+        ArrayCodec::Unsharded(_) => line.member("subchunk_shape")?.write_all(b"null"),
+        _ => line.numbers("subchunk_shape", metadata.subchunk.as_slice()),
     }
 }
 

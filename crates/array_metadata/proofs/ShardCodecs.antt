@@ -6,7 +6,8 @@ use Rattle.codec_metadata.specs.CreateErrors.{Reading}
 use Rattle.sharding_format.specs.declared.order.SubchunkWriteOrder.TheVariants.{Unordered}
 use Rattle.sharding_codec.specs.Configuration.{Configuration, configuration_in}
 use Rattle.sharding_codec.specs.ShardMetadata.{shard_of, shard_configured}
-use Rattle.array_metadata.specs.ArrayCodecs.{Elements, elements_in, shards_in}
+use Rattle.array_codecs.specs.declared.element_codec.ElementCodec.{ElementCodec}
+use Rattle.array_metadata.specs.ArrayCodecs.{elements_in, shards_in}
 use Rattle.array_metadata.specs.CodecNames.{Names}
 use Rattle.array_metadata.proofs.Lists.{some_same}
 
@@ -15,7 +16,7 @@ configured_read : {I X : Type 0} (inner_in : Items → Reading I) (index_in : It
 configured_read inner_in index_in None k e = absurd (cc)
 configured_read inner_in index_in (Some d) k e = rw (some_same (configuration_in d) (Ok k) e) refl
 
-pub shards_read : {I : Type 0} (inner_in : Items → Reading I) (d : Data) (k : Configuration) (inner : I) (index : Elements)
+pub shards_read : {I : Type 0} (inner_in : Items → Reading I) (d : Data) (k : Configuration) (inner : I) (index : ElementCodec)
     → Names d (codes "sharding_indexed") → option_map configuration_in (get (codes "configuration") d) ≡ Some (Ok k)
     → inner_in k.codecs ≡ Ok inner → elements_in k.index_codecs ≡ Ok index
     → shards_in inner_in d

@@ -3,31 +3,35 @@ use Rattle.std.specs.Prelude.{ℕ, Option, Some, None}
 use Rattle.codec_bytes.specs.declared.bytes_codec.Endianness.{Endianness}
 use Rattle.codec_bytes.specs.declared.bytes_codec.Endianness.TheVariants.{Big, Little}
 use Rattle.codec_chains.specs.declared.either_codec.EitherCodec.TheVariants.{First, Second}
-use Rattle.array_metadata.specs.ArrayCodecs.{Elements, Arranged, Served, Subchunks, Chunks, sharding_of}
+use Rattle.array_codecs.specs.declared.element_codec.ElementCodec.{ElementCodec}
+use Rattle.array_codecs.specs.declared.element_codec.ElementCodec.TheVariants.{Bytes, Chain}
+use Rattle.array_metadata.specs.ArrayCodecs.{Arranged}
+use Rattle.array_metadata.specs.declared.inner_codec.InnerCodec.{InnerCodec}
+use Rattle.array_metadata.specs.declared.inner_codec.InnerCodec.TheVariants.{Elements, Shards, Opaque}
+use Rattle.array_metadata.specs.declared.array_codec.ArrayCodec.{ArrayCodec}
+use Rattle.array_metadata.specs.declared.array_codec.ArrayCodec.TheVariants.{Sharded, Transposed, Unsharded}
 use Rattle.array_fields.specs.ElementTypes.{float_size}
 use Rattle.array_fields.specs.declared.element_types.ElementType.{ElementType}
 use Rattle.array_fields.specs.declared.element_types.ElementType.TheVariants.{Complex}
 
 -- the byte order that the codec `bytes` of elements has
-abbrev pub order_of : Elements → Option Endianness
-order_of (First bytes) = bytes
-order_of (Second chain) = chain.array_to_bytes
+abbrev pub order_of : ElementCodec → Option Endianness
+order_of (Bytes bytes) = bytes
+order_of (Chain chain) = chain.array_to_bytes
 
 abbrev pub arranged_order : Arranged → Option Endianness
 arranged_order (First elements) = order_of elements
 arranged_order (Second transposed) = order_of transposed.codec
 
-abbrev pub served_order : Served → Option Endianness
-served_order (First elements) = arranged_order elements
-served_order (Second shards) = arranged_order shards.inner
+abbrev pub subchunks_order : InnerCodec → Option Endianness
+subchunks_order (Elements elements) = arranged_order elements
+subchunks_order (Shards shards) = arranged_order shards.inner
+subchunks_order (Opaque opaque) = None
 
-abbrev pub subchunks_order : Subchunks → Option Endianness
-subchunks_order (First served) = served_order served
-subchunks_order (Second opaque) = None
-
-abbrev pub chunks_order : Chunks → Option Endianness
-chunks_order (First shards) = subchunks_order (sharding_of shards).inner
-chunks_order (Second elements) = arranged_order elements
+abbrev pub chunks_order : ArrayCodec → Option Endianness
+chunks_order (Sharded shards) = subchunks_order shards.inner
+chunks_order (Transposed transposed) = subchunks_order transposed.codec.inner
+chunks_order (Unsharded elements) = arranged_order elements
 
 -- how many bytes each part has of elements whose parts are stored most significant byte first
 abbrev pub size_if_big : ℕ → Option Endianness → Option ℕ

@@ -2,9 +2,10 @@
 ghost use Rattle.std.specs.Prelude.{◌≡◌};
 ghost use Rattle.array_metadata.specs.ByteOrders.{order_of, arranged_order, subchunks_order, chunks_order, size_if_big, reversed_size};
 
-use crate::codecs::{
-    ArrangedCodec, ArrayCodec, ElementCodec, InnerCodec, ServedCodec, sharding_of,
-};
+use crate::array_codec::ArrayCodec;
+use crate::codecs::ArrangedCodec;
+use crate::inner_codec::InnerCodec;
+use array_codecs::ElementCodec;
 use array_fields::ElementType;
 use codec_bytes::Endianness;
 use codec_chains::EitherCodec;
@@ -14,8 +15,8 @@ fn order_of(codec: &ElementCodec) -> Option<Endianness>
     ensures { result ≡ order_of codec.now }
 {
     match codec {
-        EitherCodec::First(bytes) => bytes.endianness(),
-        EitherCodec::Second(chain) => chain.array_to_bytes.endianness(),
+        ElementCodec::Bytes(bytes) => bytes.endianness(),
+        ElementCodec::Chain(chain) => chain.array_to_bytes.endianness(),
     }
 }
 
@@ -34,9 +35,9 @@ fn subchunks_order(codec: &InnerCodec) -> Option<Endianness>
     ensures { result ≡ subchunks_order codec.now }
 {
     match codec {
-        EitherCodec::First(ServedCodec::First(elements)) => arranged_order(elements),
-        EitherCodec::First(ServedCodec::Second(shards)) => arranged_order(&shards.inner),
-        EitherCodec::Second(_) => None,
+        InnerCodec::Elements(elements) => arranged_order(elements),
+        InnerCodec::Shards(shards) => arranged_order(&shards.inner),
+        InnerCodec::Opaque(_) => None,
     }
 }
 
@@ -45,8 +46,9 @@ fn chunks_order(codec: &ArrayCodec) -> Option<Endianness>
     ensures { result ≡ chunks_order codec.now }
 {
     match codec {
-        EitherCodec::First(shards) => subchunks_order(&sharding_of(shards).inner),
-        EitherCodec::Second(elements) => arranged_order(elements),
+        ArrayCodec::Sharded(shards) => subchunks_order(&shards.inner),
+        ArrayCodec::Transposed(transposed) => subchunks_order(&transposed.codec.inner),
+        ArrayCodec::Unsharded(elements) => arranged_order(elements),
     }
 }
 

@@ -3,26 +3,23 @@ ghost use Rattle.std.specs.Prelude.{◌≡◌, Some, Ok, IfOk, IfSome, List, ℕ
 ghost use Rattle.serde_json.specs.Find.{as_array, get};
 ghost use Rattle.serde_json.specs.View.{view, items_view};
 ghost use Rattle.codec_metadata.specs.Metadata.{name_in};
-ghost use Rattle.codec_chains.specs.declared.either_codec.EitherCodec.TheVariants.{First};
 ghost use Rattle.sharding_format.specs.declared.order.SubchunkWriteOrder.TheVariants.{Unordered};
 ghost use Rattle.sharding_codec.specs.Configuration.{configuration_in, shape_in};
 ghost use Rattle.sharding_codec.specs.Configurations.{configuration_of};
 ghost use Rattle.array_fields.specs.MetadataFields.{configured_in};
-ghost use Rattle.array_metadata.specs.ArrayCodecs.{elements_in, arranged_in, shards_in, served_in, subchunks_in, opaque_in, chunk_shards_or, array_codec_in, subchunk_in, sharding_of, subchunk_of, HasAxes};
+ghost use Rattle.array_metadata.specs.ArrayCodecs.{elements_in, arranged_in, shards_in, served_in, subchunks_in, opaque_in, chunk_shards_or, array_codec_in, subchunk_in, subchunk_of, HasAxes};
 ghost use Rattle.array_metadata.specs.UnreadCodecs.{chunks_in};
 ghost use Rattle.array_metadata.specs.CodecNames.{Names};
 
-use crate::codecs::{
-    ArrangedCodec, ArrayCodec, ChunkShards, CodecList, IndexCodec, InnerCodec, ServedCodec,
-    ShardsCodec, arranged_codec,
-};
+use crate::array_codec::ArrayCodec;
+use crate::codecs::{ArrangedCodec, CodecList, IndexCodec, ShardsCodec, arranged_codec};
+use crate::inner_codec::InnerCodec;
 use crate::transposes::{CodecValues, axis_order, codec_values};
 use crate::unread::{
     first_unserved, innermost, names_shards, sole_shards as sole_value, test_names,
 };
-use array_codecs::{OpaqueCodec, TransposeCodec};
+use array_codecs::{ElementCodec, OpaqueCodec, TransposeCodec};
 use array_fields::{MetadataError, Placed};
-use codec_chains::EitherCodec;
 use codec_metadata::PluginCreateError;
 use parts_arrays::DataType;
 use serde_json::Value;
@@ -84,8 +81,8 @@ fn parsed_configuration(
 // Whether all indexes of as many subchunks have encodings of one length.
 fn is_of_fixed_size(codec: &IndexCodec) -> bool {
     match codec {
-        EitherCodec::First(_) => true,
-        EitherCodec::Second(chain) => chain.bytes_to_bytes.are_checksums(),
+        ElementCodec::Bytes(_) => true,
+        ElementCodec::Chain(chain) => chain.bytes_to_bytes.are_checksums(),
     }
 }
 
@@ -167,16 +164,16 @@ fn served_codec(
     place: &str,
     data_type: DataType,
     axes: usize,
-) -> Result<ServedCodec, MetadataError>
+) -> Result<InnerCodec, MetadataError>
     ensures read { IfOk result (λ codec. served_in axes (items_view values.now) ≡ Ok codec) }
 {
     let Some(value) = sole_value(values) else {
         let codec = arranged_codec(alloc, values, place, data_type, axes)?;
-        return Ok(EitherCodec::First(codec));
+        return Ok(InnerCodec::Elements(codec));
     };
     let metadata = shards_at(alloc, value, place, 0)?;
     let codec = innermost_shards(alloc, &metadata, data_type, axes)?;
-    Ok(EitherCodec::Second(codec))
+    Ok(InnerCodec::Shards(codec))
 }
 
 // The codec of subchunks that are not looked into. Refused as the first codec of elements that has no name.
@@ -184,7 +181,7 @@ fn opaque_codec(alloc: Global, values: &[Value], place: &str) -> Result<InnerCod
     ensures read { IfOk result (λ codec. opaque_in (items_view values.now) ≡ Ok codec) }
 {
     test_names(alloc, innermost(values), place)?;
-    Ok(EitherCodec::Second(OpaqueCodec))
+    Ok(InnerCodec::Opaque(OpaqueCodec))
 }
 
 // The codec of subchunks, which are not looked into where elements go through a codec that is not served.
@@ -199,10 +196,7 @@ fn inner_codec(
 {
     match first_unserved(codec_values(innermost(values), "bytes").codecs) {
         Some(_) => opaque_codec(alloc, values, place),
-        None => {
-            let served = served_codec(alloc, values, place, data_type, axes)?;
-            Ok(EitherCodec::First(served))
-        }
+        None => served_codec(alloc, values, place, data_type, axes),
     }
 }
 
@@ -249,22 +243,22 @@ fn chunk_shards(
     list: &str,
     data_type: DataType,
     axes: usize,
-) -> Result<ChunkShards, MetadataError>
+) -> Result<ArrayCodec, MetadataError>
     requires transpose { IfSome transpose (λ metadata. name_in (view metadata.now) ≡ Some (codes "transpose")) }
     requires named { name_in (view value.now) ≡ Some (codes "sharding_indexed") }
-    ensures axes { IfOk result (λ codec. HasAxes axes (First codec)) }
+    ensures axes { IfOk result (HasAxes axes) }
     ensures read { IfOk result (λ codec. chunk_shards_or axes (option_map (λ metadata. view metadata.now) transpose.entry) (view value.now) ≡ Ok codec) }
-    ensures shape { IfOk result (λ codec. option_and_then shape_in (configured_in (codes "chunk_shape") (view value.now)) ≡ Some (sharding_of codec).subchunk_shape) }
+    ensures shape { IfOk result (λ codec. (chunk : List ℕ) → option_and_then shape_in (configured_in (codes "chunk_shape") (view value.now)) ≡ Some (subchunk_of codec chunk)) }
 {
     let Some(transpose) = transpose else {
         let metadata = shards_at(alloc, value, list, 0)?;
         let codec = shards(alloc, &metadata, data_type, axes)?;
-        return Ok(EitherCodec::First(codec));
+        return Ok(ArrayCodec::Sharded(codec));
     };
     let order = axis_order(alloc, transpose, list, axes)?;
     let metadata = shards_at(alloc, value, list, 1)?;
     let codec = opaque_shards(alloc, &metadata, axes)?;
-    Ok(EitherCodec::Second(TransposeCodec { order, codec }))
+    Ok(ArrayCodec::Transposed(TransposeCodec { order, codec }))
 }
 
 // The codec of chunks that are no shards. Refused as `UnsupportedChain` where shards have another codec beside them than `transpose` before
@@ -307,8 +301,7 @@ pub fn array_codec(
     } = codec_values(values, "sharding_indexed");
     let Some(value) = sole_value(behind) else {
         let codec = elements_of_chunks(alloc, values, list, data_type, axes)?;
-        return Ok(EitherCodec::Second(codec));
+        return Ok(ArrayCodec::Unsharded(codec));
     };
-    let shards = chunk_shards(alloc, transpose, value, list, data_type, axes)?;
-    Ok(EitherCodec::First(shards))
+    chunk_shards(alloc, transpose, value, list, data_type, axes)
 }

@@ -2,12 +2,13 @@
 ghost use Rattle.std.specs.Prelude.{◌≡◌, IsTrue, Ok, IfOk, IfSome, codes};
 ghost use Rattle.std.specs.List.{All};
 ghost use Rattle.serde_json.specs.View.{view, items_view};
-ghost use Rattle.array_metadata.specs.ArrayCodecs.{bytes_in, elements_in, arranged_in, sharding_of};
+ghost use Rattle.array_metadata.specs.ArrayCodecs.{bytes_in, elements_in, arranged_in};
 ghost use Rattle.array_metadata.specs.CodecNames.{codec_name, IsByteCodec, IsNamed, Names, listed, metadata_of};
 
 use crate::byte_codecs::{are_byte_codecs, byte_codecs};
+use crate::inner_codec::InnerCodec;
 use crate::transposes::{CodecValues, axis_order, codec_values};
-use array_codecs::{ByteCodecs, OpaqueCodec, TransposeCodec};
+use array_codecs::{ElementCodec, TransposeCodec};
 use array_fields::{MetadataError, Placed};
 use codec_bytes::BytesCodec;
 use codec_chains::{BytesChain, EitherCodec};
@@ -17,39 +18,14 @@ use serde_json::Value;
 use sharding_codec::ShardingCodec;
 use std::alloc::Global;
 
-/// `bytes`, or `bytes` and codecs from bytes to bytes behind it.
-pub type ElementCodec = EitherCodec<BytesCodec, BytesChain<BytesCodec, ByteCodecs>>;
-
 /// The codec of a shard's index.
 pub type IndexCodec = ElementCodec;
 
 /// The codec of elements inside a shard: `transpose` stands before it or not.
 pub type ArrangedCodec = EitherCodec<ElementCodec, TransposeCodec<ElementCodec>>;
 
-/// The codec of subchunks that are looked into: of elements, or of shards once more.
-pub type ServedCodec = EitherCodec<ArrangedCodec, ShardingCodec<ArrangedCodec, IndexCodec>>;
-
-/// The codec of a shard's subchunks, which are looked into or not.
-pub type InnerCodec = EitherCodec<ServedCodec, OpaqueCodec>;
-
 /// The codec of shards of an array.
 pub type ShardsCodec = ShardingCodec<InnerCodec, IndexCodec>;
-
-/// The codec of chunks that are shards: `transpose` stands before it or not. Behind it no subchunk is looked into.
-pub type ChunkShards = EitherCodec<ShardsCodec, TransposeCodec<ShardsCodec>>;
-
-/// The codec of an array's chunks: of shards, or of elements.
-pub type ArrayCodec = EitherCodec<ChunkShards, ArrangedCodec>;
-
-/// The codec of shards itself, without `transpose` before it.
-pub fn sharding_of(codec: &ChunkShards) -> &ShardsCodec
-    ensures { result.now ≡ sharding_of codec.now }
-{
-    match codec {
-        EitherCodec::First(shards) => shards,
-        EitherCodec::Second(transposed) => &transposed.codec,
-    }
-}
 
 // The codecs that are served.
 #[derive(Clone, Copy, PartialEq, Eq)]
@@ -183,12 +159,12 @@ impl<'a> CodecList<'a> {
     {
         match self.codecs.as_slice() {
             [first] if first.name == CodecName::Bytes => {
-                Ok(EitherCodec::First(bytes_codec(alloc, &first.metadata, data_type)?))
+                Ok(ElementCodec::Bytes(bytes_codec(alloc, &first.metadata, data_type)?))
             }
             [first, behind @ ..] if first.name == CodecName::Bytes && are_byte_codecs(behind) => {
                 let bytes = bytes_codec(alloc, &first.metadata, data_type)?;
                 let codecs = byte_codecs(alloc, behind)?;
-                Ok(EitherCodec::Second(BytesChain::new(bytes, codecs)))
+                Ok(ElementCodec::Chain(BytesChain::new(bytes, codecs)))
             }
             _ => Err(self.refused(
                 alloc,

@@ -1,19 +1,20 @@
 // The metadata of an array on disk: what its `zarr.json` says.
 #![tactic(auto)]
 
+mod array_codec;
 mod byte_codecs;
 mod byte_order;
 mod chunk_codecs;
 mod codecs;
+mod inner_codec;
 mod metadata;
 mod obstacles;
 mod transposes;
 mod unread;
 
+pub use array_codec::ArrayCodec;
 pub use byte_order::reversed_size;
-pub use codecs::{
-    ArrangedCodec, ArrayCodec, ChunkShards, ElementCodec, IndexCodec, InnerCodec, ServedCodec,
-    ShardsCodec, sharding_of,
-};
+pub use codecs::{ArrangedCodec, IndexCodec, ShardsCodec};
+pub use inner_codec::InnerCodec;
 pub use metadata::{ArrayMetadata, TypeText};
 pub use obstacles::Obstacles;

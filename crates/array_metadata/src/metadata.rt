@@ -15,10 +15,10 @@ ghost use Rattle.parts_subsets.specs.Grid.{Divides};
 ghost use Rattle.parts_arrays.specs.Types.{size_of, HasElements};
 ghost use Rattle.parts_arrays.specs.declared.data_type.DataTypeSize.TheVariants.{Fixed};
 
+use crate::array_codec::ArrayCodec;
 use crate::chunk_codecs::array_codec;
-use crate::codecs::{
-    ArrayCodec, ChunkShards, InnerCodec, ServedCodec, ShardsCodec, sharding_of, unserved,
-};
+use crate::codecs::{ShardsCodec, unserved};
+use crate::inner_codec::InnerCodec;
 use crate::unread::unread_codec;
 use array_fields::{
     ElementType, MetadataError, Placed, axes_in, dimension_names_in, element_type_in, escaped,
@@ -213,7 +213,7 @@ fn test_shards(alloc: Global, shard: &ChunkShape, codec: &ShardsCodec) -> Result
     let place = "codecs[0].configuration.chunk_shape";
     test_division(alloc, place, shard, &codec.subchunk_shape)?;
     match &codec.inner {
-        InnerCodec::First(ServedCodec::Second(inner)) => {
+        InnerCodec::Shards(inner) => {
             let place = "codecs[0].configuration.codecs[0].configuration.chunk_shape";
             test_division(alloc, place, &codec.subchunk_shape, &inner.subchunk_shape)
         }
@@ -230,12 +230,12 @@ fn test_subchunks(
     ensures { OnOk result ((chunk : List ℕ) → encoded_of codec.now chunk ≡ encoded.now → Divides (subchunk_of codec.now chunk) encoded.now) }
 {
     match codec {
-        ArrayCodec::First(ChunkShards::First(shards)) => test_shards(alloc, encoded, shards),
-        ArrayCodec::First(ChunkShards::Second(transposed)) => {
+        ArrayCodec::Sharded(shards) => test_shards(alloc, encoded, shards),
+        ArrayCodec::Transposed(transposed) => {
             let place = "codecs[1].configuration.chunk_shape";
             test_division(alloc, place, encoded, &transposed.codec.subchunk_shape)
         }
-        ArrayCodec::Second(_) => test_division(alloc, "codecs", encoded, encoded),
+        ArrayCodec::Unsharded(_) => test_division(alloc, "codecs", encoded, encoded),
     }
 }
 
@@ -250,10 +250,8 @@ fn encoded_of(
     ensures axes { IfOk result (λ shape. length shape ≡ length chunk.now) }
 {
     match codec {
-        ArrayCodec::First(ChunkShards::Second(transposed)) => {
-            transposed.order.transposed_shape(alloc, chunk)
-        }
-        _ => chunk.try_clone(alloc),
+        ArrayCodec::Transposed(transposed) => transposed.order.transposed_shape(alloc, chunk),
+        ArrayCodec::Sharded(_) | ArrayCodec::Unsharded(_) => chunk.try_clone(alloc),
     }
 }
 
@@ -266,19 +264,58 @@ fn subchunk_of(
     ensures { IfOk result (λ shape. shape ≡ subchunk_of codec.now chunk.now) }
 {
     match codec {
-        ArrayCodec::First(shards) => sharding_of(shards).subchunk_shape.try_clone(alloc),
-        ArrayCodec::Second(_) => chunk.try_clone(alloc),
+        ArrayCodec::Sharded(shards) => shards.subchunk_shape.try_clone(alloc),
+        ArrayCodec::Transposed(transposed) => transposed.codec.subchunk_shape.try_clone(alloc),
+        ArrayCodec::Unsharded(_) => chunk.try_clone(alloc),
     }
 }
 
-// What the member `codecs` says: the codec of chunks, the one for which no subchunk is looked into, its text, and how the codec cuts chunks.
+// How a codec cuts the chunks of an array: the shape in which they are cut, and that of a subchunk.
+#[derive(Drop)]
+struct Cut {
+    encoded: ChunkShape,
+    subchunk: ChunkShape,
+}
+
+// How a codec cuts chunks of a shape. Refused as `BadField` where subchunks do not divide them evenly.
+fn cut_of(alloc: Global, codec: &ArrayCodec, chunk: &ChunkShape) -> Result<Cut, MetadataError>
+    requires axes { HasAxes (length chunk.now) codec.now }
+    ensures encoded { IfOk result (λ cut. encoded_of codec.now chunk.now ≡ cut.encoded) }
+    ensures encoded_axes { IfOk result (λ cut. length cut.encoded ≡ length chunk.now) }
+    ensures divides { IfOk result (λ cut. Divides cut.subchunk cut.encoded) }
+    ensures axes { IfOk result (λ cut. length cut.subchunk ≡ length chunk.now) }
+    ensures subchunk { IfOk result (λ cut. subchunk_of codec.now chunk.now ≡ cut.subchunk) }
+{
+    let encoded = encoded_of(alloc, codec, chunk)?;
+    test_subchunks(alloc, &encoded, codec)?;
+    let subchunk = subchunk_of(alloc, codec, chunk)?;
+    Ok(Cut { encoded, subchunk })
+}
+
+// What the member `codecs` says for a terminal: the codec for which no subchunk is looked into, and its text.
+#[derive(Drop)]
+struct SaidCodecs {
+    unread: Option<String>,
+    text: String,
+}
+
+// What the member `codecs` says for a terminal.
+fn said_codecs(alloc: Global, codecs: &Placed) -> Result<SaidCodecs, MetadataError>
+    ensures { IfOk result (λ said. option_map string_bytes said.unread ≡ unread_codec_in (as_array (view codecs.now.value.now))) }
+{
+    let unread = unread_codec(alloc, codecs)?;
+    let text = escaped_whole(alloc, codecs.value.to_string(alloc)?.as_str())?;
+    Ok(SaidCodecs { unread, text })
+}
+
+// What the member `codecs` says: the codec of chunks, how it cuts them, and what is said for a terminal.
 #[derive(Drop)]
 pub(crate) struct ChunkCodecs {
     codec: ArrayCodec,
-    unread: Option<String>,
-    text: String,
     encoded: ChunkShape,
     subchunk: ChunkShape,
+    unread: Option<String>,
+    text: String,
 }
 
 // What the member `codecs` says of an array of these cells. Refused for `codecs`.
@@ -299,17 +336,14 @@ pub(crate) fn codecs_of_cells(
 {
     let part_type = cells.element_type.part_type();
     let codec = array_codec(alloc, codecs, part_type, cells.shape.len())?;
-    let encoded = encoded_of(alloc, &codec, &cells.shard)?;
-    test_subchunks(alloc, &encoded, &codec)?;
-    let subchunk = subchunk_of(alloc, &codec, &cells.shard)?;
-    let unread = unread_codec(alloc, codecs)?;
-    let text = escaped_whole(alloc, codecs.value.to_string(alloc)?.as_str())?;
+    let cut = cut_of(alloc, &codec, &cells.shard)?;
+    let said = said_codecs(alloc, codecs)?;
     Ok(ChunkCodecs {
         codec,
-        unread,
-        text,
-        encoded,
-        subchunk,
+        encoded: cut.encoded,
+        subchunk: cut.subchunk,
+        unread: said.unread,
+        text: said.text,
     })
 }
 
@@ -378,7 +412,7 @@ impl ArrayMetadata {
     pub fn is_transposed(&self) -> bool
         ensures { result ≡ are_transposed self.now.codec }
     {
-        matches!(&self.codec, ArrayCodec::First(ChunkShards::Second(_)))
+        matches!(&self.codec, ArrayCodec::Transposed(_))
     }
 
     /// Tests that the elements are read. Refused, in this order, as `UnsupportedCodec` with the codec for which no subchunk is looked

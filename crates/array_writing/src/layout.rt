@@ -1,7 +1,7 @@
 // How an array is laid out anew, and its metadata then.
 use array_cli::Stop;
 use array_fields::escaped;
-use array_metadata::{ArrayCodec, ArrayMetadata, sharding_of};
+use array_metadata::{ArrayCodec, ArrayMetadata};
 use serde_json::Value;
 use sharding_format::{ShardingIndexLocation, SubchunkWriteOrder};
 use std::alloc::{AllocError, Global};
@@ -134,12 +134,17 @@ struct OldLayout<'d> {
 // What the document of an array, which has this metadata, says of its layout.
 fn old_layout<'d>(document: &'d Value, metadata: &ArrayMetadata) -> OldLayout<'d> {
     match &metadata.codec {
-        ArrayCodec::First(shards) => OldLayout {
+        ArrayCodec::Sharded(shards) => OldLayout {
             inner: document.pointer("/codecs/0/configuration/codecs"),
             index: document.pointer("/codecs/0/configuration/index_codecs"),
-            location: sharding_of(shards).location,
+            location: shards.location,
         },
-        ArrayCodec::Second(_) => OldLayout {
+        ArrayCodec::Transposed(transposed) => OldLayout {
+            inner: document.pointer("/codecs/1/configuration/codecs"),
+            index: document.pointer("/codecs/1/configuration/index_codecs"),
+            location: transposed.codec.location,
+        },
+        ArrayCodec::Unsharded(_) => OldLayout {
             inner: document.pointer("/codecs"),
             index: None,
             location: ShardingIndexLocation::End,
