@@ -11,4 +11,4 @@ mod xx_hash;
 pub use crc32c_checksum::crc32c;
 pub use crc32c_codec::Crc32cCodec;
 pub use register::{Polynomial, checksum};
-pub use xx_hash::xxh64;
+pub use xx_hash::{is_content_checksum, xxh64};

@@ -1,5 +1,5 @@
 // The checksum XXH64 with seed 0, by the steps of its specification.
-ghost use Rattle.std.specs.Prelude.{◌≡◌, ◌+◌, ◌≤◌, ◌<◌, fold, length};
+ghost use Rattle.std.specs.Prelude.{◌≡◌, ◌+◌, ◌%◌, ◌^◌, ◌==◌, ◌≤◌, ◌<◌, fold, length};
 ghost use Rattle.codec_checksums.specs.XxHash.{round, first_accumulators, lane, after_stripe, merge_accumulator, converged, after_eight, after_four, after_one, after_last, after_rest, avalanche, xxh64};
 
 const PRIME1: u64 = 0x9E37_79B1_85EB_CA87;
@@ -203,4 +203,11 @@ pub fn xxh64(bytes: &[u8]) -> u64
         converged(after_stripes(stripes))
     };
     avalanche(after_rest(acc.wrapping_add(bytes.len() as u64), rest))
+}
+
+/// Whether a number is Content_Checksum of bytes (RFC 8878, 3.1.1): the low four bytes of their checksum XXH64.
+pub fn is_content_checksum(number: u64, content: &[u8]) -> bool
+    ensures { result ≡ (number == xxh64 content.now % 2 ^ 32) }
+{
+    number == xxh64(content) % (1 << 32)
 }
