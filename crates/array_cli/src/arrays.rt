@@ -1,6 +1,7 @@
 // An array on disk that is open: its metadata, its shards, and their files.
+use crate::compaction_plans::Planned;
 use crate::refusal::{Place, Refusal};
-use crate::shard_codec::{Planned, ShardCodec, ShardFile};
+use crate::shard_codec::{ShardCodec, ShardFile};
 use crate::stop::Stop;
 use array_codecs::reversed_parts;
 use array_fields::{LONGEST_TEXT, MetadataError, escaped};
@@ -57,20 +58,30 @@ pub fn turned(
     }
 }
 
-// What an array's `zarr.json`, which has this text, says; the fill value in the order in which elements are stored. Shards are written
-// anew in an order.
+// Has shards written anew in an order.
+fn set_order(metadata: &mut ArrayMetadata, order: SubchunkWriteOrder) {
+    if let ArrayCodec::Sharded(shards) = &mut metadata.codec {
+        shards.order = order;
+    }
+}
+
+// Puts the fill value in the order in which elements are stored.
+fn turn_fill_value(alloc: Global, metadata: &mut ArrayMetadata) -> Result<(), AllocError> {
+    if let Some(bytes) = turned(alloc, metadata, metadata.fill_value.as_ne_bytes())? {
+        metadata.fill_value = FillValue::new(bytes);
+    }
+    Ok(())
+}
+
+// What this text of a `zarr.json` says; the fill value as elements are stored, and shards to be written in an order.
 fn read_metadata(
     alloc: Global,
     text: &str,
     order: SubchunkWriteOrder,
 ) -> Result<ArrayMetadata, MetadataError> {
     let mut metadata = ArrayMetadata::from_text(alloc, text)?;
-    if let ArrayCodec::Sharded(shards) = &mut metadata.codec {
-        shards.order = order;
-    }
-    if let Some(bytes) = turned(alloc, &metadata, metadata.fill_value.as_ne_bytes())? {
-        metadata.fill_value = FillValue::new(bytes);
-    }
+    set_order(&mut metadata, order);
+    turn_fill_value(alloc, &mut metadata)?;
     Ok(metadata)
 }
 
@@ -88,16 +99,26 @@ pub fn described(
     }
 }
 
+// Tests how long the document of a folder is.
+fn test_document<R: Files + AllocGlobal>(rt: &R, path: &str, document: &str) -> Result<(), Stop> {
+    let length = document_length(rt, path, document)?;
+    match MetadataError::test_length(length) {
+        Ok(()) => Ok(()),
+        Err(error) => Err(Stop::Metadata(Obstacles::one(rt.alloc(), document, error)?)),
+    }
+}
+
+// The text of the `zarr.json` in a folder.
+fn text_of<R: Files + AllocGlobal>(rt: &R, path: &str) -> Result<String, Stop> {
+    let document = format!(in rt.alloc(); "{path}/zarr.json")?;
+    test_document(rt, path, &document)?;
+    Ok(read_document(rt, &document, LONGEST_TEXT)?)
+}
+
 /// The metadata of the array whose folder has this path. How long the text is, is tested before it is read.
 pub fn metadata_of<R: Files + AllocGlobal>(rt: &R, path: &str) -> Result<ArrayMetadata, Stop> {
-    let alloc = rt.alloc();
-    let document = format!(in alloc; "{path}/zarr.json")?;
-    let length = document_length(rt, path, &document)?;
-    if let Err(error) = MetadataError::test_length(length) {
-        return Err(Stop::Metadata(Obstacles::one(alloc, &document, error)?));
-    }
-    let text = read_document(rt, &document, LONGEST_TEXT)?;
-    described(alloc, path, &text, SubchunkWriteOrder::C)
+    let text = text_of(rt, path)?;
+    described(rt.alloc(), path, &text, SubchunkWriteOrder::C)
 }
 
 // The files that a part has of a list of them, in its order.
@@ -202,6 +223,20 @@ impl<'a, R: Files + AllocGlobal, C> Array<'a, R, C> {
         }
     }
 
+    /// Why a command stops at a place in a shard.
+    pub fn stop(
+        &self,
+        shard: &Shard<'_>,
+        file: &ShardFile<'a, R>,
+        error: CodecError,
+        position: Place,
+    ) -> Stop {
+        match self.refusal(shard, file, error, position) {
+            Ok(refusal) => Stop::Refused(refusal),
+            Err(stop) => stop,
+        }
+    }
+
     /// The refusal of a place in a shard.
     pub fn refusal_at(
         &self,
@@ -249,10 +284,18 @@ impl<'a, R: Files + AllocGlobal, C: ShardCodec<ShardFile<'a, R>>> Array<'a, R, C
     ) -> Result<Result<C::Open, Refusal>, Stop> {
         match self.codec.open(self.alloc(), file, self.metadata) {
             Ok(opened) => Ok(Ok(opened)),
-            Err((file, error)) => {
-                let refusal = self.refusal(shard, &file, error, Place::opening(&error))?;
-                Ok(Err(refusal))
-            }
+            Err((file, error)) => match self.refusal(shard, &file, error, Place::opening(&error)) {
+                Ok(refusal) => Ok(Err(refusal)),
+                Err(stop) => Err(stop),
+            },
+        }
+    }
+
+    /// The shard that a file holds, opened. A refusal of it stops the command.
+    pub fn opened(&self, shard: &Shard<'_>, file: ShardFile<'a, R>) -> Result<C::Open, Stop> {
+        match self.open_shard(shard, file)? {
+            Ok(opened) => Ok(opened),
+            Err(refusal) => Err(Stop::Refused(refusal)),
         }
     }
 

@@ -13,8 +13,7 @@ pub trait CodecUse<F> {
     fn with<C: ShardCodec<F>>(self, codec: C) -> Self::Answer;
 }
 
-/// Does something with the codec that metadata names, without `transpose` before shards. It alone names the types of such codecs; all else
-/// works with any.
+/// Does something with the codec that metadata names, without `transpose` before shards. It alone names the types of such codecs.
 pub fn with_codec<F: BytesPartialDecoderTraits, U: CodecUse<F>>(
     metadata: &ArrayMetadata,
     user: U,

@@ -1,6 +1,6 @@
 // The elements of a subset of an array.
 use crate::arrays::{Array, Shard};
-use crate::refusal::{Place, Refusal};
+use crate::refusal::Place;
 use crate::shard_codec::{OpenShard, ShardCodec, ShardFile};
 use crate::sound::{put_elements, put_sound};
 use crate::stop::{Ending, Stop};
@@ -34,8 +34,8 @@ impl Answer {
     }
 }
 
-// The cells of a subset as they are held, or fill values where none are.
-pub(crate) fn held_cells<R: Files + AllocGlobal, C>(
+/// The cells of a subset as they are held, or fill values where none are.
+pub fn held_cells<R: Files + AllocGlobal, C>(
     array: &Array<'_, R, C>,
     requested: &ArraySubset,
     held: Option<SubsetCells>,
@@ -46,18 +46,41 @@ pub(crate) fn held_cells<R: Files + AllocGlobal, C>(
     }
 }
 
-// Puts the cells of a part into those of a subset, for which memory is asked with the first part.
-pub(crate) fn put_shard_part<R: Files + AllocGlobal, C>(
+// Has the cells of a subset held: fill values where none are.
+fn hold_cells<R: Files + AllocGlobal, C>(
+    array: &Array<'_, R, C>,
+    requested: &ArraySubset,
+    cells: &mut Option<SubsetCells>,
+) -> Result<(), CodecError> {
+    if cells.is_none() {
+        *cells = Some(held_cells(array, requested, None)?);
+    }
+    Ok(())
+}
+
+/// Puts the cells of a part into those of a subset, for which memory is asked with the first part.
+pub fn put_shard_part<R: Files + AllocGlobal, C>(
     array: &Array<'_, R, C>,
     requested: &ArraySubset,
     part: &ShardPart,
     found: &[u8],
     cells: &mut Option<SubsetCells>,
-) -> Result<(), Stop> {
-    let mut held = held_cells(array, requested, cells.take())?;
-    put_elements(array.metadata, &part.in_subset, found, &mut held)?;
-    *cells = Some(held);
-    Ok(())
+) -> Result<(), CodecError> {
+    hold_cells(array, requested, cells)?;
+    match cells {
+        Some(held) => put_elements(array.metadata, &part.in_subset, found, held),
+        None => Ok(()),
+    }
+}
+
+// Whether a subchunk of a shard that is open does not decode.
+fn is_refused<'a, R: Files + AllocGlobal, C, S: OpenShard<ShardFile<'a, R>>>(
+    array: &Array<'a, R, C>,
+    opened: &mut S,
+    subchunk: &[u64],
+) -> bool {
+    let read = opened.test_subchunk(array.alloc(), array.metadata, subchunk);
+    matches!(read, Err(CodecError::Damaged))
 }
 
 // Whether a subchunk of a shard that is open has elements of a part of a subset, and does not decode.
@@ -67,16 +90,14 @@ fn is_damaged<'a, R: Files + AllocGlobal, C, S: OpenShard<ShardFile<'a, R>>>(
     opened: &mut S,
     number: u64,
 ) -> Result<bool, CodecError> {
-    let alloc = array.alloc();
-    let Some(subchunk) = unravel_index(alloc, number, array.subchunks.as_slice())? else {
-        return Ok(false);
-    };
-    let shape = array.metadata.subchunk.as_slice();
-    if shared_elements(alloc, part, &subchunk, shape)?.is_none() {
-        return Ok(false);
+    let (alloc, shape) = (array.alloc(), array.metadata.subchunk.as_slice());
+    match unravel_index(alloc, number, array.subchunks.as_slice())? {
+        Some(subchunk) => {
+            let shared = shared_elements(alloc, part, &subchunk, shape)?;
+            Ok(shared.is_some() && is_refused(array, opened, &subchunk))
+        }
+        None => Ok(false),
     }
-    let read = opened.test_subchunk(alloc, array.metadata, &subchunk);
-    Ok(matches!(read, Err(CodecError::Damaged)))
 }
 
 // Where a refusal of a read of a part of a subset lies, of a shard that is open: the lowest subchunk that does not decode.
@@ -114,44 +135,45 @@ fn read_placed<'a, R: Files + AllocGlobal, C, S: OpenShard<ShardFile<'a, R>>>(
     Err((error, place))
 }
 
-// Reads the part of a subset that lies in a shard, which is open, or gives its refusal.
-fn read_opened<'a, R: Files + AllocGlobal, C: ShardCodec<ShardFile<'a, R>>>(
-    array: &Array<'a, R, C>,
-    part: &ShardPart,
-    shard: &Shard<'_>,
-    mut opened: C::Open,
-) -> Result<Result<Vec<u8>, Refusal>, Stop> {
-    let read = read_placed(array, part, &mut opened);
-    let file = opened.close();
-    match read {
-        Ok(found) => Ok(Ok(found)),
-        Err((error, place)) => Ok(Err(array.refusal(shard, &file, error, place)?)),
-    }
-}
-
-// Reads a part of a subset, which lies in a shard, or gives its refusal.
+// Reads a part of a subset, which lies in a shard.
 fn read_shard<'a, R: Files + AllocGlobal, C: ShardCodec<ShardFile<'a, R>>>(
     array: &Array<'a, R, C>,
     part: &ShardPart,
     shard: &Shard<'_>,
-) -> Result<Result<Vec<u8>, Refusal>, Stop> {
-    let file = array.file(shard.key)?;
-    match array.open_shard(shard, file)? {
-        Ok(opened) => read_opened(array, part, shard, opened),
-        Err(refusal) => Ok(Err(refusal)),
+) -> Result<Vec<u8>, Stop> {
+    let mut opened = array.opened(shard, array.file(shard.key)?)?;
+    let read = read_placed(array, part, &mut opened);
+    let file = opened.close();
+    match read {
+        Ok(found) => Ok(found),
+        Err((error, place)) => Err(array.stop(shard, &file, error, place)),
     }
 }
 
-// A shard of a grid: its key and its coordinates.
+// Reads a part of a subset, which lies in a shard; `None` where it is refused and is to be filled.
+fn read_or_fill<'a, R: Files + AllocGlobal, C: ShardCodec<ShardFile<'a, R>>>(
+    array: &Array<'a, R, C>,
+    part: &ShardPart,
+    shard: &Shard<'_>,
+    fills: bool,
+) -> Result<Option<Vec<u8>>, Stop> {
+    match read_shard(array, part, shard) {
+        Ok(found) => Ok(Some(found)),
+        Err(Stop::Refused(_)) if fills => Ok(None),
+        Err(stop) => Err(stop),
+    }
+}
+
+/// A shard of a grid: its key and its coordinates.
 #[derive(Drop)]
-struct GridShard {
-    key: String,
+pub struct GridShard {
+    pub key: String,
     coordinates: Vec<u64>,
 }
 
 impl GridShard {
-    // The shard.
-    fn shard(&self) -> Shard<'_> {
+    /// The shard.
+    pub fn shard(&self) -> Shard<'_> {
         Shard {
             key: &self.key,
             coordinates: &self.coordinates,
@@ -159,8 +181,8 @@ impl GridShard {
     }
 }
 
-// The shard of a grid with this number.
-fn shard_of_grid<R: Files + AllocGlobal, C>(
+/// The shard of a grid with this number. Refused as `OutOfBounds` where it has none.
+pub fn shard_of_grid<R: Files + AllocGlobal, C>(
     array: &Array<'_, R, C>,
     grid: &ShardGrid,
     number: u64,
@@ -172,27 +194,38 @@ fn shard_of_grid<R: Files + AllocGlobal, C>(
     Ok(GridShard { key, coordinates })
 }
 
-// A part of a subset, the shard in which it lies, and its elements or why they are refused.
+/// A part of a subset, the shard in which it lies, and its elements; `None` where these are refused and are to be filled.
 #[derive(Drop)]
-pub(crate) struct PartRead {
-    pub(crate) part: ShardPart,
+pub struct PartRead {
+    pub part: ShardPart,
     shard: GridShard,
-    pub(crate) found: Result<Vec<u8>, Refusal>,
+    pub found: Option<Vec<u8>>,
 }
 
-// Reads the part of a subset with this number; nothing past the last one.
-pub(crate) fn read_numbered<'a, R: Files + AllocGlobal, C: ShardCodec<ShardFile<'a, R>>>(
+// Reads a part of a subset.
+fn read_part<'a, R: Files + AllocGlobal, C: ShardCodec<ShardFile<'a, R>>>(
+    array: &Array<'a, R, C>,
+    grid: &ShardGrid,
+    part: ShardPart,
+    fills: bool,
+) -> Result<PartRead, Stop> {
+    let shard = shard_of_grid(array, grid, part.shard)?;
+    let found = read_or_fill(array, &part, &shard.shard(), fills)?;
+    Ok(PartRead { part, shard, found })
+}
+
+/// Reads the part of a subset with this number, which is to be filled where it is refused, if `fills`; nothing past the last one.
+pub fn read_numbered<'a, R: Files + AllocGlobal, C: ShardCodec<ShardFile<'a, R>>>(
     array: &Array<'a, R, C>,
     grid: &ShardGrid,
     parts: &ShardParts,
     number: u64,
+    fills: bool,
 ) -> Result<Option<PartRead>, Stop> {
-    let Some(part) = parts.part(array.alloc(), number)? else {
-        return Ok(None);
-    };
-    let shard = shard_of_grid(array, grid, part.shard)?;
-    let found = read_shard(array, &part, &shard.shard())?;
-    Ok(Some(PartRead { part, shard, found }))
+    match parts.part(array.alloc(), number)? {
+        Some(part) => Ok(Some(read_part(array, grid, part, fills)?)),
+        None => Ok(None),
+    }
 }
 
 // Reads what is sound of a part of a subset that is refused, where the rest is to be filled.
@@ -204,28 +237,49 @@ fn fill_part<'a, R: Files + AllocGlobal, C: ShardCodec<ShardFile<'a, R>>, M: Wri
     answer: &mut Answer,
     progress: &mut Progress<'_, M>,
 ) -> Result<(), Stop> {
-    let mut held = held_cells(array, requested, answer.cells.take())?;
-    put_sound(array, part, shard, &mut held, progress)?;
-    answer.cells = Some(held);
+    hold_cells(array, requested, &mut answer.cells)?;
     answer.is_filled = true;
-    Ok(())
+    match &mut answer.cells {
+        Some(held) => put_sound(array, part, shard, held, progress),
+        None => Ok(()),
+    }
 }
 
 // Puts a part that was read into the answer.
 fn put_read<'a, R: Files + AllocGlobal, C: ShardCodec<ShardFile<'a, R>>, M: Write>(
     array: &Array<'a, R, C>,
     requested: &ArraySubset,
-    read: PartRead,
+    read: &PartRead,
     answer: &mut Answer,
     progress: &mut Progress<'_, M>,
 ) -> Result<(), Stop> {
-    let PartRead { part, shard, found } = read;
-    match found {
-        Ok(found) => put_shard_part(array, requested, &part, &found, &mut answer.cells),
-        Err(_) if answer.fills => {
-            fill_part(array, requested, &part, &shard.shard(), answer, progress)
-        }
-        Err(refusal) => Err(Stop::Refused(refusal)),
+    let part = &read.part;
+    match &read.found {
+        Some(found) => Ok(put_shard_part(array, requested, part, found, &mut answer.cells)?),
+        None => fill_part(
+            array,
+            requested,
+            part,
+            &read.shard.shard(),
+            answer,
+            progress,
+        ),
+    }
+}
+
+// Reads the part of a subset with a number into the answer.
+fn read_next<'a, R: Files + AllocGlobal, C: ShardCodec<ShardFile<'a, R>>, M: Write>(
+    array: &Array<'a, R, C>,
+    requested: &ArraySubset,
+    grid: &ShardGrid,
+    parts: &ShardParts,
+    number: u64,
+    answer: &mut Answer,
+    progress: &mut Progress<'_, M>,
+) -> Result<(), Stop> {
+    match read_numbered(array, grid, parts, number, answer.fills)? {
+        Some(read) => put_read(array, requested, &read, answer, progress),
+        None => Ok(()),
     }
 }
 
@@ -249,9 +303,7 @@ fn read_parts<'a, R: Files + AllocGlobal, C: ShardCodec<ShardFile<'a, R>>, M: Wr
 ) -> Result<(), Stop> {
     for number in 0..parts.len() {
         progress.step(number, parts.len());
-        if let Some(read) = read_numbered(array, grid, parts, number)? {
-            put_read(array, requested, read, answer, progress)?;
-        }
+        read_next(array, requested, grid, parts, number, answer, progress)?;
     }
     Ok(())
 }
@@ -270,6 +322,20 @@ fn ended<R: Files + AllocGlobal, C>(
     Ok((held_cells(array, requested, answer.cells)?, ending))
 }
 
+// The elements of a subset of an array whose shards lie in a grid, and how the command ends.
+fn read_in_grid<'a, R: Files + AllocGlobal, C: ShardCodec<ShardFile<'a, R>>, M: Write>(
+    array: &Array<'a, R, C>,
+    requested: &ArraySubset,
+    grid: &ShardGrid,
+    fills: bool,
+    progress: &mut Progress<'_, M>,
+) -> Result<(SubsetCells, Ending), Stop> {
+    let parts = grid.parts(array.alloc(), requested)?;
+    let mut answer = Answer::new(fills);
+    read_parts(array, requested, grid, &parts, &mut answer, progress)?;
+    ended(array, requested, answer)
+}
+
 /// The elements of a subset, from each shard that it overlaps, and fill values of those that are absent. Memory for them is
 /// allocated once a part is read, so that a subset in one shard takes less. Where `fills` is true, what is refused has fill values too,
 /// the messages say which shards and subchunks that are, and the command ends as `Ending::Refused`.
@@ -280,8 +346,16 @@ pub fn read_array<'a, R: Files + AllocGlobal, C: ShardCodec<ShardFile<'a, R>>, M
     progress: &mut Progress<'_, M>,
 ) -> Result<(SubsetCells, Ending), Stop> {
     let grid = shards_of(array)?;
-    let mut answer = Answer::new(fills);
-    let parts = grid.parts(array.alloc(), requested)?;
-    read_parts(array, requested, &grid, &parts, &mut answer, progress)?;
-    ended(array, requested, answer)
+    read_in_grid(array, requested, &grid, fills, progress)
+}
+
+/// The elements of a subset as `read_array` gives them, where nothing is refused and nothing shows how far it is.
+pub fn read_silently<'a, R: Files + AllocGlobal, C: ShardCodec<ShardFile<'a, R>>>(
+    array: &Array<'a, R, C>,
+    requested: &ArraySubset,
+) -> Result<SubsetCells, Stop> {
+    let mut silent: Vec<u8> = Vec::new(array.alloc());
+    let mut progress = Progress::new(&mut silent, false);
+    let (cells, _) = read_array(array, requested, false, &mut progress)?;
+    Ok(cells)
 }

@@ -64,6 +64,36 @@ fn range_of(chunk: u64, size: u64, subchunk: u64, part: u64, end: u64) -> Option
     }
 }
 
+// Adds a range of elements to a text, ` (elements 0..4` or `,3..6`.
+fn add_range(alloc: Global, text: &mut String, (start, end): (u64, u64)) -> Result<(), AllocError> {
+    text.push_str(if text.is_empty() { " (elements " } else { "," })?;
+    let range = format!(in alloc; "{start}..{end}")?;
+    text.push_str(&range)
+}
+
+// Adds the elements of the array that a subchunk has, along each axis, to a text. `false` where it has none.
+fn add_ranges(
+    alloc: Global,
+    metadata: &ArrayMetadata,
+    shard: &[u64],
+    subchunk: &[u64],
+    text: &mut String,
+) -> Result<bool, AllocError> {
+    let sizes = metadata
+        .shard
+        .as_slice()
+        .iter()
+        .zip(metadata.subchunk.as_slice());
+    let positions = shard.iter().zip(subchunk);
+    for ((size, end), (position, part)) in sizes.zip(metadata.shape.iter()).zip(positions) {
+        match range_of(*position, *size.0, *part, *size.1, *end) {
+            Some(range) => add_range(alloc, text, range)?,
+            None => return Ok(false),
+        }
+    }
+    Ok(true)
+}
+
 // The elements of the array that a subchunk has, of a shard and with these coordinates in it: ` (elements 0..4,3..6)`.
 fn elements_at(
     alloc: Global,
@@ -72,18 +102,8 @@ fn elements_at(
     subchunk: &[u64],
 ) -> Result<String, AllocError> {
     let mut text = String::new(alloc);
-    let sizes = metadata
-        .shard
-        .as_slice()
-        .iter()
-        .zip(metadata.subchunk.as_slice());
-    let positions = shard.iter().zip(subchunk);
-    for ((size, end), (position, part)) in sizes.zip(metadata.shape.iter()).zip(positions) {
-        let Some((start, end)) = range_of(*position, *size.0, *part, *size.1, *end) else {
-            return String::from_str(alloc, " (outside of the array)");
-        };
-        text.push_str(if text.is_empty() { " (elements " } else { "," })?;
-        text.push_str(format!(in alloc; "{start}..{end}")?.as_str())?;
+    if !add_ranges(alloc, metadata, shard, subchunk, &mut text)? {
+        return String::from_str(alloc, " (outside of the array)");
     }
     if !text.is_empty() {
         text.push(')')?;

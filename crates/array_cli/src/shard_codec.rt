@@ -1,11 +1,12 @@
-// The codec of an array's shards, by what commands do with it: the traits have no more than these calls, so that commands need none of
-// its laws.
+// The codec of an array's shards, by what commands do with it: the traits have these calls, so that commands need none of its laws.
 ghost use Rattle.std.specs.Prelude.{◌≡◌, ◌*◌, IfOk, MatchOption, length};
 ghost use Rattle.std.specs.List.{All};
 ghost use Rattle.parts_arrays.specs.ArraySpec.{array_spec};
 ghost use Rattle.parts_row_major.specs.Numbering.{count_of};
 ghost use Rattle.parts_subsets.specs.Grid.{grid_of};
 
+use crate::compaction_plans::{Planned, plan_of};
+use crate::sound::whole_of;
 use array_metadata::ArrayMetadata;
 use codec_traits::{ArrayToBytesCodecTraits, BytesRepresentation};
 use parts_arrays::{ArrayBytes, DataType, FillValue, FixedTarget};
@@ -15,7 +16,6 @@ use sharding_codec::{ShardingCodec, ShardingPartialDecoder};
 use sharding_format::{
     ShardIndex, ShardingIndexLocation, calculate_chunks_per_shard, of_stored, sharding_index_shape,
 };
-use sharding_layout::{CompactionPlan, compact_size};
 use std::alloc::Global;
 use std::rt::Files;
 use storage_files::FileHandle;
@@ -23,20 +23,6 @@ use storage_handles::{ByteRange, BytesPartialDecoderTraits, Interval};
 
 /// The file of a shard.
 pub type ShardFile<'a, R> = FileHandle<&'a R>;
-
-/// What a compaction does to a shard.
-#[derive(Drop)]
-pub enum Planned {
-    /// Nothing: there is no file, or the shard is compact.
-    Nothing,
-    /// It would make it longer, by these bytes.
-    Longer(u64),
-    /// It saves bytes, by a plan, which a dry run does not make.
-    Saves {
-        bytes: u64,
-        plan: Option<CompactionPlan>,
-    },
-}
 
 /// A shard that is opened to be read. A subchunk is named by its coordinates among those of the shard.
 pub trait OpenShard<F> {
@@ -222,6 +208,27 @@ pub(crate) fn room_of(
     }
 }
 
+// Reads the elements of a subset of a shard that is open, which have a size, into room for them.
+fn read_elements<
+    I: ArrayToBytesCodecTraits,
+    X: ArrayToBytesCodecTraits,
+    H: BytesPartialDecoderTraits,
+>(
+    alloc: Global,
+    decoder: &mut ShardingPartialDecoder<'_, I, X, H>,
+    subset: &ArraySubset,
+    size: usize,
+    room: &mut [u8],
+) -> Result<(), CodecError> {
+    let whole = whole_of(alloc, subset.shape())?;
+    match FixedTarget::new(room, size, subset.shape(), &whole) {
+        Some(mut target) => {
+            decoder.partial_decode_into(alloc, subset, &mut target, &CodecOptions::default())
+        }
+        None => Err(CodecError::InvalidNumberOfElements),
+    }
+}
+
 // Reads the elements of a subset of a shard that is open, which have a size.
 fn read_in<I: ArrayToBytesCodecTraits, X: ArrayToBytesCodecTraits, H: BytesPartialDecoderTraits>(
     alloc: Global,
@@ -230,11 +237,7 @@ fn read_in<I: ArrayToBytesCodecTraits, X: ArrayToBytesCodecTraits, H: BytesParti
     size: usize,
 ) -> Result<Vec<u8>, CodecError> {
     let mut bytes = room_of(alloc, subset, size)?;
-    let whole = ArraySubset::new_with_shape(alloc, Vec::from_slice(alloc, subset.shape())?)?;
-    let Some(mut target) = FixedTarget::new(&mut bytes, size, subset.shape(), &whole) else {
-        return Err(CodecError::InvalidNumberOfElements);
-    };
-    decoder.partial_decode_into(alloc, subset, &mut target, &CodecOptions::default())?;
+    read_elements(alloc, decoder, subset, size, &mut bytes)?;
     Ok(bytes)
 }
 
@@ -279,7 +282,7 @@ fn index_representation<X: ArrayToBytesCodecTraits>(
 }
 
 // The index of the shard that is an object of a length.
-fn whole_index<I, X: ArrayToBytesCodecTraits, H: BytesPartialDecoderTraits>(
+pub(crate) fn whole_index<I, X: ArrayToBytesCodecTraits, H: BytesPartialDecoderTraits>(
     alloc: Global,
     codec: &ShardingCodec<I, X>,
     shape: &ChunkShape,
@@ -321,39 +324,6 @@ pub fn encode_chunk<C: ArrayToBytesCodecTraits>(
         &options,
     )?;
     Ok(Some(bytes))
-}
-
-// What a compaction does to the shard in a file.
-fn plan_of<I, X: ArrayToBytesCodecTraits, H: BytesPartialDecoderTraits>(
-    alloc: Global,
-    codec: &ShardingCodec<I, X>,
-    shape: &ChunkShape,
-    file: &mut H,
-    is_dry: bool,
-) -> Result<Planned, CodecError> {
-    let Some(length) = file.len()? else {
-        return Ok(Planned::Nothing);
-    };
-    let interval = codec.index_interval(alloc, length, shape)?;
-    let index = whole_index(alloc, codec, shape, file, length)?;
-    let compacted = compact_size(&index, interval.size)?;
-    if compacted == length {
-        return Ok(Planned::Nothing);
-    }
-    if compacted > length {
-        return Ok(Planned::Longer(compacted - length));
-    }
-    let bytes = length - compacted;
-    if is_dry {
-        return Ok(Planned::Saves { bytes, plan: None });
-    }
-    match codec.plan_compaction_of_index(alloc, index, shape, &CodecOptions::default())? {
-        Some(plan) => Ok(Planned::Saves {
-            bytes,
-            plan: Some(plan),
-        }),
-        None => Ok(Planned::Nothing),
-    }
 }
 
 impl<

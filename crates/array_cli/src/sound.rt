@@ -4,15 +4,21 @@ use crate::refusal::{Place, Refusal};
 use crate::shard_codec::{OpenShard, ShardCodec, ShardFile};
 use crate::stop::Stop;
 use array_fields::Progress;
-use array_grid::{ShardPart, SubsetCells, shared_elements};
+use array_grid::{ShardPart, SharedElements, SubsetCells, shared_elements};
 use array_metadata::ArrayMetadata;
 use parts_arrays::ArrayBytes;
 use parts_errors::CodecError;
 use parts_row_major::unravel_index;
 use parts_subsets::ArraySubset;
+use std::alloc::{AllocError, Global};
 use std::borrow::CowSlice;
 use std::io::Write;
 use std::rt::Files;
+
+/// The subset of an array of a shape that is all of it.
+pub fn whole_of(alloc: Global, shape: &[u64]) -> Result<ArraySubset, AllocError> {
+    ArraySubset::new_with_shape(alloc, Vec::from_slice(alloc, shape)?)
+}
 
 /// Puts elements of an array with this metadata, which have these bytes, where they lie in a subset.
 pub fn put_elements(
@@ -37,12 +43,21 @@ fn put_subchunk<'a, R: Files + AllocGlobal, C, S: OpenShard<ShardFile<'a, R>>>(
     subchunk: &[u64],
     cells: &mut SubsetCells,
 ) -> Result<Option<CodecError>, CodecError> {
-    let alloc = array.alloc();
     let shape = array.metadata.subchunk.as_slice();
-    let Some(shared) = shared_elements(alloc, part, subchunk, shape)? else {
-        return Ok(None);
-    };
-    match opened.read_subset(alloc, array.metadata, &shared.in_shard) {
+    match shared_elements(array.alloc(), part, subchunk, shape)? {
+        Some(shared) => put_shared(array, &shared, opened, cells),
+        None => Ok(None),
+    }
+}
+
+// Puts elements that a subchunk of a shard that is open shares with a subset, as `put_subchunk` says.
+fn put_shared<'a, R: Files + AllocGlobal, C, S: OpenShard<ShardFile<'a, R>>>(
+    array: &Array<'a, R, C>,
+    shared: &SharedElements,
+    opened: &mut S,
+    cells: &mut SubsetCells,
+) -> Result<Option<CodecError>, CodecError> {
+    match opened.read_subset(array.alloc(), array.metadata, &shared.in_shard) {
         Ok(found) => {
             put_elements(array.metadata, &shared.in_subset, &found, cells)?;
             Ok(None)
@@ -57,6 +72,33 @@ fn tell_filled<M: Write>(progress: &mut Progress<'_, M>, refusal: &Refusal) {
     progress.tell_filled(&refusal.key, &refusal.reason());
 }
 
+// Tells that the elements of a subchunk are filled, since it is refused.
+fn tell_refused<R: Files + AllocGlobal, C, M: Write>(
+    array: &Array<'_, R, C>,
+    shard: &Shard<'_>,
+    error: CodecError,
+    number: u64,
+    progress: &mut Progress<'_, M>,
+) -> Result<(), AllocError> {
+    let refusal = array.refusal_at(shard, error, Place::Subchunk(number))?;
+    tell_filled(progress, &refusal);
+    Ok(())
+}
+
+// Puts what the subchunk with a number has of a part of a subset, as `put_subchunk` does.
+fn put_numbered<'a, R: Files + AllocGlobal, C, S: OpenShard<ShardFile<'a, R>>>(
+    array: &Array<'a, R, C>,
+    part: &ShardPart,
+    opened: &mut S,
+    number: u64,
+    cells: &mut SubsetCells,
+) -> Result<Option<CodecError>, CodecError> {
+    match unravel_index(array.alloc(), number, array.subchunks.as_slice())? {
+        Some(subchunk) => put_subchunk(array, part, opened, &subchunk, cells),
+        None => Ok(None),
+    }
+}
+
 // Puts what each subchunk of a shard that is open has of a part of a subset, and tells which ones are refused.
 fn put_each<'a, R: Files + AllocGlobal, C: ShardCodec<ShardFile<'a, R>>, M: Write>(
     array: &Array<'a, R, C>,
@@ -66,14 +108,9 @@ fn put_each<'a, R: Files + AllocGlobal, C: ShardCodec<ShardFile<'a, R>>, M: Writ
     cells: &mut SubsetCells,
     progress: &mut Progress<'_, M>,
 ) -> Result<(), Stop> {
-    let alloc = array.alloc();
     for number in 0..array.subchunks.num_elements().unwrap_or(0) {
-        let Some(subchunk) = unravel_index(alloc, number, array.subchunks.as_slice())? else {
-            continue;
-        };
-        if let Some(error) = put_subchunk(array, part, opened, &subchunk, cells)? {
-            let refusal = array.refusal_at(shard, error, Place::Subchunk(number))?;
-            tell_filled(progress, &refusal);
+        if let Some(error) = put_numbered(array, part, opened, number, cells)? {
+            tell_refused(array, shard, error, number, progress)?;
         }
     }
     Ok(())

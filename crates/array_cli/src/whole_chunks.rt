@@ -1,8 +1,9 @@
 // Chunks that are no shards, by what commands do with shards: such a chunk is one subchunk, whose bytes are those of the file.
+use crate::compaction_plans::Planned;
 use crate::shard_codec::{
-    OpenShard, Planned, ShardCodec, ShardEncoder, check_served, encode_chunk, room_of,
-    test_decoding,
+    OpenShard, ShardCodec, ShardEncoder, check_served, encode_chunk, room_of, test_decoding,
 };
+use crate::sound::whole_of;
 use array_metadata::ArrayMetadata;
 use codec_traits::{ArrayToBytesCodecTraits, StoredArray};
 use parts_arrays::{ArrayBytes, FixedTarget};
@@ -80,6 +81,22 @@ fn read_into<C: ArrayToBytesCodecTraits, H: BytesPartialDecoderTraits>(
     }
 }
 
+// Reads the elements of a subset of a chunk that is open into room for them.
+fn read_elements<C: ArrayToBytesCodecTraits, H: BytesPartialDecoderTraits>(
+    alloc: Global,
+    chunk: &mut WholeChunk<'_, C, H>,
+    metadata: &ArrayMetadata,
+    subset: &ArraySubset,
+    room: &mut [u8],
+) -> Result<(), CodecError> {
+    let size = metadata.fill_value.as_ne_bytes().len();
+    let whole = whole_of(alloc, subset.shape())?;
+    match FixedTarget::new(room, size, subset.shape(), &whole) {
+        Some(mut target) => read_into(alloc, chunk, metadata, subset, &mut target),
+        None => Err(CodecError::InvalidNumberOfElements),
+    }
+}
+
 // The numbers of the index that a shard of one subchunk with as many bytes would have.
 fn one_entry(alloc: Global, length: u64) -> Result<Vec<u64>, AllocError> {
     Vec::from_slice(alloc, &[0, length])
@@ -95,11 +112,7 @@ impl<C: ArrayToBytesCodecTraits, H: BytesPartialDecoderTraits> OpenShard<H>
     ) -> Result<Vec<u8>, CodecError> {
         let size = metadata.fill_value.as_ne_bytes().len();
         let mut bytes = room_of(alloc, subset, size)?;
-        let whole = ArraySubset::new_with_shape(alloc, Vec::from_slice(alloc, subset.shape())?)?;
-        let Some(mut target) = FixedTarget::new(&mut bytes, size, subset.shape(), &whole) else {
-            return Err(CodecError::InvalidNumberOfElements);
-        };
-        read_into(alloc, self, metadata, subset, &mut target)?;
+        read_elements(alloc, self, metadata, subset, &mut bytes)?;
         Ok(bytes)
     }
 

@@ -1,10 +1,8 @@
 // A command line that is run.
 ghost use Rattle.std.specs.Prelude.{◌≤◌, IfOk};
 
-use crate::check::check;
 use crate::command_line::{ArrayWork, Scope, SharedWork, Target, Work, program, work_of};
 use crate::differences::compare;
-use crate::extract::extract;
 use crate::npy::save_subset;
 use crate::reading::{Reading, print_subset};
 use crate::writing_line::array_words;
@@ -15,7 +13,7 @@ use array_cli::{
 use array_fields::{Progress, escaped};
 use array_folder::Listing;
 use array_grid::{ListPart, subset_of};
-use array_info::{info_of_array, info_of_shard, list_nodes, map_array, map_shard};
+use array_info::{check, extract, info_of_array, info_of_shard, list_nodes, map_array, map_shard};
 use array_metadata::ArrayMetadata;
 use array_writing::{Way, compact, create, reshard, write_subset};
 use clap::ArgMatches;
@@ -192,22 +190,15 @@ fn run_shared<R: SharedSystem, W: Write, M: Write>(
     }
 }
 
-// Reads the metadata of an array, and does a work.
-fn run_array<R: SharedSystem, W: Write, M: Write>(
+// Does a work of one thread on an array that has this metadata.
+fn run_alone<R: SharedSystem, W: Write, M: Write>(
     rt: &R,
     path: &str,
-    work: ArrayWork<'_>,
+    metadata: &ArrayMetadata,
+    work: Work<'_>,
     out: &mut W,
     progress: &mut Progress<'_, M>,
 ) -> Result<Ending, Stop> {
-    let metadata = &metadata_of(rt, path)?;
-    let work = match work {
-        ArrayWork::Shared { work, jobs } => {
-            let array = open_shared(rt, path, metadata)?;
-            return run_shared(&array, work, jobs_of(rt, jobs)?, out, progress);
-        }
-        ArrayWork::Alone(work) => work,
-    };
     let work = LoneWork {
         rt,
         path,
@@ -217,6 +208,39 @@ fn run_array<R: SharedSystem, W: Write, M: Write>(
         progress,
     };
     with_codec(metadata, work)
+}
+
+// Does a work on an array that has this metadata.
+fn run_described<R: SharedSystem, W: Write, M: Write>(
+    rt: &R,
+    path: &str,
+    metadata: &ArrayMetadata,
+    work: ArrayWork<'_>,
+    out: &mut W,
+    progress: &mut Progress<'_, M>,
+) -> Result<Ending, Stop> {
+    match work {
+        ArrayWork::Shared { work, jobs } => {
+            let array = open_shared(rt, path, metadata)?;
+            let jobs = jobs_of(rt, jobs)?;
+            run_shared(&array, work, jobs, out, progress)
+        }
+        ArrayWork::Alone(work) => run_alone(rt, path, metadata, work, out, progress),
+    }
+}
+
+// Reads the metadata of an array, and does a work.
+fn run_array<R: SharedSystem, W: Write, M: Write>(
+    rt: &R,
+    path: &str,
+    work: ArrayWork<'_>,
+    out: &mut W,
+    progress: &mut Progress<'_, M>,
+) -> Result<Ending, Stop> {
+    match metadata_of(rt, path) {
+        Ok(metadata) => run_described(rt, path, &metadata, work, out, progress),
+        Err(stop) => Err(stop),
+    }
 }
 
 // A comparison of two arrays whose metadata is read.
@@ -269,16 +293,14 @@ impl<'w, C: ShardCodec<ShardFile<'w, R>>, R: Files + AllocGlobal, W: Write, M: W
     }
 }
 
-// Compares the arrays at two paths.
-fn run_compare<R: Files + AllocGlobal, W: Write, M: Write>(
+// Compares the arrays at two paths, which have this metadata.
+fn compare_described<R: Files + AllocGlobal, W: Write, M: Write>(
     rt: &R,
     paths: (&str, &str),
+    metadata: (&ArrayMetadata, &ArrayMetadata),
     out: &mut W,
     progress: &mut Progress<'_, M>,
 ) -> Result<Ending, Stop> {
-    let one = metadata_of(rt, paths.0)?;
-    let other = metadata_of(rt, paths.1)?;
-    let metadata = (&one, &other);
     let comparison = Comparison {
         rt,
         paths,
@@ -286,7 +308,34 @@ fn run_compare<R: Files + AllocGlobal, W: Write, M: Write>(
         out,
         progress,
     };
-    with_codec(&one, comparison)
+    with_codec(metadata.0, comparison)
+}
+
+// Compares the arrays at two paths, of which the first has this metadata.
+fn compare_with<R: Files + AllocGlobal, W: Write, M: Write>(
+    rt: &R,
+    paths: (&str, &str),
+    one: &ArrayMetadata,
+    out: &mut W,
+    progress: &mut Progress<'_, M>,
+) -> Result<Ending, Stop> {
+    match metadata_of(rt, paths.1) {
+        Ok(other) => compare_described(rt, paths, (one, &other), out, progress),
+        Err(stop) => Err(stop),
+    }
+}
+
+// Compares the arrays at two paths.
+fn run_compare<R: Files + AllocGlobal, W: Write, M: Write>(
+    rt: &R,
+    paths: (&str, &str),
+    out: &mut W,
+    progress: &mut Progress<'_, M>,
+) -> Result<Ending, Stop> {
+    match metadata_of(rt, paths.0) {
+        Ok(one) => compare_with(rt, paths, &one, out, progress),
+        Err(stop) => Err(stop),
+    }
 }
 
 // Does what the words of a command line say.

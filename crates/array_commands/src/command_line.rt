@@ -318,6 +318,15 @@ fn with<'a>(
     program.subcommand(command?)
 }
 
+// The program with the commands that write arrays, and the one that compares two.
+fn with_writing<'a>(alloc: Global, program: Command<'a>) -> Result<Command<'a>, AllocError> {
+    let program = with(program, compact_command(alloc))?;
+    let program = with(program, create_command(alloc))?;
+    let program = with(program, write_command(alloc))?;
+    let program = with(program, reshard_command(alloc))?;
+    with(program, compare_command(alloc))
+}
+
 /// The program's command line.
 pub fn program<'a>(alloc: Global) -> Result<Command<'a>, AllocError> {
     let program = with(bare_program(alloc), list_command(alloc))?;
@@ -325,12 +334,7 @@ pub fn program<'a>(alloc: Global) -> Result<Command<'a>, AllocError> {
     let program = with(program, check_command(alloc))?;
     let program = with(program, map_command(alloc))?;
     let program = with(program, read_command(alloc))?;
-    let program = with(program, extract_command(alloc))?;
-    let program = with(program, compact_command(alloc))?;
-    let program = with(program, create_command(alloc))?;
-    let program = with(program, write_command(alloc))?;
-    let program = with(program, reshard_command(alloc))?;
-    with(program, compare_command(alloc))
+    with_writing(alloc, with(program, extract_command(alloc))?)
 }
 
 // How the cells that a command reads are to be written.

@@ -1,6 +1,8 @@
 // Two arrays, compared element by element.
-use array_cli::{Array, Ending, ShardCodec, ShardFile, Stop, read_array, written};
+use array_cli::{Array, Ending, ShardCodec, ShardFile, Stop, read_silently, written};
 use array_fields::{ElementType, Progress, write_numbers, write_rows};
+use array_grid::SubsetCells;
+use array_metadata::ArrayMetadata;
 use array_writing::{chunks_of, elements_of};
 use parts_row_major::unravel_index;
 use parts_subsets::ArraySubset;
@@ -69,6 +71,37 @@ impl Differences {
     }
 }
 
+// Adds the elements of a subset of two arrays that differ, where they have these.
+fn add_cells<R: Files + AllocGlobal, C, D>(
+    one: &Array<'_, R, C>,
+    other: &Array<'_, R, D>,
+    subset: &ArraySubset,
+    cells: (&SubsetCells, &SubsetCells),
+    found: &mut Differences,
+) -> Result<(), Stop> {
+    let first = one.least_first(cells.0.bytes())?;
+    let second = other.least_first(cells.1.bytes())?;
+    let size = one.metadata.fill_value.as_ne_bytes().len();
+    found.add_all(one.alloc(), subset, size, (&first, &second))
+}
+
+// Adds the elements of a subset of two arrays that differ.
+fn add_subset<
+    'a,
+    R: Files + AllocGlobal,
+    C: ShardCodec<ShardFile<'a, R>>,
+    D: ShardCodec<ShardFile<'a, R>>,
+>(
+    one: &Array<'a, R, C>,
+    other: &Array<'a, R, D>,
+    subset: &ArraySubset,
+    found: &mut Differences,
+) -> Result<(), Stop> {
+    let first = read_silently(one, subset)?;
+    let second = read_silently(other, subset)?;
+    add_cells(one, other, subset, (&first, &second), found)
+}
+
 // Adds what differs in the chunk at these coordinates of the first array's grid.
 fn add_chunk<
     'a,
@@ -81,18 +114,11 @@ fn add_chunk<
     coordinates: &[u64],
     found: &mut Differences,
 ) -> Result<(), Stop> {
-    let (alloc, metadata) = (one.alloc(), one.metadata);
-    let Some(subset) = elements_of(alloc, coordinates, &metadata.shard, &metadata.shape)? else {
-        return Ok(());
-    };
-    let mut silent: Vec<u8> = Vec::new(alloc);
-    let mut progress = Progress::new(&mut silent, false);
-    let (first, _) = read_array(one, &subset, false, &mut progress)?;
-    let (second, _) = read_array(other, &subset, false, &mut progress)?;
-    let size = metadata.fill_value.as_ne_bytes().len();
-    let first = one.least_first(first.bytes())?;
-    let second = other.least_first(second.bytes())?;
-    found.add_all(alloc, &subset, size, (&first, &second))
+    let (chunk, shape) = (&one.metadata.shard, &one.metadata.shape);
+    match elements_of(one.alloc(), coordinates, chunk, shape)? {
+        Some(subset) => add_subset(one, other, &subset, found),
+        None => Ok(()),
+    }
 }
 
 // The chunks of the first array's grid in which elements may differ: those that either has elements of, or all where they have other
@@ -171,6 +197,31 @@ fn write_differences<W: Write>(
     write_rows(out, element_type, other, &[])
 }
 
+// Writes how many elements differ, and says how the command ends.
+fn tell<W: Write>(
+    out: &mut W,
+    element_type: ElementType,
+    found: &Differences,
+) -> Result<Ending, Stop> {
+    let ending = match found.count {
+        0 => Ending::Done,
+        _ => Ending::Different,
+    };
+    written(write_differences(out, element_type, found), ending)?;
+    Ok(ending)
+}
+
+// What is said of two arrays that have no elements to compare.
+fn differing_metadata(one: &ArrayMetadata, other: &ArrayMetadata) -> Option<&'static [u8]> {
+    if one.shape != other.shape {
+        Some(b"the shapes differ\n")
+    } else if one.element_type != other.element_type {
+        Some(b"the data types differ\n")
+    } else {
+        None
+    }
+}
+
 /// Compares two arrays element by element, and writes how many elements differ, and of the first one its coordinates and what it is in
 /// either array. Where shapes or data types differ, it says so instead. Only the chunks that one of the arrays has are read, unless their
 /// fill values differ.
@@ -189,21 +240,11 @@ pub fn compare<
 ) -> Result<Ending, Stop> {
     one.test_read()?;
     other.test_read()?;
-    if one.metadata.shape != other.metadata.shape {
-        written(out.write_all(b"the shapes differ\n"), Ending::Different)?;
-        return Ok(Ending::Different);
-    }
-    let element_type = one.metadata.element_type;
-    if element_type != other.metadata.element_type {
-        written(out.write_all(b"the data types differ\n"), Ending::Different)?;
+    if let Some(words) = differing_metadata(one.metadata, other.metadata) {
+        written(out.write_all(words), Ending::Different)?;
         return Ok(Ending::Different);
     }
     let found = found_in(one, other, progress)?;
     progress.clear();
-    let ending = match found.count {
-        0 => Ending::Done,
-        _ => Ending::Different,
-    };
-    written(write_differences(out, element_type, &found), ending)?;
-    Ok(ending)
+    tell(out, one.metadata.element_type, &found)
 }

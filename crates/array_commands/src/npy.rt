@@ -77,6 +77,24 @@ fn fill<'a, R: SharedSystem, M: Write>(
     read_bands(array, &requested.subset, reading, new, progress)
 }
 
+// Reads what is requested into a new file of a path, which stands beside it until it is whole.
+fn save_requested<R: SharedSystem, W: Write, M: Write>(
+    array: &SharedArray<'_, R>,
+    requested: &Requested,
+    (path, beside): (&str, &str),
+    reading: Reading,
+    out: &mut W,
+    progress: &mut Progress<'_, M>,
+) -> Result<Ending, Stop> {
+    let header = header_of(array, requested, path)?;
+    let file = begin_new(array.rt, path, beside, out)?;
+    let alloc = array.alloc();
+    let mut new = NewFile { alloc, file, path };
+    let wrote = fill(array, requested, reading, &header, &mut new, progress);
+    progress.clear();
+    end_file(new, wrote)
+}
+
 /// Reads a subset, and makes a file of NumPy's format of it, which has no axis that is named by one coordinate. A file of that
 /// name is replaced once the new one is whole. Where the path is refused nothing is read.
 pub fn save_subset<R: SharedSystem, W: Write, M: Write>(
@@ -88,13 +106,7 @@ pub fn save_subset<R: SharedSystem, W: Write, M: Write>(
     progress: &mut Progress<'_, M>,
 ) -> Result<Ending, Stop> {
     array.test_read()?;
-    let alloc = array.alloc();
-    let requested = subset_of(alloc, requested, &array.metadata.shape)?;
+    let requested = subset_of(array.alloc(), requested, &array.metadata.shape)?;
     let beside = npy_beside(array.rt, path)?;
-    let header = header_of(array, &requested, path)?;
-    let file = begin_new(array.rt, path, &beside, out)?;
-    let mut new = NewFile { alloc, file, path };
-    let wrote = fill(array, &requested, reading, &header, &mut new, progress);
-    progress.clear();
-    end_file(new, wrote)
+    save_requested(array, &requested, (path, &beside), reading, out, progress)
 }

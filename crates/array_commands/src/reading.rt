@@ -1,6 +1,7 @@
 // Elements that are written as they are read, band by band.
 use crate::command_line::Form;
-use array_cli::{Ending, SharedArray, SharedSystem, Stop, read_shared, written};
+use crate::shared_read::read_shared;
+use array_cli::{Ending, SharedArray, SharedSystem, Stop, written};
 use array_fields::{ElementType, Progress, TextRows, begin_json, end_json, write_json_cells};
 use array_grid::Bands;
 use parts_errors::CodecError;
@@ -39,6 +40,24 @@ fn test_size(subset: &ArraySubset, size: u64) -> Result<(), Stop> {
     Ok(())
 }
 
+// Reads the elements of a band, and hands them on, of a command that ends so as far as it has come; says how it ends then.
+fn read_band<R: SharedSystem, S: Sink, M: Write>(
+    array: &SharedArray<'_, R>,
+    band: &ArraySubset,
+    reading: Reading,
+    before: Ending,
+    sink: &mut S,
+    progress: &mut Progress<'_, M>,
+) -> Result<Ending, Stop> {
+    let Reading { fills, jobs } = reading;
+    let (cells, ended) = read_shared(array, band, fills, jobs, progress)?;
+    let ending = if ended == Ending::Done { before } else { ended };
+    progress.clear();
+    let elements = array.least_first(cells.bytes())?;
+    sink.put(&elements, ending)?;
+    Ok(ending)
+}
+
 /// Reads the elements of a subset, with fill values for what is refused if `fills`, and hands them on, in row-major order: those of a band at a time, so that memory is that of a band.
 /// Refused as `Stop::TooLarge` where they have more than 2^40 bytes, and as `read_array` refuses; then the bands before are handed
 /// on.
@@ -58,13 +77,7 @@ pub fn read_bands<R: SharedSystem, S: Sink, M: Write>(
         let Some(band) = bands.band(array.alloc(), number)? else {
             return Err(CodecError::OutOfBounds.into());
         };
-        let Reading { fills, jobs } = reading;
-        let (cells, ended) = read_shared(array, &band, fills, jobs, progress)?;
-        if ended != Ending::Done {
-            ending = ended;
-        }
-        progress.clear();
-        sink.put(&array.least_first(cells.bytes())?, ending)?;
+        ending = read_band(array, &band, reading, ending, sink, progress)?;
     }
     Ok(ending)
 }

@@ -10,6 +10,7 @@ mod fill;
 mod floats;
 mod json;
 mod json_line;
+mod kept;
 mod members;
 mod printed;
 mod progress;
@@ -24,7 +25,8 @@ pub use fill::fill_value_in;
 pub use floats::{FloatFormat, half_to_f32};
 pub use json::value_in;
 pub use json_line::{JsonLine, write_json_numbers, write_json_text};
-pub use members::{MOST_AXES, axes_in, dimension_names_in, test_array, test_understood};
+pub use kept::{KeptText, TypeText, kept_text};
+pub use members::{MOST_AXES, axes_in, test_array, test_understood};
 pub use progress::Progress;
 pub use raw_bits::raw_bytes;
 pub use text::{

@@ -1,4 +1,4 @@
-// The members of an array's metadata: which are known; how many axes there are, and their names.
+// The members of an array's metadata: which are known, and how many axes there are.
 ghost use Rattle.std.specs.Prelude.{◌≡◌, ◌≤◌, Some, None, IfOk, OnOk, IsTrue, codes, option_and_then, option_map, unwrap_or, vec_len};
 ghost use Rattle.serde_json.specs.Data.{no_items};
 ghost use Rattle.serde_json.specs.Find.{as_str, as_array, get};
@@ -7,7 +7,6 @@ ghost use Rattle.codec_metadata.specs.Metadata.{first_refused, members_in};
 ghost use Rattle.array_fields.specs.MetadataFields.{whole_number_in, whole_numbers_in, is_understood};
 
 use crate::error::MetadataError;
-use crate::escape::escaped_whole;
 use crate::fields::Placed;
 use codec_metadata::PluginCreateError;
 use serde_json::{Map, Value};
@@ -108,16 +107,4 @@ pub fn axes_in(alloc: Global, shape: &Placed) -> Result<Vec<u64>, MetadataError>
         return Err(shape.bad(alloc, sentence.as_str()));
     }
     Ok(axes)
-}
-
-/// The value of `dimension_names` in an array's metadata, as it stands there, for a terminal; `None` where there are no names. Refused only as
-/// `OutOfMemory`.
-pub fn dimension_names_in(alloc: Global, whole: &Placed) -> Result<Option<String>, MetadataError> {
-    match whole.member(alloc, "dimension_names")? {
-        Some(names) if !names.value.is_null() => {
-            let text = names.value.to_string(alloc)?;
-            Ok(Some(escaped_whole(alloc, text.as_str())?))
-        }
-        _ => Ok(None),
-    }
 }

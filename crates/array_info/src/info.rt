@@ -5,7 +5,7 @@ use crate::json;
 use array_cli::{Array, Ending, Place, Refusal, Shard, ShardCodec, ShardFile, Stop, written};
 use array_fields::{Progress, write_numbers, write_rows};
 use array_folder::{ChunkFile, ChunkFiles, Counted, FolderFiles, IndexInfo, Listing, info_of};
-use array_grid::{ChunkKeys, KeyEncoding};
+use array_grid::{ChunkKeys, KeyEncoding, ListPart};
 use array_metadata::{ArrayCodec, ArrayMetadata};
 use parts_errors::CodecError;
 use std::io;
@@ -19,6 +19,14 @@ pub struct ShardInfo {
     pub length: u64,
     /// What its index says, or why it is refused.
     pub index: Result<IndexInfo, Refusal>,
+}
+
+/// The shards that a part of an array has.
+#[derive(Drop)]
+pub struct KnownShards {
+    pub files: ChunkFiles,
+    /// What is known of each file's shard; nothing where the file is gone.
+    pub shards: Vec<Option<ShardInfo>>,
 }
 
 /// What is known of all shards.
@@ -109,8 +117,42 @@ fn read_in_pieces<'a, R: Files + AllocGlobal, C: ShardCodec<ShardFile<'a, R>>>(
     match info_in_pieces(array, size, &mut file) {
         Ok(Some((length, read))) => Ok(Some(known(array, shard, &file, length, read)?)),
         Ok(None) => Ok(None),
-        Err(error) => Err(Stop::Refused(array.refusal(shard, &file, error, Place::Shard)?)),
+        Err(error) => Err(array.stop(shard, &file, error, Place::Shard)),
     }
+}
+
+// What is known of the shard in a file, whose index has a size; nothing where the file is gone.
+fn read_info<'a, R: Files + AllocGlobal, C: ShardCodec<ShardFile<'a, R>>>(
+    array: &Array<'a, R, C>,
+    chunk: &ChunkFile,
+    size: u64,
+    files: &mut FolderFiles<'_, R>,
+) -> Result<Option<ShardInfo>, Stop> {
+    let shard = Shard {
+        key: &chunk.key,
+        coordinates: &chunk.coordinates,
+    };
+    if size > LONGEST_AT_ONCE {
+        read_in_pieces(array, &shard, size)
+    } else {
+        read_at_once(array, &shard, size, files)
+    }
+}
+
+// Adds what is known of the shards in these files, whose indexes have a size; nothing of one whose file is gone.
+fn add_shards<'a, R: Files + AllocGlobal, C: ShardCodec<ShardFile<'a, R>>, M: Write>(
+    array: &Array<'a, R, C>,
+    chunks: &[ChunkFile],
+    size: u64,
+    files: &mut FolderFiles<'_, R>,
+    shards: &mut Vec<Option<ShardInfo>>,
+    progress: &mut Progress<'_, M>,
+) -> Result<(), Stop> {
+    for (number, chunk) in chunks.iter().enumerate() {
+        progress.step(number as u64, chunks.len() as u64);
+        shards.push(read_info(array, chunk, size, files)?)?;
+    }
+    Ok(())
 }
 
 // What is known of the shards in these files, whose indexes have a size; nothing of one whose file is gone.
@@ -122,19 +164,7 @@ fn listed<'a, R: Files + AllocGlobal, C: ShardCodec<ShardFile<'a, R>>, M: Write>
 ) -> Result<Vec<Option<ShardInfo>>, Stop> {
     let mut shards: Vec<Option<ShardInfo>> = Vec::with_capacity(array.alloc(), chunks.len())?;
     let mut files = FolderFiles::new(array.alloc(), array.rt, array.path);
-    for (number, chunk) in chunks.iter().enumerate() {
-        progress.step(number as u64, chunks.len() as u64);
-        let shard = Shard {
-            key: &chunk.key,
-            coordinates: &chunk.coordinates,
-        };
-        let info = if size > LONGEST_AT_ONCE {
-            read_in_pieces(array, &shard, size)?
-        } else {
-            read_at_once(array, &shard, size, &mut files)?
-        };
-        shards.push(info)?;
-    }
+    add_shards(array, chunks, size, &mut files, &mut shards, progress)?;
     Ok(shards)
 }
 
@@ -298,6 +328,16 @@ fn write_sums<W: Write>(out: &mut W, sums: &Sums) -> io::Result<()> {
     }
 }
 
+// Writes how many shards there are, of how many there could be.
+fn write_count<R: Files + AllocGlobal, C, W: Write>(
+    out: &mut W,
+    array: &Array<'_, R, C>,
+    shards: u64,
+) -> io::Result<()> {
+    let possible = array.grid.count(array.alloc())?;
+    writeln!(out, "shards: {shards} of {possible}")
+}
+
 // Writes what the metadata says, how many shards are there, a line for each, what else stands in the folder, and the sums.
 fn write_info<R: Files + AllocGlobal + Clock, C, W: Write>(
     out: &mut W,
@@ -308,8 +348,7 @@ fn write_info<R: Files + AllocGlobal + Clock, C, W: Write>(
 ) -> io::Result<()> {
     write_metadata(out, array.metadata)?;
     write_unread(out, array.unread()?)?;
-    let possible = array.grid.count(array.alloc())?;
-    writeln!(out, "shards: {} of {possible}", sums.shards)?;
+    write_count(out, array, sums.shards)?;
     write_shards(out, files, shards)?;
     write_folder(array, out, files)?;
     write_sums(out, sums)
@@ -329,6 +368,17 @@ fn write_shard_lines<W: Write>(
     Ok(())
 }
 
+// Writes what the metadata says as a line of JSON.
+fn write_array_line<R: Files + AllocGlobal, C, W: Write>(
+    out: &mut W,
+    array: &Array<'_, R, C>,
+) -> io::Result<()> {
+    let possible = array.grid.count(array.alloc())?;
+    let unread = array.unread()?;
+    let unread = unread.as_ref().map(String::as_str);
+    json::write_array(out, array.metadata, &possible, unread)
+}
+
 // Writes the same as lines of JSON.
 fn write_info_lines<R: Files + AllocGlobal, C, W: Write>(
     out: &mut W,
@@ -337,24 +387,39 @@ fn write_info_lines<R: Files + AllocGlobal, C, W: Write>(
     shards: &[Option<ShardInfo>],
     sums: &Sums,
 ) -> io::Result<()> {
-    let unread = array.unread()?;
-    let possible = array.grid.count(array.alloc())?;
-    let unread = unread.as_ref().map(String::as_str);
-    json::write_array(out, array.metadata, &possible, unread)?;
+    write_array_line(out, array)?;
     write_shard_lines(out, files, shards)?;
     json::write_folder_lines(out, files)?;
     json::write_sums(out, sums)
 }
 
-/// What is known of the shards in these files; nothing of one whose file is gone. Of each only the index is read. Refused as
-/// `info_of_array` is.
+/// The shards that a part of an array has, and what is known of each; nothing of one whose file is gone. Of each only the index is read.
+/// Refused as `info_of_array` is.
 pub fn known_shards<'a, R: Files + AllocGlobal, C: ShardCodec<ShardFile<'a, R>>, M: Write>(
     array: &Array<'a, R, C>,
-    files: &ChunkFiles,
+    part: &ListPart,
     progress: &mut Progress<'_, M>,
-) -> Result<Vec<Option<ShardInfo>>, Stop> {
+) -> Result<KnownShards, Stop> {
     let size = array.codec.index_size(array.alloc(), &array.subchunks)?;
-    listed(array, &files.chunks, size, progress)
+    let files = array.files_in(part)?;
+    let shards = listed(array, &files.chunks, size, progress)?;
+    Ok(KnownShards { files, shards })
+}
+
+// Writes what the metadata says, and what is known of these shards.
+fn write_known<R: Files + AllocGlobal + Clock, C, W: Write>(
+    out: &mut W,
+    array: &Array<'_, R, C>,
+    known: &KnownShards,
+    sums: &Sums,
+    is_json: bool,
+) -> io::Result<()> {
+    let KnownShards { files, shards } = known;
+    if is_json {
+        write_info_lines(out, array, files, shards, sums)
+    } else {
+        write_info(out, array, files, shards, sums)
+    }
 }
 
 /// Writes what the metadata says, and what is known of the shards that are there. Of each only the index is read; a shard that is
@@ -372,21 +437,15 @@ pub fn info_of_array<
     out: &mut W,
     progress: &mut Progress<'_, M>,
 ) -> Result<Ending, Stop> {
-    let size = array.codec.index_size(array.alloc(), &array.subchunks)?;
-    let files = array.files_in(&listing.part)?;
-    let shards = listed(array, &files.chunks, size, progress)?;
+    let known = known_shards(array, &listing.part, progress)?;
     progress.clear();
-    let sums = Sums::of(&shards);
+    let sums = Sums::of(&known.shards);
     let ending = if sums.refused == 0 {
         Ending::Done
     } else {
         Ending::Refused
     };
-    let wrote = if listing.is_json {
-        write_info_lines(out, array, &files, &shards, &sums)
-    } else {
-        write_info(out, array, &files, &shards, &sums)
-    };
+    let wrote = write_known(out, array, &known, &sums, listing.is_json);
     written(wrote, ending)?;
     Ok(ending)
 }

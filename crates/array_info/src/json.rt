@@ -31,6 +31,38 @@ fn put_subchunk<W: Write>(line: &mut JsonLine<'_, W>, metadata: &ArrayMetadata) 
     }
 }
 
+// Puts the shape of an array, and the names of its axes where there are any.
+fn put_shape<W: Write>(line: &mut JsonLine<'_, W>, metadata: &ArrayMetadata) -> io::Result<()> {
+    line.numbers("shape", &metadata.shape)?;
+    match &metadata.dimension_names {
+        Some(names) => line.text("dimension_names", names),
+        None => Ok(()),
+    }
+}
+
+// Puts what the keys of chunks are, and the shapes of chunks and of subchunks.
+fn put_chunks<W: Write>(line: &mut JsonLine<'_, W>, metadata: &ArrayMetadata) -> io::Result<()> {
+    let (encoding, separator) = key_words(metadata.keys);
+    line.text("chunk_key_encoding", encoding)?;
+    line.text("separator", separator)?;
+    line.numbers("chunk_shape", metadata.shard.as_slice())?;
+    put_subchunk(line, metadata)
+}
+
+// Puts what the metadata says of elements, the codecs, and the one for which no subchunk is looked into.
+fn put_codecs<W: Write>(
+    line: &mut JsonLine<'_, W>,
+    metadata: &ArrayMetadata,
+    unread: Option<&str>,
+) -> io::Result<()> {
+    put_type(line, metadata)?;
+    line.text("codecs", &metadata.codecs)?;
+    match unread {
+        Some(name) => line.text("unread_codec", name),
+        None => Ok(()),
+    }
+}
+
 /// Writes a line of the kind `array`: what the metadata says, and how many shards there could be, in digits. `unread` is the codec for
 /// which no subchunk is looked into.
 pub fn write_array<W: Write>(
@@ -40,20 +72,9 @@ pub fn write_array<W: Write>(
     unread: Option<&str>,
 ) -> io::Result<()> {
     let mut line = JsonLine::new(out, "array")?;
-    line.numbers("shape", &metadata.shape)?;
-    if let Some(names) = &metadata.dimension_names {
-        line.text("dimension_names", names)?;
-    }
-    let (encoding, separator) = key_words(metadata.keys);
-    line.text("chunk_key_encoding", encoding)?;
-    line.text("separator", separator)?;
-    line.numbers("chunk_shape", metadata.shard.as_slice())?;
-    put_subchunk(&mut line, metadata)?;
-    put_type(&mut line, metadata)?;
-    line.text("codecs", &metadata.codecs)?;
-    if let Some(name) = unread {
-        line.text("unread_codec", name)?;
-    }
+    put_shape(&mut line, metadata)?;
+    put_chunks(&mut line, metadata)?;
+    put_codecs(&mut line, metadata, unread)?;
     line.member("possible_shards")?
         .write_all(possible.as_bytes())?;
     line.end()
@@ -75,13 +96,17 @@ pub fn write_shard<W: Write>(out: &mut W, key: &str, shard: &ShardInfo) -> io::R
     line.end()
 }
 
-/// Writes a line of the kind `new_file` for each new file that stands beside a shard, and one of the kind `other_files` where other
-/// files stand in the folder.
+// Writes a line of the kind `new_file`.
+fn write_new_file<W: Write>(out: &mut W, key: &str) -> io::Result<()> {
+    let mut line = JsonLine::new(out, "new_file")?;
+    line.text("key", key)?;
+    line.end()
+}
+
+/// Writes a line of the kind `new_file` for each new file beside a shard, and one of the kind `other_files` where others stand there.
 pub fn write_folder_lines<W: Write>(out: &mut W, files: &ChunkFiles) -> io::Result<()> {
     for key in files.replacing.iter() {
-        let mut line = JsonLine::new(out, "new_file")?;
-        line.text("key", key)?;
-        line.end()?;
+        write_new_file(out, key)?;
     }
     if files.others == 0 {
         return Ok(());

@@ -18,30 +18,64 @@ fn is_group(obstacles: &Obstacles) -> bool {
     }
 }
 
+// A name for a terminal: that of the path that is listed is `.`.
+fn shown(alloc: Global, name: &str) -> Result<String, AllocError> {
+    escaped(alloc, if name.is_empty() { "." } else { name })
+}
+
 // Writes a line for an array: what its elements are, its shape, and why they are not read, if so.
 fn write_array<W: Write>(
     out: &mut W,
+    alloc: Global,
     name: &str,
     metadata: &ArrayMetadata,
-    refused: Option<MetadataError>,
 ) -> io::Result<()> {
+    let name = shown(alloc, name)?;
     let data_type = match &metadata.type_text {
         Some(text) => text.data_type.as_str(),
         None => metadata.element_type.name(),
     };
     write!(out, "{name}: {data_type} {:?}", metadata.shape)?;
-    match refused {
-        Some(error) => writeln!(out, "; not read: {error}"),
-        None => out.write_all(b"\n"),
+    match metadata.test_read(alloc) {
+        Ok(()) => out.write_all(b"\n"),
+        Err(error) => writeln!(out, "; not read: {error}"),
     }
 }
 
-// What stands at a path below the one that is listed.
-#[derive(Drop)]
-enum Node {
-    Array(ArrayMetadata),
+// Writes a line for a group.
+fn write_group<W: Write>(out: &mut W, alloc: Global, name: &str) -> io::Result<()> {
+    let name = shown(alloc, name)?;
+    writeln!(out, "{name}: a group")
+}
+
+// Writes a line for what is refused.
+fn write_refused<W: Write>(out: &mut W, alloc: Global, name: &str, stop: &Stop) -> io::Result<()> {
+    let name = shown(alloc, name)?;
+    writeln!(out, "{name}: refused: {stop}")
+}
+
+// Of which kind it is what stands at a path.
+#[derive(Clone, Copy)]
+enum Kind {
+    Array,
     Group,
-    Refused(Stop),
+    Refused,
+}
+
+impl Kind {
+    // How a listing ends that tells of it.
+    fn ending(self) -> Ending {
+        match self {
+            Kind::Refused => Ending::Undone,
+            _ => Ending::Done,
+        }
+    }
+}
+
+// What was told of, by a line that was written.
+fn told(wrote: io::Result<()>, kind: Kind) -> Result<Kind, Stop> {
+    written(wrote, kind.ending())?;
+    Ok(kind)
 }
 
 // Whether what stops a listing is the metadata of a group.
@@ -52,35 +86,15 @@ fn is_at_group(stop: &Stop) -> bool {
     }
 }
 
-// What stands at a path where no metadata of an array is read.
-fn other_node(stop: Stop) -> Result<Node, Stop> {
+// Writes a line for what stands under a name where no metadata of an array is read. At the path that is listed, this stops the listing.
+fn tell_other<W: Write>(out: &mut W, alloc: Global, name: &str, stop: Stop) -> Result<Kind, Stop> {
     if is_at_group(&stop) {
-        return Ok(Node::Group);
+        return told(write_group(out, alloc, name), Kind::Group);
     }
-    if matches!(&stop, Stop::OutOfMemory) {
+    if name.is_empty() || matches!(&stop, Stop::OutOfMemory) {
         return Err(stop);
     }
-    Ok(Node::Refused(stop))
-}
-
-// What stands at a path.
-fn node_at<R: Files + AllocGlobal>(rt: &R, path: &str) -> Result<Node, Stop> {
-    match metadata_of(rt, path) {
-        Ok(metadata) => Ok(Node::Array(metadata)),
-        Err(stop) => other_node(stop),
-    }
-}
-
-// Writes a line for what stands under a name, and says whether that is a group.
-fn write_node<W: Write>(out: &mut W, alloc: Global, name: &str, node: &Node) -> io::Result<()> {
-    let name = escaped(alloc, name)?;
-    match node {
-        Node::Array(metadata) => {
-            write_array(out, &name, metadata, metadata.test_read(alloc).err())
-        }
-        Node::Group => writeln!(out, "{name}: a group"),
-        Node::Refused(stop) => writeln!(out, "{name}: refused: {stop}"),
-    }
+    told(write_refused(out, alloc, name, &stop), Kind::Refused)
 }
 
 // A path below another one, or this one itself.
@@ -108,6 +122,20 @@ fn add_members<R: Files + AllocGlobal>(
     Ok(())
 }
 
+// Writes a line for what stands under a name, and says of which kind it is.
+fn list_one<R: Files + AllocGlobal, W: Write>(
+    rt: &R,
+    path: &str,
+    name: &str,
+    out: &mut W,
+) -> Result<Kind, Stop> {
+    let path = below(rt.alloc(), path, name)?;
+    match metadata_of(rt, &path) {
+        Ok(metadata) => told(write_array(out, rt.alloc(), name, &metadata), Kind::Array),
+        Err(stop) => tell_other(out, rt.alloc(), name, stop),
+    }
+}
+
 // Writes a line for what stands under a name, and adds its members to those that are still to be listed.
 fn list_next<R: Files + AllocGlobal, W: Write>(
     rt: &R,
@@ -116,21 +144,11 @@ fn list_next<R: Files + AllocGlobal, W: Write>(
     out: &mut W,
     names: &mut Vec<String>,
 ) -> Result<Ending, Stop> {
-    let alloc = rt.alloc();
-    let node = match node_at(rt, &below(alloc, path, name)?)? {
-        Node::Refused(stop) if name.is_empty() => return Err(stop),
-        node => node,
-    };
-    let ending = match &node {
-        Node::Refused(_) => Ending::Undone,
-        _ => Ending::Done,
-    };
-    let shown = if name.is_empty() { "." } else { name };
-    written(write_node(out, alloc, shown, &node), ending)?;
-    if matches!(&node, Node::Group) {
+    let kind = list_one(rt, path, name, out)?;
+    if matches!(kind, Kind::Group) {
         add_members(rt, path, name, names)?;
     }
-    Ok(ending)
+    Ok(kind.ending())
 }
 
 /// Writes a line for the array or the group at a path, and for each below a group: its name, what its elements are, its shape, and

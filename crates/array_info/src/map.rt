@@ -8,6 +8,7 @@ use array_folder::{
     ChunkFiles, Drawn, Mark, ShardMap, SliceOrder, save_bytes, write_array_map,
     write_array_picture, write_shard_map, write_shard_picture,
 };
+use array_grid::ListPart;
 use parts_errors::CodecError;
 use parts_row_major::{ravel_indices, unravel_index};
 use parts_subsets::ChunkShape;
@@ -131,21 +132,32 @@ fn follows(drawn: &[Drawn], sequence: &SubchunkSequence) -> bool {
     true
 }
 
+// Whether the slices of a shard begin in the file in an order.
+fn is_in_order(
+    alloc: Global,
+    drawn: &[Drawn],
+    subchunks: &ChunkShape,
+    order: SubchunkWriteOrder,
+) -> Result<bool, AllocError> {
+    match subchunks.num_elements() {
+        Some(count) => {
+            let sequence = SubchunkSequence::new(alloc, order, subchunks, count)?;
+            Ok(follows(drawn, &sequence))
+        }
+        None => Ok(false),
+    }
+}
+
 // The order in which the slices of a shard lie in its file.
 fn order_of(
     alloc: Global,
     drawn: &[Drawn],
     subchunks: &ChunkShape,
 ) -> Result<SliceOrder, AllocError> {
-    let Some(count) = subchunks.num_elements() else {
-        return Ok(SliceOrder::Another);
-    };
-    let ascending = SubchunkSequence::new(alloc, SubchunkWriteOrder::C, subchunks, count)?;
-    if follows(drawn, &ascending) {
+    if is_in_order(alloc, drawn, subchunks, SubchunkWriteOrder::C)? {
         return Ok(SliceOrder::RowMajor);
     }
-    let morton = SubchunkSequence::new(alloc, SubchunkWriteOrder::Morton, subchunks, count)?;
-    if follows(drawn, &morton) {
+    if is_in_order(alloc, drawn, subchunks, SubchunkWriteOrder::Morton)? {
         return Ok(SliceOrder::Morton);
     }
     Ok(SliceOrder::Another)
@@ -173,6 +185,19 @@ fn map_of<'a, R: Files + AllocGlobal, C: ShardCodec<ShardFile<'a, R>>, M: Write>
     })
 }
 
+// The length of the file of a shard, which is there.
+fn length_of<'a, R: Files + AllocGlobal, C>(
+    array: &Array<'a, R, C>,
+    shard: &Shard<'_>,
+    file: &mut ShardFile<'a, R>,
+) -> Result<u64, Stop> {
+    match file.len() {
+        Ok(Some(length)) => Ok(length),
+        Ok(None) => Err(Stop::NoShard(escaped(array.alloc(), shard.key)?)),
+        Err(error) => Err(array.stop(shard, file, error, Place::Shard)),
+    }
+}
+
 // The map of the shard in a file, which has as many subchunks.
 fn map_of_file<'a, R: Files + AllocGlobal, C: ShardCodec<ShardFile<'a, R>>, M: Write>(
     array: &Array<'a, R, C>,
@@ -181,23 +206,57 @@ fn map_of_file<'a, R: Files + AllocGlobal, C: ShardCodec<ShardFile<'a, R>>, M: W
     count: u64,
     progress: &mut Progress<'_, M>,
 ) -> Result<ShardMap, Stop> {
-    let length = match file.len() {
-        Ok(Some(length)) => length,
-        Ok(None) => return Err(Stop::NoShard(escaped(array.alloc(), shard.key)?)),
-        Err(error) => {
-            return Err(Stop::Refused(array.refusal(shard, &file, error, Place::Shard)?));
-        }
-    };
-    let mut opened = match array.open_shard(shard, file)? {
-        Ok(opened) => opened,
-        Err(refusal) => return Err(Stop::Refused(refusal)),
-    };
+    let length = length_of(array, shard, &mut file)?;
+    let mut opened = array.opened(shard, file)?;
     let map = map_of(array, &mut opened, length, count, progress);
     let file = opened.close();
     match map {
         Ok(map) => Ok(map),
-        Err(error) => Err(Stop::Refused(array.refusal(shard, &file, error, Place::Shard)?)),
+        Err(error) => Err(array.stop(shard, &file, error, Place::Shard)),
     }
+}
+
+// The map of the shard that has a key, which has as many subchunks.
+fn map_of_key<'a, R: Files + AllocGlobal, C: ShardCodec<ShardFile<'a, R>>, M: Write>(
+    array: &Array<'a, R, C>,
+    key: &str,
+    count: u64,
+    progress: &mut Progress<'_, M>,
+) -> Result<ShardMap, Stop> {
+    let files = array.files()?;
+    let shard = shard_of(array, &files, key)?;
+    map_of_file(array, &shard, array.file(shard.key)?, count, progress)
+}
+
+// Saves a picture of a shard in a file.
+fn save_shard_picture<R: Files + AllocGlobal, C, W: Write>(
+    array: &Array<'_, R, C>,
+    path: &str,
+    key: &str,
+    map: &ShardMap,
+    out: &mut W,
+) -> Result<(), Stop> {
+    let mut picture: Vec<u8> = Vec::new(array.alloc());
+    write_shard_picture(&mut picture, key, map, array.subchunks.as_slice())?;
+    Ok(save_bytes(array.rt, path, &picture, out)?)
+}
+
+// Draws a map of a shard, as text or as a picture in a file.
+fn draw_shard<R: Files + AllocGlobal, C, W: Write>(
+    array: &Array<'_, R, C>,
+    key: &str,
+    map: &ShardMap,
+    svg: Option<&str>,
+    out: &mut W,
+) -> Result<Ending, Stop> {
+    let ending = ending_of(&map.marks(array.alloc())?);
+    if let Some(path) = svg {
+        save_shard_picture(array, path, key, map, out)?;
+        return Ok(ending);
+    }
+    let wrote = write_shard_map(out, array.alloc(), key, map, array.subchunks.as_slice());
+    written(wrote, ending)?;
+    Ok(ending)
 }
 
 /// Draws the subchunks of a shard by its key, and the bytes of its file: as text, or as a picture in a file of the format SVG. Each
@@ -212,24 +271,9 @@ pub fn map_shard<'a, R: Files + AllocGlobal, C: ShardCodec<ShardFile<'a, R>>, W:
     progress: &mut Progress<'_, M>,
 ) -> Result<Ending, Stop> {
     let count = places_of(array.subchunks.as_slice())?;
-    let files = array.files()?;
-    let shard = shard_of(array, &files, key)?;
-    let map = map_of_file(array, &shard, array.file(shard.key)?, count, progress)?;
+    let map = map_of_key(array, key, count, progress)?;
     progress.clear();
-    let grid = array.subchunks.as_slice();
-    let ending = ending_of(&map.marks(array.alloc())?);
-    match svg {
-        Some(path) => {
-            let mut picture: Vec<u8> = Vec::new(array.alloc());
-            write_shard_picture(&mut picture, shard.key, &map, grid)?;
-            save_bytes(array.rt, path, &picture, out)?;
-        }
-        None => written(
-            write_shard_map(out, array.alloc(), shard.key, &map, grid),
-            ending,
-        )?,
-    }
-    Ok(ending)
+    draw_shard(array, key, &map, svg, out)
 }
 
 // What stands at each place of the chunk grid.
@@ -254,6 +298,33 @@ fn marks_of<R: Files + AllocGlobal, C>(
     Ok(marks)
 }
 
+// Saves a picture of an array in a file.
+fn save_array_picture<R: Files + AllocGlobal, C, W: Write>(
+    array: &Array<'_, R, C>,
+    path: &str,
+    marks: &[Mark],
+    out: &mut W,
+) -> Result<(), Stop> {
+    let mut picture: Vec<u8> = Vec::new(array.alloc());
+    write_array_picture(&mut picture, marks, array.grid.counts())?;
+    Ok(save_bytes(array.rt, path, &picture, out)?)
+}
+
+// Draws a map of an array, as text or as a picture in a file.
+fn draw_array<R: Files + AllocGlobal, C, W: Write>(
+    array: &Array<'_, R, C>,
+    marks: &[Mark],
+    svg: Option<&str>,
+    out: &mut W,
+) -> Result<Ending, Stop> {
+    let ending = ending_of(marks);
+    match svg {
+        Some(path) => save_array_picture(array, path, marks, out)?,
+        None => written(write_array_map(out, marks, array.grid.counts()), ending)?,
+    }
+    Ok(ending)
+}
+
 /// Draws which shards of an array are there, and which have an index that is refused, as text or as a picture in a file of the format
 /// SVG. Refused, in this order, as `Stop::TooManyPlaces` where there could be more than 65,536 shards, and as `info` is.
 pub fn map_array<'a, R: Files + AllocGlobal, C: ShardCodec<ShardFile<'a, R>>, W: Write, M: Write>(
@@ -263,19 +334,8 @@ pub fn map_array<'a, R: Files + AllocGlobal, C: ShardCodec<ShardFile<'a, R>>, W:
     progress: &mut Progress<'_, M>,
 ) -> Result<Ending, Stop> {
     let places = places_of(array.grid.counts())?;
-    let files = array.files()?;
-    let shards = known_shards(array, &files, progress)?;
+    let known = known_shards(array, &ListPart::whole(), progress)?;
     progress.clear();
-    let marks = marks_of(array, &files, &shards, places)?;
-    let ending = ending_of(&marks);
-    let counts = array.grid.counts();
-    match svg {
-        Some(path) => {
-            let mut picture: Vec<u8> = Vec::new(array.alloc());
-            write_array_picture(&mut picture, &marks, counts)?;
-            save_bytes(array.rt, path, &picture, out)?;
-        }
-        None => written(write_array_map(out, &marks, counts), ending)?,
-    }
-    Ok(ending)
+    let marks = marks_of(array, &known.files, &known.shards, places)?;
+    draw_array(array, &marks, svg, out)
 }

@@ -2,7 +2,7 @@
 use crate::folder::shard_of;
 use crate::info::{ShardInfo, write_shard};
 use crate::json;
-use array_cli::{Array, Ending, Place, ShardCodec, ShardFile, Stop, written};
+use array_cli::{Array, Ending, Place, Shard, ShardCodec, ShardFile, Stop, written};
 use array_fields::{JsonLine, escaped};
 use array_folder::{DeadBytes, IndexInfo, index_interval, info_of, slice_of};
 use parts_errors::CodecError;
@@ -73,6 +73,31 @@ fn layout_of<'a, R: Files + AllocGlobal, C: ShardCodec<ShardFile<'a, R>>>(
     let index = codec.read_index(alloc, file, length, &array.metadata.encoded)?;
     let layout = Layout::new(alloc, index.numbers, codec.index_location(), size, length)?;
     Ok(Some(layout))
+}
+
+// Where the subchunks of a shard lie, whose index has a size.
+fn layout_of_shard<'a, R: Files + AllocGlobal, C: ShardCodec<ShardFile<'a, R>>>(
+    array: &Array<'a, R, C>,
+    shard: &Shard<'_>,
+    size: u64,
+) -> Result<Layout, Stop> {
+    let mut file = array.file(shard.key)?;
+    match layout_of(array, size, &mut file) {
+        Ok(Some(layout)) => Ok(layout),
+        Ok(None) => Err(Stop::NoShard(escaped(array.alloc(), shard.key)?)),
+        Err(error) => Err(array.stop(shard, &file, error, Place::opening(&error))),
+    }
+}
+
+// Where the subchunks of the shard lie that has a key, and whose index has a size.
+fn layout_of_key<'a, R: Files + AllocGlobal, C: ShardCodec<ShardFile<'a, R>>>(
+    array: &Array<'a, R, C>,
+    size: u64,
+    key: &str,
+) -> Result<Layout, Stop> {
+    let files = array.files()?;
+    let shard = shard_of(array, &files, key)?;
+    layout_of_shard(array, &shard, size)
 }
 
 // Writes what bytes a line is of, from a start to before an end.
@@ -204,24 +229,12 @@ pub fn info_of_shard<'a, R: Files + AllocGlobal, C: ShardCodec<ShardFile<'a, R>>
     is_json: bool,
     out: &mut W,
 ) -> Result<Ending, Stop> {
-    let alloc = array.alloc();
-    let size = array.codec.index_size(alloc, &array.subchunks)?;
-    let files = array.files()?;
-    let shard = shard_of(array, &files, key)?;
-    let mut file = array.file(shard.key)?;
-    let layout = match layout_of(array, size, &mut file) {
-        Ok(Some(layout)) => layout,
-        Ok(None) => return Err(Stop::NoShard(escaped(alloc, key)?)),
-        Err(error) => {
-            let refusal = array.refusal(&shard, &file, error, Place::opening(&error))?;
-            return Err(Stop::Refused(refusal));
-        }
-    };
-    let subchunks = array.subchunks.as_slice();
+    let size = array.codec.index_size(array.alloc(), &array.subchunks)?;
+    let layout = layout_of_key(array, size, key)?;
     let wrote = if is_json {
-        write_layout_lines(out, shard.key, &layout)
+        write_layout_lines(out, key, &layout)
     } else {
-        write_layout(out, alloc, shard.key, &layout, subchunks)
+        write_layout(out, array.alloc(), key, &layout, array.subchunks.as_slice())
     };
     written(wrote, Ending::Done)?;
     Ok(Ending::Done)

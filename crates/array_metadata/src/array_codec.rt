@@ -49,11 +49,7 @@ impl ArrayToBytesCodecTraits for ArrayCodec {
         data_type: &DataType,
         fill_value: &FillValue,
     ) -> Result<(), CodecError> {
-        of_held!(
-            self,
-            codec,
-            codec.check(alloc, shape, data_type, fill_value)
-        )
+        of_held!(self, held, held.check(alloc, shape, data_type, fill_value))
     }
 
     /// As `encode` of the codec that it holds.
@@ -68,8 +64,8 @@ impl ArrayToBytesCodecTraits for ArrayCodec {
     ) -> Result<Vec<u8>, CodecError> {
         of_held!(
             self,
-            codec,
-            codec.encode(alloc, bytes, shape, data_type, fill_value, options)
+            held,
+            held.encode(alloc, bytes, shape, data_type, fill_value, options)
         )
     }
 
@@ -86,8 +82,8 @@ impl ArrayToBytesCodecTraits for ArrayCodec {
     ) -> Result<(), CodecError> {
         of_held!(
             self,
-            codec,
-            codec.encode_onto(alloc, bytes, shape, data_type, fill_value, encoded, options)
+            held,
+            held.encode_onto(alloc, bytes, shape, data_type, fill_value, encoded, options)
         )
     }
 
@@ -98,7 +94,7 @@ impl ArrayToBytesCodecTraits for ArrayCodec {
         data_type: &DataType,
         fill_value: &FillValue,
     ) -> Option<u64> {
-        of_held!(self, codec, codec.plain_size(shape, data_type, fill_value))
+        of_held!(self, held, held.plain_size(shape, data_type, fill_value))
     }
 
     /// As `decode` of the codec that it holds.
@@ -113,8 +109,8 @@ impl ArrayToBytesCodecTraits for ArrayCodec {
     ) -> Result<ArrayBytes<'a>, CodecError> {
         of_held!(
             self,
-            codec,
-            codec.decode(alloc, bytes, shape, data_type, fill_value, options)
+            held,
+            held.decode(alloc, bytes, shape, data_type, fill_value, options)
         )
     }
 
@@ -131,8 +127,8 @@ impl ArrayToBytesCodecTraits for ArrayCodec {
     ) -> Result<(), CodecError> {
         of_held!(
             self,
-            codec,
-            codec.decode_into(alloc, bytes, shape, data_type, fill_value, target, options)
+            held,
+            held.decode_into(alloc, bytes, shape, data_type, fill_value, target, options)
         )
     }
 
@@ -148,8 +144,8 @@ impl ArrayToBytesCodecTraits for ArrayCodec {
     ) -> Result<Option<Vec<u8>>, CodecError> {
         of_held!(
             self,
-            codec,
-            codec.compact(alloc, bytes, shape, data_type, fill_value, options)
+            held,
+            held.compact(alloc, bytes, shape, data_type, fill_value, options)
         )
     }
 
@@ -159,7 +155,7 @@ impl ArrayToBytesCodecTraits for ArrayCodec {
         shape: &ChunkShape,
         data_type: &DataType,
     ) -> Result<RecommendedConcurrency, CodecError> {
-        of_held!(self, codec, codec.recommended_concurrency(shape, data_type))
+        of_held!(self, held, held.recommended_concurrency(shape, data_type))
     }
 
     /// As `encoded_representation` of the codec that it holds.
@@ -172,8 +168,8 @@ impl ArrayToBytesCodecTraits for ArrayCodec {
     ) -> Result<BytesRepresentation, CodecError> {
         of_held!(
             self,
-            codec,
-            codec.encoded_representation(alloc, shape, data_type, fill_value)
+            held,
+            held.encoded_representation(alloc, shape, data_type, fill_value)
         )
     }
 
@@ -191,8 +187,8 @@ impl ArrayToBytesCodecTraits for ArrayCodec {
     ) -> Result<ArrayBytes<'static>, CodecError> {
         of_held!(
             self,
-            codec,
-            codec.partial_decode(
+            held,
+            held.partial_decode(
                 alloc, handle, interval, shape, data_type, fill_value, indexer, options,
             )
         )
@@ -210,8 +206,8 @@ impl ArrayToBytesCodecTraits for ArrayCodec {
     ) -> Result<(), CodecError> {
         of_held!(
             self,
-            codec,
-            codec.partial_decode_into(alloc, handle, stored, indexer, target, options)
+            held,
+            held.partial_decode_into(alloc, handle, stored, indexer, target, options)
         )
     }
 
@@ -227,8 +223,8 @@ impl ArrayToBytesCodecTraits for ArrayCodec {
     ) -> Result<(), CodecError> {
         of_held!(
             self,
-            codec,
-            codec.partial_decode_into_fresh(alloc, handle, stored, indexer, target, options)
+            held,
+            held.partial_decode_into_fresh(alloc, handle, stored, indexer, target, options)
         )
     }
 }

@@ -50,11 +50,7 @@ impl ArrayToBytesCodecTraits for InnerCodec {
         data_type: &DataType,
         fill_value: &FillValue,
     ) -> Result<(), CodecError> {
-        of_held!(
-            self,
-            codec,
-            codec.check(alloc, shape, data_type, fill_value)
-        )
+        of_held!(self, held, held.check(alloc, shape, data_type, fill_value))
     }
 
     /// As `encode` of the codec that it holds.
@@ -69,8 +65,8 @@ impl ArrayToBytesCodecTraits for InnerCodec {
     ) -> Result<Vec<u8>, CodecError> {
         of_held!(
             self,
-            codec,
-            codec.encode(alloc, bytes, shape, data_type, fill_value, options)
+            held,
+            held.encode(alloc, bytes, shape, data_type, fill_value, options)
         )
     }
 
@@ -87,8 +83,8 @@ impl ArrayToBytesCodecTraits for InnerCodec {
     ) -> Result<(), CodecError> {
         of_held!(
             self,
-            codec,
-            codec.encode_onto(alloc, bytes, shape, data_type, fill_value, encoded, options)
+            held,
+            held.encode_onto(alloc, bytes, shape, data_type, fill_value, encoded, options)
         )
     }
 
@@ -99,7 +95,7 @@ impl ArrayToBytesCodecTraits for InnerCodec {
         data_type: &DataType,
         fill_value: &FillValue,
     ) -> Option<u64> {
-        of_held!(self, codec, codec.plain_size(shape, data_type, fill_value))
+        of_held!(self, held, held.plain_size(shape, data_type, fill_value))
     }
 
     /// As `decode` of the codec that it holds.
@@ -114,8 +110,8 @@ impl ArrayToBytesCodecTraits for InnerCodec {
     ) -> Result<ArrayBytes<'a>, CodecError> {
         of_held!(
             self,
-            codec,
-            codec.decode(alloc, bytes, shape, data_type, fill_value, options)
+            held,
+            held.decode(alloc, bytes, shape, data_type, fill_value, options)
         )
     }
 
@@ -132,8 +128,8 @@ impl ArrayToBytesCodecTraits for InnerCodec {
     ) -> Result<(), CodecError> {
         of_held!(
             self,
-            codec,
-            codec.decode_into(alloc, bytes, shape, data_type, fill_value, target, options)
+            held,
+            held.decode_into(alloc, bytes, shape, data_type, fill_value, target, options)
         )
     }
 
@@ -149,8 +145,8 @@ impl ArrayToBytesCodecTraits for InnerCodec {
     ) -> Result<Option<Vec<u8>>, CodecError> {
         of_held!(
             self,
-            codec,
-            codec.compact(alloc, bytes, shape, data_type, fill_value, options)
+            held,
+            held.compact(alloc, bytes, shape, data_type, fill_value, options)
         )
     }
 
@@ -160,7 +156,7 @@ impl ArrayToBytesCodecTraits for InnerCodec {
         shape: &ChunkShape,
         data_type: &DataType,
     ) -> Result<RecommendedConcurrency, CodecError> {
-        of_held!(self, codec, codec.recommended_concurrency(shape, data_type))
+        of_held!(self, held, held.recommended_concurrency(shape, data_type))
     }
 
     /// As `encoded_representation` of the codec that it holds.
@@ -173,8 +169,8 @@ impl ArrayToBytesCodecTraits for InnerCodec {
     ) -> Result<BytesRepresentation, CodecError> {
         of_held!(
             self,
-            codec,
-            codec.encoded_representation(alloc, shape, data_type, fill_value)
+            held,
+            held.encoded_representation(alloc, shape, data_type, fill_value)
         )
     }
 
@@ -192,8 +188,8 @@ impl ArrayToBytesCodecTraits for InnerCodec {
     ) -> Result<ArrayBytes<'static>, CodecError> {
         of_held!(
             self,
-            codec,
-            codec.partial_decode(
+            held,
+            held.partial_decode(
                 alloc, handle, interval, shape, data_type, fill_value, indexer, options,
             )
         )
@@ -211,8 +207,8 @@ impl ArrayToBytesCodecTraits for InnerCodec {
     ) -> Result<(), CodecError> {
         of_held!(
             self,
-            codec,
-            codec.partial_decode_into(alloc, handle, stored, indexer, target, options)
+            held,
+            held.partial_decode_into(alloc, handle, stored, indexer, target, options)
         )
     }
 
@@ -228,8 +224,8 @@ impl ArrayToBytesCodecTraits for InnerCodec {
     ) -> Result<(), CodecError> {
         of_held!(
             self,
-            codec,
-            codec.partial_decode_into_fresh(alloc, handle, stored, indexer, target, options)
+            held,
+            held.partial_decode_into_fresh(alloc, handle, stored, indexer, target, options)
         )
     }
 }

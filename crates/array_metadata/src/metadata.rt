@@ -1,6 +1,6 @@
 // An array's metadata.
-ghost use Rattle.std.specs.Prelude.{◌≡◌, ◌≤◌, ℕ, List, Some, None, Ok, IfOk, OnOk, IsTrue, codes, length, option_and_then, option_map, string_bytes, vec_len};
-ghost use Rattle.serde_json.specs.Find.{as_array, get};
+ghost use Rattle.std.specs.Prelude.{◌≡◌, ◌≤◌, ℕ, List, Some, None, Ok, IfOk, OnOk, IsTrue, codes, length, option_and_then, option_map, string_bytes, unwrap_or, vec_len};
+ghost use Rattle.serde_json.specs.Find.{as_array, as_str, get};
 ghost use Rattle.serde_json.specs.Read.{read};
 ghost use Rattle.parts_errors.specs.Words.{Bytes};
 ghost use Rattle.serde_json.specs.View.{view};
@@ -8,6 +8,8 @@ ghost use Rattle.codec_metadata.specs.Metadata.{name_in};
 ghost use Rattle.array_metadata.specs.AcceptedMetadata.{IsServedText, IsReadAs, FitsTogether};
 ghost use Rattle.array_fields.specs.MetadataFields.{configured_in, whole_numbers_in};
 ghost use Rattle.array_fields.specs.FillValues.{IsFillIn};
+ghost use Rattle.array_grid.specs.ChunkKeys.{separator_of};
+ghost use Rattle.array_grid.specs.KeyEncodings.{encoding_name, default_separator};
 ghost use Rattle.array_metadata.specs.ArrayCodecs.{array_codec_in, encoded_of, subchunk_in, subchunk_of, HasAxes, are_transposed};
 ghost use Rattle.array_metadata.specs.UnreadCodecs.{chunks_in, unread_codec_in};
 ghost use Rattle.array_fields.specs.ElementTypes.{IsTypeIn, IsRead, carrier};
@@ -17,12 +19,12 @@ ghost use Rattle.parts_arrays.specs.declared.data_type.DataTypeSize.TheVariants.
 
 use crate::array_codec::ArrayCodec;
 use crate::chunk_codecs::array_codec;
-use crate::codecs::{ShardsCodec, unserved};
-use crate::inner_codec::InnerCodec;
+use crate::chunk_cuts::cut_of;
+use crate::codecs::unserved;
 use crate::unread::unread_codec;
 use array_fields::{
-    ElementType, MetadataError, Placed, axes_in, dimension_names_in, element_type_in, escaped,
-    escaped_whole, fill_value_in, test_array, test_understood, unread_type, value_in,
+    ElementType, KeptText, MetadataError, Placed, TypeText, axes_in, element_type_in, escaped,
+    escaped_whole, fill_value_in, kept_text, test_array, test_understood, unread_type, value_in,
 };
 use array_grid::{ChunkKeys, keys_in};
 use codec_metadata::PluginCreateError;
@@ -30,13 +32,6 @@ use parts_arrays::{DataType, FillValue};
 use parts_subsets::ChunkShape;
 use serde_json::Value;
 use std::alloc::{AllocError, Global};
-
-/// The values of `data_type` and `fill_value` of an array, as they stand in the text, for a terminal.
-#[derive(Drop)]
-pub struct TypeText {
-    pub data_type: String,
-    pub fill_value: String,
-}
 
 /// The metadata of an array whose chunks are shards, or elements (Zarr V3 core, "Array metadata").
 #[derive(Drop)]
@@ -70,6 +65,19 @@ pub struct ArrayMetadata {
     pub text: String,
 }
 
+// Tests that a grid is the regular one. Refused as `BadField`.
+fn test_regular(alloc: Global, grid: &Placed) -> Result<(), MetadataError>
+    ensures { OnOk result (name_in (view grid.now.value.now) ≡ Some (codes "regular")) }
+{
+    let name = grid.extension_name(alloc)?;
+    if name == "regular" {
+        return Ok(());
+    }
+    let name = escaped(alloc, name)?;
+    let sentence = format!(in alloc; "the chunk grid {name} is not served, only regular")?;
+    Err(grid.bad(alloc, sentence.as_str()))
+}
+
 // The shape of a chunk of the regular grid. Refused as `BadField` where the grid is another, or as `MissingField`.
 pub(crate) fn shard_in(
     alloc: Global,
@@ -80,12 +88,7 @@ pub(crate) fn shard_in(
     ensures regular { OnOk result (name_in (view grid.now.value.now) ≡ Some (codes "regular")) }
     ensures read { IfOk result (λ shape. option_and_then whole_numbers_in (configured_in (codes "chunk_shape") (view grid.now.value.now)) ≡ Some shape) }
 {
-    let name = grid.extension_name(alloc)?;
-    if name != "regular" {
-        let name = escaped(alloc, name)?;
-        let sentence = format!(in alloc; "the chunk grid {name} is not served, only regular")?;
-        return Err(grid.bad(alloc, sentence.as_str()));
-    }
+    test_regular(alloc, grid)?;
     let configuration = grid.required(alloc, "configuration")?;
     configuration.only_members(alloc, &["chunk_shape"])?;
     let chunk_shape = configuration.required(alloc, "chunk_shape")?;
@@ -100,11 +103,31 @@ pub(crate) struct Cells {
     pub(crate) shard: ChunkShape,
 }
 
-// The cells of an array, whose elements go through a codec that is not served where one is named. Refused for `shape`, `data_type` and
-// `chunk_grid` in turn.
-fn cells_in(alloc: Global, whole: &Placed, codec: &Option<String>) -> Result<Cells, MetadataError>
+// The type of an array's elements. Refused for `data_type`.
+pub(crate) fn type_in(alloc: Global, whole: &Placed) -> Result<ElementType, MetadataError>
+    ensures read { IfOk result (IsTypeIn (unread_codec_in (option_and_then as_array (get (codes "codecs") (view whole.now.value.now))))
+        (option_and_then name_in (get (codes "data_type") (view whole.now.value.now)))) }
+    ensures elements { IfOk result (λ element_type. HasElements (carrier element_type)) }
+{
+    let codec = unread_in(alloc, whole)?;
+    let data_type = whole.required(alloc, "data_type")?;
+    element_type_in(alloc, &data_type, &codec)
+}
+
+// How many cells an array has along each axis. Refused for `shape`.
+pub(crate) fn shape_in(alloc: Global, whole: &Placed) -> Result<Vec<u64>, MetadataError>
+    ensures read { IfOk result (λ shape. option_and_then whole_numbers_in (get (codes "shape") (view whole.now.value.now)) ≡ Some shape.items) }
+    ensures few { IfOk result (λ shape. vec_len shape ≤ 64) }
+{
+    let shape = whole.required(alloc, "shape")?;
+    axes_in(alloc, &shape)
+}
+
+// The cells of an array. Refused for `shape`, `data_type` and `chunk_grid` in turn.
+fn cells_in(alloc: Global, whole: &Placed) -> Result<Cells, MetadataError>
     ensures shape_read { IfOk result (λ cells. option_and_then whole_numbers_in (get (codes "shape") (view whole.now.value.now)) ≡ Some cells.shape.items) }
-    ensures element_type_read { IfOk result (λ cells. IsTypeIn (option_map string_bytes codec.now) (option_and_then name_in (get (codes "data_type") (view whole.now.value.now))) cells.element_type) }
+    ensures element_type_read { IfOk result (λ cells. IsTypeIn (unread_codec_in (option_and_then as_array (get (codes "codecs") (view whole.now.value.now))))
+        (option_and_then name_in (get (codes "data_type") (view whole.now.value.now))) cells.element_type) }
     ensures shard_read { IfOk result (λ cells.
         option_and_then whole_numbers_in (option_and_then (configured_in (codes "chunk_shape")) (get (codes "chunk_grid") (view whole.now.value.now))) ≡ Some cells.shard) }
     ensures grid_read { OnOk result (option_and_then name_in (get (codes "chunk_grid") (view whole.now.value.now)) ≡ Some (codes "regular")) }
@@ -112,8 +135,8 @@ fn cells_in(alloc: Global, whole: &Placed, codec: &Option<String>) -> Result<Cel
     ensures shard { IfOk result (λ cells. length cells.shard ≡ vec_len cells.shape) }
     ensures elements { IfOk result (λ cells. HasElements (carrier cells.element_type)) }
 {
-    let shape = axes_in(alloc, &whole.required(alloc, "shape")?)?;
-    let element_type = element_type_in(alloc, &whole.required(alloc, "data_type")?, codec)?;
+    let shape = shape_in(alloc, whole)?;
+    let element_type = type_in(alloc, whole)?;
     let shard = shard_in(alloc, &whole.required(alloc, "chunk_grid")?, shape.len())?;
     Ok(Cells {
         shape,
@@ -135,161 +158,14 @@ pub(crate) fn fill_in(
     fill_value_in(alloc, &fill, element_type)
 }
 
-// What stands under a key, for a terminal.
-fn shown(alloc: Global, whole: &Placed, key: &'static str) -> Result<String, MetadataError> {
-    let value = whole.required(alloc, key)?.value;
-    let text = match value.as_str() {
-        Some(text) if key == "data_type" => String::from_str(alloc, text)?,
-        _ => value.to_string(alloc)?,
-    };
-    Ok(escaped_whole(alloc, text.as_str())?)
-}
-
-// The data type and the fill value of an array, where elements of the type are no whole numbers and no `bool`.
-fn type_text_in(
-    alloc: Global,
-    whole: &Placed,
-    element_type: ElementType,
-) -> Result<Option<TypeText>, MetadataError> {
-    if matches!(element_type, ElementType::Number(_)) {
-        return Ok(None);
-    }
-    Ok(Some(TypeText {
-        data_type: shown(alloc, whole, "data_type")?,
-        fill_value: shown(alloc, whole, "fill_value")?,
-    }))
-}
-
 // The name of the codec for which no subchunk is looked into.
-pub(crate) fn unread_in(alloc: Global, whole: &Placed) -> Result<Option<String>, MetadataError>
+fn unread_in(alloc: Global, whole: &Placed) -> Result<Option<String>, MetadataError>
     ensures { IfOk result (λ unread. option_map string_bytes unread ≡ unread_codec_in (option_and_then as_array (get (codes "codecs") (view whole.now.value.now)))) }
 {
     match whole.member(alloc, "codecs")? {
         Some(codecs) => Ok(unread_codec(alloc, &codecs)?),
         None => Ok(None),
     }
-}
-
-// Whether subchunks divide a shape with as many axes evenly.
-fn divides(shape: &ChunkShape, part: &ChunkShape) -> bool
-    ensures { IsTrue result → Divides part.now shape.now }
-{
-    let (shape, part) = (shape.as_slice(), part.as_slice());
-    if shape.len() != part.len() {
-        return false;
-    }
-    for axis in 0..shape.len() {
-        if shape[axis] % part[axis] != 0 {
-            return false;
-        }
-    }
-    true
-}
-
-// Tests that subchunks divide a shard evenly. Refused as `BadField` with both shapes.
-fn test_division(
-    alloc: Global,
-    place: &str,
-    shard: &ChunkShape,
-    subchunk: &ChunkShape,
-) -> Result<(), MetadataError>
-    ensures { OnOk result (Divides subchunk.now shard.now) }
-{
-    if divides(shard, subchunk) {
-        return Ok(());
-    }
-    let (shard, subchunk) = (shard.as_slice(), subchunk.as_slice());
-    let sentence = format!(in alloc;
-        "subchunks of the shape {subchunk:?} do not divide a shard of the shape {shard:?} evenly"
-    )?;
-    let error = PluginCreateError::bad_field(alloc, "chunk_shape");
-    Err(MetadataError::refused(alloc, error, place, sentence.as_str()))
-}
-
-// Tests that subchunks divide shards evenly, and those of a subchunk that is a shard this. Refused as `BadField`.
-fn test_shards(alloc: Global, shard: &ChunkShape, codec: &ShardsCodec) -> Result<(), MetadataError>
-    ensures { OnOk result (Divides codec.now.subchunk_shape shard.now) }
-{
-    let place = "codecs[0].configuration.chunk_shape";
-    test_division(alloc, place, shard, &codec.subchunk_shape)?;
-    match &codec.inner {
-        InnerCodec::Shards(inner) => {
-            let place = "codecs[0].configuration.codecs[0].configuration.chunk_shape";
-            test_division(alloc, place, &codec.subchunk_shape, &inner.subchunk_shape)
-        }
-        _ => Ok(()),
-    }
-}
-
-// Tests that subchunks divide the chunks of an array evenly, in the shape in which these are cut. Refused as `BadField`.
-fn test_subchunks(
-    alloc: Global,
-    encoded: &ChunkShape,
-    codec: &ArrayCodec,
-) -> Result<(), MetadataError>
-    ensures { OnOk result ((chunk : List ℕ) → encoded_of codec.now chunk ≡ encoded.now → Divides (subchunk_of codec.now chunk) encoded.now) }
-{
-    match codec {
-        ArrayCodec::Sharded(shards) => test_shards(alloc, encoded, shards),
-        ArrayCodec::Transposed(transposed) => {
-            let place = "codecs[1].configuration.chunk_shape";
-            test_division(alloc, place, encoded, &transposed.codec.subchunk_shape)
-        }
-        ArrayCodec::Unsharded(_) => test_division(alloc, "codecs", encoded, encoded),
-    }
-}
-
-// The shape in which chunks with a codec are cut into subchunks.
-fn encoded_of(
-    alloc: Global,
-    codec: &ArrayCodec,
-    chunk: &ChunkShape,
-) -> Result<ChunkShape, AllocError>
-    requires axes { HasAxes (length chunk.now) codec.now }
-    ensures shape { IfOk result (λ shape. shape ≡ encoded_of codec.now chunk.now) }
-    ensures axes { IfOk result (λ shape. length shape ≡ length chunk.now) }
-{
-    match codec {
-        ArrayCodec::Transposed(transposed) => transposed.order.transposed_shape(alloc, chunk),
-        ArrayCodec::Sharded(_) | ArrayCodec::Unsharded(_) => chunk.try_clone(alloc),
-    }
-}
-
-// The shape of a subchunk of chunks with a codec.
-fn subchunk_of(
-    alloc: Global,
-    codec: &ArrayCodec,
-    chunk: &ChunkShape,
-) -> Result<ChunkShape, AllocError>
-    ensures { IfOk result (λ shape. shape ≡ subchunk_of codec.now chunk.now) }
-{
-    match codec {
-        ArrayCodec::Sharded(shards) => shards.subchunk_shape.try_clone(alloc),
-        ArrayCodec::Transposed(transposed) => transposed.codec.subchunk_shape.try_clone(alloc),
-        ArrayCodec::Unsharded(_) => chunk.try_clone(alloc),
-    }
-}
-
-// How a codec cuts the chunks of an array: the shape in which they are cut, and that of a subchunk.
-#[derive(Drop)]
-struct Cut {
-    encoded: ChunkShape,
-    subchunk: ChunkShape,
-}
-
-// How a codec cuts chunks of a shape. Refused as `BadField` where subchunks do not divide them evenly.
-fn cut_of(alloc: Global, codec: &ArrayCodec, chunk: &ChunkShape) -> Result<Cut, MetadataError>
-    requires axes { HasAxes (length chunk.now) codec.now }
-    ensures encoded { IfOk result (λ cut. encoded_of codec.now chunk.now ≡ cut.encoded) }
-    ensures encoded_axes { IfOk result (λ cut. length cut.encoded ≡ length chunk.now) }
-    ensures divides { IfOk result (λ cut. Divides cut.subchunk cut.encoded) }
-    ensures axes { IfOk result (λ cut. length cut.subchunk ≡ length chunk.now) }
-    ensures subchunk { IfOk result (λ cut. subchunk_of codec.now chunk.now ≡ cut.subchunk) }
-{
-    let encoded = encoded_of(alloc, codec, chunk)?;
-    test_subchunks(alloc, &encoded, codec)?;
-    let subchunk = subchunk_of(alloc, codec, chunk)?;
-    Ok(Cut { encoded, subchunk })
 }
 
 // What the member `codecs` says for a terminal: the codec for which no subchunk is looked into, and its text.
@@ -334,10 +210,10 @@ pub(crate) fn codecs_of_cells(
     ensures read { IfOk result (λ found. option_map (array_codec_in (vec_len cells.now.shape)) (as_array (view codecs.now.value.now)) ≡ Some (Ok found.codec)) }
     ensures unread { IfOk result (λ found. option_map string_bytes found.unread ≡ unread_codec_in (as_array (view codecs.now.value.now))) }
 {
+    let said = said_codecs(alloc, codecs)?;
     let part_type = cells.element_type.part_type();
     let codec = array_codec(alloc, codecs, part_type, cells.shape.len())?;
     let cut = cut_of(alloc, &codec, &cells.shard)?;
-    let said = said_codecs(alloc, codecs)?;
     Ok(ChunkCodecs {
         codec,
         encoded: cut.encoded,
@@ -347,64 +223,96 @@ pub(crate) fn codecs_of_cells(
     })
 }
 
-// The metadata of an array of these cells, with these codecs of its chunks, and of this text.
+// The metadata of an array of these cells, with these codecs of its chunks.
 fn with_codecs(
-    alloc: Global,
-    whole: &Placed,
     cells: Cells,
     codecs: ChunkCodecs,
     keys: ChunkKeys,
     fill_value: FillValue,
-    text: String,
-) -> Result<ArrayMetadata, MetadataError>
-    ensures shape { IfOk result (λ metadata. metadata.shape ≡ cells.shape) }
-    ensures element_type { IfOk result (λ metadata. metadata.element_type ≡ cells.element_type) }
-    ensures data_type { IfOk result (λ metadata. metadata.data_type ≡ carrier cells.element_type) }
-    ensures shard { IfOk result (λ metadata. metadata.shard ≡ cells.shard) }
-    ensures keys { IfOk result (λ metadata. metadata.keys ≡ keys) }
-    ensures fill_value { IfOk result (λ metadata. metadata.fill_value ≡ fill_value) }
-    ensures encoded { IfOk result (λ metadata. metadata.encoded ≡ codecs.encoded) }
-    ensures subchunk { IfOk result (λ metadata. metadata.subchunk ≡ codecs.subchunk) }
-    ensures codec { IfOk result (λ metadata. metadata.codec ≡ codecs.codec) }
-    ensures unread { IfOk result (λ metadata. metadata.unread ≡ codecs.unread) }
-    ensures text { IfOk result (λ metadata. metadata.text ≡ text) }
+    kept: KeptText,
+) -> ArrayMetadata
+    ensures shape { result.shape ≡ cells.shape }
+    ensures element_type { result.element_type ≡ cells.element_type }
+    ensures data_type { result.data_type ≡ carrier cells.element_type }
+    ensures shard { result.shard ≡ cells.shard }
+    ensures keys { result.keys ≡ keys }
+    ensures fill_value { result.fill_value ≡ fill_value }
+    ensures encoded { result.encoded ≡ codecs.encoded }
+    ensures subchunk { result.subchunk ≡ codecs.subchunk }
+    ensures codec { result.codec ≡ codecs.codec }
+    ensures unread { result.unread ≡ codecs.unread }
+    ensures text { result.text ≡ kept.text }
 {
-    let type_text = type_text_in(alloc, whole, cells.element_type)?;
-    let dimension_names = dimension_names_in(alloc, whole)?;
-    Ok(ArrayMetadata {
-        dimension_names,
+    ArrayMetadata {
+        shape: cells.shape,
+        dimension_names: kept.dimension_names,
+        shard: cells.shard,
         encoded: codecs.encoded,
         subchunk: codecs.subchunk,
-        codecs: codecs.text,
-        type_text,
-        shape: cells.shape,
-        shard: cells.shard,
         keys,
         element_type: cells.element_type,
         data_type: cells.element_type.carrier(),
         fill_value,
         codec: codecs.codec,
         unread: codecs.unread,
-        text,
-    })
+        type_text: kept.type_text,
+        codecs: codecs.text,
+        text: kept.text,
+    }
+}
+
+// The names of the files of an array's chunks. Refused for `chunk_key_encoding`.
+pub(crate) fn names_in(alloc: Global, whole: &Placed) -> Result<ChunkKeys, MetadataError>
+    ensures encoding { IfOk result (λ keys. option_and_then name_in (get (codes "chunk_key_encoding") (view whole.now.value.now)) ≡ Some (encoding_name keys.encoding)) }
+    ensures separator { IfOk result (λ keys. unwrap_or (option_and_then as_str (option_and_then (configured_in (codes "separator")) (get (codes "chunk_key_encoding") (view whole.now.value.now))))
+        (default_separator keys.encoding) ≡ separator_of keys.slashes) }
+{
+    let encoding = whole.required(alloc, "chunk_key_encoding")?;
+    keys_in(alloc, &encoding)
+}
+
+// The codecs of an array of these cells. Refused for `codecs`.
+fn codecs_in(alloc: Global, whole: &Placed, cells: &Cells) -> Result<ChunkCodecs, MetadataError>
+    requires shard { length cells.now.shard ≡ vec_len cells.now.shape }
+    ensures encoded { IfOk result (λ found. encoded_of found.codec cells.now.shard ≡ found.encoded) }
+    ensures encoded_axes { IfOk result (λ found. length found.encoded ≡ vec_len cells.now.shape) }
+    ensures divides { IfOk result (λ found. Divides found.subchunk found.encoded) }
+    ensures axes { IfOk result (λ found. length found.subchunk ≡ vec_len cells.now.shape) }
+    ensures codec { IfOk result (λ found. subchunk_of found.codec cells.now.shard ≡ found.subchunk) }
+    ensures subchunk_read { IfOk result (λ found. subchunk_in (option_and_then chunks_in (get (codes "codecs") (view whole.now.value.now))) cells.now.shard ≡ Some found.subchunk) }
+    ensures read { IfOk result (λ found. option_map (array_codec_in (vec_len cells.now.shape)) (option_and_then as_array (get (codes "codecs") (view whole.now.value.now))) ≡ Some (Ok found.codec)) }
+    ensures unread { IfOk result (λ found. option_map string_bytes found.unread ≡ unread_codec_in (option_and_then as_array (get (codes "codecs") (view whole.now.value.now)))) }
+{
+    let codecs = whole.required(alloc, "codecs")?;
+    codecs_of_cells(alloc, &codecs, cells)
+}
+
+// The metadata of an array of which all members are understood. Refused for `shape` and the others in turn.
+fn array_in(alloc: Global, whole: &Placed, text: &str) -> Result<ArrayMetadata, MetadataError>
+    ensures grid { OnOk result (option_and_then name_in (get (codes "chunk_grid") (view whole.now.value.now)) ≡ Some (codes "regular")) }
+    ensures says { IfOk result (λ metadata. (text : Bytes) → read text ≡ Some (view whole.now.value.now) → IsReadAs text metadata) }
+    ensures fits { IfOk result FitsTogether }
+    ensures text { IfOk result (λ metadata. string_bytes metadata.text ≡ text.now) }
+{
+    let cells = cells_in(alloc, whole)?;
+    let keys = names_in(alloc, whole)?;
+    let fill_value = fill_in(alloc, whole, cells.element_type)?;
+    let kept = kept_text(alloc, whole, cells.element_type, text)?;
+    let codecs = codecs_in(alloc, whole, &cells)?;
+    Ok(with_codecs(cells, codecs, keys, fill_value, kept))
 }
 
 // The metadata that a value of JSON is, which a text says. Refused as `from_text` refuses.
-fn metadata_of(alloc: Global, value: &Value, text: String) -> Result<ArrayMetadata, MetadataError>
+fn metadata_of(alloc: Global, value: &Value, text: &str) -> Result<ArrayMetadata, MetadataError>
     ensures served { OnOk result ((text : Bytes) → read text ≡ Some (view value.now) → IsServedText text) }
     ensures says { IfOk result (λ metadata. (text : Bytes) → read text ≡ Some (view value.now) → IsReadAs text metadata) }
     ensures fits { IfOk result FitsTogether }
-    ensures text { IfOk result (λ metadata. metadata.text ≡ text) }
+    ensures text { IfOk result (λ metadata. string_bytes metadata.text ≡ text.now) }
 {
     let whole = Placed::whole(alloc, value)?;
     test_array(alloc, &whole)?;
     test_understood(alloc, &whole)?;
-    let unread = unread_in(alloc, &whole)?;
-    let cells = cells_in(alloc, &whole, &unread)?;
-    let keys = keys_in(alloc, &whole.required(alloc, "chunk_key_encoding")?)?;
-    let fill_value = fill_in(alloc, &whole, cells.element_type)?;
-    let codecs = codecs_of_cells(alloc, &whole.required(alloc, "codecs")?, &cells)?;
-    with_codecs(alloc, &whole, cells, codecs, keys, fill_value, text)
+    array_in(alloc, &whole, text)
 }
 
 impl ArrayMetadata {
@@ -468,8 +376,6 @@ impl ArrayMetadata {
         ensures text { IfOk result (λ metadata. string_bytes metadata.text ≡ text.now) }
     {
         let value = value_in(alloc, text)?;
-        let kept = String::from_str(alloc, text)?;
-        let metadata = metadata_of(alloc, &value, kept)?;
-        Ok(metadata)
+        metadata_of(alloc, &value, text)
     }
 }

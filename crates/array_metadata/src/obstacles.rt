@@ -2,13 +2,12 @@
 ghost use Rattle.std.specs.Prelude.{◌≡◌, Ok, IfOk, IfSome, length, vec_len};
 
 use crate::chunk_codecs::array_codec;
-use crate::metadata::{ArrayMetadata, Cells, codecs_of_cells, fill_in, shard_in, unread_in};
-use array_fields::{
-    ElementType, MetadataError, Placed, axes_in, element_type_in, escaped, test_array,
-    test_understood, value_in,
+use crate::metadata::{
+    ArrayMetadata, Cells, codecs_of_cells, fill_in, names_in, shape_in, shard_in, type_in,
 };
-use array_grid::keys_in;
+use array_fields::{MetadataError, Placed, escaped, test_array, test_understood, value_in};
 use parts_arrays::DataType;
+use parts_subsets::ChunkShape;
 use std::alloc::{AllocError, Global};
 use std::fmt;
 
@@ -40,15 +39,19 @@ fn keep<T: Drop>(
     }
 }
 
-// How many cells there are along each axis.
-fn shape_of(alloc: Global, whole: &Placed) -> Result<Vec<u64>, MetadataError> {
-    axes_in(alloc, &whole.required(alloc, "shape")?)
-}
-
-// The type of the elements.
-fn type_of(alloc: Global, whole: &Placed) -> Result<ElementType, MetadataError> {
-    let unread = unread_in(alloc, whole)?;
-    element_type_in(alloc, &whole.required(alloc, "data_type")?, &unread)
+// The shape of a chunk, if it is not refused; keeps why else.
+fn chunk_of(
+    alloc: Global,
+    whole: &Placed,
+    axes: usize,
+    refusals: &mut Vec<MetadataError>,
+) -> Result<Option<ChunkShape>, MetadataError>
+    ensures { IfOk result (λ found. IfSome found (λ shape. length shape ≡ axes)) }
+{
+    match keep(refusals, whole.required(alloc, "chunk_grid"))? {
+        Some(grid) => keep(refusals, shard_in(alloc, &grid, axes)),
+        None => Ok(None),
+    }
 }
 
 // The cells, if nothing that is said of them is refused; keeps what is.
@@ -59,16 +62,12 @@ fn cells_of(
 ) -> Result<Option<Cells>, MetadataError>
     ensures { IfOk result (λ found. IfSome found (λ cells. length cells.shard ≡ vec_len cells.shape)) }
 {
-    let shape = keep(refusals, shape_of(alloc, whole))?;
-    let element_type = keep(refusals, type_of(alloc, whole))?;
+    let shape = keep(refusals, shape_in(alloc, whole))?;
+    let element_type = keep(refusals, type_in(alloc, whole))?;
     let Some(shape) = shape else {
         return Ok(None);
     };
-    let grid = whole.required(alloc, "chunk_grid");
-    let shard = match keep(refusals, grid)? {
-        Some(grid) => keep(refusals, shard_in(alloc, &grid, shape.len()))?,
-        None => None,
-    };
+    let shard = chunk_of(alloc, whole, shape.len(), refusals)?;
     match (element_type, shard) {
         (Some(element_type), Some(shard)) => Ok(Some(Cells {
             shape,
@@ -79,21 +78,29 @@ fn cells_of(
     }
 }
 
+// Whether what is read is refused.
+fn tested<T: Drop>(read: Result<T, MetadataError>) -> Result<(), MetadataError> {
+    match read {
+        Ok(_) => Ok(()),
+        Err(refusal) => Err(refusal),
+    }
+}
+
+// Tests the member `codecs` of an array of which not all cells are known.
+fn test_array_codec(alloc: Global, whole: &Placed, codecs: &Placed) -> Result<(), MetadataError> {
+    let shape = shape_in(alloc, whole)?;
+    tested(array_codec(alloc, codecs, DataType::UInt8, shape.len()))
+}
+
 // Tests the member `codecs` of an array of these cells, or of one of which not all is known.
 fn test_codecs(alloc: Global, whole: &Placed, cells: &Option<Cells>) -> Result<(), MetadataError>
     requires { IfSome cells.now (λ known. length known.shard ≡ vec_len known.shape) }
 {
     let codecs = whole.required(alloc, "codecs")?;
     match cells {
-        Some(cells) => {
-            let _ = codecs_of_cells(alloc, &codecs, cells)?;
-        }
-        None => {
-            let axes = shape_of(alloc, whole)?.len();
-            let _ = array_codec(alloc, &codecs, DataType::UInt8, axes)?;
-        }
+        Some(cells) => tested(codecs_of_cells(alloc, &codecs, cells)),
+        None => test_array_codec(alloc, whole, &codecs),
     }
-    Ok(())
 }
 
 // Tests the names of chunks, and the fill value where the type of elements is known.
@@ -102,11 +109,8 @@ fn test_names_and_fill(
     whole: &Placed,
     refusals: &mut Vec<MetadataError>,
 ) -> Result<(), MetadataError> {
-    let encoding = whole.required(alloc, "chunk_key_encoding");
-    if let Some(encoding) = keep(refusals, encoding)? {
-        let _ = keep(refusals, keys_in(alloc, &encoding))?;
-    }
-    if let Ok(element_type) = type_of(alloc, whole) {
+    let _ = keep(refusals, names_in(alloc, whole))?;
+    if let Ok(element_type) = type_in(alloc, whole) {
         let _ = keep(refusals, fill_in(alloc, whole, element_type))?;
     }
     Ok(())
@@ -122,21 +126,26 @@ impl Obstacles {
         })
     }
 
-    // Adds what else of a text is refused, in the order in which `ArrayMetadata::from_text` looks at it.
+    // Adds what of the metadata of an array is refused, in the order in which `ArrayMetadata::from_text` looks at it.
+    fn add_of_array(&mut self, alloc: Global, whole: &Placed) -> Result<(), MetadataError> {
+        let others = &mut self.others;
+        let _ = keep(others, test_understood(alloc, whole))?;
+        let cells = cells_of(alloc, whole, others)?;
+        test_names_and_fill(alloc, whole, others)?;
+        let _ = keep(others, test_codecs(alloc, whole, &cells))?;
+        Ok(())
+    }
+
+    // Adds what else of a text is refused, where it is the metadata of an array.
     fn add_of_text(&mut self, alloc: Global, text: &str) -> Result<(), MetadataError> {
         let Ok(value) = value_in(alloc, text) else {
             return Ok(());
         };
         let whole = Placed::whole(alloc, &value)?;
-        if test_array(alloc, &whole).is_err() {
-            return Ok(());
+        match test_array(alloc, &whole) {
+            Ok(()) => self.add_of_array(alloc, &whole),
+            Err(_) => Ok(()),
         }
-        let others = &mut self.others;
-        let _ = keep(others, test_understood(alloc, &whole))?;
-        let cells = cells_of(alloc, &whole, others)?;
-        test_names_and_fill(alloc, &whole, others)?;
-        let _ = keep(others, test_codecs(alloc, &whole, &cells))?;
-        Ok(())
     }
 
     /// Why a document with a path and this text is refused, which `ArrayMetadata::from_text` refuses so; and what else of it is refused,

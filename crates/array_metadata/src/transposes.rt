@@ -3,6 +3,7 @@ ghost use Rattle.std.specs.Prelude.{◌≡◌, Ok, Some, IfOk, IfSome, codes, le
 ghost use Rattle.serde_json.specs.View.{view, items_view};
 ghost use Rattle.codec_metadata.specs.Metadata.{name_in};
 ghost use Rattle.array_metadata.specs.ByteCodecsMetadata.{is_named};
+ghost use Rattle.array_metadata.specs.CodecNames.{Names};
 ghost use Rattle.array_metadata.specs.Transposes.{is_transposed, transpose_in, transpose_before, untransposed};
 
 use array_codecs::AxisOrder;
@@ -55,22 +56,12 @@ pub fn codec_values<'a>(values: &'a [Value], name: &str) -> CodecValues<'a>
     }
 }
 
-// The order of this number of axes that `transpose` names, which stands first in a list at a place. Refused as `MissingField`, or as
-// `BadField` where it is no permutation of the axes.
-pub fn axis_order(
-    alloc: Global,
-    value: &Value,
-    list: &str,
-    axes: usize,
-) -> Result<AxisOrder, MetadataError>
-    requires named { name_in (view value.now) ≡ Some (codes "transpose") }
+// The order of axes in the metadata of `transpose`. Refused as `MissingField`, or as `BadField` where it is no permutation of them.
+fn order_in(alloc: Global, metadata: &Placed, axes: usize) -> Result<AxisOrder, MetadataError>
+    requires named { Names (view metadata.now.value.now) (codes "transpose") }
     ensures axes { IfOk result (λ order. length order ≡ axes) }
-    ensures read { IfOk result (λ order. transpose_in axes (view value.now) ≡ Ok order) }
+    ensures read { IfOk result (λ order. transpose_in axes (view metadata.now.value.now) ≡ Ok order) }
 {
-    let key = "codecs";
-    let place = format!(in alloc; "{list}[0]")?;
-    let metadata = Placed { value, key, place };
-    let _name = metadata.extension_name(alloc)?;
     let configuration = metadata.required(alloc, "configuration")?;
     configuration.only_members(alloc, &["order"])?;
     let placed = configuration.required(alloc, "order")?;
@@ -82,4 +73,21 @@ pub fn axis_order(
         Some(order) => Ok(order),
         None => Err(placed.bad(alloc, "an order names each axis once, from 0 on")),
     }
+}
+
+// The order of this number of axes that `transpose` names, which stands first in a list at a place. Refused as `order_in` refuses.
+pub fn axis_order(
+    alloc: Global,
+    value: &Value,
+    list: &str,
+    axes: usize,
+) -> Result<AxisOrder, MetadataError>
+    requires named { name_in (view value.now) ≡ Some (codes "transpose") }
+    ensures axes { IfOk result (λ order. length order ≡ axes) }
+    ensures read { IfOk result (λ order. transpose_in axes (view value.now) ≡ Ok order) }
+{
+    let (key, place) = ("codecs", format!(in alloc; "{list}[0]")?);
+    let metadata = Placed { value, key, place };
+    let _name = metadata.extension_name(alloc)?;
+    order_in(alloc, &metadata, axes)
 }

@@ -1,7 +1,9 @@
 // The chunks of a grid that have elements in the files of an array.
-use array_cli::{Array, Stop};
+use array_cli::{Array, Stop, whole_of};
 use array_folder::ChunkFile;
+use array_grid::SubsetCells;
 use array_metadata::ArrayMetadata;
+use parts_errors::CodecError;
 use parts_row_major::unravel_index;
 use parts_subsets::{ArraySubset, ChunkShape};
 use std::alloc::{AllocError, Global};
@@ -80,6 +82,15 @@ pub fn chunks_of<R: Files + AllocGlobal, C>(
     found.sort_unstable();
     found.dedup();
     Ok(found)
+}
+
+/// The elements of a chunk of an array with this metadata, each of which is the fill value.
+pub fn chunk_of_fill_values(
+    alloc: Global,
+    metadata: &ArrayMetadata,
+) -> Result<SubsetCells, CodecError> {
+    let whole = whole_of(alloc, metadata.shard.as_slice())?;
+    SubsetCells::new(alloc, &whole, &metadata.fill_value)
 }
 
 /// The elements of an array that lie in a chunk of a shape, by its coordinates: the subset that they are, which ends where the array

@@ -6,6 +6,7 @@ use array_cli::{
 };
 use array_fields::{JsonLine, LONGEST_TEXT, Progress, escaped};
 use array_folder::{ChunkFiles, Listing, age_of, read_document, save};
+use array_grid::ListPart;
 use sharding_layout::CompactionPlan;
 use std::io::{ErrorKind, Write};
 use std::rt::{Clock, Files};
@@ -68,10 +69,17 @@ impl Gained {
         }
     }
 
-    // One shard more.
-    fn add(&mut self, bytes: u64) {
-        self.shards = self.shards.saturating_add(1);
-        self.bytes = self.bytes.saturating_add(bytes);
+    // One shard more, of which this became.
+    fn add(&mut self, outcome: &Outcome) {
+        match outcome {
+            Outcome::Saved(saved) => {
+                self.shards = self.shards.saturating_add(1);
+                self.bytes = self.bytes.saturating_add(*saved);
+            }
+            Outcome::Refused(_) => self.is_refused = true,
+            Outcome::Busy(_) => self.is_undone = true,
+            Outcome::Compact | Outcome::Longer(_) => {}
+        }
     }
 
     // How a command ends that gained this.
@@ -111,6 +119,45 @@ fn beside_of<R: Files + AllocGlobal, C>(
     }
 }
 
+// Puts what a plan says of a shard, or without a plan the shard, at a path. Gives the path of the new file that stands there already, if
+// one does.
+fn put_at<'a, R: Files + AllocGlobal, C, W: Write>(
+    array: &Array<'a, R, C>,
+    shard: &Shard<'_>,
+    file: &mut ShardFile<'a, R>,
+    path: &str,
+    plan: Option<&CompactionPlan>,
+    out: &mut W,
+) -> Result<Option<String>, Stop> {
+    let beside = beside_of(array, path)?;
+    if replace(array, shard, file, (path, &beside), plan, out)? {
+        Ok(None)
+    } else {
+        Ok(Some(beside))
+    }
+}
+
+// The path of the new file of a path, if one stands there.
+fn new_file_of<R: Files + AllocGlobal, C>(
+    array: &Array<'_, R, C>,
+    path: &str,
+) -> Result<Option<String>, Stop> {
+    let beside = beside_of(array, path)?;
+    if fs::symlink_metadata(array.rt, &beside).is_err() {
+        Ok(None)
+    } else {
+        Ok(Some(beside))
+    }
+}
+
+// What became of a shard that is to be put somewhere, where a new file may stand already.
+fn unless_busy(busy: Option<String>, outcome: Outcome) -> Outcome {
+    match busy {
+        Some(beside) => Outcome::Busy(beside),
+        None => outcome,
+    }
+}
+
 // Compacts a shard by a plan to save these bytes, if no new file stands beside it. Without a plan no file is written.
 fn put<'a, R: Files + AllocGlobal, C, W: Write>(
     array: &Array<'a, R, C>,
@@ -121,16 +168,11 @@ fn put<'a, R: Files + AllocGlobal, C, W: Write>(
     out: &mut W,
 ) -> Result<Outcome, Stop> {
     let path = array.path_of(shard.key)?;
-    let beside = beside_of(array, &path)?;
-    let is_free = match plan {
-        Some(_) => replace(array, shard, file, (&path, &beside), plan, out)?,
-        None => fs::symlink_metadata(array.rt, &beside).is_err(),
+    let busy = match plan {
+        Some(_) => put_at(array, shard, file, &path, plan, out)?,
+        None => new_file_of(array, &path)?,
     };
-    Ok(if is_free {
-        Outcome::Saved(bytes)
-    } else {
-        Outcome::Busy(beside)
-    })
+    Ok(unless_busy(busy, Outcome::Saved(bytes)))
 }
 
 // What a compaction makes of the shard in a file: its plan, if it has one, and what is said of it.
@@ -150,6 +192,20 @@ fn plan_and_outcome<'a, R: Files + AllocGlobal, C: ShardCodec<ShardFile<'a, R>>>
     }
 }
 
+// Puts what a plan says of a shard, or without a plan the shard, into another folder, as `put_at` does.
+fn put_in<'a, R: Files + AllocGlobal, C, W: Write>(
+    array: &Array<'a, R, C>,
+    shard: &Shard<'_>,
+    file: &mut ShardFile<'a, R>,
+    folder: &str,
+    plan: Option<&CompactionPlan>,
+    out: &mut W,
+) -> Result<Option<String>, Stop> {
+    let key = shard.key;
+    let path = format!(in array.alloc(); "{folder}/{key}")?;
+    put_at(array, shard, file, &path, plan, out)
+}
+
 // Writes a shard to another folder: compacted, or as it is where that would not make it shorter or where it is refused.
 fn copy_to<'a, R: Files + AllocGlobal, C: ShardCodec<ShardFile<'a, R>>, W: Write>(
     array: &Array<'a, R, C>,
@@ -158,15 +214,9 @@ fn copy_to<'a, R: Files + AllocGlobal, C: ShardCodec<ShardFile<'a, R>>, W: Write
     folder: &str,
     out: &mut W,
 ) -> Result<Outcome, Stop> {
-    let key = shard.key;
-    let path = format!(in array.alloc(); "{folder}/{key}")?;
-    let beside = beside_of(array, &path)?;
     let (plan, outcome) = plan_and_outcome(array, shard, file)?;
-    if replace(array, shard, file, (&path, &beside), plan.as_ref(), out)? {
-        Ok(outcome)
-    } else {
-        Ok(Outcome::Busy(beside))
-    }
+    let busy = put_in(array, shard, file, folder, plan.as_ref(), out)?;
+    Ok(unless_busy(busy, outcome))
 }
 
 // Compacts the shard in a file.
@@ -241,6 +291,21 @@ fn write_outcome_line<W: Write>(out: &mut W, key: &str, outcome: &Outcome) -> io
     line.end()
 }
 
+// Tells what became of a shard, in a line of JSON or one for a reader.
+fn tell<R: Files + AllocGlobal + Clock, W: Write>(
+    rt: &R,
+    out: &mut W,
+    key: &str,
+    outcome: &Outcome,
+    is_json: bool,
+) -> io::Result<()> {
+    if is_json {
+        write_outcome_line(out, key, outcome)
+    } else {
+        write_outcome(rt, out, key, outcome)
+    }
+}
+
 // Writes a line of JSON for what was gained, of as many shards as there are.
 fn write_sum_line<W: Write>(out: &mut W, gained: &Gained, all: u64) -> io::Result<()> {
     let mut line = JsonLine::new(out, "sum")?;
@@ -282,19 +347,21 @@ fn compact_one<
     progress: &mut Progress<'_, M>,
 ) -> Result<(), Stop> {
     let outcome = outcome_of(array, shard, rule, out)?;
-    match &outcome {
-        Outcome::Saved(saved) => gained.add(*saved),
-        Outcome::Refused(_) => gained.is_refused = true,
-        Outcome::Busy(_) => gained.is_undone = true,
-        Outcome::Compact | Outcome::Longer(_) => {}
-    }
+    gained.add(&outcome);
     if rule.is_json || !matches!(outcome, Outcome::Compact) {
         progress.clear();
     }
-    let wrote = if rule.is_json {
-        write_outcome_line(out, shard.key, &outcome)
+    let wrote = tell(array.rt, out, shard.key, &outcome, rule.is_json);
+    written(wrote, gained.ending())
+}
+
+// Writes what was gained, of as many shards as there are.
+fn write_sum<W: Write>(out: &mut W, gained: &Gained, all: u64, is_json: bool) -> Result<(), Stop> {
+    let Gained { bytes, shards, .. } = *gained;
+    let wrote = if is_json {
+        write_sum_line(out, gained, all)
     } else {
-        write_outcome(array.rt, out, shard.key, &outcome)
+        writeln!(out, "{bytes} bytes saved in {shards} of {all} shards")
     };
     written(wrote, gained.ending())
 }
@@ -341,18 +408,42 @@ fn test_no_array<R: Files + AllocGlobal, C>(
     Err(Stop::system(alloc, &path, error))
 }
 
+// The text of an array's metadata.
+fn document_of<R: Files + AllocGlobal, C>(array: &Array<'_, R, C>) -> Result<String, Stop> {
+    let path = array.path_of("zarr.json")?;
+    Ok(read_document(array.rt, &path, LONGEST_TEXT)?)
+}
+
 // Copies the metadata of an array to another folder, which is an array's from then on.
 fn copy_metadata<R: Files + AllocGlobal, C, W: Write>(
     array: &Array<'_, R, C>,
     folder: &str,
     out: &mut W,
 ) -> Result<(), Stop> {
-    let alloc = array.alloc();
-    let text = read_document(array.rt, &array.path_of("zarr.json")?, LONGEST_TEXT)?;
-    let path = format!(in alloc; "{folder}/zarr.json")?;
+    let path = format!(in array.alloc(); "{folder}/zarr.json")?;
     let beside = beside_of(array, &path)?;
-    save(array.rt, &path, &beside, text.as_bytes(), &[], out)?;
-    Ok(())
+    let text = document_of(array)?;
+    Ok(save(array.rt, &path, &beside, text.as_bytes(), &[], out)?)
+}
+
+// Compacts each shard that a part has, as a rule says, and writes a line for each that is not compact and how many bytes were saved.
+fn compact_part<
+    'a,
+    R: Files + AllocGlobal + Clock,
+    C: ShardCodec<ShardFile<'a, R>>,
+    W: Write,
+    M: Write,
+>(
+    array: &Array<'a, R, C>,
+    part: &ListPart,
+    rule: &Rule<'_>,
+    out: &mut W,
+    progress: &mut Progress<'_, M>,
+) -> Result<Gained, Stop> {
+    let files = array.files_in(part)?;
+    let gained = compact_all(array, &files, rule, out, progress)?;
+    write_sum(out, &gained, files.chunks.len() as u64, rule.is_json)?;
+    Ok(gained)
 }
 
 /// Compacts each shard that a part has, and writes a line for each that is not compact and how many bytes were saved in all. As a copy,
@@ -374,21 +465,12 @@ pub fn compact<
     if let Way::Copy { folder } = way {
         test_no_array(array, folder)?;
     }
-    let files = array.files_in(&listing.part)?;
-    let all = files.chunks.len();
     let rule = Rule {
         is_dry: matches!(way, Way::Dry),
         folder: way.folder(),
         is_json: listing.is_json,
     };
-    let gained = compact_all(array, &files, &rule, out, progress)?;
-    let Gained { bytes, shards, .. } = gained;
-    let wrote = if rule.is_json {
-        write_sum_line(out, &gained, all as u64)
-    } else {
-        writeln!(out, "{bytes} bytes saved in {shards} of {all} shards")
-    };
-    written(wrote, gained.ending())?;
+    let gained = compact_part(array, &listing.part, &rule, out, progress)?;
     // a copy that has not every shard becomes no array
     if let Way::Copy { folder } = way
         && !gained.is_undone

@@ -1,5 +1,5 @@
 // A new array that has no shard yet.
-use crate::layout::{LayoutWords, list_of, new_document, order_of};
+use crate::layout::{BEFORE_SUBCHUNK, LayoutWords, add, list_of, new_document, order_of};
 use crate::new_folder::{begin_folder, end_folder, test_served};
 use array_cli::{Ending, Stop, described};
 use array_fields::escaped;
@@ -55,24 +55,51 @@ fn fill_text(alloc: Global, word: Option<&str>, data_type: &str) -> Result<Strin
     }
 }
 
+// What stands in the `zarr.json` of a new array before its shape, its data type, the shape of its shards, its fill value and its codecs, and
+// behind the shape of its subchunks.
+const BEFORE_SHAPE: &str = "{\"zarr_format\":3,\"node_type\":\"array\",\"shape\":";
+
+const BEFORE_DATA_TYPE: &str = ",\"data_type\":";
+
+const BEFORE_SHARD: &str =
+    ",\"chunk_grid\":{\"name\":\"regular\",\"configuration\":{\"chunk_shape\":";
+
+const BEFORE_FILL_VALUE: &str =
+    "}},\"chunk_key_encoding\":{\"name\":\"default\",\"configuration\":{\"separator\":\"/\"}},\"fill_value\":";
+
+const BEHIND_SUBCHUNK: &str =
+    ",\"codecs\":[{\"name\":\"bytes\",\"configuration\":{\"endian\":\"little\"}}],\"index_codecs\":[{\"name\":\"bytes\",\"configuration\":{\"endian\":\"little\"}},{\"name\":\"crc32c\"}],\"index_location\":\"end\"}}],\"attributes\":{}}";
+
 // The `zarr.json` of a new array, whose shards are laid out as no word says otherwise.
 fn plain_document(alloc: Global, words: &ArrayWords<'_>) -> Result<String, Stop> {
-    let shape = list_of(alloc, words.shape)?;
-    let shard = list_of(alloc, words.shard)?;
-    let subchunk = list_of(alloc, words.subchunk)?;
-    let data_type = text_of(alloc, words.data_type)?;
-    let fill = fill_text(alloc, words.fill, words.data_type)?;
-    let bytes = "{\"name\":\"bytes\",\"configuration\":{\"endian\":\"little\"}}";
-    let codecs = format!(in alloc;
-        "[{{\"name\":\"sharding_indexed\",\"configuration\":{{\"chunk_shape\":{subchunk},\"codecs\":[{bytes}],\"index_codecs\":[{bytes},{{\"name\":\"crc32c\"}}],\"index_location\":\"end\"}}}}]"
-    )?;
-    let grid = format!(in alloc;
-        "{{\"name\":\"regular\",\"configuration\":{{\"chunk_shape\":{shard}}}}}"
-    )?;
-    let keys = "{\"name\":\"default\",\"configuration\":{\"separator\":\"/\"}}";
-    Ok(format!(in alloc;
-        "{{\"zarr_format\":3,\"node_type\":\"array\",\"shape\":{shape},\"data_type\":{data_type},\"chunk_grid\":{grid},\"chunk_key_encoding\":{keys},\"fill_value\":{fill},\"codecs\":{codecs},\"attributes\":{{}}}}"
-    )?)
+    let mut text = String::new(alloc);
+    add(&mut text, BEFORE_SHAPE, list_of(alloc, words.shape))?;
+    add(&mut text, BEFORE_DATA_TYPE, text_of(alloc, words.data_type))?;
+    add(&mut text, BEFORE_SHARD, list_of(alloc, words.shard))?;
+    let fill = fill_text(alloc, words.fill, words.data_type);
+    add(&mut text, BEFORE_FILL_VALUE, fill)?;
+    text.push_str(",\"codecs\":")?;
+    add(&mut text, BEFORE_SUBCHUNK, list_of(alloc, words.subchunk))?;
+    text.push_str(BEHIND_SUBCHUNK)?;
+    Ok(text)
+}
+
+// The `zarr.json` of a new array, laid out as the words say.
+fn laid_out(alloc: Global, path: &str, words: &ArrayWords<'_>) -> Result<String, Stop> {
+    let plain = plain_document(alloc, words)?;
+    let metadata = described(alloc, path, &plain, SubchunkWriteOrder::C)?;
+    new_document(alloc, &words.layout, &plain, &metadata)
+}
+
+// Tests that the codecs serve an array with this document.
+fn test_document<R: Files + AllocGlobal>(
+    rt: &R,
+    path: &str,
+    document: &str,
+    order: SubchunkWriteOrder,
+) -> Result<(), Stop> {
+    let metadata = described(rt.alloc(), path, document, order)?;
+    test_served(rt, path, &metadata)
 }
 
 // The `zarr.json` of a new array. Refused as `Stop::BadWord`, as `Stop::Metadata`, and where the codecs do not serve it.
@@ -81,13 +108,9 @@ fn document_of<R: Files + AllocGlobal>(
     path: &str,
     words: &ArrayWords<'_>,
 ) -> Result<String, Stop> {
-    let alloc = rt.alloc();
-    let order = order_of(alloc, words.layout.order)?;
-    let plain = plain_document(alloc, words)?;
-    let metadata = described(alloc, path, &plain, SubchunkWriteOrder::C)?;
-    let document = new_document(alloc, &words.layout, &plain, &metadata)?;
-    let metadata = described(alloc, path, &document, order)?;
-    test_served(rt, path, &metadata)?;
+    let order = order_of(rt.alloc(), words.layout.order)?;
+    let document = laid_out(rt.alloc(), path, words)?;
+    test_document(rt, path, &document, order)?;
     Ok(document)
 }
 

@@ -19,6 +19,15 @@ pub enum ElementsFile<'f> {
     Raw(&'f str),
 }
 
+impl<'f> ElementsFile<'f> {
+    // Its path.
+    fn path(self) -> &'f str {
+        match self {
+            ElementsFile::Npy(path) | ElementsFile::Raw(path) => path,
+        }
+    }
+}
+
 /// A file's bytes, of which the first ones are no elements.
 #[derive(Drop)]
 pub struct FileElements {
@@ -121,25 +130,66 @@ fn wanted_bytes<R: Files + AllocGlobal, C>(
     count.checked_mul(size).ok_or(Stop::TooLarge)
 }
 
-// The elements of a file of NumPy's format. Refused as `Stop::Header` where it has not the description of those that are wanted.
-fn npy_elements<R: Files + AllocGlobal, C>(
+// The header of a file of NumPy's format that has the elements that are requested.
+fn wanted_header<R: Files + AllocGlobal, C>(
     array: &Array<'_, R, C>,
     requested: &Requested,
     path: &str,
-    bytes: Vec<u8>,
-) -> Result<FileElements, Stop> {
+) -> Result<Vec<u8>, Stop> {
     let alloc = array.alloc();
     let element_type = array.metadata.element_type;
+    let shape = requested.kept_shape(alloc)?;
     let name = format!(in alloc; "{element_type}")?;
-    let header = npy_header(alloc, path, &name, &requested.kept_shape(alloc)?)?;
-    let wanted = described(&header).map_or("", |(text, _)| text);
-    match described(&bytes) {
-        Some((text, header)) if text == wanted => Ok(FileElements { bytes, header }),
+    Ok(npy_header(alloc, path, &name, &shape)?)
+}
+
+// Where the elements of a file of NumPy's format begin. Refused as `Stop::Header` where it has not the description that is wanted.
+fn header_length(alloc: Global, path: &str, bytes: &[u8], wanted: &str) -> Result<usize, Stop> {
+    match described(bytes) {
+        Some((text, header)) if text == wanted => Ok(header),
         _ => Err(Stop::Header {
             path: escaped(alloc, path)?,
             wanted: String::from_str(alloc, wanted)?,
         }),
     }
+}
+
+// The elements of a file of NumPy's format. Refused as `Stop::Header` where it has not the description of those that are wanted.
+fn npy_elements<R: Files + AllocGlobal, C>(
+    array: &Array<'_, R, C>,
+    requested: &Requested,
+    path: &str,
+    wanted: u64,
+) -> Result<FileElements, Stop> {
+    let bytes = read_file(array.rt, path, wanted, LONGEST_HEADER)?;
+    let header = wanted_header(array, requested, path)?;
+    let description = described(&header).map_or("", |(text, _)| text);
+    let header = header_length(array.alloc(), path, &bytes, description)?;
+    Ok(FileElements { bytes, header })
+}
+
+// The elements of a file that has nothing else.
+fn raw_elements<R: Files + AllocGlobal>(
+    rt: &R,
+    path: &str,
+    wanted: u64,
+) -> Result<FileElements, Stop> {
+    let bytes = read_file(rt, path, wanted, 0)?;
+    Ok(FileElements { bytes, header: 0 })
+}
+
+// Tests how many bytes of elements a file has. Refused as `Stop::Length`.
+fn test_length(
+    alloc: Global,
+    path: &str,
+    elements: &FileElements,
+    wanted: u64,
+) -> Result<(), Stop> {
+    let length = elements.as_slice().len() as u64;
+    if length != wanted {
+        return Err(wrong_length(alloc, path, length, wanted)?);
+    }
+    Ok(())
 }
 
 /// The elements of a file that are to be a subset of an array. Refused, in this order, as `Stop::System` where the file is not read,
@@ -151,19 +201,10 @@ pub fn elements_of_file<R: Files + AllocGlobal, C>(
     file: ElementsFile<'_>,
 ) -> Result<FileElements, Stop> {
     let wanted = wanted_bytes(array, requested)?;
-    let (path, elements) = match file {
-        ElementsFile::Npy(path) => {
-            let bytes = read_file(array.rt, path, wanted, LONGEST_HEADER)?;
-            (path, npy_elements(array, requested, path, bytes)?)
-        }
-        ElementsFile::Raw(path) => {
-            let bytes = read_file(array.rt, path, wanted, 0)?;
-            (path, FileElements { bytes, header: 0 })
-        }
+    let elements = match file {
+        ElementsFile::Npy(path) => npy_elements(array, requested, path, wanted)?,
+        ElementsFile::Raw(path) => raw_elements(array.rt, path, wanted)?,
     };
-    let length = elements.as_slice().len() as u64;
-    if length != wanted {
-        return Err(wrong_length(array.alloc(), path, length, wanted)?);
-    }
+    test_length(array.alloc(), file.path(), &elements, wanted)?;
     Ok(elements)
 }

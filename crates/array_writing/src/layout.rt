@@ -152,6 +152,17 @@ fn old_layout<'d>(document: &'d Value, metadata: &ArrayMetadata) -> OldLayout<'d
     }
 }
 
+/// What stands before the shape of the subchunks in the value of `codecs`.
+pub const BEFORE_SUBCHUNK: &str =
+    "[{\"name\":\"sharding_indexed\",\"configuration\":{\"chunk_shape\":";
+
+/// Adds a value to a text of JSON, behind what stands before it.
+pub fn add(text: &mut String, before: &str, value: Result<String, Stop>) -> Result<(), Stop> {
+    let value = value?;
+    text.push_str(before)?;
+    Ok(text.push_str(&value)?)
+}
+
 // The value of `codecs` in a new layout.
 fn codecs_text(
     alloc: Global,
@@ -159,14 +170,39 @@ fn codecs_text(
     document: &Value,
     metadata: &ArrayMetadata,
 ) -> Result<String, Stop> {
-    let chunk = shape_text(alloc, words.subchunk, metadata.subchunk.as_slice())?;
     let old = old_layout(document, metadata);
-    let inner = inner_text(alloc, words.inner, old.inner)?;
-    let index = index_text(alloc, words.is_checked, old.index)?;
-    let location = location_text(alloc, words.index, old.location)?;
-    Ok(format!(in alloc;
-        "[{{\"name\":\"sharding_indexed\",\"configuration\":{{\"chunk_shape\":{chunk},\"codecs\":{inner},\"index_codecs\":{index},\"index_location\":\"{location}\"}}}}]"
-    )?)
+    let chunk = shape_text(alloc, words.subchunk, metadata.subchunk.as_slice());
+    let mut text = String::new(alloc);
+    add(&mut text, BEFORE_SUBCHUNK, chunk)?;
+    let inner = inner_text(alloc, words.inner, old.inner);
+    add(&mut text, ",\"codecs\":", inner)?;
+    let index = index_text(alloc, words.is_checked, old.index);
+    add(&mut text, ",\"index_codecs\":", Ok(index?))?;
+    text.push_str(",\"index_location\":\"")?;
+    text.push_str(location_text(alloc, words.index, old.location)?)?;
+    text.push_str("\"}}]")?;
+    Ok(text)
+}
+
+// The value of `codecs` in a new layout, of an array with this document.
+fn new_codecs(
+    alloc: Global,
+    words: &LayoutWords<'_>,
+    document: &Value,
+    metadata: &ArrayMetadata,
+) -> Result<Value, Stop> {
+    let text = codecs_text(alloc, words, document, metadata)?;
+    parsed(alloc, &text)
+}
+
+// The shape of a shard in a new layout.
+fn new_shard_shape(
+    alloc: Global,
+    words: &LayoutWords<'_>,
+    metadata: &ArrayMetadata,
+) -> Result<Value, Stop> {
+    let text = shape_text(alloc, words.shard, metadata.shard.as_slice())?;
+    parsed(alloc, &text)
 }
 
 /// The `zarr.json` of an array that is laid out anew, from the one of the array as it is: all other members stay. Refused as
@@ -178,9 +214,8 @@ pub fn new_document(
     metadata: &ArrayMetadata,
 ) -> Result<String, Stop> {
     let mut document = parsed(alloc, text)?;
-    let codecs = parsed(alloc, &codecs_text(alloc, words, &document, metadata)?)?;
-    let shard = shape_text(alloc, words.shard, metadata.shard.as_slice())?;
-    let shard = parsed(alloc, &shard)?;
+    let codecs = new_codecs(alloc, words, &document, metadata)?;
+    let shard = new_shard_shape(alloc, words, metadata)?;
     put(&mut document, "/codecs", codecs);
     put(
         &mut document,

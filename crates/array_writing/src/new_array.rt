@@ -1,21 +1,20 @@
 // An array laid out anew in another folder.
-use crate::chunks::{chunks_of, elements_of};
+use crate::chunks::{chunk_of_fill_values, chunks_of, elements_of};
 use crate::layout::{LayoutWords, new_document, order_of};
 use crate::new_folder::{begin_folder, encoded, end_folder, put, test_served};
 use array_cli::{
     Array, CodecUse, Ending, ShardCodec, ShardFile, ShardWork, SharedArray, SharedSystem, Stop,
-    described, piece_length, piece_of, read_array, run_in_parallel, turned, with_codec, written,
+    described, piece_length, piece_of, put_elements, read_silently, run_in_parallel, turned,
+    whole_of, with_codec, written,
 };
 use array_fields::{LONGEST_TEXT, Progress, escaped};
 use array_folder::{Counted, read_document};
 use array_grid::SubsetCells;
 use array_metadata::ArrayMetadata;
-use parts_arrays::ArrayBytes;
 use parts_errors::CodecError;
 use parts_subsets::ArraySubset;
 use sharding_format::SubchunkWriteOrder;
 use std::alloc::Global;
-use std::borrow::CowSlice;
 use std::fs;
 use std::io::Write;
 use std::rt::Files;
@@ -53,22 +52,52 @@ impl Written {
     }
 }
 
+// Puts elements, which have a shape, at the start of a chunk.
+fn put_at_start(
+    alloc: Global,
+    shape: &[u64],
+    elements: &[u8],
+    new: &ArrayMetadata,
+    cells: &mut SubsetCells,
+) -> Result<(), CodecError> {
+    let part = whole_of(alloc, shape)?;
+    put_elements(new, &part, elements, cells)
+}
+
 // The elements of a chunk, of which those in the array are put at its start, and fill values behind the array's end.
 fn padded(
     alloc: Global,
-    requested: &ArraySubset,
+    shape: &[u64],
     elements: &[u8],
     new: &ArrayMetadata,
 ) -> Result<SubsetCells, CodecError> {
-    let whole = ArraySubset::new_with_shape(alloc, Vec::from_slice(alloc, new.shard.as_slice())?)?;
-    let mut cells = SubsetCells::new(alloc, &whole, &new.fill_value)?;
-    let part = ArraySubset::new_with_shape(alloc, Vec::from_slice(alloc, requested.shape())?)?;
-    let size = new.fill_value.as_ne_bytes().len();
-    match ArrayBytes::new_flen(CowSlice::Borrowed(elements), size) {
-        Some(found) => cells.put(&part, &found)?,
-        None => return Err(CodecError::WrongElementKind),
-    }
+    let mut cells = chunk_of_fill_values(alloc, new)?;
+    put_at_start(alloc, shape, elements, new, &mut cells)?;
     Ok(cells)
+}
+
+// The elements of a chunk as they are stored: `padded` of them in the order of bytes of the new array.
+fn stored_chunk(
+    alloc: Global,
+    shape: &[u64],
+    elements: &[u8],
+    new: &ArrayMetadata,
+) -> Result<SubsetCells, CodecError> {
+    match turned(alloc, new, elements)? {
+        Some(stored) => padded(alloc, shape, &stored, new),
+        None => padded(alloc, shape, elements, new),
+    }
+}
+
+// The elements of a new chunk that lie in a subset of the old array, and fill values behind its end.
+fn new_elements<'a, R: Files + AllocGlobal, C: ShardCodec<ShardFile<'a, R>>>(
+    old: &Array<'a, R, C>,
+    requested: &ArraySubset,
+    new: &ArrayMetadata,
+) -> Result<SubsetCells, Stop> {
+    let found = read_silently(old, requested)?;
+    let elements = old.least_first(found.bytes())?;
+    Ok(stored_chunk(old.alloc(), requested.shape(), &elements, new)?)
 }
 
 // The bytes of the chunk at these coordinates of a new array, with the elements that the old one has there; `None` where it has no file.
@@ -77,26 +106,13 @@ fn new_chunk<'a, R: Files + AllocGlobal, C: ShardCodec<ShardFile<'a, R>>>(
     new: &NewArray<'_>,
     coordinates: &[u64],
 ) -> Result<Option<Vec<u8>>, Stop> {
-    let (alloc, metadata) = (old.alloc(), new.metadata);
-    let Some(requested) = elements_of(alloc, coordinates, &metadata.shard, &metadata.shape)? else {
-        return Ok(None);
-    };
-    let mut silent: Vec<u8> = Vec::new(alloc);
-    let (elements, _) = read_array(
-        old,
-        &requested,
-        false,
-        &mut Progress::new(&mut silent, false),
-    )?;
-    let elements = old.least_first(elements.bytes())?;
-    let cells = match turned(alloc, metadata, &elements)? {
-        Some(stored) => padded(alloc, &requested, &stored, metadata)?,
-        None => padded(alloc, &requested, &elements, metadata)?,
-    };
-    let size = metadata.fill_value.as_ne_bytes().len();
-    match ArrayBytes::new_flen(CowSlice::Borrowed(cells.bytes()), size) {
-        Some(elements) => Ok(encoded(old.rt, &elements, metadata)?),
-        None => Err(CodecError::WrongElementKind.into()),
+    let metadata = new.metadata;
+    match elements_of(old.alloc(), coordinates, &metadata.shard, &metadata.shape)? {
+        Some(requested) => {
+            let cells = new_elements(old, &requested, metadata)?;
+            Ok(encoded(old.rt, &cells, metadata)?)
+        }
+        None => Ok(None),
     }
 }
 
@@ -245,6 +261,37 @@ fn make<R: SharedSystem, M: Write>(
     made
 }
 
+// The `zarr.json` of an array that is laid out anew.
+fn laid_out<R: SharedSystem>(
+    old: &SharedArray<'_, R>,
+    words: &LayoutWords<'_>,
+) -> Result<String, Stop> {
+    let path = old.path_of("zarr.json")?;
+    let text = read_document(old.rt, &path, LONGEST_TEXT)?;
+    new_document(old.alloc(), words, &text, old.metadata)
+}
+
+// Makes a new array that has this document, where the codecs serve it.
+fn make_described<R: SharedSystem, M: Write>(
+    old: &SharedArray<'_, R>,
+    path: &str,
+    document: &str,
+    order: SubchunkWriteOrder,
+    jobs: usize,
+    progress: &mut Progress<'_, M>,
+) -> Result<Written, Stop> {
+    let new = described(old.alloc(), path, document, order)?;
+    test_served(old.rt, path, &new)?;
+    make(old, path, document, &new, jobs, progress)
+}
+
+// Tells what was written.
+fn tell<W: Write>(wrote: &Written, out: &mut W) -> Result<Ending, Stop> {
+    let (shards, bytes) = (Counted(wrote.shards, "shard"), wrote.bytes);
+    written(writeln!(out, "{shards}: {bytes} bytes"), Ending::Done)?;
+    Ok(Ending::Done)
+}
+
 /// Makes a new array of the elements of an old one, laid out in another way, in a folder that is not there yet. It is written beside
 /// itself, with `.partial` behind its name, and renamed once it is whole; where anything is refused, nothing is left, and the refusal is
 /// that of the first new shard, in the order of their grid, that is refused. Each new shard is read from the old array as one subset, and
@@ -258,15 +305,9 @@ pub fn reshard<R: SharedSystem, W: Write, M: Write>(
     progress: &mut Progress<'_, M>,
 ) -> Result<Ending, Stop> {
     old.test_read()?;
-    let alloc = old.alloc();
-    let order = order_of(alloc, words.order)?;
-    let text = read_document(old.rt, &old.path_of("zarr.json")?, LONGEST_TEXT)?;
-    let document = new_document(alloc, words, &text, old.metadata)?;
-    let new = described(alloc, path, &document, order)?;
-    test_served(old.rt, path, &new)?;
-    let Written { shards, bytes } = make(old, path, &document, &new, jobs, progress)?;
+    let order = order_of(old.alloc(), words.order)?;
+    let document = laid_out(old, words)?;
+    let wrote = make_described(old, path, &document, order, jobs, progress)?;
     progress.clear();
-    let shards = Counted(shards, "shard");
-    written(writeln!(out, "{shards}: {bytes} bytes"), Ending::Done)?;
-    Ok(Ending::Done)
+    tell(&wrote, out)
 }

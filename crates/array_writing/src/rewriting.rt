@@ -137,13 +137,10 @@ fn stop_of<'a, R: Files + AllocGlobal, C>(
     old: &ShardFile<'a, R>,
     beside: &str,
     failure: Failure,
-) -> Result<Stop, Stop> {
+) -> Stop {
     match failure {
-        Failure::Old(error) => {
-            let refusal = array.refusal(shard, old, error, Place::Shard)?;
-            Ok(Stop::Refused(refusal))
-        }
-        Failure::New(error) => Ok(Stop::system(array.alloc(), beside, error)),
+        Failure::Old(error) => array.stop(shard, old, error, Place::Shard),
+        Failure::New(error) => Stop::system(array.alloc(), beside, error),
     }
 }
 
@@ -164,6 +161,6 @@ pub fn replace<'a, R: Files + AllocGlobal, C, W: Write>(
     let _ = tell_owner(out, shard.key, &new);
     match carry_out(array.alloc(), old, plan, new) {
         Ok(()) => Ok(true),
-        Err(failure) => Err(stop_of(array, shard, old, beside, failure)?),
+        Err(failure) => Err(stop_of(array, shard, old, beside, failure)),
     }
 }

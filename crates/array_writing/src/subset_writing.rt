@@ -1,13 +1,13 @@
 // Elements that are written into an array.
-use crate::chunks::elements_of;
+use crate::chunks::{chunk_of_fill_values, elements_of};
 use crate::elements::{ElementsFile, elements_of_file};
 use array_cli::{
-    Array, Ending, OpenShard, Place, Shard, ShardCodec, ShardFile, Stop, put_elements, shards_of,
-    turned, written,
+    Array, Ending, OpenShard, Place, Shard, ShardCodec, ShardFile, Stop, put_elements,
+    shard_of_grid, shards_of, turned, whole_of, written,
 };
 use array_fields::Progress;
 use array_folder::{Counted, save};
-use array_grid::{ShardGrid, ShardPart, ShardParts, SubsetCells, subset_of};
+use array_grid::{Requested, ShardGrid, ShardPart, ShardParts, SubsetCells, subset_of};
 use array_metadata::ArrayMetadata;
 use parts_arrays::ArrayBytes;
 use parts_errors::CodecError;
@@ -45,18 +45,12 @@ fn put_shard<'a, R: Files + AllocGlobal, C: ShardCodec<ShardFile<'a, R>>>(
     whole: &ArraySubset,
     cells: &mut SubsetCells,
 ) -> Result<(), Stop> {
-    let mut opened = match array.open_shard(shard, array.file(shard.key)?)? {
-        Ok(opened) => opened,
-        Err(refusal) => return Err(Stop::Refused(refusal)),
-    };
+    let mut opened = array.opened(shard, array.file(shard.key)?)?;
     let put = put_all(array.alloc(), array.metadata, &mut opened, whole, cells);
     let file = opened.close();
     match put {
         Ok(()) => Ok(()),
-        Err(error) => {
-            let refusal = array.refusal(shard, &file, error, Place::reading(&error))?;
-            Err(Stop::Refused(refusal))
-        }
+        Err(error) => Err(array.stop(shard, &file, error, Place::reading(&error))),
     }
 }
 
@@ -79,19 +73,58 @@ fn is_whole<R: Files + AllocGlobal, C>(
     }
 }
 
+// Puts the elements of a shard, of which a part is to be written, where another element of the array stays.
+fn put_old<'a, R: Files + AllocGlobal, C: ShardCodec<ShardFile<'a, R>>>(
+    array: &Array<'a, R, C>,
+    shard: &Shard<'_>,
+    part: &ShardPart,
+    cells: &mut SubsetCells,
+) -> Result<(), Stop> {
+    if is_whole(array, shard, part)? {
+        return Ok(());
+    }
+    let whole = whole_of(array.alloc(), array.metadata.shard.as_slice())?;
+    put_shard(array, shard, &whole, cells)
+}
+
 // The elements of a shard, of which a part is to be written: as they are, or fill values where no other element of the array stays.
 fn old_cells<'a, R: Files + AllocGlobal, C: ShardCodec<ShardFile<'a, R>>>(
     array: &Array<'a, R, C>,
     shard: &Shard<'_>,
     part: &ShardPart,
 ) -> Result<SubsetCells, Stop> {
-    let (alloc, shape) = (array.alloc(), array.metadata.shard.as_slice());
-    let whole = ArraySubset::new_with_shape(alloc, Vec::from_slice(alloc, shape)?)?;
-    let mut cells = SubsetCells::new(alloc, &whole, &array.metadata.fill_value)?;
-    if !is_whole(array, shard, part)? {
-        put_shard(array, shard, &whole, &mut cells)?;
-    }
+    let mut cells = chunk_of_fill_values(array.alloc(), array.metadata)?;
+    put_old(array, shard, part, &mut cells)?;
     Ok(cells)
+}
+
+// Puts the part of an update that lies in a shard into the shard's elements.
+fn put_update(
+    alloc: Global,
+    metadata: &ArrayMetadata,
+    part: &ShardPart,
+    update: &Update<'_>,
+    cells: &mut SubsetCells,
+) -> Result<(), CodecError> {
+    let elements = update.elements.extract_array_subset(
+        alloc,
+        &part.in_subset,
+        update.subset.shape(),
+        &metadata.data_type,
+    )?;
+    cells.put(&part.in_shard, &elements)
+}
+
+// The bytes of a shard of these elements; `None` where each of them is the fill value.
+fn encoded<'a, R: Files + AllocGlobal, C: ShardCodec<ShardFile<'a, R>>>(
+    array: &Array<'a, R, C>,
+    cells: &SubsetCells,
+) -> Result<Option<Vec<u8>>, CodecError> {
+    let size = array.metadata.fill_value.as_ne_bytes().len();
+    match ArrayBytes::new_flen(CowSlice::Borrowed(cells.bytes()), size) {
+        Some(elements) => array.codec.encode(array.alloc(), &elements, array.metadata),
+        None => Err(CodecError::WrongElementKind),
+    }
 }
 
 // The bytes of a shard of which a part is written; `None` where each of its elements is the fill value then.
@@ -101,20 +134,9 @@ fn new_shard<'a, R: Files + AllocGlobal, C: ShardCodec<ShardFile<'a, R>>>(
     part: &ShardPart,
     update: &Update<'_>,
 ) -> Result<Option<Vec<u8>>, Stop> {
-    let (alloc, metadata) = (array.alloc(), array.metadata);
     let mut cells = old_cells(array, shard, part)?;
-    let elements = update.elements.extract_array_subset(
-        alloc,
-        &part.in_subset,
-        update.subset.shape(),
-        &metadata.data_type,
-    )?;
-    cells.put(&part.in_shard, &elements)?;
-    let size = metadata.fill_value.as_ne_bytes().len();
-    match ArrayBytes::new_flen(CowSlice::Borrowed(cells.bytes()), size) {
-        Some(elements) => Ok(array.codec.encode(alloc, &elements, metadata)?),
-        None => Err(CodecError::WrongElementKind.into()),
-    }
+    put_update(array.alloc(), array.metadata, part, update, &mut cells)?;
+    Ok(encoded(array, &cells)?)
 }
 
 // Removes the file at a path, if it is there.
@@ -122,6 +144,19 @@ fn remove<R: Files + AllocGlobal>(rt: &R, path: &str) -> Result<(), Stop> {
     match fs::remove_file(rt, path) {
         Ok(()) => Ok(()),
         Err(error) if error.kind() == ErrorKind::NotFound => Ok(()),
+        Err(error) => Err(Stop::system(rt.alloc(), path, error)),
+    }
+}
+
+// Puts a shard of these bytes at a path, by a new file beside it.
+fn save_shard<R: Files + AllocGlobal, W: Write>(
+    rt: &R,
+    path: &str,
+    bytes: &[u8],
+    out: &mut W,
+) -> Result<(), Stop> {
+    match path_beside(rt.alloc(), rt, path) {
+        Ok(beside) => Ok(save(rt, path, &beside, &[], bytes, out)?),
         Err(error) => Err(Stop::system(rt.alloc(), path, error)),
     }
 }
@@ -134,19 +169,17 @@ fn replace<R: Files + AllocGlobal, C, W: Write>(
     out: &mut W,
 ) -> Result<(), Stop> {
     let path = array.path_of(key)?;
-    let Some(bytes) = bytes else {
-        remove(array.rt, &path)?;
-        // a line that nobody reads stops nothing
-        let _ = writeln!(out, "{key}: no file: all its elements are the fill value");
-        return Ok(());
+    // a line that nobody reads stops nothing
+    let _ = match bytes {
+        Some(bytes) => {
+            save_shard(array.rt, &path, bytes, out)?;
+            writeln!(out, "{key}: {} bytes", bytes.len())
+        }
+        None => {
+            remove(array.rt, &path)?;
+            writeln!(out, "{key}: no file: all its elements are the fill value")
+        }
     };
-    let beside = match path_beside(array.alloc(), array.rt, &path) {
-        Ok(beside) => beside,
-        Err(error) => return Err(Stop::system(array.alloc(), &path, error)),
-    };
-    save(array.rt, &path, &beside, &[], bytes, out)?;
-    let length = bytes.len();
-    let _ = writeln!(out, "{key}: {length} bytes");
     Ok(())
 }
 
@@ -158,16 +191,9 @@ fn write_part<'a, R: Files + AllocGlobal, C: ShardCodec<ShardFile<'a, R>>, W: Wr
     update: &Update<'_>,
     out: &mut W,
 ) -> Result<(), Stop> {
-    let Some(coordinates) = grid.coordinates(array.alloc(), part.shard)? else {
-        return Err(CodecError::OutOfBounds.into());
-    };
-    let key = array.metadata.keys.key_of(array.alloc(), &coordinates)?;
-    let shard = Shard {
-        key: &key,
-        coordinates: &coordinates,
-    };
-    let bytes = new_shard(array, &shard, part, update)?;
-    replace(array, &key, bytes.as_ref().map(Vec::as_slice), out)
+    let shard = shard_of_grid(array, grid, part.shard)?;
+    let bytes = new_shard(array, &shard.shard(), part, update)?;
+    replace(array, &shard.key, bytes.as_ref().map(Vec::as_slice), out)
 }
 
 // Writes the parts of an update, one of each shard in which it lies.
@@ -190,6 +216,30 @@ fn write_parts<'a, R: Files + AllocGlobal, C: ShardCodec<ShardFile<'a, R>>, W: W
     Ok(())
 }
 
+// Writes an update into the shards of a grid in which it lies, and says how many these are.
+fn write_in_grid<'a, R: Files + AllocGlobal, C: ShardCodec<ShardFile<'a, R>>, W: Write, M: Write>(
+    array: &Array<'a, R, C>,
+    grid: &ShardGrid,
+    update: &Update<'_>,
+    out: &mut W,
+    progress: &mut Progress<'_, M>,
+) -> Result<u64, Stop> {
+    let parts = grid.parts(array.alloc(), update.subset)?;
+    write_parts(array, grid, &parts, update, out, progress)?;
+    Ok(parts.len())
+}
+
+// Writes an update into the shards of an array in which it lies, and says how many these are.
+fn write_in_shards<'a, R: Files + AllocGlobal, C: ShardCodec<ShardFile<'a, R>>, W: Write, M: Write>(
+    array: &Array<'a, R, C>,
+    update: &Update<'_>,
+    out: &mut W,
+    progress: &mut Progress<'_, M>,
+) -> Result<u64, Stop> {
+    let grid = shards_of(array)?;
+    write_in_grid(array, &grid, update, out, progress)
+}
+
 // Writes elements, as they are stored, into a subset of an array.
 fn write_update<'a, R: Files + AllocGlobal, C: ShardCodec<ShardFile<'a, R>>, W: Write, M: Write>(
     array: &Array<'a, R, C>,
@@ -199,17 +249,39 @@ fn write_update<'a, R: Files + AllocGlobal, C: ShardCodec<ShardFile<'a, R>>, W: 
     progress: &mut Progress<'_, M>,
 ) -> Result<u64, Stop> {
     let size = array.metadata.fill_value.as_ne_bytes().len();
-    let Some(elements) = ArrayBytes::new_flen(CowSlice::Borrowed(elements), size) else {
-        return Err(CodecError::WrongElementKind.into());
-    };
-    let update = Update {
-        subset,
-        elements: &elements,
-    };
-    let grid = shards_of(array)?;
-    let parts = grid.parts(array.alloc(), subset)?;
-    write_parts(array, &grid, &parts, &update, out, progress)?;
-    Ok(parts.len())
+    match ArrayBytes::new_flen(CowSlice::Borrowed(elements), size) {
+        Some(elements) => {
+            let elements = &elements;
+            write_in_shards(array, &Update { subset, elements }, out, progress)
+        }
+        None => Err(CodecError::WrongElementKind.into()),
+    }
+}
+
+// Writes elements into a subset of an array, and says how many shards these lie in.
+fn write_elements<'a, R: Files + AllocGlobal, C: ShardCodec<ShardFile<'a, R>>, W: Write, M: Write>(
+    array: &Array<'a, R, C>,
+    subset: &ArraySubset,
+    elements: &[u8],
+    out: &mut W,
+    progress: &mut Progress<'_, M>,
+) -> Result<u64, Stop> {
+    match turned(array.alloc(), array.metadata, elements)? {
+        Some(stored) => write_update(array, subset, &stored, out, progress),
+        None => write_update(array, subset, elements, out, progress),
+    }
+}
+
+// Writes the elements of a file into a subset of an array, and says how many shards these lie in.
+fn write_file<'a, R: Files + AllocGlobal, C: ShardCodec<ShardFile<'a, R>>, W: Write, M: Write>(
+    array: &Array<'a, R, C>,
+    requested: &Requested,
+    file: ElementsFile<'_>,
+    out: &mut W,
+    progress: &mut Progress<'_, M>,
+) -> Result<u64, Stop> {
+    let found = elements_of_file(array, requested, file)?;
+    write_elements(array, &requested.subset, found.as_slice(), out, progress)
 }
 
 /// Writes the elements of a file into a subset of an array, which a text as `0..2,3` names, or into all of it. Each shard in which the
@@ -231,14 +303,8 @@ pub fn write_subset<
     progress: &mut Progress<'_, M>,
 ) -> Result<Ending, Stop> {
     array.test_read()?;
-    let alloc = array.alloc();
-    let requested = subset_of(alloc, requested, &array.metadata.shape)?;
-    let found = elements_of_file(array, &requested, file)?;
-    let subset = &requested.subset;
-    let shards = match turned(alloc, array.metadata, found.as_slice())? {
-        Some(elements) => write_update(array, subset, &elements, out, progress)?,
-        None => write_update(array, subset, found.as_slice(), out, progress)?,
-    };
+    let requested = subset_of(array.alloc(), requested, &array.metadata.shape)?;
+    let shards = write_file(array, &requested, file, out, progress)?;
     let shards = Counted(shards, "shard");
     written(writeln!(out, "{shards} written"), Ending::Done)?;
     Ok(Ending::Done)

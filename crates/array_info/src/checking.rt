@@ -1,13 +1,13 @@
 // Whether the shards of an array are sound.
 use crate::check_pieces::check_all;
 use crate::checked::{Checked, Found, Told, write_end, write_end_lines};
+use crate::subchunks::check_subchunk;
 use array_cli::{
     Array, Ending, OpenShard, Place, Shard, ShardCodec, ShardFile, SharedArray, SharedSystem, Stop,
     written,
 };
 use array_fields::Progress;
-use array_folder::{ChunkFile, Listing};
-use array_info::check_subchunk;
+use array_folder::{ChunkFile, ChunkFiles, Listing};
 use parts_errors::CodecError;
 use std::io;
 use std::io::Write;
@@ -49,6 +49,18 @@ impl Read {
     }
 }
 
+// Tells that a subchunk of a shard is refused.
+fn tell_subchunk<R: Files + AllocGlobal, C, W: Write, M: Write>(
+    array: &Array<'_, R, C>,
+    shard: &Shard<'_>,
+    error: CodecError,
+    number: u64,
+    told: &mut Told<'_, '_, W, M>,
+) -> Result<(), Stop> {
+    let refusal = array.refusal_at(shard, error, Place::Subchunk(number))?;
+    told.tell(&refusal)
+}
+
 // Reads each subchunk of a shard, and goes on behind one that is refused.
 fn check_each<'a, R: Files + AllocGlobal, C, S: OpenShard<ShardFile<'a, R>>, W: Write, M: Write>(
     array: &Array<'a, R, C>,
@@ -71,7 +83,7 @@ fn check_each<'a, R: Files + AllocGlobal, C, S: OpenShard<ShardFile<'a, R>>, W: 
                 break;
             }
             Err(error) => {
-                told.tell(&array.refusal_at(shard, error, Place::Subchunk(number))?)?;
+                tell_subchunk(array, shard, error, number, told)?;
                 read.is_refused = true;
             }
         }
@@ -105,9 +117,26 @@ fn tell_last<R: Files + AllocGlobal, C, W: Write, M: Write>(
     told: &mut Told<'_, '_, W, M>,
 ) -> Result<(), Stop> {
     if let Some((number, error)) = last {
-        told.tell(&array.refusal(shard, file, error, Place::Subchunk(number))?)?;
+        let refusal = array.refusal(shard, file, error, Place::Subchunk(number))?;
+        told.tell(&refusal)?;
     }
     Ok(())
+}
+
+// Tells what reading the subchunks of a shard came to, which has this file.
+fn tell_read<R: Files + AllocGlobal, C, W: Write, M: Write>(
+    array: &Array<'_, R, C>,
+    shard: &Shard<'_>,
+    file: &ShardFile<'_, R>,
+    read: Read,
+    told: &mut Told<'_, '_, W, M>,
+) -> Result<Found, Stop> {
+    tell_bad(array, shard, &read, told)?;
+    tell_last(array, shard, file, read.last, told)?;
+    Ok(Found {
+        present: read.present,
+        is_refused: read.is_refused,
+    })
 }
 
 // Reads each subchunk of a shard that is open.
@@ -120,16 +149,30 @@ fn check_opened<'a, R: Files + AllocGlobal, C: ShardCodec<ShardFile<'a, R>>, W: 
 ) -> Result<Found, Stop> {
     let read = check_each(array, shard, checked, &mut opened, told);
     let file = opened.close();
-    let read = read?;
-    tell_bad(array, shard, &read, told)?;
-    tell_last(array, shard, &file, read.last, told)?;
-    Ok(Found {
-        present: read.present,
-        is_refused: read.is_refused,
-    })
+    tell_read(array, shard, &file, read?, told)
 }
 
-// Opens the shard that a file holds, which is there, and reads each subchunk.
+// Opens the shard that a file holds, and reads each subchunk.
+fn found_in<'a, R: Files + AllocGlobal, C: ShardCodec<ShardFile<'a, R>>, W: Write, M: Write>(
+    array: &Array<'a, R, C>,
+    shard: &Shard<'_>,
+    file: ShardFile<'a, R>,
+    checked: &Checked,
+    told: &mut Told<'_, '_, W, M>,
+) -> Result<Found, Stop> {
+    match array.open_shard(shard, file)? {
+        Ok(opened) => check_opened(array, shard, checked, opened, told),
+        Err(refusal) => {
+            told.tell(&refusal)?;
+            Ok(Found {
+                present: 0,
+                is_refused: true,
+            })
+        }
+    }
+}
+
+// Checks the shard that a file holds, which is there.
 fn check_file<'a, R: Files + AllocGlobal, C: ShardCodec<ShardFile<'a, R>>, W: Write, M: Write>(
     array: &Array<'a, R, C>,
     shard: &Shard<'_>,
@@ -137,16 +180,7 @@ fn check_file<'a, R: Files + AllocGlobal, C: ShardCodec<ShardFile<'a, R>>, W: Wr
     checked: &mut Checked,
     told: &mut Told<'_, '_, W, M>,
 ) -> Result<(), Stop> {
-    let found = match array.open_shard(shard, file)? {
-        Ok(opened) => check_opened(array, shard, checked, opened, told)?,
-        Err(refusal) => {
-            told.tell(&refusal)?;
-            Found {
-                present: 0,
-                is_refused: true,
-            }
-        }
-    };
+    let found = found_in(array, shard, file, checked, told)?;
     checked.add(&found);
     told.tell_shard(shard.key, &found, checked.ending(true))
 }
@@ -162,7 +196,7 @@ fn check_shard<'a, R: Files + AllocGlobal, C: ShardCodec<ShardFile<'a, R>>, W: W
     match file.exists() {
         Ok(true) => check_file(array, shard, file, checked, told),
         Ok(false) => Ok(()),
-        Err(error) => Err(Stop::Refused(array.refusal(shard, &file, error, Place::Shard)?)),
+        Err(error) => Err(array.stop(shard, &file, error, Place::Shard)),
     }
 }
 
@@ -193,6 +227,23 @@ pub fn check_each_file<
     Ok(())
 }
 
+// Writes what was checked, and what else stands in the folder.
+fn write_checked<R: SharedSystem, W: Write>(
+    array: &SharedArray<'_, R>,
+    out: &mut W,
+    files: &ChunkFiles,
+    checked: &Checked,
+    is_json: bool,
+) -> io::Result<()> {
+    let unread = array.unread()?;
+    let unread = unread.as_ref().map(String::as_str);
+    if is_json {
+        write_end_lines(out, files, checked, unread)
+    } else {
+        write_end(array, out, files, checked, unread)
+    }
+}
+
 /// Decodes each index of the shards that a part has, and each subchunk if its codec is served and the indexes are not all that is
 /// asked, by `jobs` threads; writes a line for each that is refused, in the order of the shards, what else stands in the folder, how many
 /// subchunks were not looked into, and what was checked.
@@ -205,24 +256,17 @@ pub fn check<R: SharedSystem, W: Write, M: Write>(
     progress: &mut Progress<'_, M>,
 ) -> Result<Ending, Stop> {
     let files = array.files_in(&listing.part)?;
-    let unread = array.unread()?;
-    let unread = unread.as_ref().map(String::as_str);
-    let is_json = listing.is_json;
     let mut told = Told {
         out,
         progress,
-        is_json,
+        is_json: listing.is_json,
     };
-    let is_index_alone = is_index_asked || unread.is_some();
+    let is_index_alone = is_index_asked || array.metadata.unread.is_some();
     let mut checked = Checked::none(files.chunks.len() as u64, is_index_alone);
     check_all(array, &files.chunks, jobs, &mut checked, &mut told)?;
     told.progress.clear();
     let ending = checked.ending(is_index_asked);
-    let wrote = if is_json {
-        write_end_lines(told.out, &files, &checked, unread)
-    } else {
-        write_end(array, told.out, &files, &checked, unread)
-    };
+    let wrote = write_checked(array, told.out, &files, &checked, listing.is_json);
     written(wrote, ending)?;
     Ok(ending)
 }

@@ -1,7 +1,7 @@
 use Rattle.std.proofs.Common.{subst, arith}
 use Rattle.parts_subsets.specs.Grid.{Divides}
 use Rattle.sharding_format.proofs.QuotientLemmas.{Divides-from_axes}
-use Rattle.array_metadata.proofs.metadata.divides.Goals as goal
+use Rattle.array_metadata.proofs.chunk_cuts.divides.Goals as goal
 
 pub returns : goal.returns
 returns c = λ e.

@@ -1,14 +1,12 @@
 // The elements of a subset of an array that threads share.
-use crate::arrays::Array;
-use crate::codec_use::{CodecUse, with_codec};
-use crate::parallel::{ShardWork, piece_length, run_in_parallel};
-use crate::read::{PartRead, held_cells, put_shard_part, read_array, read_numbered, shards_of};
-use crate::shard_codec::{ShardCodec, ShardFile};
-use crate::shared_array::SharedArray;
-use crate::stop::{Ending, Stop};
-use crate::system::SharedSystem;
+use array_cli::{
+    Array, CodecUse, Ending, PartRead, ShardCodec, ShardFile, ShardWork, SharedArray, SharedSystem,
+    Stop, held_cells, piece_length, put_shard_part, read_array, read_numbered, run_in_parallel,
+    shards_of, with_codec,
+};
 use array_fields::Progress;
-use array_grid::{ShardGrid, ShardPart, ShardParts, SubsetCells};
+use array_grid::{ShardGrid, ShardParts, SubsetCells};
+use parts_errors::CodecError;
 use parts_subsets::ArraySubset;
 use std::io::Write;
 use std::rt::Files;
@@ -55,19 +53,25 @@ struct PartPieces<'s, R> {
     in_piece: u64,
 }
 
+impl<'s, R> PartPieces<'s, R> {
+    // The pieces from a part on.
+    fn beginning_at(&self, first: u64) -> Self {
+        PartPieces {
+            array: self.array,
+            grid: self.grid,
+            parts: self.parts,
+            first,
+            in_piece: self.in_piece,
+        }
+    }
+}
+
 // Of these the parts from a number on to before another one.
 #[derive(Drop)]
 struct PartPiece<'s, R> {
     pieces: &'s PartPieces<'s, R>,
     first: u64,
     end: u64,
-}
-
-// A part of a subset and its elements.
-#[derive(Drop)]
-struct PartFound {
-    part: ShardPart,
-    bytes: Vec<u8>,
 }
 
 // Reads the parts of a subset from a number on to before another one, as far as none is refused.
@@ -77,29 +81,20 @@ fn read_each<'a, R: Files + AllocGlobal, C: ShardCodec<ShardFile<'a, R>>>(
     parts: &ShardParts,
     first: u64,
     end: u64,
-) -> Result<Vec<PartFound>, Stop> {
+) -> Result<Vec<PartRead>, Stop> {
     let mut found = Vec::new(array.alloc());
     for number in first..end {
-        let Some(read) = read_numbered(array, grid, parts, number)? else {
-            continue;
-        };
-        let PartRead {
-            part,
-            found: bytes,
-            ..
-        } = read;
-        match bytes {
-            Ok(bytes) => found.push(PartFound { part, bytes })?,
-            Err(refusal) => return Err(Stop::Refused(refusal)),
+        if let Some(read) = read_numbered(array, grid, parts, number, false)? {
+            found.push(read)?;
         }
     }
     Ok(found)
 }
 
 impl<'s, R: Files + AllocGlobal> CodecUse<ShardFile<'s, R>> for PartPiece<'s, R> {
-    type Answer = Result<Vec<PartFound>, Stop>;
+    type Answer = Result<Vec<PartRead>, Stop>;
 
-    fn with<C: ShardCodec<ShardFile<'s, R>>>(self, codec: C) -> Result<Vec<PartFound>, Stop> {
+    fn with<C: ShardCodec<ShardFile<'s, R>>>(self, codec: C) -> Result<Vec<PartRead>, Stop> {
         let PartPiece { pieces, first, end } = self;
         let PartPieces {
             array,
@@ -113,12 +108,12 @@ impl<'s, R: Files + AllocGlobal> CodecUse<ShardFile<'s, R>> for PartPiece<'s, R>
 }
 
 impl<R: Files + AllocGlobal> ShardWork for PartPieces<'_, R> {
-    type Answer = Result<Vec<PartFound>, Stop>;
+    type Answer = Result<Vec<PartRead>, Stop>;
 
     // no contract says what files give
     ghost gives = { λ pieces number found. Unit {0} };
 
-    fn run(&self, number: u64) -> Result<Vec<PartFound>, Stop> {
+    fn run(&self, number: u64) -> Result<Vec<PartRead>, Stop> {
         let before = number.saturating_mul(self.in_piece);
         let first = self.first.saturating_add(before);
         let end = first.saturating_add(self.in_piece).min(self.parts.len());
@@ -135,11 +130,13 @@ impl<R: Files + AllocGlobal> ShardWork for PartPieces<'_, R> {
 fn put_each<R: Files + AllocGlobal>(
     array: &SharedArray<'_, R>,
     requested: &ArraySubset,
-    piece: Vec<PartFound>,
+    piece: &[PartRead],
     cells: &mut Option<SubsetCells>,
-) -> Result<(), Stop> {
-    for PartFound { part, bytes } in piece {
-        put_shard_part(array, requested, &part, &bytes, cells)?;
+) -> Result<(), CodecError> {
+    for read in piece {
+        if let Some(bytes) = &read.found {
+            put_shard_part(array, requested, &read.part, bytes, cells)?;
+        }
     }
     Ok(())
 }
@@ -169,7 +166,25 @@ fn read_pieces<R: SharedSystem>(
     let count = left.div_ceil(pieces.in_piece.max(1)).min(threads as u64);
     let found = run_in_parallel(array.rt, array.alloc(), count as usize, pieces)?;
     for piece in found {
-        put_each(array, requested, piece?, cells)?;
+        put_each(array, requested, &piece?, cells)?;
+    }
+    Ok(())
+}
+
+// Reads all pieces by `threads` threads, as many at a time, and puts their parts into the cells of a subset.
+fn read_each_piece<R: SharedSystem, M: Write>(
+    pieces: &PartPieces<'_, R>,
+    requested: &ArraySubset,
+    threads: usize,
+    cells: &mut Option<SubsetCells>,
+    progress: &mut Progress<'_, M>,
+) -> Result<(), Stop> {
+    let all = pieces.parts.len();
+    let at_once = pieces.in_piece.saturating_mul(threads as u64).max(1);
+    for number in 0..all.div_ceil(at_once) {
+        let first = number.saturating_mul(at_once);
+        progress.step(first, all);
+        read_pieces(&pieces.beginning_at(first), requested, threads, cells)?;
     }
     Ok(())
 }
@@ -183,22 +198,15 @@ fn read_by_threads<R: SharedSystem, M: Write>(
 ) -> Result<SubsetCells, Stop> {
     let grid = shards_of(array)?;
     let parts = grid.parts(array.alloc(), requested)?;
-    let all = parts.len();
-    let in_piece = parts_of_a_piece(array, all, threads);
-    let at_once = in_piece.saturating_mul(threads as u64).max(1);
+    let pieces = PartPieces {
+        array,
+        grid: &grid,
+        parts: &parts,
+        first: 0,
+        in_piece: parts_of_a_piece(array, parts.len(), threads),
+    };
     let mut cells = None;
-    for number in 0..all.div_ceil(at_once) {
-        let first = number.saturating_mul(at_once);
-        progress.step(first, all);
-        let pieces = PartPieces {
-            array,
-            grid: &grid,
-            parts: &parts,
-            first,
-            in_piece,
-        };
-        read_pieces(&pieces, requested, threads, &mut cells)?;
-    }
+    read_each_piece(&pieces, requested, threads, &mut cells, progress)?;
     Ok(held_cells(array, requested, cells)?)
 }
 

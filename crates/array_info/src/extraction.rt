@@ -1,7 +1,7 @@
 // The bytes of a subchunk as they are stored.
+use crate::folder::shard_of;
 use array_cli::{Array, Ending, OpenShard, Place, Shard, ShardCodec, ShardFile, Stop, written};
 use array_fields::escaped;
-use array_info::shard_of;
 use parts_errors::CodecError;
 use parts_row_major::unravel_index;
 use std::io::Write;
@@ -47,11 +47,21 @@ fn extracted<'a, R: Files + AllocGlobal, C: ShardCodec<ShardFile<'a, R>>>(
             key: String::from_str(array.alloc(), shard.key)?,
             number,
         }),
-        Err(error) => {
-            let refusal = array.refusal(shard, &file, error, Place::reading(&error))?;
-            Err(Stop::Refused(refusal))
-        }
+        Err(error) => Err(array.stop(shard, &file, error, Place::reading(&error))),
     }
+}
+
+// The bytes of a subchunk of the shard that has a key.
+fn extracted_of_key<'a, R: Files + AllocGlobal, C: ShardCodec<ShardFile<'a, R>>>(
+    array: &Array<'a, R, C>,
+    key: &str,
+    number: &str,
+) -> Result<Vec<u8>, Stop> {
+    let files = array.files()?;
+    let shard = shard_of(array, &files, key)?;
+    let number = number_of(array, number)?;
+    let opened = array.opened(&shard, array.file(shard.key)?)?;
+    extracted(array, &shard, number, opened)
 }
 
 /// Writes the bytes of a subchunk as they are stored, by the key of its shard and its row-major number in it. Refused where no
@@ -63,13 +73,7 @@ pub fn extract<'a, R: Files + AllocGlobal, C: ShardCodec<ShardFile<'a, R>>, W: W
     number: &str,
     out: &mut W,
 ) -> Result<Ending, Stop> {
-    let files = array.files()?;
-    let shard = shard_of(array, &files, key)?;
-    let number = number_of(array, number)?;
-    let bytes = match array.open_shard(&shard, array.file(shard.key)?)? {
-        Ok(opened) => extracted(array, &shard, number, opened)?,
-        Err(refusal) => return Err(Stop::Refused(refusal)),
-    };
+    let bytes = extracted_of_key(array, key, number)?;
     written(out.write_all(&bytes), Ending::Done)?;
     Ok(Ending::Done)
 }

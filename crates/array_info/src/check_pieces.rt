@@ -1,6 +1,6 @@
 // Shards that threads check side by side, a piece of their list each at a time.
-use crate::check::check_each_file;
 use crate::checked::{Checked, Told};
+use crate::checking::check_each_file;
 use array_cli::{
     Array, CodecUse, Ending, ShardCodec, ShardFile, ShardWork, SharedArray, SharedSystem, Stop,
     piece_length, piece_of, run_in_parallel, with_codec, written,
@@ -163,8 +163,7 @@ fn check_pieces_of<'s, R: SharedSystem, W: Write, M: Write>(
     Ok(())
 }
 
-/// Checks the shards in these files by `jobs` threads, and tells what one thread tells, in its order: of several threads the lines of some
-/// shards at a time.
+/// Checks the shards in these files by `jobs` threads, and tells what one thread tells, in its order: the lines of some shards at a time.
 pub fn check_all<R: SharedSystem, W: Write, M: Write>(
     array: &SharedArray<'_, R>,
     files: &[ChunkFile],
