@@ -10,8 +10,10 @@ use Rattle.codec_traits.specs.Meanings.{Meaning}
 use Rattle.codec_traits.specs.Laws.{IsLawful}
 use Rattle.codec_traits.specs.RefusalLaws.{test_faultless}
 use Rattle.array_codecs.specs.AxisOrders.{inverse_of, is_order, permuted, number_moved, transposed}
-use Rattle.array_codecs.specs.AxisOrderLaws.{IsPermutation, order_undone, inverse_undone, inverse_permutation, length-inverse_of, moved_below}
-use Rattle.array_codecs.specs.AxisOrderLaws.{length-transposed, transposed_at, transposed_back, transposed_there, permuted_back, length-permuted}
+use Rattle.array_codecs.specs.AxisOrderLaws.{IsPermutation, order_undone, inverse_undone, inverse_permutation}
+use Rattle.array_codecs.specs.AxisOrderLaws.{length-inverse_of, moved_below}
+use Rattle.array_codecs.specs.AxisOrderLaws.{length-transposed, transposed_at, transposed_back, transposed_there}
+use Rattle.array_codecs.specs.AxisOrderLaws.{permuted_back, length-permuted}
 use Rattle.array_codecs.specs.TransposeCodec.{TransposeServes, transposed_spec, encoded_elements, transpose_meaning}
 
 -- elements that are transposed are an array where they were one

@@ -1,27 +1,15 @@
 // A subset of an array as a file of NumPy's format.
 use crate::reading::{Reading, Sink, read_bands};
-use array_cli::{Array, Ending, SharedArray, SharedSystem, Stop};
+use array_cli::{Ending, SharedArray, SharedSystem, Stop};
 use array_fields::Progress;
-use array_folder::{begin_new, npy_beside, npy_header};
+use array_folder::{begin_new, npy_beside};
 use array_grid::{Requested, subset_of};
+use array_writing::header_of;
 use std::alloc::Global;
 use std::io;
 use std::io::Write;
 use std::rt::Files;
 use storage_files::Replacement;
-
-// The header of a file of NumPy's format, to be at a path, which has the elements that are requested.
-fn header_of<R: Files + AllocGlobal, C>(
-    array: &Array<'_, R, C>,
-    requested: &Requested,
-    path: &str,
-) -> Result<Vec<u8>, Stop> {
-    let alloc = array.alloc();
-    let shape = requested.kept_shape(alloc)?;
-    let element_type = array.metadata.element_type;
-    let name = format!(in alloc; "{element_type}")?;
-    Ok(npy_header(alloc, path, &name, &shape)?)
-}
 
 // A new file of a path, into which elements are written.
 #[derive(Drop)]

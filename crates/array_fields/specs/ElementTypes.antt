@@ -8,7 +8,8 @@ use Rattle.parts_arrays.specs.declared.data_type.DataType.TheVariants.{UInt16, U
 use Rattle.array_fields.specs.declared.floats.FloatFormat.{FloatFormat}
 use Rattle.array_fields.specs.declared.floats.FloatFormat.TheVariants.{Float16, BFloat16, Float32, Float64}
 use Rattle.array_fields.specs.declared.element_types.ElementType.{ElementType}
-use Rattle.array_fields.specs.declared.element_types.ElementType.TheVariants.{Number, Float, Complex, RawBits, DateTime64, TimeDelta64, Unread}
+use Rattle.array_fields.specs.declared.element_types.ElementType.TheVariants.{Number, Float, Complex, RawBits}
+use Rattle.array_fields.specs.declared.element_types.ElementType.TheVariants.{DateTime64, TimeDelta64, Unread}
 
 -- the types of the names that the codecs do not know: floats, pairs of them, and times
 abbrev pub listed_type : Text → Option ElementType

@@ -1,10 +1,12 @@
 -- The fill value that the metadata gives: of `bool` true or false, of whole numbers and times a whole number, of floats a number, the
 -- name of one, or its bits; of complex numbers a pair of these, and of raw bits a list of bytes or their base64.
-use Rattle.std.specs.Prelude.{◌≡◌, ℕ, ℤ, pos, negsuc, Option, Some, None, if◌then◌else◌, option_map, option_and_then, codes, bytes_eq, take, drop}
+use Rattle.std.specs.Prelude.{◌≡◌, ℕ, ℤ, pos, negsuc, Option, Some, None, if◌then◌else◌, option_map, option_and_then}
+use Rattle.std.specs.Prelude.{codes, bytes_eq, take, drop}
 use Rattle.std.specs.Int.{w8, w16, w32, w64, from_bool, from_le_bytes, cast_signed}
 use Rattle.parts_errors.specs.Words.{Bytes as Text}
 use Rattle.parts_arrays.specs.declared.data_type.DataType.{DataType}
-use Rattle.parts_arrays.specs.declared.data_type.DataType.TheVariants.{Bool, Int8, Int16, Int32, Int64, UInt8, UInt16, UInt32, UInt64, Raw, Bytes, Optional}
+use Rattle.parts_arrays.specs.declared.data_type.DataType.TheVariants.{Bool, Int8, Int16, Int32, Int64}
+use Rattle.parts_arrays.specs.declared.data_type.DataType.TheVariants.{UInt8, UInt16, UInt32, UInt64, Raw, Bytes, Optional}
 use Rattle.serde_json.specs.Data.{Data, Items, number, string, no_items, item}
 use Rattle.serde_json.specs.Find.{as_array, as_bool, as_number, as_integer, to_float}
 use Rattle.array_fields.specs.RawBits.{IsRawIn}

@@ -4,8 +4,8 @@ use array_cli::{
     Array, Ending, Place, Planned, Refusal, Shard, ShardCodec, ShardFile, Stop, put_refusal,
     written,
 };
-use array_fields::{JsonLine, LONGEST_TEXT, Progress, escaped};
-use array_folder::{ChunkFiles, Listing, age_of, read_document, save};
+use array_fields::{JsonLine, Progress, escaped};
+use array_folder::{ChunkFiles, Listing, age_of, save};
 use array_grid::ListPart;
 use sharding_layout::CompactionPlan;
 use std::io::{ErrorKind, Write};
@@ -408,12 +408,6 @@ fn test_no_array<R: Files + AllocGlobal, C>(
     Err(Stop::system(alloc, &path, error))
 }
 
-// The text of an array's metadata.
-fn document_of<R: Files + AllocGlobal, C>(array: &Array<'_, R, C>) -> Result<String, Stop> {
-    let path = array.path_of("zarr.json")?;
-    Ok(read_document(array.rt, &path, LONGEST_TEXT)?)
-}
-
 // Copies the metadata of an array to another folder, which is an array's from then on.
 fn copy_metadata<R: Files + AllocGlobal, C, W: Write>(
     array: &Array<'_, R, C>,
@@ -422,8 +416,8 @@ fn copy_metadata<R: Files + AllocGlobal, C, W: Write>(
 ) -> Result<(), Stop> {
     let path = format!(in array.alloc(); "{folder}/zarr.json")?;
     let beside = beside_of(array, &path)?;
-    let text = document_of(array)?;
-    Ok(save(array.rt, &path, &beside, text.as_bytes(), &[], out)?)
+    let text = array.metadata.text.as_bytes();
+    Ok(save(array.rt, &path, &beside, text, &[], out)?)
 }
 
 // Compacts each shard that a part has, as a rule says, and writes a line for each that is not compact and how many bytes were saved.

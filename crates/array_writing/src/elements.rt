@@ -130,8 +130,9 @@ fn wanted_bytes<R: Files + AllocGlobal, C>(
     count.checked_mul(size).ok_or(Stop::TooLarge)
 }
 
-// The header of a file of NumPy's format that has the elements that are requested.
-fn wanted_header<R: Files + AllocGlobal, C>(
+/// The header of a file of NumPy's format, at a path, that has the elements that are requested of an array. Refused where memory ran out,
+/// and as `npy_header` refuses.
+pub fn header_of<R: Files + AllocGlobal, C>(
     array: &Array<'_, R, C>,
     requested: &Requested,
     path: &str,
@@ -162,7 +163,7 @@ fn npy_elements<R: Files + AllocGlobal, C>(
     wanted: u64,
 ) -> Result<FileElements, Stop> {
     let bytes = read_file(array.rt, path, wanted, LONGEST_HEADER)?;
-    let header = wanted_header(array, requested, path)?;
+    let header = header_of(array, requested, path)?;
     let description = described(&header).map_or("", |(text, _)| text);
     let header = header_length(array.alloc(), path, &bytes, description)?;
     Ok(FileElements { bytes, header })

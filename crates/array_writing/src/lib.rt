@@ -15,7 +15,7 @@ mod subset_writing;
 pub use chunks::{chunks_of, elements_of};
 pub use compaction::{Way, compact};
 pub use creating::{ArrayWords, create};
-pub use elements::ElementsFile;
+pub use elements::{ElementsFile, header_of};
 pub use layout::LayoutWords;
 pub use new_array::reshard;
 pub use subset_writing::write_subset;

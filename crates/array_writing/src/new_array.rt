@@ -7,8 +7,8 @@ use array_cli::{
     described, piece_length, piece_of, put_elements, read_silently, run_in_parallel, turned,
     whole_of, with_codec, written,
 };
-use array_fields::{LONGEST_TEXT, Progress, escaped};
-use array_folder::{Counted, read_document};
+use array_fields::Progress;
+use array_folder::Counted;
 use array_grid::SubsetCells;
 use array_metadata::ArrayMetadata;
 use parts_errors::CodecError;
@@ -261,16 +261,6 @@ fn make<R: SharedSystem, M: Write>(
     made
 }
 
-// The `zarr.json` of an array that is laid out anew.
-fn laid_out<R: SharedSystem>(
-    old: &SharedArray<'_, R>,
-    words: &LayoutWords<'_>,
-) -> Result<String, Stop> {
-    let path = old.path_of("zarr.json")?;
-    let text = read_document(old.rt, &path, LONGEST_TEXT)?;
-    new_document(old.alloc(), words, &text, old.metadata)
-}
-
 // Makes a new array that has this document, where the codecs serve it.
 fn make_described<R: SharedSystem, M: Write>(
     old: &SharedArray<'_, R>,
@@ -306,7 +296,7 @@ pub fn reshard<R: SharedSystem, W: Write, M: Write>(
 ) -> Result<Ending, Stop> {
     old.test_read()?;
     let order = order_of(old.alloc(), words.order)?;
-    let document = laid_out(old, words)?;
+    let document = new_document(old.alloc(), words, &old.metadata.text, old.metadata)?;
     let wrote = make_described(old, path, &document, order, jobs, progress)?;
     progress.clear();
     tell(&wrote, out)
