@@ -20,7 +20,9 @@ BUILT = f"{TOP}/crates/zarr_shard/out/zarr_shard"
 ARRAYS = f"{TOP}/tests/arrays"
 MOST = 60  # seconds
 SERVED = [["bytes"], ["bytes", "crc32c"], ["bytes", "gzip"], ["bytes", "zstd"], ["bytes", "zstd", "crc32c"], ["transpose", "bytes", "gzip"],
-          ["bytes", "numcodecs.zlib"], ["bytes", "crc32c", "gzip", "zstd"], ["sharding_indexed"]]
+          ["bytes", "numcodecs.zlib"], ["bytes", "crc32c", "gzip", "zstd"], ["vlen-utf8", "zstd"], ["vlen-bytes", "gzip"], ["vlen-utf8"],
+          ["sharding_indexed"]]
+VARYING = ("string", "bytes")  # types whose elements have lengths of their own
 FORMATS = {"bool": "B", "int8": "b", "uint8": "B", "int16": "h", "uint16": "H", "int32": "i", "uint32": "I", "int64": "q", "uint64": "Q",
            "float32": "f", "float64": "d", "float16": "e", "bfloat16": "H", "numpy.datetime64": "q", "numpy.timedelta64": "q",
            "complex64": "ff", "complex128": "dd"}
@@ -305,6 +307,36 @@ def test_json(program, name, path, expected):
         compare(name, "elements in JSON", cells, wanted)
 
 
+def as_json(cell, data_type):
+    return cell if data_type == "string" else list(bytes.fromhex(cell))
+
+
+def test_varying(program, name, path, expected):
+    """Elements that have lengths of their own: as JSON, whole and subchunk by subchunk, as text, by one thread, and nothing else."""
+    data_type, shape = expected["data_type"], expected["shape"]
+    wanted = [as_json(cell, data_type) for cell in expected["cells"]]
+    for jobs in ((), ("-j", "1")):
+        ran = run(program, "read", path, "--json", *jobs)
+        compare(name, "elements in JSON", (ran[0], ran[1] and json.loads(ran[1]), ran[2]), (0, {"cells": wanted, "data_type": data_type, "shape": shape}, ""))
+    for subset, cells in boxes(expected):
+        out = run(program, "read", path, subset, "--json")[1]
+        compare(name, f"elements of {subset}", out and json.loads(out)["cells"], [as_json(cell, data_type) for cell in cells])
+    lines = run(program, "read", path)[1].decode().splitlines()
+    row = shape[-1]
+    shown = [shown_text(cell) if data_type == "string" else "0x" + cell for cell in expected["cells"]]
+    compare(name, "elements as text", lines, [" ".join(shown[at : at + row]) for at in range(0, len(shown), row)])
+    for words in (["read", path, "--raw"], ["read", path, "--npy", f"{path}.npy"], ["reshard", path, f"{path}.new"], ["compare", path, path]):
+        status, out, told = run(program, *words)
+        compare(name, words[0], (status, out, "have lengths of their own" in told), (2, b"", True))
+    compare(name, "what is left", [os.path.exists(f"{path}{end}") for end in (".npy", ".new", ".new.partial")], [False] * 3)
+
+
+def shown_text(text):
+    """A text between quotes, as docs/CLI.md says that a terminal is shown it."""
+    escapes = {'"': '\\"', "\\": "\\\\", "\n": "\\n", "\r": "\\r", "\t": "\\t"}
+    return '"' + "".join(escapes.get(c) or (c if ord(c) >= 32 and ord(c) != 127 else f"\\u{{{ord(c):x}}}") for c in text) + '"'
+
+
 def take_as_shards(expected):
     """Chunks that are no shards: each is one subchunk, whose bytes are the file's, and is never compacted."""
     expected["subchunk_shape"] = expected["chunk_shape"]
@@ -328,7 +360,11 @@ def test_array(program, name, folder, expected):
     is_read = is_decoded and (expected["data_type"] in FORMATS or is_raw(expected["data_type"]))
     test_info(program, name, path, expected["shards"])
     test_check(program, name, path, expected, is_decoded)
-    test_read(program, name, path, expected, is_read)
+    is_varying = is_decoded and expected["data_type"] in VARYING
+    if is_varying:
+        test_varying(program, name, path, expected)
+    else:
+        test_read(program, name, path, expected, is_read)
     if is_read and not expected["damaged"]:
         test_json(program, name, path, expected)
     elif is_read:
@@ -341,11 +377,13 @@ def test_array(program, name, folder, expected):
         test_reshard(program, name, path, expected)
         test_write(program, name, path, expected)
     test_compact(program, name, path, expected["shards"])
-    if not expected["damaged"]:
+    if is_varying:
+        test_varying(program, name, path, expected)
+    elif not expected["damaged"]:
         test_read(program, name, path, expected, is_read)
     if is_read and not expected["damaged"]:
         update(program, name, path, expected, run(program, "read", path, "--raw")[1])
-    return is_read
+    return is_read or is_varying
 
 
 def main(program):

@@ -8,7 +8,7 @@ use array_fields::{LONGEST_TEXT, MetadataError, escaped};
 use array_folder::{ChunkFile, ChunkFiles, ChunkGrid, document_length, list_chunks, read_document};
 use array_grid::ListPart;
 use array_metadata::{ArrayCodec, ArrayMetadata, Obstacles, reversed_size};
-use parts_arrays::FillValue;
+use parts_arrays::{DataTypeSize, FillValue};
 use parts_errors::CodecError;
 use parts_subsets::ChunkShape;
 use sharding_format::SubchunkWriteOrder;
@@ -159,6 +159,15 @@ impl<'a, R: Files + AllocGlobal, C> Array<'a, R, C> {
         let alloc = self.alloc();
         let obstacles = Obstacles::of_reading(alloc, &document, self.metadata, error);
         Err(refused(obstacles))
+    }
+
+    /// Tests that the elements of the array are read, and that each has one size.
+    pub fn test_sized(&self) -> Result<(), Stop> {
+        self.test_read()?;
+        match self.metadata.data_type.size() {
+            DataTypeSize::Fixed(_) => Ok(()),
+            DataTypeSize::Variable => Err(Stop::Varying(self.metadata.element_type.name())),
+        }
     }
 
     /// Bytes of elements that the codecs gave, each number of them least significant byte first.

@@ -5,7 +5,6 @@
 mod arrays;
 mod codec_use;
 mod compaction_plans;
-mod parallel;
 mod read;
 mod refusal;
 mod shard_codec;
@@ -18,14 +17,13 @@ mod whole_chunks;
 pub use arrays::{Array, Shard, described, metadata_of, turned};
 pub use codec_use::{CodecUse, with_codec};
 pub use compaction_plans::Planned;
-pub use parallel::{ShardWork, piece_length, piece_of, run_in_parallel, threads_of};
 pub use read::{
-    GridShard, PartRead, held_cells, put_shard_part, read_array, read_numbered, read_silently,
-    shard_of_grid, shards_of,
+    GridShard, PartRead, held_cells, put_shard_part, read_array, read_numbered, shard_of_grid,
+    shards_of,
 };
 pub use refusal::{Place, Refusal, put_refusal};
 pub use shard_codec::{OpenShard, ShardCodec, ShardEncoder, ShardFile, encode_chunk};
 pub use shared_array::{SharedArray, open_shared};
-pub use sound::{put_elements, whole_of};
+pub use sound::whole_of;
 pub use stop::{Ending, Stop, written};
 pub use system::SharedSystem;

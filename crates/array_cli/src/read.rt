@@ -2,10 +2,11 @@
 use crate::arrays::{Array, Shard};
 use crate::refusal::Place;
 use crate::shard_codec::{OpenShard, ShardCodec, ShardFile};
-use crate::sound::{put_elements, put_sound};
+use crate::sound::put_sound;
 use crate::stop::{Ending, Stop};
 use array_fields::Progress;
-use array_grid::{ShardGrid, ShardPart, ShardParts, SubsetCells, shared_elements};
+use array_grid::{ShardGrid, ShardPart, ShardParts, SubsetElements, shared_elements};
+use parts_arrays::ArrayBytes;
 use parts_errors::CodecError;
 use parts_row_major::unravel_index;
 use parts_subsets::ArraySubset;
@@ -16,7 +17,7 @@ use std::rt::Files;
 #[derive(Drop)]
 struct Answer {
     // the elements of the subset, once a part is read
-    cells: Option<SubsetCells>,
+    cells: Option<SubsetElements>,
     // whether what is refused is filled
     fills: bool,
     // whether something was
@@ -38,11 +39,17 @@ impl Answer {
 pub fn held_cells<R: Files + AllocGlobal, C>(
     array: &Array<'_, R, C>,
     requested: &ArraySubset,
-    held: Option<SubsetCells>,
-) -> Result<SubsetCells, CodecError> {
+    held: Option<SubsetElements>,
+) -> Result<SubsetElements, CodecError> {
+    let metadata = array.metadata;
     match held {
         Some(held) => Ok(held),
-        None => SubsetCells::new(array.alloc(), requested, &array.metadata.fill_value),
+        None => SubsetElements::new(
+            array.alloc(),
+            requested,
+            &metadata.data_type,
+            &metadata.fill_value,
+        ),
     }
 }
 
@@ -50,7 +57,7 @@ pub fn held_cells<R: Files + AllocGlobal, C>(
 fn hold_cells<R: Files + AllocGlobal, C>(
     array: &Array<'_, R, C>,
     requested: &ArraySubset,
-    cells: &mut Option<SubsetCells>,
+    cells: &mut Option<SubsetElements>,
 ) -> Result<(), CodecError> {
     if cells.is_none() {
         *cells = Some(held_cells(array, requested, None)?);
@@ -63,12 +70,12 @@ pub fn put_shard_part<R: Files + AllocGlobal, C>(
     array: &Array<'_, R, C>,
     requested: &ArraySubset,
     part: &ShardPart,
-    found: &[u8],
-    cells: &mut Option<SubsetCells>,
+    found: &ArrayBytes,
+    cells: &mut Option<SubsetElements>,
 ) -> Result<(), CodecError> {
     hold_cells(array, requested, cells)?;
     match cells {
-        Some(held) => put_elements(array.metadata, &part.in_subset, found, held),
+        Some(held) => held.put(&part.in_subset, found),
         None => Ok(()),
     }
 }
@@ -123,7 +130,7 @@ fn read_placed<'a, R: Files + AllocGlobal, C, S: OpenShard<ShardFile<'a, R>>>(
     array: &Array<'a, R, C>,
     part: &ShardPart,
     opened: &mut S,
-) -> Result<Vec<u8>, (CodecError, Place)> {
+) -> Result<ArrayBytes<'static>, (CodecError, Place)> {
     let error = match opened.read_subset(array.alloc(), array.metadata, &part.in_shard) {
         Ok(found) => return Ok(found),
         Err(error) => error,
@@ -140,7 +147,7 @@ fn read_shard<'a, R: Files + AllocGlobal, C: ShardCodec<ShardFile<'a, R>>>(
     array: &Array<'a, R, C>,
     part: &ShardPart,
     shard: &Shard<'_>,
-) -> Result<Vec<u8>, Stop> {
+) -> Result<ArrayBytes<'static>, Stop> {
     let mut opened = array.opened(shard, array.file(shard.key)?)?;
     let read = read_placed(array, part, &mut opened);
     let file = opened.close();
@@ -156,7 +163,7 @@ fn read_or_fill<'a, R: Files + AllocGlobal, C: ShardCodec<ShardFile<'a, R>>>(
     part: &ShardPart,
     shard: &Shard<'_>,
     fills: bool,
-) -> Result<Option<Vec<u8>>, Stop> {
+) -> Result<Option<ArrayBytes<'static>>, Stop> {
     match read_shard(array, part, shard) {
         Ok(found) => Ok(Some(found)),
         Err(Stop::Refused(_)) if fills => Ok(None),
@@ -199,7 +206,7 @@ pub fn shard_of_grid<R: Files + AllocGlobal, C>(
 pub struct PartRead {
     pub part: ShardPart,
     shard: GridShard,
-    pub found: Option<Vec<u8>>,
+    pub found: Option<ArrayBytes<'static>>,
 }
 
 // Reads a part of a subset.
@@ -313,7 +320,7 @@ fn ended<R: Files + AllocGlobal, C>(
     array: &Array<'_, R, C>,
     requested: &ArraySubset,
     answer: Answer,
-) -> Result<(SubsetCells, Ending), Stop> {
+) -> Result<(SubsetElements, Ending), Stop> {
     let ending = if answer.is_filled {
         Ending::Refused
     } else {
@@ -329,7 +336,7 @@ fn read_in_grid<'a, R: Files + AllocGlobal, C: ShardCodec<ShardFile<'a, R>>, M: 
     grid: &ShardGrid,
     fills: bool,
     progress: &mut Progress<'_, M>,
-) -> Result<(SubsetCells, Ending), Stop> {
+) -> Result<(SubsetElements, Ending), Stop> {
     let parts = grid.parts(array.alloc(), requested)?;
     let mut answer = Answer::new(fills);
     read_parts(array, requested, grid, &parts, &mut answer, progress)?;
@@ -344,18 +351,7 @@ pub fn read_array<'a, R: Files + AllocGlobal, C: ShardCodec<ShardFile<'a, R>>, M
     requested: &ArraySubset,
     fills: bool,
     progress: &mut Progress<'_, M>,
-) -> Result<(SubsetCells, Ending), Stop> {
+) -> Result<(SubsetElements, Ending), Stop> {
     let grid = shards_of(array)?;
     read_in_grid(array, requested, &grid, fills, progress)
-}
-
-/// The elements of a subset as `read_array` gives them, where nothing is refused and nothing shows how far it is.
-pub fn read_silently<'a, R: Files + AllocGlobal, C: ShardCodec<ShardFile<'a, R>>>(
-    array: &Array<'a, R, C>,
-    requested: &ArraySubset,
-) -> Result<SubsetCells, Stop> {
-    let mut silent: Vec<u8> = Vec::new(array.alloc());
-    let mut progress = Progress::new(&mut silent, false);
-    let (cells, _) = read_array(array, requested, false, &mut progress)?;
-    Ok(cells)
 }

@@ -9,7 +9,7 @@ use crate::compaction_plans::{Planned, plan_of};
 use crate::sound::whole_of;
 use array_metadata::ArrayMetadata;
 use codec_traits::{ArrayToBytesCodecTraits, BytesRepresentation};
-use parts_arrays::{ArrayBytes, DataType, FillValue, FixedTarget};
+use parts_arrays::{ArrayBytes, DataType, DataTypeSize, FillValue, FixedTarget};
 use parts_errors::{CodecError, CodecOptions};
 use parts_subsets::{ArraySubset, ChunkShape};
 use sharding_codec::{ShardingCodec, ShardingPartialDecoder};
@@ -17,6 +17,7 @@ use sharding_format::{
     ShardIndex, ShardingIndexLocation, calculate_chunks_per_shard, of_stored, sharding_index_shape,
 };
 use std::alloc::Global;
+use std::borrow::CowSlice;
 use std::rt::Files;
 use storage_files::FileHandle;
 use storage_handles::{ByteRange, BytesPartialDecoderTraits, Interval};
@@ -26,13 +27,13 @@ pub type ShardFile<'a, R> = FileHandle<&'a R>;
 
 /// A shard that is opened to be read. A subchunk is named by its coordinates among those of the shard.
 pub trait OpenShard<F> {
-    /// Reads the elements of a subset, of an array with this metadata: their bytes, in row-major order of the subset.
+    /// Reads the elements of a subset, of an array with this metadata, in row-major order of the subset.
     fn read_subset(
         &mut self,
         alloc: Global,
         metadata: &ArrayMetadata,
         subset: &ArraySubset,
-    ) -> Result<Vec<u8>, CodecError>;
+    ) -> Result<ArrayBytes<'static>, CodecError>;
 
     /// Where the bytes of a subchunk stand; `None` where it is absent. Reads nothing.
     fn byte_range(&self, subchunk: &[u64]) -> Result<Option<ByteRange>, CodecError>;
@@ -229,16 +230,24 @@ fn read_elements<
     }
 }
 
+// Elements that have a size and these bytes.
+pub(crate) fn sized(bytes: Vec<u8>, size: usize) -> Result<ArrayBytes<'static>, CodecError> {
+    match ArrayBytes::new_flen(CowSlice::Owned(bytes), size) {
+        Some(elements) => Ok(elements),
+        None => Err(CodecError::WrongElementKind),
+    }
+}
+
 // Reads the elements of a subset of a shard that is open, which have a size.
-fn read_in<I: ArrayToBytesCodecTraits, X: ArrayToBytesCodecTraits, H: BytesPartialDecoderTraits>(
+fn read_sized<I: ArrayToBytesCodecTraits, X: ArrayToBytesCodecTraits, H: BytesPartialDecoderTraits>(
     alloc: Global,
     decoder: &mut ShardingPartialDecoder<'_, I, X, H>,
     subset: &ArraySubset,
     size: usize,
-) -> Result<Vec<u8>, CodecError> {
+) -> Result<ArrayBytes<'static>, CodecError> {
     let mut bytes = room_of(alloc, subset, size)?;
     read_elements(alloc, decoder, subset, size, &mut bytes)?;
-    Ok(bytes)
+    sized(bytes, size)
 }
 
 // The bytes of a subchunk of a shard that is open.
@@ -337,9 +346,14 @@ impl<
         alloc: Global,
         metadata: &ArrayMetadata,
         subset: &ArraySubset,
-    ) -> Result<Vec<u8>, CodecError> {
-        let size = metadata.fill_value.as_ne_bytes().len();
-        read_in(alloc, &mut self.decoder, subset, size)
+    ) -> Result<ArrayBytes<'static>, CodecError> {
+        let decoder = &mut self.decoder;
+        match metadata.data_type.size() {
+            DataTypeSize::Fixed(size) => read_sized(alloc, decoder, subset, size),
+            DataTypeSize::Variable => {
+                decoder.partial_decode(alloc, subset, &CodecOptions::default())
+            }
+        }
     }
 
     fn byte_range(&self, subchunk: &[u64]) -> Result<Option<ByteRange>, CodecError> {

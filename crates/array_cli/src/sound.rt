@@ -4,34 +4,17 @@ use crate::refusal::{Place, Refusal};
 use crate::shard_codec::{OpenShard, ShardCodec, ShardFile};
 use crate::stop::Stop;
 use array_fields::Progress;
-use array_grid::{ShardPart, SharedElements, SubsetCells, shared_elements};
-use array_metadata::ArrayMetadata;
-use parts_arrays::ArrayBytes;
+use array_grid::{ShardPart, SharedElements, SubsetElements, shared_elements};
 use parts_errors::CodecError;
 use parts_row_major::unravel_index;
 use parts_subsets::ArraySubset;
 use std::alloc::{AllocError, Global};
-use std::borrow::CowSlice;
 use std::io::Write;
 use std::rt::Files;
 
 /// The subset of an array of a shape that is all of it.
 pub fn whole_of(alloc: Global, shape: &[u64]) -> Result<ArraySubset, AllocError> {
     ArraySubset::new_with_shape(alloc, Vec::from_slice(alloc, shape)?)
-}
-
-/// Puts elements of an array with this metadata, which have these bytes, where they lie in a subset.
-pub fn put_elements(
-    metadata: &ArrayMetadata,
-    in_subset: &ArraySubset,
-    bytes: &[u8],
-    cells: &mut SubsetCells,
-) -> Result<(), CodecError> {
-    let size = metadata.fill_value.as_ne_bytes().len();
-    match ArrayBytes::new_flen(CowSlice::Borrowed(bytes), size) {
-        Some(elements) => cells.put(in_subset, &elements),
-        None => Err(CodecError::WrongElementKind),
-    }
 }
 
 // Puts what a subchunk of a shard that is open has of a part of a subset, and says whether it is sound. Refused where it could not be
@@ -41,7 +24,7 @@ fn put_subchunk<'a, R: Files + AllocGlobal, C, S: OpenShard<ShardFile<'a, R>>>(
     part: &ShardPart,
     opened: &mut S,
     subchunk: &[u64],
-    cells: &mut SubsetCells,
+    cells: &mut SubsetElements,
 ) -> Result<Option<CodecError>, CodecError> {
     let shape = array.metadata.subchunk.as_slice();
     match shared_elements(array.alloc(), part, subchunk, shape)? {
@@ -55,11 +38,11 @@ fn put_shared<'a, R: Files + AllocGlobal, C, S: OpenShard<ShardFile<'a, R>>>(
     array: &Array<'a, R, C>,
     shared: &SharedElements,
     opened: &mut S,
-    cells: &mut SubsetCells,
+    cells: &mut SubsetElements,
 ) -> Result<Option<CodecError>, CodecError> {
     match opened.read_subset(array.alloc(), array.metadata, &shared.in_shard) {
         Ok(found) => {
-            put_elements(array.metadata, &shared.in_subset, &found, cells)?;
+            cells.put(&shared.in_subset, &found)?;
             Ok(None)
         }
         Err(error) if matches!(error, CodecError::Fault | CodecError::OutOfMemory) => Err(error),
@@ -91,7 +74,7 @@ fn put_numbered<'a, R: Files + AllocGlobal, C, S: OpenShard<ShardFile<'a, R>>>(
     part: &ShardPart,
     opened: &mut S,
     number: u64,
-    cells: &mut SubsetCells,
+    cells: &mut SubsetElements,
 ) -> Result<Option<CodecError>, CodecError> {
     match unravel_index(array.alloc(), number, array.subchunks.as_slice())? {
         Some(subchunk) => put_subchunk(array, part, opened, &subchunk, cells),
@@ -105,7 +88,7 @@ fn put_each<'a, R: Files + AllocGlobal, C: ShardCodec<ShardFile<'a, R>>, M: Writ
     part: &ShardPart,
     shard: &Shard<'_>,
     opened: &mut C::Open,
-    cells: &mut SubsetCells,
+    cells: &mut SubsetElements,
     progress: &mut Progress<'_, M>,
 ) -> Result<(), Stop> {
     for number in 0..array.subchunks.num_elements().unwrap_or(0) {
@@ -122,7 +105,7 @@ pub fn put_sound<'a, R: Files + AllocGlobal, C: ShardCodec<ShardFile<'a, R>>, M:
     array: &Array<'a, R, C>,
     part: &ShardPart,
     shard: &Shard<'_>,
-    cells: &mut SubsetCells,
+    cells: &mut SubsetElements,
     progress: &mut Progress<'_, M>,
 ) -> Result<(), Stop> {
     match array.open_shard(shard, array.file(shard.key)?)? {

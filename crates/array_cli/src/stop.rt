@@ -123,6 +123,12 @@ pub enum Stop {
     /// An array whose chunks have too many elements for their numbers to be told.
     #[error("the chunks of the array have 2^64 elements or more, and `read` serves fewer")]
     TooManyElements,
+    /// Elements of a data type that have lengths of their own, where each is to have one size.
+    #[error("elements of the data type {0} have lengths of their own: `read` prints them, as text or as JSON, and they are neither written nor compared")]
+    Varying(&'static str),
+    /// An element that is no text; its coordinates.
+    #[error("the element at {0} is no text: its bytes are not UTF-8")]
+    NoText(String),
     /// A size that no number here can say.
     #[error("the box has more elements than this program can hold")]
     TooLarge,

@@ -1,12 +1,12 @@
 // Chunks that are no shards, by what commands do with shards: such a chunk is one subchunk, whose bytes are those of the file.
 use crate::compaction_plans::Planned;
 use crate::shard_codec::{
-    OpenShard, ShardCodec, ShardEncoder, check_served, encode_chunk, room_of, test_decoding,
+    OpenShard, ShardCodec, ShardEncoder, check_served, encode_chunk, room_of, sized, test_decoding,
 };
 use crate::sound::whole_of;
 use array_metadata::ArrayMetadata;
 use codec_traits::{ArrayToBytesCodecTraits, StoredArray};
-use parts_arrays::{ArrayBytes, FixedTarget};
+use parts_arrays::{ArrayBytes, DataTypeSize, FixedTarget};
 use parts_errors::{CodecError, CodecOptions};
 use parts_subsets::{ArraySubset, ChunkShape};
 use sharding_format::{ShardIndex, ShardingIndexLocation, calculate_chunks_per_shard, of_stored};
@@ -81,19 +81,74 @@ fn read_into<C: ArrayToBytesCodecTraits, H: BytesPartialDecoderTraits>(
     }
 }
 
-// Reads the elements of a subset of a chunk that is open into room for them.
+// Reads the elements of a subset of a chunk that is open, which have a size, into room for them.
 fn read_elements<C: ArrayToBytesCodecTraits, H: BytesPartialDecoderTraits>(
     alloc: Global,
     chunk: &mut WholeChunk<'_, C, H>,
     metadata: &ArrayMetadata,
     subset: &ArraySubset,
+    size: usize,
     room: &mut [u8],
 ) -> Result<(), CodecError> {
-    let size = metadata.fill_value.as_ne_bytes().len();
     let whole = whole_of(alloc, subset.shape())?;
     match FixedTarget::new(room, size, subset.shape(), &whole) {
         Some(mut target) => read_into(alloc, chunk, metadata, subset, &mut target),
         None => Err(CodecError::InvalidNumberOfElements),
+    }
+}
+
+// Reads the elements of a subset of a chunk that is open, which have a size.
+fn read_sized<C: ArrayToBytesCodecTraits, H: BytesPartialDecoderTraits>(
+    alloc: Global,
+    chunk: &mut WholeChunk<'_, C, H>,
+    metadata: &ArrayMetadata,
+    subset: &ArraySubset,
+    size: usize,
+) -> Result<ArrayBytes<'static>, CodecError> {
+    let mut bytes = room_of(alloc, subset, size)?;
+    read_elements(alloc, chunk, metadata, subset, size, &mut bytes)?;
+    sized(bytes, size)
+}
+
+// So many fill values, as many as a subset has elements.
+fn fill_values(
+    alloc: Global,
+    metadata: &ArrayMetadata,
+    subset: &ArraySubset,
+) -> Result<ArrayBytes<'static>, CodecError> {
+    match subset.num_elements() {
+        Some(count) => {
+            let (data_type, fill_value) = (&metadata.data_type, &metadata.fill_value);
+            ArrayBytes::new_fill_value(alloc, data_type, count, fill_value)
+        }
+        None => Err(CodecError::TooLarge),
+    }
+}
+
+// Reads the elements of a subset of a chunk that is open, which have lengths of their own; fill values where there is no file.
+fn read_varying<C: ArrayToBytesCodecTraits, H: BytesPartialDecoderTraits>(
+    alloc: Global,
+    chunk: &mut WholeChunk<'_, C, H>,
+    metadata: &ArrayMetadata,
+    subset: &ArraySubset,
+) -> Result<ArrayBytes<'static>, CodecError> {
+    let Some(size) = chunk.length else {
+        return fill_values(alloc, metadata, subset);
+    };
+    let interval = Interval { offset: 0, size };
+    let read = chunk.codec.partial_decode(
+        alloc,
+        &mut chunk.file,
+        interval,
+        &metadata.shard,
+        &metadata.data_type,
+        &metadata.fill_value,
+        subset,
+        &CodecOptions::default(),
+    );
+    match read {
+        Ok(found) => Ok(found),
+        Err(error) => Err(of_stored(error)),
     }
 }
 
@@ -109,11 +164,11 @@ impl<C: ArrayToBytesCodecTraits, H: BytesPartialDecoderTraits> OpenShard<H>
         alloc: Global,
         metadata: &ArrayMetadata,
         subset: &ArraySubset,
-    ) -> Result<Vec<u8>, CodecError> {
-        let size = metadata.fill_value.as_ne_bytes().len();
-        let mut bytes = room_of(alloc, subset, size)?;
-        read_elements(alloc, self, metadata, subset, &mut bytes)?;
-        Ok(bytes)
+    ) -> Result<ArrayBytes<'static>, CodecError> {
+        match metadata.data_type.size() {
+            DataTypeSize::Fixed(size) => read_sized(alloc, self, metadata, subset, size),
+            DataTypeSize::Variable => read_varying(alloc, self, metadata, subset),
+        }
     }
 
     fn byte_range(&self, _subchunk: &[u64]) -> Result<Option<ByteRange>, CodecError> {

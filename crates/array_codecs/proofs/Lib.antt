@@ -1,4 +1,5 @@
 pub mod AxisOrderSteps
 pub mod MovedRows
 pub mod TransposeSteps
+pub mod TransposedLists
 pub mod ByteLists

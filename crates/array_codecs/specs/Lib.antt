@@ -10,3 +10,4 @@ pub mod AxisOrderLaws
 pub mod MovedPoints
 pub mod TransposeCodec
 pub mod TransposeLaws
+pub mod Transposes

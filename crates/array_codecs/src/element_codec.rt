@@ -1,28 +1,29 @@
-// A codec of elements: `bytes`, and codecs from bytes to bytes behind it.
+// A codec of elements: `bytes`, or that of elements which have lengths of their own, and codecs from bytes to bytes behind it.
 use crate::byte_codecs::ByteCodecs;
-use codec_bytes::BytesCodec;
 use codec_chains::BytesChain;
 use codec_traits::{
     ArrayToBytesCodecTraits, BytesRepresentation, RecommendedConcurrency, StoredArray,
 };
+use codec_vlen::DefaultArrayToBytesCodec;
 use parts_arrays::{ArrayBytes, DataType, FillValue, FixedTarget};
 use parts_errors::{CodecError, CodecOptions};
 use parts_subsets::{ChunkShape, Indexer};
 use std::alloc::Global;
 use storage_handles::{BytesPartialDecoderTraits, Interval};
 
-/// `bytes`, or `bytes` and codecs from bytes to bytes behind it. In each call it is the codec that it holds.
+/// `bytes`, or the codec of elements that have lengths of their own, alone or with codecs from bytes to bytes behind it. In each call it is
+/// the codec that it holds.
 #[derive(Debug, Drop)]
 pub enum ElementCodec {
-    Bytes(BytesCodec),
-    Chain(BytesChain<BytesCodec, ByteCodecs>),
+    Alone(DefaultArrayToBytesCodec),
+    Chain(BytesChain<DefaultArrayToBytesCodec, ByteCodecs>),
 }
 
 // A call of the codec that is held.
 macro_rules! of_held {
     ($codec:expr, $held:ident, $call:expr) => {
         match $codec {
-            ElementCodec::Bytes($held) => $call,
+            ElementCodec::Alone($held) => $call,
             ElementCodec::Chain($held) => $call,
         }
     };

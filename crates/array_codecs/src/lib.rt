@@ -1,5 +1,5 @@
-// Codecs of arrays on disk: one that is not looked into, one with `transpose` before it, and the codecs from bytes to bytes that are
-// served; bytes of elements turned.
+// Codecs of arrays on disk: one that is not looked into, one with `transpose` before it, and its metadata, and the codecs from bytes to
+// bytes that are served; bytes of elements turned.
 #![tactic(auto)]
 
 mod axis_order;
@@ -11,6 +11,7 @@ mod moved_points;
 mod moved_rows;
 mod opaque_codec;
 mod transpose_codec;
+mod transposes;
 
 pub use axis_order::AxisOrder;
 pub use byte_codec::ByteCodec;
@@ -19,3 +20,4 @@ pub use byte_parts::reversed_parts;
 pub use element_codec::ElementCodec;
 pub use opaque_codec::OpaqueCodec;
 pub use transpose_codec::TransposeCodec;
+pub use transposes::{CodecValues, codec_values, transpose_order};

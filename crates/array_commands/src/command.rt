@@ -1,18 +1,18 @@
 // A command line that is run.
 ghost use Rattle.std.specs.Prelude.{◌≤◌, IfOk};
 
-use crate::command_line::{ArrayWork, Scope, SharedWork, Target, Work, program, work_of};
+use crate::command_line::{ArrayWork, Form, Scope, SharedWork, Target, Work, program, work_of};
 use crate::differences::compare;
 use crate::npy::save_subset;
 use crate::reading::{Reading, print_subset};
 use crate::writing_line::array_words;
 use array_cli::{
     Array, CodecUse, Ending, ShardCodec, ShardFile, SharedArray, SharedSystem, Stop, metadata_of,
-    open_shared, threads_of, with_codec,
+    open_shared, with_codec,
 };
 use array_fields::{Progress, escaped};
 use array_folder::Listing;
-use array_grid::{ListPart, subset_of};
+use array_grid::{ListPart, subset_of, threads_of};
 use array_info::{check, extract, info_of_array, info_of_shard, list_nodes, map_array, map_shard};
 use array_metadata::ArrayMetadata;
 use array_writing::{Way, compact, create, reshard, write_subset};
@@ -37,6 +37,14 @@ fn jobs_of<R: SharedSystem>(rt: &R, word: Option<&str>) -> Result<usize, Stop> {
     }
 }
 
+// Tests that the elements of an array are read, and written in a form: bytes alone do not say where one begins that has a length of its own.
+fn test_form<R: SharedSystem>(array: &SharedArray<'_, R>, form: Form) -> Result<(), Stop> {
+    match form {
+        Form::Raw => array.test_sized(),
+        Form::Text | Form::Json => array.test_read(),
+    }
+}
+
 // Reads the subset that a word names, and writes its elements.
 fn run_read<R: SharedSystem, W: Write, M: Write>(
     array: &SharedArray<'_, R>,
@@ -49,7 +57,7 @@ fn run_read<R: SharedSystem, W: Write, M: Write>(
     match target {
         Target::NumPy(path) => save_subset(array, requested, path, reading, out, progress),
         Target::Answer(form) => {
-            array.test_read()?;
+            test_form(array, form)?;
             let subset = subset_of(array.alloc(), requested, &array.metadata.shape)?.subset;
             print_subset(array, &subset, form, reading, out, progress)
         }

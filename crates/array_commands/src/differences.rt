@@ -1,9 +1,9 @@
 // Two arrays, compared element by element.
-use array_cli::{Array, Ending, ShardCodec, ShardFile, Stop, read_silently, written};
-use array_fields::{ElementType, Progress, write_numbers, write_rows};
+use array_cli::{Array, Ending, ShardCodec, ShardFile, Stop, written};
+use array_fields::{ElementType, Progress, write_cell_line, write_numbers};
 use array_grid::SubsetCells;
 use array_metadata::ArrayMetadata;
-use array_writing::{chunks_of, elements_of};
+use array_writing::{chunks_of, elements_of, read_silently};
 use parts_row_major::unravel_index;
 use parts_subsets::ArraySubset;
 use std::alloc::Global;
@@ -193,8 +193,8 @@ fn write_differences<W: Write>(
         count => write!(out, "{count} elements differ, the first one")?,
     }
     write_numbers(out, " at", coordinates)?;
-    write_rows(out, element_type, one, &[])?;
-    write_rows(out, element_type, other, &[])
+    write_cell_line(out, element_type, one)?;
+    write_cell_line(out, element_type, other)
 }
 
 // Writes how many elements differ, and says how the command ends.
@@ -238,8 +238,8 @@ pub fn compare<
     out: &mut W,
     progress: &mut Progress<'_, M>,
 ) -> Result<Ending, Stop> {
-    one.test_read()?;
-    other.test_read()?;
+    one.test_sized()?;
+    other.test_sized()?;
     if let Some(words) = differing_metadata(one.metadata, other.metadata) {
         written(out.write_all(words), Ending::Different)?;
         return Ok(Ending::Different);

@@ -3,8 +3,9 @@ use crate::reading::{Reading, Sink, read_bands};
 use array_cli::{Ending, SharedArray, SharedSystem, Stop};
 use array_fields::Progress;
 use array_folder::{begin_new, npy_beside};
-use array_grid::{Requested, subset_of};
+use array_grid::{Requested, VaryingCells, subset_of};
 use array_writing::header_of;
+use parts_errors::CodecError;
 use std::alloc::Global;
 use std::io;
 use std::io::Write;
@@ -32,6 +33,10 @@ impl<R: Files> NewFile<'_, R> {
 impl<R: Files> Sink for NewFile<'_, R> {
     fn put(&mut self, bytes: &[u8], _ending: Ending) -> Result<(), Stop> {
         self.write(bytes)
+    }
+
+    fn put_varying(&mut self, _cells: &VaryingCells, _ending: Ending) -> Result<(), Stop> {
+        Err(CodecError::WrongElementKind.into())
     }
 }
 
@@ -93,7 +98,7 @@ pub fn save_subset<R: SharedSystem, W: Write, M: Write>(
     out: &mut W,
     progress: &mut Progress<'_, M>,
 ) -> Result<Ending, Stop> {
-    array.test_read()?;
+    array.test_sized()?;
     let requested = subset_of(array.alloc(), requested, &array.metadata.shape)?;
     let beside = npy_beside(array.rt, path)?;
     save_requested(array, &requested, (path, &beside), reading, out, progress)

@@ -1,13 +1,17 @@
 // Elements that are written as they are read, band by band.
 use crate::command_line::Form;
-use crate::shared_read::read_shared;
+use crate::shared_read::{element_size, read_shared};
 use array_cli::{Ending, SharedArray, SharedSystem, Stop, written};
-use array_fields::{ElementType, Progress, TextRows, begin_json, end_json, write_json_cells};
-use array_grid::Bands;
+use array_fields::{
+    ElementType, Progress, TextRows, begin_json, end_json, write_json_cell, write_json_cells,
+};
+use array_grid::{Bands, SubsetElements, VaryingCells};
 use parts_errors::CodecError;
+use parts_row_major::unravel_index;
 use parts_subsets::ArraySubset;
-use std::io;
+use std::alloc::Global;
 use std::io::Write;
+use std::{io, str};
 
 // The most bytes of elements that are read.
 const MOST_BYTES: u64 = 1 << 40;
@@ -21,10 +25,14 @@ pub struct Reading {
     pub jobs: usize,
 }
 
-/// Where the elements of a subset go, least significant byte first.
+/// Where the elements of a subset go.
 pub trait Sink {
-    /// Takes the bytes of the next elements, of a command that ends so as far as it has come.
+    /// Takes the bytes of the next elements, least significant byte first, which have one size, of a command that ends so as far as it has
+    /// come.
     fn put(&mut self, bytes: &[u8], ending: Ending) -> Result<(), Stop>;
+
+    /// Takes the next elements, which have lengths of their own.
+    fn put_varying(&mut self, cells: &VaryingCells, ending: Ending) -> Result<(), Stop>;
 }
 
 // Tests that the elements of a subset, of a size, are no more than are read.
@@ -36,6 +44,36 @@ fn test_size(subset: &ArraySubset, size: u64) -> Result<(), Stop> {
     let is_empty = subset.shape().iter().any(|count| *count == 0);
     if bytes > MOST_BYTES && !is_empty {
         return Err(Stop::TooLarge);
+    }
+    Ok(())
+}
+
+// The coordinates of the element of a subset with a number, as a subset names them.
+fn coordinates_of(alloc: Global, subset: &ArraySubset, number: u64) -> Result<String, Stop> {
+    let mut name = String::new(alloc);
+    if let Some(steps) = unravel_index(alloc, number, subset.shape())? {
+        for (start, step) in subset.start().iter().zip(&steps) {
+            let before = if name.is_empty() { "" } else { "," };
+            write!(name, "{before}{}", start.saturating_add(*step))?;
+        }
+    }
+    Ok(name)
+}
+
+// Tests that texts are UTF-8. Refused as `Stop::NoText` with the first element of a band that is not.
+fn test_texts<R: SharedSystem>(
+    array: &SharedArray<'_, R>,
+    band: &ArraySubset,
+    cells: &VaryingCells,
+) -> Result<(), Stop> {
+    if array.metadata.element_type != ElementType::Utf8 {
+        return Ok(());
+    }
+    for number in 0..cells.len() {
+        if str::from_utf8(cells.element(number)).is_err() {
+            let coordinates = coordinates_of(array.alloc(), band, number as u64)?;
+            return Err(Stop::NoText(coordinates));
+        }
     }
     Ok(())
 }
@@ -53,14 +91,22 @@ fn read_band<R: SharedSystem, S: Sink, M: Write>(
     let (cells, ended) = read_shared(array, band, fills, jobs, progress)?;
     let ending = if ended == Ending::Done { before } else { ended };
     progress.clear();
-    let elements = array.least_first(cells.bytes())?;
-    sink.put(&elements, ending)?;
+    match &cells {
+        SubsetElements::Sized(cells) => {
+            let elements = array.least_first(cells.bytes())?;
+            sink.put(&elements, ending)?;
+        }
+        SubsetElements::Varying(cells) => {
+            test_texts(array, band, cells)?;
+            sink.put_varying(cells, ending)?;
+        }
+    }
     Ok(ending)
 }
 
 /// Reads the elements of a subset, with fill values for what is refused if `fills`, and hands them on, in row-major order: those of a band at a time, so that memory is that of a band.
-/// Refused as `Stop::TooLarge` where they have more than 2^40 bytes, and as `read_array` refuses; then the bands before are handed
-/// on.
+/// Refused as `Stop::TooLarge` where they have more than 2^40 bytes, and as `read_array` refuses, and as `Stop::NoText` where a text is not UTF-8; then the
+/// bands before are handed on.
 pub fn read_bands<R: SharedSystem, S: Sink, M: Write>(
     array: &SharedArray<'_, R>,
     subset: &ArraySubset,
@@ -68,7 +114,7 @@ pub fn read_bands<R: SharedSystem, S: Sink, M: Write>(
     sink: &mut S,
     progress: &mut Progress<'_, M>,
 ) -> Result<Ending, Stop> {
-    let size = array.metadata.fill_value.as_ne_bytes().len() as u64;
+    let size = element_size(array.metadata);
     test_size(subset, size)?;
     let bands = Bands::new(subset, &array.metadata.shard, size);
     let mut ending = Ending::Done;
@@ -109,11 +155,43 @@ impl<W: Write> Printed<'_, W> {
     }
 }
 
+impl<W: Write> Printed<'_, W> {
+    // Writes the next element, which has a length of its own.
+    fn write_varying(&mut self, element: &[u8]) -> io::Result<()> {
+        match self.form {
+            Form::Text => self.rows.write_cell(self.out, self.element_type, element),
+            Form::Raw => self.out.write_all(element),
+            Form::Json => {
+                if !self.is_first {
+                    self.out.write_all(b",")?;
+                }
+                write_json_cell(self.out, self.element_type, element)
+            }
+        }
+    }
+
+    // Writes the next elements, which have lengths of their own.
+    fn write_all_varying(&mut self, cells: &VaryingCells) -> io::Result<()> {
+        if self.is_first && matches!(self.form, Form::Json) {
+            begin_json(self.out)?;
+        }
+        for number in 0..cells.len() {
+            self.write_varying(cells.element(number))?;
+            self.is_first = false;
+        }
+        Ok(())
+    }
+}
+
 impl<W: Write> Sink for Printed<'_, W> {
     fn put(&mut self, bytes: &[u8], ending: Ending) -> Result<(), Stop> {
         let wrote = self.write(bytes);
         self.is_first = false;
         written(wrote, ending)
+    }
+
+    fn put_varying(&mut self, cells: &VaryingCells, ending: Ending) -> Result<(), Stop> {
+        written(self.write_all_varying(cells), ending)
     }
 }
 

@@ -1,11 +1,12 @@
 // The elements of a subset of an array that threads share.
 use array_cli::{
-    Array, CodecUse, Ending, PartRead, ShardCodec, ShardFile, ShardWork, SharedArray, SharedSystem,
-    Stop, held_cells, piece_length, put_shard_part, read_array, read_numbered, run_in_parallel,
-    shards_of, with_codec,
+    Array, CodecUse, Ending, PartRead, ShardCodec, ShardFile, SharedArray, SharedSystem, Stop,
+    held_cells, put_shard_part, read_array, read_numbered, shards_of, with_codec,
 };
 use array_fields::Progress;
-use array_grid::{ShardGrid, ShardParts, SubsetCells};
+use array_grid::{ShardGrid, ShardParts, ShardWork, SubsetElements, piece_length, run_in_parallel};
+use array_metadata::ArrayMetadata;
+use parts_arrays::DataTypeSize;
 use parts_errors::CodecError;
 use parts_subsets::ArraySubset;
 use std::io::Write;
@@ -26,12 +27,12 @@ struct WholeRead<'s, 'm, R, M> {
 }
 
 impl<'s, R: Files + AllocGlobal, M: Write> CodecUse<ShardFile<'s, R>> for WholeRead<'s, '_, R, M> {
-    type Answer = Result<(SubsetCells, Ending), Stop>;
+    type Answer = Result<(SubsetElements, Ending), Stop>;
 
     fn with<C: ShardCodec<ShardFile<'s, R>>>(
         self,
         codec: C,
-    ) -> Result<(SubsetCells, Ending), Stop> {
+    ) -> Result<(SubsetElements, Ending), Stop> {
         let WholeRead {
             array,
             requested,
@@ -131,20 +132,28 @@ fn put_each<R: Files + AllocGlobal>(
     array: &SharedArray<'_, R>,
     requested: &ArraySubset,
     piece: &[PartRead],
-    cells: &mut Option<SubsetCells>,
+    cells: &mut Option<SubsetElements>,
 ) -> Result<(), CodecError> {
     for read in piece {
-        if let Some(bytes) = &read.found {
-            put_shard_part(array, requested, &read.part, bytes, cells)?;
+        if let Some(found) = &read.found {
+            put_shard_part(array, requested, &read.part, found, cells)?;
         }
     }
     Ok(())
 }
 
+/// How many bytes an element has; where that varies, by how many memory is shared out.
+pub fn element_size(metadata: &ArrayMetadata) -> u64 {
+    match metadata.data_type.size() {
+        DataTypeSize::Fixed(size) => size as u64,
+        DataTypeSize::Variable => 16,
+    }
+}
+
 // How many parts a piece has, where `threads` threads read `all` of them.
 fn parts_of_a_piece<R>(array: &SharedArray<'_, R>, all: u64, threads: usize) -> u64 {
     let metadata = array.metadata;
-    let size = metadata.fill_value.as_ne_bytes().len() as u64;
+    let size = element_size(metadata);
     let bytes = match metadata.shard.num_elements() {
         Some(count) => count.saturating_mul(size),
         None => u64::MAX,
@@ -159,7 +168,7 @@ fn read_pieces<R: SharedSystem>(
     pieces: &PartPieces<'_, R>,
     requested: &ArraySubset,
     threads: usize,
-    cells: &mut Option<SubsetCells>,
+    cells: &mut Option<SubsetElements>,
 ) -> Result<(), Stop> {
     let array = pieces.array;
     let left = pieces.parts.len().saturating_sub(pieces.first);
@@ -176,7 +185,7 @@ fn read_each_piece<R: SharedSystem, M: Write>(
     pieces: &PartPieces<'_, R>,
     requested: &ArraySubset,
     threads: usize,
-    cells: &mut Option<SubsetCells>,
+    cells: &mut Option<SubsetElements>,
     progress: &mut Progress<'_, M>,
 ) -> Result<(), Stop> {
     let all = pieces.parts.len();
@@ -195,7 +204,7 @@ fn read_by_threads<R: SharedSystem, M: Write>(
     requested: &ArraySubset,
     threads: usize,
     progress: &mut Progress<'_, M>,
-) -> Result<SubsetCells, Stop> {
+) -> Result<SubsetElements, Stop> {
     let grid = shards_of(array)?;
     let parts = grid.parts(array.alloc(), requested)?;
     let pieces = PartPieces {
@@ -219,7 +228,7 @@ pub fn read_shared<R: SharedSystem, M: Write>(
     fills: bool,
     threads: usize,
     progress: &mut Progress<'_, M>,
-) -> Result<(SubsetCells, Ending), Stop> {
+) -> Result<(SubsetElements, Ending), Stop> {
     if threads > 1 && !fills {
         let cells = read_by_threads(array, requested, threads, progress)?;
         return Ok((cells, Ending::Done));

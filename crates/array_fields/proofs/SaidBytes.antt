@@ -4,7 +4,8 @@ use Rattle.std.proofs.Math.Seq.{take-append_seam, drop-append_seam}
 use Rattle.serde_json.specs.Data.{Data, Items, no_items, item}
 use Rattle.serde_json.specs.View.{view, items_view}
 use Rattle.serde_json.specs.declared.value.Value.{Value}
-use Rattle.parts_arrays.specs.Types.{size_of}
+use Rattle.parts_arrays.specs.Types.{size_of, FitsKind}
+use Rattle.parts_arrays.specs.declared.data_type.DataType.{DataType}
 use Rattle.parts_arrays.specs.declared.data_type.DataTypeSize.TheVariants.{Fixed}
 use Rattle.parts_errors.specs.Words.{Bytes as Text}
 use Rattle.array_fields.specs.declared.floats.FloatFormat.{FloatFormat}
@@ -21,9 +22,15 @@ number_said (of.Number data_type) d element h = h
 number_said (of.Float format) d element h = h
 number_said (of.Complex format) d element h = absurd h
 number_said (of.RawBits size) d element h = absurd h
+number_said of.Utf8 d element h = absurd h
+number_said of.Binary d element h = absurd h
 number_said of.DateTime64 d element h = h
 number_said of.TimeDelta64 d element h = h
 number_said (of.Unread size) d element h = h
+
+-- bytes of the one size fit
+pub size_fits : (data_type : DataType) (bytes : Text) → size_of data_type ≡ Fixed (length bytes) → FitsKind (size_of data_type) bytes
+size_fits data_type bytes is = rw is refl
 
 -- two floats, one after the other
 pub complex_said : (format : FloatFormat) (real imaginary : Data) (o : Option Items) (a b : Text) → o ≡ Some (item real (item imaginary no_items))

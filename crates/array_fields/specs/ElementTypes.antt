@@ -9,9 +9,9 @@ use Rattle.array_fields.specs.declared.floats.FloatFormat.{FloatFormat}
 use Rattle.array_fields.specs.declared.floats.FloatFormat.TheVariants.{Float16, BFloat16, Float32, Float64}
 use Rattle.array_fields.specs.declared.element_types.ElementType.{ElementType}
 use Rattle.array_fields.specs.declared.element_types.ElementType.TheVariants.{Number, Float, Complex, RawBits}
-use Rattle.array_fields.specs.declared.element_types.ElementType.TheVariants.{DateTime64, TimeDelta64, Unread}
+use Rattle.array_fields.specs.declared.element_types.ElementType.TheVariants.{DateTime64, TimeDelta64, Utf8, Binary, Unread}
 
--- the types of the names that the codecs do not know: floats, pairs of them, and times
+-- the types of the names that the codecs do not know: floats, pairs of them, times, and elements that have lengths of their own
 abbrev pub listed_type : Text → Option ElementType
 listed_type name =
     if bytes_eq name (codes "float16") then Some (Float Float16) else
@@ -23,7 +23,10 @@ listed_type name =
     if bytes_eq name (codes "complex64") then Some (Complex Float32) else
     if bytes_eq name (codes "complex128") then Some (Complex Float64) else
     if bytes_eq name (codes "complex_float16") then Some (Complex Float16) else
-    if bytes_eq name (codes "complex_bfloat16") then Some (Complex BFloat16) else None
+    if bytes_eq name (codes "complex_bfloat16") then Some (Complex BFloat16) else
+    if bytes_eq name (codes "string") then Some Utf8 else
+    if bytes_eq name (codes "bytes") then Some Binary else
+    if bytes_eq name (codes "variable_length_bytes") then Some Binary else None
 
 -- as what the codecs take a float: as the unsigned number of the same size
 abbrev pub float_carrier : FloatFormat → DataType
@@ -39,13 +42,15 @@ float_size BFloat16 = 2
 float_size Float32 = 4
 float_size Float64 = 8
 
--- as what the codecs take an element: a complex number and raw bits as their bytes
+-- as what the codecs take an element: a complex number, raw bits and a text as their bytes
 abbrev pub carrier : ElementType → DataType
 carrier (Number data_type) = data_type
 carrier (Float format) = float_carrier format
 carrier DateTime64 = Int64
 carrier TimeDelta64 = Int64
 carrier (Complex format) = Raw (2 * float_size format)
+carrier Utf8 = Bytes
+carrier Binary = Bytes
 carrier (RawBits size) = Raw size
 carrier (Unread size) = Raw size
 

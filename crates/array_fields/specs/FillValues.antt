@@ -1,5 +1,6 @@
 -- The fill value that the metadata gives: of `bool` true or false, of whole numbers and times a whole number, of floats a number, the
--- name of one, or its bits; of complex numbers a pair of these, and of raw bits a list of bytes or their base64.
+-- name of one, or its bits; of complex numbers a pair of these; of raw bits, and of bytes of any number, a list of bytes or their base64;
+-- and of texts a text.
 use Rattle.std.specs.Prelude.{◌≡◌, ℕ, ℤ, pos, negsuc, Option, Some, None, if◌then◌else◌, option_map, option_and_then}
 use Rattle.std.specs.Prelude.{codes, bytes_eq, take, drop}
 use Rattle.std.specs.Int.{w8, w16, w32, w64, from_bool, from_le_bytes, cast_signed}
@@ -8,11 +9,11 @@ use Rattle.parts_arrays.specs.declared.data_type.DataType.{DataType}
 use Rattle.parts_arrays.specs.declared.data_type.DataType.TheVariants.{Bool, Int8, Int16, Int32, Int64}
 use Rattle.parts_arrays.specs.declared.data_type.DataType.TheVariants.{UInt8, UInt16, UInt32, UInt64, Raw, Bytes, Optional}
 use Rattle.serde_json.specs.Data.{Data, Items, number, string, no_items, item}
-use Rattle.serde_json.specs.Find.{as_array, as_bool, as_number, as_integer, to_float}
+use Rattle.serde_json.specs.Find.{as_array, as_bool, as_number, as_integer, as_str, to_float}
 use Rattle.array_fields.specs.RawBits.{IsRawIn}
 use Rattle.array_fields.specs.declared.floats.FloatFormat.{FloatFormat}
 use Rattle.array_fields.specs.declared.element_types.ElementType.{ElementType}
-use Rattle.array_fields.specs.declared.element_types.ElementType.TheVariants.{Number, Float, Complex, RawBits, DateTime64, TimeDelta64, Unread}
+use Rattle.array_fields.specs.declared.element_types.ElementType.TheVariants.{Number, Float, Complex, RawBits, DateTime64, TimeDelta64, Utf8, Binary, Unread}
 use Rattle.array_fields.specs.ElementTypes.{carrier, float_carrier, float_size}
 use Rattle.array_fields.specs.Floats.{IsFloatText, IsFloatNumber}
 
@@ -49,7 +50,7 @@ IsFloatIn format (number n) bits = IsFloatNumber format (to_float n) bits
 IsFloatIn format d bits = ⊥
 
 -- what a value says of an element that is this number, where floats are their bits; of types that are not read nothing is said, and a
--- complex number and raw bits are no number
+-- complex number, raw bits, a text and bytes are no number
 abbrev pub IsElementIn : ElementType → Data → ℤ → Type 0
 IsElementIn (Number data_type) d z = number_in data_type d ≡ Some z
 IsElementIn (Float format) d z = (bits : ℕ) × (z ≡ pos bits) × IsFloatIn format d bits
@@ -58,6 +59,8 @@ IsElementIn TimeDelta64 d z = time_in d ≡ Some z
 IsElementIn (Unread size) d z = Unit {0}
 IsElementIn (Complex format) d z = ⊥
 IsElementIn (RawBits size) d z = ⊥
+IsElementIn Utf8 d z = ⊥
+IsElementIn Binary d z = ⊥
 
 -- a complex number is two floats, the real part and then the imaginary one
 pub record IsComplexOf (format : FloatFormat) (real imaginary : Data) (element : Text) : Type 0 where
@@ -75,6 +78,8 @@ IsComplexIn format (Some (item real (item imaginary (item d later)))) element = 
 abbrev pub IsValueIn : ElementType → Data → Text → Type 0
 IsValueIn (Complex format) d element = IsComplexIn format (as_array d) element
 IsValueIn (RawBits size) d element = IsRawIn d element
+IsValueIn Binary d element = IsRawIn d element
+IsValueIn Utf8 d element = as_str d ≡ Some element
 IsValueIn element_type d element = IsElementIn element_type d (number_of (carrier element_type) element)
 
 -- the fill value of metadata that gives a value of one

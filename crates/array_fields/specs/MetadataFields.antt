@@ -1,9 +1,10 @@
 -- What stands in the text of an array's metadata.
-use Rattle.std.specs.Prelude.{ℕ, ℤ, Bool, true, not, ◌||◌, ◌&&◌, is_some, List, [], ◌∷◌, codes, bytes_eq, Option, Some, option_map, option_and_then, unwrap_or}
+use Rattle.std.specs.Prelude.{◌≡◌, ℕ, ℤ, Bool, true, false, not, ◌||◌, ◌&&◌, is_some, List, [], ◌∷◌, codes, bytes_eq, Option, Some, None, option_map, option_and_then, unwrap_or}
 use Rattle.parts_errors.specs.Words.{Bytes}
 use Rattle.serde_json.specs.Data.{Data, Items, no_items, item}
 use Rattle.serde_json.specs.Find.{get, as_array, as_bool, as_null, as_number, as_i64, as_u64}
 use Rattle.serde_json.specs.Read.{read}
+use Rattle.codec_metadata.specs.Metadata.{name_in, is_metadata_member, first_refused, members_in}
 
 -- what stands under a key of the object that a text is
 abbrev pub member_in : Bytes → Bytes → Option Data
@@ -44,3 +45,12 @@ is_left key d = bytes_eq key (codes "consolidated_metadata") && is_some (as_null
 -- whether a member is known, or left with nothing in it, or says that it need not be understood
 abbrev pub is_understood : Bytes → Data → Bool
 is_understood key d = is_known key || is_left key d || not (unwrap_or (option_and_then as_bool (get (codes "must_understand") d)) true)
+
+-- whether metadata has a name
+abbrev pub is_named : Bytes → Data → Bool
+is_named name d = unwrap_or (option_map (bytes_eq name) (name_in d)) false
+
+-- metadata has a name, and no members but those that metadata may have
+pub record Names (d : Data) (name : Bytes) : Type 0 where
+  pub named : name_in d ≡ Some name
+  pub tested : first_refused is_metadata_member (members_in d) ≡ None

@@ -32,13 +32,17 @@ pub enum ElementType {
     DateTime64,
     /// A length of time in units (Zarr extension `numpy.timedelta64`).
     TimeDelta64,
+    /// A text in UTF-8, of any length (Zarr extension `string`).
+    Utf8,
+    /// Any number of bytes (Zarr extension `bytes`).
+    Binary,
     /// So many bytes that are not read.
     Unread(usize),
 }
 
 impl ElementType {
     /// As what the codecs take an element: a float as the unsigned number of the same size, a time as `int64`, a complex number and raw
-    /// bits as their bytes.
+    /// bits as their bytes, a text as its bytes in UTF-8.
     pub fn carrier(self) -> DataType
         ensures { result ≡ carrier self }
     {
@@ -46,6 +50,7 @@ impl ElementType {
             ElementType::Number(data_type) => data_type,
             ElementType::Float(format) => format.carrier(),
             ElementType::DateTime64 | ElementType::TimeDelta64 => DataType::Int64,
+            ElementType::Utf8 | ElementType::Binary => DataType::Bytes,
             ElementType::Complex(format) => DataType::Raw(2 * format.size()),
             ElementType::RawBits(size) | ElementType::Unread(size) => DataType::Raw(size),
         }
@@ -69,6 +74,8 @@ impl ElementType {
             ElementType::DateTime64 => "numpy.datetime64",
             ElementType::TimeDelta64 => "numpy.timedelta64",
             ElementType::Complex(format) => format.complex_name(),
+            ElementType::Utf8 => "string",
+            ElementType::Binary => "bytes",
             ElementType::RawBits(_) | ElementType::Unread(_) => "raw",
         }
     }
@@ -121,6 +128,8 @@ fn listed_type(name: &str) -> Option<ElementType>
         "complex128" => Some(ElementType::Complex(FloatFormat::Float64)),
         "complex_float16" => Some(ElementType::Complex(FloatFormat::Float16)),
         "complex_bfloat16" => Some(ElementType::Complex(FloatFormat::BFloat16)),
+        "string" => Some(ElementType::Utf8),
+        "bytes" | "variable_length_bytes" => Some(ElementType::Binary),
         _ => None,
     }
 }
@@ -140,7 +149,7 @@ fn raw_size(name: &str) -> Option<usize>
 pub fn unread_type(alloc: Global, name: &str) -> Result<MetadataError, AllocError> {
     let name = escaped(alloc, name)?;
     let sentence = format!(in alloc;
-        "elements of the data type {name} are not read, only bool, int8 to int64, uint8 to uint64, floats, complex numbers, raw bits and times"
+        "elements of the data type {name} are not read, only bool, int8 to int64, uint8 to uint64, floats, complex numbers, raw bits, times, string and bytes"
     )?;
     let error = PluginCreateError::bad_field(alloc, "data_type");
     Ok(MetadataError::refused(alloc, error, "data_type", sentence.as_str()))

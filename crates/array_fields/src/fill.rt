@@ -1,9 +1,9 @@
 // The fill value.
 ghost use Rattle.std.specs.Prelude.{◌≡◌, ◌≤◌, ◌<◌, ◌*◌, ◌≤ℤ◌, ℤ, pos, Some, IfOk, IfSome, length, take, option_and_then};
 ghost use Rattle.std.specs.Int.{w64, to_le_bytes};
-ghost use Rattle.serde_json.specs.Find.{as_array, as_number, as_integer};
+ghost use Rattle.serde_json.specs.Find.{as_array, as_number, as_integer, as_str};
 ghost use Rattle.serde_json.specs.View.{view};
-ghost use Rattle.parts_arrays.specs.Types.{size_of, byte_size};
+ghost use Rattle.parts_arrays.specs.Types.{size_of, byte_size, FitsKind};
 ghost use Rattle.parts_arrays.specs.declared.data_type.DataTypeSize.TheVariants.{Fixed};
 ghost use Rattle.parts_arrays.specs.declared.data_type.DataType.TheVariants.{Int64};
 ghost use Rattle.array_fields.specs.ElementTypes.{carrier, float_size};
@@ -14,7 +14,7 @@ use crate::element_types::ElementType;
 use crate::error::MetadataError;
 use crate::fields::Placed;
 use crate::floats::FloatFormat;
-use crate::raw_bits::raw_bytes;
+use crate::raw_bits::{raw_bytes, said_bytes};
 use parts_arrays::{DataType, DataTypeSize, FillValue};
 use serde_json::Value;
 use std::alloc::{AllocError, Global};
@@ -105,6 +105,7 @@ fn element_bits(value: &Value, element_type: ElementType) -> Option<u64>
         ElementType::Float(format) => float_bits(value, format),
         ElementType::DateTime64 | ElementType::TimeDelta64 => time_bits(value),
         ElementType::Complex(_) | ElementType::RawBits(_) | ElementType::Unread(_) => None,
+        ElementType::Utf8 | ElementType::Binary => None,
     }
 }
 
@@ -155,19 +156,31 @@ fn complex_bytes(
     Ok(Some(bytes))
 }
 
+// The bytes of a text that a value is.
+fn text_bytes(alloc: Global, value: &Value) -> Result<Option<Vec<u8>>, AllocError>
+    ensures { IfOk result (λ found. IfSome found (λ bytes. as_str (view value.now) ≡ Some bytes.items)) }
+{
+    match value.as_str() {
+        Some(text) => Ok(Some(Vec::from_slice(alloc, text.as_bytes())?)),
+        None => Ok(None),
+    }
+}
+
 // The bytes of an element that a value is; zeros of a type whose elements are not read.
-#[tactic(auto, using(crate::proofs::SaidBytes::number_said))]
+#[tactic(auto, using(crate::proofs::SaidBytes::number_said, crate::proofs::SaidBytes::size_fits))]
 fn element_bytes(
     alloc: Global,
     fill: &Placed,
     element_type: ElementType,
 ) -> Result<Option<Vec<u8>>, MetadataError>
-    ensures size { IfOk result (λ found. IfSome found (λ bytes. size_of (carrier element_type) ≡ Fixed (length bytes.items))) }
+    ensures size { IfOk result (λ found. IfSome found (λ bytes. FitsKind (size_of (carrier element_type)) bytes.items)) }
     ensures read { IfOk result (λ found. IfSome found (λ bytes. IsValueIn element_type (view fill.now.value.now) bytes.items)) }
 {
     match element_type {
         ElementType::Complex(format) => Ok(complex_bytes(alloc, fill.value, format)?),
         ElementType::RawBits(size) => raw_bytes(alloc, fill, size),
+        ElementType::Utf8 => Ok(text_bytes(alloc, fill.value)?),
+        ElementType::Binary => said_bytes(alloc, fill),
         ElementType::Unread(size) => Ok(Some(Vec::from_elem(alloc, 0u8, size)?)),
         _ => Ok(number_bytes(alloc, fill.value, element_type)?),
     }
@@ -187,6 +200,7 @@ fn sentence_of(
         ElementType::RawBits(size) => {
             format!(in alloc; "this is no list of {size} bytes, and no base64 of as many")
         }
+        ElementType::Binary => format!(in alloc; "this is no list of bytes, and no base64"),
         _ => format!(in alloc; "this is no element of {name}"),
     }
 }
@@ -198,7 +212,7 @@ pub fn fill_value_in(
     fill: &Placed,
     element_type: ElementType,
 ) -> Result<FillValue, MetadataError>
-    ensures size { IfOk result (λ fill_value. size_of (carrier element_type) ≡ Fixed (length fill_value)) }
+    ensures size { IfOk result (λ fill_value. FitsKind (size_of (carrier element_type)) fill_value) }
     ensures read { IfOk result (IsFillIn element_type (Some (view fill.now.value.now))) }
 {
     match element_bytes(alloc, fill, element_type)? {

@@ -14,6 +14,7 @@ mod kept;
 mod members;
 mod printed;
 mod progress;
+mod quoted;
 mod raw_bits;
 mod text;
 
@@ -30,5 +31,6 @@ pub use members::{MOST_AXES, axes_in, test_array, test_understood};
 pub use progress::Progress;
 pub use raw_bits::raw_bytes;
 pub use text::{
-    TextRows, begin_json, end_json, write_json_cell, write_json_cells, write_numbers, write_rows,
+    TextRows, begin_json, end_json, write_cell_line, write_json_cell, write_json_cells,
+    write_numbers,
 };

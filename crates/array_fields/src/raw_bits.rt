@@ -37,7 +37,7 @@ fn bytes_of(alloc: Global, numbers: &[u64]) -> Result<Option<Vec<u8>>, AllocErro
 
 // The bytes that a value is: a list of them, or their base64. Refused as `BadField` where it is neither a list of whole numbers nor a text.
 #[tactic(auto, using(crate::proofs::SaidRawBits::raw_text, crate::proofs::SaidRawBits::raw_list))]
-fn said_bytes(alloc: Global, fill: &Placed) -> Result<Option<Vec<u8>>, MetadataError>
+pub(crate) fn said_bytes(alloc: Global, fill: &Placed) -> Result<Option<Vec<u8>>, MetadataError>
     ensures { IfOk result (λ found. IfSome found (λ bytes. IsRawIn (view fill.now.value.now) bytes.items)) }
 {
     match fill.value.as_str() {

@@ -4,6 +4,7 @@ ghost use Rattle.std.specs.Prelude.{◌<◌};
 use crate::element_types::ElementType;
 use crate::floats::{FloatFormat, half_to_f32};
 use crate::json_line::write_json_numbers;
+use crate::quoted::write_quoted;
 use parts_arrays::{DataType, DataTypeSize};
 use std::io;
 use std::io::Write;
@@ -157,7 +158,8 @@ fn write_digits<W: Write>(out: &mut W, element: &[u8]) -> io::Result<()> {
 
 // Writes raw bits as JSON: a list of their bytes.
 fn write_bytes<W: Write>(out: &mut W, element: &[u8]) -> io::Result<()> {
-    let mut before = "[";
+    out.write_all(b"[")?;
+    let mut before = "";
     for byte in element {
         write!(out, "{before}{}", *byte)?;
         before = ",";
@@ -174,8 +176,9 @@ fn write_element<W: Write>(
 ) -> io::Result<()> {
     match element_type {
         ElementType::Complex(format) => write_complex(out, format, element, is_json),
-        ElementType::RawBits(_) if is_json => write_bytes(out, element),
-        ElementType::RawBits(_) => write_digits(out, element),
+        ElementType::Utf8 => write_quoted(out, element, is_json),
+        ElementType::RawBits(_) | ElementType::Binary if is_json => write_bytes(out, element),
+        ElementType::RawBits(_) | ElementType::Binary => write_digits(out, element),
         _ => write_number(out, element_type, element, is_json),
     }
 }
@@ -251,7 +254,19 @@ impl TextRows {
         out.write_all(b"\n")
     }
 
-    /// Writes the next cells, which have these bytes.
+    /// Writes the next cell, which has these bytes.
+    pub fn write_cell<W: Write>(
+        &mut self,
+        out: &mut W,
+        element_type: ElementType,
+        element: &[u8],
+    ) -> io::Result<()> {
+        self.write_before(out)?;
+        write_element(out, element_type, element, false)?;
+        self.write_behind(out)
+    }
+
+    /// Writes the next cells, which have these bytes, and of which each has one size.
     pub fn write<W: Write>(
         &mut self,
         out: &mut W,
@@ -259,22 +274,20 @@ impl TextRows {
         bytes: &[u8],
     ) -> io::Result<()> {
         for element in bytes.chunks(cell_size(element_type)) {
-            self.write_before(out)?;
-            write_element(out, element_type, element, false)?;
-            self.write_behind(out)?;
+            self.write_cell(out, element_type, element)?;
         }
         Ok(())
     }
 }
 
-/// Writes cells as text, a row of the last axis a line, and an empty line between planes of the last two.
-pub fn write_rows<W: Write>(
+/// Writes a cell as text on a line.
+pub fn write_cell_line<W: Write>(
     out: &mut W,
     element_type: ElementType,
-    bytes: &[u8],
-    shape: &[u64],
+    element: &[u8],
 ) -> io::Result<()> {
-    TextRows::new(shape).write(out, element_type, bytes)
+    write_element(out, element_type, element, false)?;
+    out.write_all(b"\n")
 }
 
 /// Writes a cell as JSON does.
@@ -292,7 +305,8 @@ pub fn begin_json<W: Write>(out: &mut W) -> io::Result<()> {
     out.write_all(b"{\"cells\":[")
 }
 
-/// Writes the next cells of an object of JSON, which have these bytes; they are its first ones, or others stand before them.
+/// Writes the next cells of an object of JSON, which have these bytes, and of which each has one size; they are its first ones, or others
+/// stand before them.
 pub fn write_json_cells<W: Write>(
     out: &mut W,
     element_type: ElementType,

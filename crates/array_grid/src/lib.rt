@@ -1,4 +1,5 @@
-// Which subset of an array is requested, and which shards it overlaps: which cell of which shard stands where.
+// Which subset of an array is requested, and which shards it overlaps: which cell of which shard stands where; and work on shards side by
+// side.
 #![tactic(auto)]
 
 mod bands;
@@ -7,12 +8,14 @@ mod grid;
 mod key_encodings;
 mod keys;
 mod list_part;
+mod parallel;
 mod parsing;
 mod parts;
 mod picking;
 mod shared;
 mod subsets;
 mod touched;
+mod varying;
 mod words;
 
 pub use bands::Bands;
@@ -21,9 +24,11 @@ pub use grid::ShardGrid;
 pub use key_encodings::keys_in;
 pub use keys::{ChunkKeys, KeyEncoding};
 pub use list_part::ListPart;
+pub use parallel::{ShardWork, piece_length, piece_of, run_in_parallel, threads_of};
 pub use parsing::parse;
 pub use parts::{ShardPart, ShardParts};
 pub use picking::{Requested, resolve};
 pub use shared::{SharedElements, shared_elements};
 pub use subsets::{SubsetError, subset_of};
+pub use varying::{SubsetElements, VaryingCells};
 pub use words::{Position, Word};

@@ -3,7 +3,7 @@ use crate::folder::write_folder;
 use crate::index_info::{index_info, index_range};
 use crate::json;
 use array_cli::{Array, Ending, Place, Refusal, Shard, ShardCodec, ShardFile, Stop, written};
-use array_fields::{Progress, write_numbers, write_rows};
+use array_fields::{Progress, write_cell_line, write_numbers};
 use array_folder::{ChunkFile, ChunkFiles, Counted, FolderFiles, IndexInfo, Listing, info_of};
 use array_grid::{ChunkKeys, KeyEncoding, ListPart};
 use array_metadata::{ArrayCodec, ArrayMetadata};
@@ -211,7 +211,7 @@ fn write_type<W: Write>(out: &mut W, metadata: &ArrayMetadata) -> io::Result<()>
     let element_type = metadata.element_type;
     writeln!(out, "data type: {}", element_type.name())?;
     out.write_all(b"fill value: ")?;
-    write_rows(out, element_type, metadata.fill_value.as_ne_bytes(), &[])
+    write_cell_line(out, element_type, metadata.fill_value.as_ne_bytes())
 }
 
 // Writes the shape of a subchunk, where there are shards.

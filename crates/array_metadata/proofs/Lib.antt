@@ -1,5 +1,4 @@
 pub mod Lengths
 pub mod Lists
 pub mod ShardCodecs
-pub mod TransposedLists
 pub mod ByteNames

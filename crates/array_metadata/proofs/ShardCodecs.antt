@@ -8,7 +8,7 @@ use Rattle.sharding_codec.specs.Configuration.{Configuration, configuration_in}
 use Rattle.sharding_codec.specs.ShardMetadata.{shard_of, shard_configured}
 use Rattle.array_codecs.specs.declared.element_codec.ElementCodec.{ElementCodec}
 use Rattle.array_metadata.specs.ArrayCodecs.{elements_in, shards_in}
-use Rattle.array_metadata.specs.CodecNames.{Names}
+use Rattle.array_fields.specs.MetadataFields.{Names}
 use Rattle.array_metadata.proofs.Lists.{some_same}
 
 configured_read : {I X : Type 0} (inner_in : Items → Reading I) (index_in : Items → Reading X) (o : Option Data) (k : Configuration)

@@ -6,8 +6,7 @@ use Rattle.serde_json.specs.Read.{read}
 use Rattle.parts_errors.specs.Words.{Bytes}
 use Rattle.codec_metadata.specs.Metadata.{name_in, first_refused, members_in}
 use Rattle.parts_subsets.specs.Grid.{Divides}
-use Rattle.parts_arrays.specs.Types.{size_of, HasElements}
-use Rattle.parts_arrays.specs.declared.data_type.DataTypeSize.TheVariants.{Fixed}
+use Rattle.parts_arrays.specs.Types.{size_of, FitsKind, HasElements}
 use Rattle.array_fields.specs.MetadataFields.{member_in, configured_in, whole_number_in, whole_numbers_in, is_understood}
 use Rattle.array_grid.specs.ChunkKeys.{separator_of}
 use Rattle.array_grid.specs.KeyEncodings.{encoding_name, default_separator}
@@ -42,7 +41,7 @@ pub record IsReadAs (text : Bytes) (metadata : ArrayMetadata) : Type 0 where
   pub unread : option_map string_bytes metadata.unread ≡ unread_codec_in (option_and_then as_array (member_in (codes "codecs") text))
 
 -- the parts of metadata fit together: as many axes everywhere, subchunks that divide chunks evenly as these are encoded, a fill value of
--- the type's size
+-- the type's size, where its elements have one size
 pub record FitsTogether (metadata : ArrayMetadata) : Type 0 where
   pub few : vec_len metadata.shape ≤ 64
   pub shard : length metadata.shard ≡ vec_len metadata.shape
@@ -53,4 +52,4 @@ pub record FitsTogether (metadata : ArrayMetadata) : Type 0 where
   pub codec : subchunk_of metadata.codec metadata.shard ≡ metadata.subchunk
   pub data_type : metadata.data_type ≡ carrier metadata.element_type
   pub elements : HasElements metadata.data_type
-  pub fill_value : size_of metadata.data_type ≡ Fixed (length metadata.fill_value)
+  pub fill_value : FitsKind (size_of metadata.data_type) metadata.fill_value

@@ -4,7 +4,7 @@ use Rattle.parts_errors.specs.Words.{Bytes}
 use Rattle.serde_json.specs.Data.{Data, Items, no_items, item}
 use Rattle.serde_json.specs.Find.{get, as_bool}
 use Rattle.codec_metadata.specs.CreateErrors.{Reading, and_then, or_refused, unsupported_chain, bad_field}
-use Rattle.codec_metadata.specs.Metadata.{codec_of, name_in}
+use Rattle.codec_metadata.specs.Metadata.{codec_of}
 use Rattle.codec_checksums.specs.declared.crc32c_codec.Crc32cCodec.{Crc32cCodec}
 use Rattle.codec_gzip.specs.declared.codec.GzipCodec.{GzipCodec}
 use Rattle.codec_gzip.specs.declared.zlib_streams.codec.ZlibCodec.{ZlibCodec}
@@ -14,7 +14,7 @@ use Rattle.array_codecs.specs.declared.byte_codec.ByteCodec.TheVariants.{Crc32c,
 use Rattle.array_codecs.specs.declared.byte_codecs.ByteCodecs.{ByteCodecs}
 use Rattle.array_metadata.specs.declared.codecs.NamedCodec.{NamedCodec}
 use Rattle.array_metadata.specs.CodecNames.{metadata_of}
-use Rattle.array_fields.specs.MetadataFields.{whole_number_in, integer_in}
+use Rattle.array_fields.specs.MetadataFields.{whole_number_in, integer_in, is_named}
 
 -- the codec of the name `crc32c`
 abbrev pub crc32c_in : Data → Reading Crc32cCodec
@@ -70,10 +70,6 @@ zstd_configured d =
 
 abbrev pub zstd_in : Data → Reading ZstdCodec
 zstd_in = codec_of (bytes_eq (codes "zstd")) (λ name. zstd_configured)
-
--- whether metadata has a name
-abbrev pub is_named : Bytes → Data → Bool
-is_named name d = unwrap_or (option_map (bytes_eq name) (name_in d)) false
 
 -- the codec from bytes to bytes of metadata, by its name
 abbrev pub byte_codec_in : Data → Reading ByteCodec

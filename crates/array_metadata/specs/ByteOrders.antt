@@ -2,9 +2,11 @@
 use Rattle.std.specs.Prelude.{ℕ, Option, Some, None}
 use Rattle.codec_bytes.specs.declared.bytes_codec.Endianness.{Endianness}
 use Rattle.codec_bytes.specs.declared.bytes_codec.Endianness.TheVariants.{Big, Little}
+use Rattle.codec_vlen.specs.declared.default_codec.DefaultArrayToBytesCodec.{DefaultArrayToBytesCodec}
+use Rattle.codec_vlen.specs.declared.default_codec.DefaultArrayToBytesCodec.TheVariants.{Bytes, Vlen}
 use Rattle.codec_chains.specs.declared.either_codec.EitherCodec.TheVariants.{First, Second}
 use Rattle.array_codecs.specs.declared.element_codec.ElementCodec.{ElementCodec}
-use Rattle.array_codecs.specs.declared.element_codec.ElementCodec.TheVariants.{Bytes, Chain}
+use Rattle.array_codecs.specs.declared.element_codec.ElementCodec.TheVariants.{Alone, Chain}
 use Rattle.array_metadata.specs.ArrayCodecs.{Arranged}
 use Rattle.array_metadata.specs.declared.inner_codec.InnerCodec.{InnerCodec}
 use Rattle.array_metadata.specs.declared.inner_codec.InnerCodec.TheVariants.{Elements, Shards, Opaque}
@@ -14,10 +16,14 @@ use Rattle.array_fields.specs.ElementTypes.{float_size}
 use Rattle.array_fields.specs.declared.element_types.ElementType.{ElementType}
 use Rattle.array_fields.specs.declared.element_types.ElementType.TheVariants.{Complex}
 
--- the byte order that the codec `bytes` of elements has
+-- the byte order that the first codec of elements has, where it is `bytes`
+abbrev pub first_order : DefaultArrayToBytesCodec → Option Endianness
+first_order (Bytes bytes) = bytes
+first_order (Vlen codec) = None
+
 abbrev pub order_of : ElementCodec → Option Endianness
-order_of (Bytes bytes) = bytes
-order_of (Chain chain) = chain.array_to_bytes
+order_of (Alone codec) = first_order codec
+order_of (Chain chain) = first_order chain.array_to_bytes
 
 abbrev pub arranged_order : Arranged → Option Endianness
 arranged_order (First elements) = order_of elements

@@ -3,19 +3,29 @@ use Rattle.std.specs.Prelude.{◌≡◌, ◌⊎◌, List, [], ◌∷◌, Some, N
 use Rattle.serde_json.specs.Data.{Data, Items}
 use Rattle.serde_json.specs.View.{view, items_of}
 use Rattle.parts_errors.specs.Words.{Bytes as Text}
-use Rattle.codec_metadata.specs.Metadata.{name_in, is_metadata_member, first_refused, members_in}
+use Rattle.array_fields.specs.MetadataFields.{Names}
 use Rattle.array_metadata.specs.declared.codecs.CodecName.{CodecName}
-use Rattle.array_metadata.specs.declared.codecs.CodecName.TheVariants.{Bytes, Crc32c, Gzip, Zlib, Zstd, ShardingIndexed}
+use Rattle.array_metadata.specs.declared.codecs.CodecName.TheVariants.{Bytes, VlenUtf8, VlenBytes, Crc32c, Gzip, Zlib, Zstd, ShardingIndexed}
 use Rattle.array_metadata.specs.declared.codecs.NamedCodec.{NamedCodec}
 
 -- the name of a codec that is served
 abbrev pub codec_name : CodecName → Text
 codec_name Bytes = codes "bytes"
+codec_name VlenUtf8 = codes "vlen-utf8"
+codec_name VlenBytes = codes "vlen-bytes"
 codec_name Crc32c = codes "crc32c"
 codec_name Gzip = codes "gzip"
 codec_name Zlib = codes "numcodecs.zlib"
 codec_name Zstd = codes "zstd"
 codec_name ShardingIndexed = codes "sharding_indexed"
+
+-- a codec of elements that have lengths of their own
+abbrev pub IsVlenCodec : CodecName → Type 0
+IsVlenCodec name = (name ≡ VlenUtf8) ⊎ (name ≡ VlenBytes)
+
+-- a codec of elements that is served
+abbrev pub IsFirstCodec : CodecName → Type 0
+IsFirstCodec name = (name ≡ Bytes) ⊎ IsVlenCodec name
 
 -- a codec from bytes to bytes that is served
 abbrev pub IsByteCodec : CodecName → Type 0
@@ -27,11 +37,6 @@ AreByteCodecs (first ∷ []) = IsByteCodec first.name
 AreByteCodecs (first ∷ second ∷ []) = IsByteCodec first.name × IsByteCodec second.name
 AreByteCodecs (first ∷ second ∷ third ∷ []) = IsByteCodec first.name × IsByteCodec second.name × IsByteCodec third.name
 AreByteCodecs codecs = ⊥
-
--- metadata has a name, and no members but those that metadata may have
-pub record Names (d : Data) (name : Text) : Type 0 where
-  pub named : name_in d ≡ Some name
-  pub tested : first_refused is_metadata_member (members_in d) ≡ None
 
 abbrev pub metadata_of : NamedCodec → Data
 metadata_of codec = view codec.metadata.value.now

@@ -5,4 +5,3 @@ pub mod CodecMeanings
 pub mod CodecNames
 pub mod AcceptedMetadata
 pub mod ByteOrders
-pub mod Transposes

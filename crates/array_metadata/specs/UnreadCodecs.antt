@@ -5,7 +5,7 @@ use Rattle.serde_json.specs.Data.{Data, Items, no_items, item}
 use Rattle.serde_json.specs.Find.{as_array}
 use Rattle.codec_metadata.specs.Metadata.{name_in, is_metadata_member, first_refused, members_in}
 use Rattle.array_fields.specs.MetadataFields.{configured_in}
-use Rattle.array_metadata.specs.Transposes.{transpose_before, untransposed}
+use Rattle.array_codecs.specs.Transposes.{transpose_before, untransposed}
 
 -- the metadata of the only codec of a list, where its name is `sharding_indexed`
 abbrev pub sole_shards : Items → Option Data
@@ -33,8 +33,9 @@ innermost list = elements_or list (sole_shards list)
 
 -- the codecs that elements are served with, behind `transpose` or without it
 abbrev pub is_element_codec : Bytes → Bool
-is_element_codec name = bytes_eq name (codes "bytes") || bytes_eq name (codes "crc32c") || bytes_eq name (codes "gzip")
-    || bytes_eq name (codes "numcodecs.zlib") || bytes_eq name (codes "zstd")
+is_element_codec name = bytes_eq name (codes "bytes") || bytes_eq name (codes "vlen-utf8") || bytes_eq name (codes "vlen-bytes")
+    || bytes_eq name (codes "crc32c") || bytes_eq name (codes "gzip") || bytes_eq name (codes "numcodecs.zlib")
+    || bytes_eq name (codes "zstd")
 
 -- the name of the first codec that elements are not served with
 abbrev pub unserved_or : Option Bytes → Option Bytes → Option Bytes

@@ -1,17 +1,16 @@
 // The codec of an array's chunks.
 use crate::codecs::{ArrangedCodec, ShardsCodec};
 use array_codecs::TransposeCodec;
-use codec_traits::{
-    ArrayToBytesCodecTraits, BytesRepresentation, RecommendedConcurrency, StoredArray,
-};
-use parts_arrays::{ArrayBytes, DataType, FillValue, FixedTarget};
+use codec_traits::{ArrayToBytesCodecTraits, BytesRepresentation, RecommendedConcurrency};
+use parts_arrays::{ArrayBytes, DataType, FillValue};
 use parts_errors::{CodecError, CodecOptions};
 use parts_subsets::{ChunkShape, Indexer};
 use std::alloc::Global;
 use storage_handles::{BytesPartialDecoderTraits, Interval};
 
 /// The codec of an array's chunks: of shards, of shards with `transpose` before them, behind which no subchunk is looked into, or of
-/// elements. In each call it is the codec that it holds.
+/// elements. It gives what the codec that it holds gives; the calls that append and those that decode into a target are the trait's own,
+/// since an array over a store makes none of them.
 #[derive(Debug, Drop)]
 pub enum ArrayCodec {
     Sharded(ShardsCodec),
@@ -69,34 +68,6 @@ impl ArrayToBytesCodecTraits for ArrayCodec {
         )
     }
 
-    /// As `encode_onto` of the codec that it holds.
-    fn encode_onto(
-        &self,
-        alloc: Global,
-        bytes: &ArrayBytes,
-        shape: &ChunkShape,
-        data_type: &DataType,
-        fill_value: &FillValue,
-        encoded: &mut Vec<u8>,
-        options: &CodecOptions,
-    ) -> Result<(), CodecError> {
-        of_held!(
-            self,
-            held,
-            held.encode_onto(alloc, bytes, shape, data_type, fill_value, encoded, options)
-        )
-    }
-
-    /// As `plain_size` of the codec that it holds.
-    fn plain_size(
-        &self,
-        shape: &ChunkShape,
-        data_type: &DataType,
-        fill_value: &FillValue,
-    ) -> Option<u64> {
-        of_held!(self, held, held.plain_size(shape, data_type, fill_value))
-    }
-
     /// As `decode` of the codec that it holds.
     fn decode<'a>(
         &self,
@@ -111,24 +82,6 @@ impl ArrayToBytesCodecTraits for ArrayCodec {
             self,
             held,
             held.decode(alloc, bytes, shape, data_type, fill_value, options)
-        )
-    }
-
-    /// As `decode_into` of the codec that it holds.
-    fn decode_into(
-        &self,
-        alloc: Global,
-        bytes: &[u8],
-        shape: &ChunkShape,
-        data_type: &DataType,
-        fill_value: &FillValue,
-        target: &mut FixedTarget,
-        options: &CodecOptions,
-    ) -> Result<(), CodecError> {
-        of_held!(
-            self,
-            held,
-            held.decode_into(alloc, bytes, shape, data_type, fill_value, target, options)
         )
     }
 
@@ -191,40 +144,6 @@ impl ArrayToBytesCodecTraits for ArrayCodec {
             held.partial_decode(
                 alloc, handle, interval, shape, data_type, fill_value, indexer, options,
             )
-        )
-    }
-
-    /// As `partial_decode_into` of the codec that it holds.
-    fn partial_decode_into<H: BytesPartialDecoderTraits, N: Indexer>(
-        &self,
-        alloc: Global,
-        handle: &mut H,
-        stored: &StoredArray,
-        indexer: &N,
-        target: &mut FixedTarget,
-        options: &CodecOptions,
-    ) -> Result<(), CodecError> {
-        of_held!(
-            self,
-            held,
-            held.partial_decode_into(alloc, handle, stored, indexer, target, options)
-        )
-    }
-
-    /// As `partial_decode_into_fresh` of the codec that it holds.
-    fn partial_decode_into_fresh<H: BytesPartialDecoderTraits, N: Indexer>(
-        &self,
-        alloc: Global,
-        handle: &mut H,
-        stored: &StoredArray,
-        indexer: &N,
-        target: &mut FixedTarget,
-        options: &CodecOptions,
-    ) -> Result<(), CodecError> {
-        of_held!(
-            self,
-            held,
-            held.partial_decode_into_fresh(alloc, handle, stored, indexer, target, options)
         )
     }
 }

@@ -4,7 +4,8 @@ ghost use Rattle.std.specs.List.{All};
 ghost use Rattle.serde_json.specs.Find.{get};
 ghost use Rattle.serde_json.specs.View.{view};
 ghost use Rattle.array_metadata.specs.ByteCodecsMetadata.{crc32c_in, level_of, gzip_in, zlib_in, zlib_level_in, zstd_in, zstd_level_of, checksum_in, byte_codec_in, IsOptionalCodec, byte_codecs_in};
-ghost use Rattle.array_metadata.specs.CodecNames.{IsByteCodec, AreByteCodecs, IsNamed, Names, listed, metadata_of};
+ghost use Rattle.array_fields.specs.MetadataFields.{Names};
+ghost use Rattle.array_metadata.specs.CodecNames.{IsByteCodec, AreByteCodecs, IsNamed, listed, metadata_of};
 
 use crate::codecs::{CodecName, NamedCodec};
 use array_codecs::{ByteCodec, ByteCodecs};

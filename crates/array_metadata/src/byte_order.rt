@@ -1,6 +1,6 @@
 // The byte order of complex numbers.
 ghost use Rattle.std.specs.Prelude.{◌≡◌};
-ghost use Rattle.array_metadata.specs.ByteOrders.{order_of, arranged_order, subchunks_order, chunks_order, size_if_big, reversed_size};
+ghost use Rattle.array_metadata.specs.ByteOrders.{first_order, order_of, arranged_order, subchunks_order, chunks_order, size_if_big, reversed_size};
 
 use crate::array_codec::ArrayCodec;
 use crate::codecs::ArrangedCodec;
@@ -9,14 +9,25 @@ use array_codecs::ElementCodec;
 use array_fields::ElementType;
 use codec_bytes::Endianness;
 use codec_chains::EitherCodec;
+use codec_vlen::DefaultArrayToBytesCodec;
+
+// The byte order of the first codec of elements.
+fn first_order(codec: &DefaultArrayToBytesCodec) -> Option<Endianness>
+    ensures { result ≡ first_order codec.now }
+{
+    match codec {
+        DefaultArrayToBytesCodec::Bytes(bytes) => bytes.endianness(),
+        DefaultArrayToBytesCodec::Vlen(_) => None,
+    }
+}
 
 // The byte order of the codec of elements.
 fn order_of(codec: &ElementCodec) -> Option<Endianness>
     ensures { result ≡ order_of codec.now }
 {
     match codec {
-        ElementCodec::Bytes(bytes) => bytes.endianness(),
-        ElementCodec::Chain(chain) => chain.array_to_bytes.endianness(),
+        ElementCodec::Alone(codec) => first_order(codec),
+        ElementCodec::Chain(chain) => first_order(&chain.array_to_bytes),
     }
 }
 
@@ -70,6 +81,7 @@ fn size_of_parts(element_type: ElementType, order: Option<Endianness>) -> Option
         ElementType::Complex(format) => size_if_big(format.size(), order),
         ElementType::Number(_) | ElementType::Float(_) | ElementType::RawBits(_) => None,
         ElementType::DateTime64 | ElementType::TimeDelta64 | ElementType::Unread(_) => None,
+        ElementType::Utf8 | ElementType::Binary => None,
     }
 }
 

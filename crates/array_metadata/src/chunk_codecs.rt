@@ -9,16 +9,17 @@ ghost use Rattle.sharding_codec.specs.Configurations.{configuration_of};
 ghost use Rattle.array_fields.specs.MetadataFields.{configured_in};
 ghost use Rattle.array_metadata.specs.ArrayCodecs.{elements_in, arranged_in, shards_in, served_in, subchunks_in, opaque_in, chunk_shards_or, array_codec_in, subchunk_in, subchunk_of, HasAxes};
 ghost use Rattle.array_metadata.specs.UnreadCodecs.{chunks_in};
-ghost use Rattle.array_metadata.specs.CodecNames.{Names};
+ghost use Rattle.array_fields.specs.MetadataFields.{Names};
 
 use crate::array_codec::ArrayCodec;
 use crate::codecs::{ArrangedCodec, CodecList, IndexCodec, ShardsCodec, arranged_codec};
 use crate::inner_codec::InnerCodec;
-use crate::transposes::{CodecValues, axis_order, codec_values};
 use crate::unread::{
     first_unserved, innermost, names_shards, sole_shards as sole_value, test_names,
 };
-use array_codecs::{ElementCodec, OpaqueCodec, TransposeCodec};
+use array_codecs::{
+    CodecValues, ElementCodec, OpaqueCodec, TransposeCodec, codec_values, transpose_order,
+};
 use array_fields::{MetadataError, Placed};
 use codec_metadata::PluginCreateError;
 use parts_arrays::DataType;
@@ -81,7 +82,7 @@ fn parsed_configuration(
 // Whether all indexes of as many subchunks have encodings of one length.
 fn is_of_fixed_size(codec: &IndexCodec) -> bool {
     match codec {
-        ElementCodec::Bytes(_) => true,
+        ElementCodec::Alone(_) => true,
         ElementCodec::Chain(chain) => chain.bytes_to_bytes.are_checksums(),
     }
 }
@@ -255,7 +256,7 @@ fn chunk_shards(
         let codec = shards(alloc, &metadata, data_type, axes)?;
         return Ok(ArrayCodec::Sharded(codec));
     };
-    let order = axis_order(alloc, transpose, list, axes)?;
+    let order = transpose_order(alloc, transpose, list, axes)?;
     let metadata = shards_at(alloc, value, list, 1)?;
     let codec = opaque_shards(alloc, &metadata, axes)?;
     Ok(ArrayCodec::Transposed(TransposeCodec { order, codec }))

@@ -2,17 +2,18 @@
 ghost use Rattle.std.specs.Prelude.{◌≡◌, IsTrue, Ok, IfOk, IfSome, codes};
 ghost use Rattle.std.specs.List.{All};
 ghost use Rattle.serde_json.specs.View.{view, items_view};
-ghost use Rattle.array_metadata.specs.ArrayCodecs.{bytes_in, elements_in, arranged_in};
-ghost use Rattle.array_metadata.specs.CodecNames.{codec_name, IsByteCodec, IsNamed, Names, listed, metadata_of};
+ghost use Rattle.array_metadata.specs.ArrayCodecs.{bytes_in, vlen_in, first_in, elements_in, arranged_in};
+ghost use Rattle.array_fields.specs.MetadataFields.{Names};
+ghost use Rattle.array_metadata.specs.CodecNames.{codec_name, IsByteCodec, IsFirstCodec, IsVlenCodec, IsNamed, listed, metadata_of};
 
 use crate::byte_codecs::{are_byte_codecs, byte_codecs};
 use crate::inner_codec::InnerCodec;
-use crate::transposes::{CodecValues, axis_order, codec_values};
-use array_codecs::{ElementCodec, TransposeCodec};
+use array_codecs::{CodecValues, ElementCodec, TransposeCodec, codec_values, transpose_order};
 use array_fields::{MetadataError, Placed};
 use codec_bytes::BytesCodec;
 use codec_chains::{BytesChain, EitherCodec};
 use codec_metadata::{CodecTraitsV3, PluginCreateError};
+use codec_vlen::{DefaultArrayToBytesCodec, VlenCodec};
 use parts_arrays::{DataType, DataTypeSize};
 use serde_json::Value;
 use sharding_codec::ShardingCodec;
@@ -31,6 +32,8 @@ pub type ShardsCodec = ShardingCodec<InnerCodec, IndexCodec>;
 #[derive(Clone, Copy, PartialEq, Eq)]
 pub enum CodecName {
     Bytes,
+    VlenUtf8,
+    VlenBytes,
     Crc32c,
     Gzip,
     Zlib,
@@ -45,6 +48,8 @@ impl CodecName {
     {
         match name {
             "bytes" => Some(CodecName::Bytes),
+            "vlen-utf8" => Some(CodecName::VlenUtf8),
+            "vlen-bytes" => Some(CodecName::VlenBytes),
             "crc32c" => Some(CodecName::Crc32c),
             "gzip" => Some(CodecName::Gzip),
             "numcodecs.zlib" => Some(CodecName::Zlib),
@@ -70,6 +75,17 @@ impl NamedCodec<'_> {
         match self.name {
             CodecName::Crc32c | CodecName::Gzip | CodecName::Zlib | CodecName::Zstd => true,
             CodecName::Bytes | CodecName::ShardingIndexed => false,
+            CodecName::VlenUtf8 | CodecName::VlenBytes => false,
+        }
+    }
+
+    // Whether the codec is one of elements.
+    fn is_first_codec(&self) -> bool
+        ensures { IsTrue result → IsFirstCodec self.now.name }
+    {
+        match self.name {
+            CodecName::Bytes | CodecName::VlenUtf8 | CodecName::VlenBytes => true,
+            _ => false,
         }
     }
 }
@@ -158,23 +174,68 @@ impl<'a> CodecList<'a> {
         ensures read { IfOk result (λ codec. elements_in (listed self.now.codecs.items) ≡ Ok codec) }
     {
         match self.codecs.as_slice() {
-            [first] if first.name == CodecName::Bytes => {
-                Ok(ElementCodec::Bytes(bytes_codec(alloc, &first.metadata, data_type)?))
+            [first] if first.is_first_codec() => {
+                Ok(ElementCodec::Alone(first_codec(alloc, first, data_type)?))
             }
-            [first, behind @ ..] if first.name == CodecName::Bytes && are_byte_codecs(behind) => {
-                let bytes = bytes_codec(alloc, &first.metadata, data_type)?;
+            [first, behind @ ..] if first.is_first_codec() && are_byte_codecs(behind) => {
+                let codec = first_codec(alloc, first, data_type)?;
                 let codecs = byte_codecs(alloc, behind)?;
-                Ok(ElementCodec::Chain(BytesChain::new(bytes, codecs)))
+                Ok(ElementCodec::Chain(BytesChain::new(codec, codecs)))
             }
             _ => Err(self.refused(
                 alloc,
-                "only bytes is served here, or bytes and up to three of crc32c, gzip, zstd and numcodecs.zlib behind it",
+                "only bytes, vlen-utf8 or vlen-bytes is served here, and up to three of crc32c, gzip, zstd and numcodecs.zlib behind it",
             )),
         }
     }
 }
 
-// The codec `bytes`. Refused as its `create` refuses, or as `MissingField` where elements of more than one byte have no order.
+// The codec of elements that have lengths of their own: both names are of one encoding. Refused as `BadField` where its configuration has
+// a member, or elements have one size.
+fn vlen_codec(
+    alloc: Global,
+    codec: &NamedCodec,
+    data_type: DataType,
+) -> Result<VlenCodec, MetadataError>
+    requires named { IsNamed codec.now }
+    requires vlen { IsVlenCodec codec.now.name }
+    ensures read { IfOk result (λ found. vlen_in (metadata_of codec.now) ≡ Ok found) }
+{
+    if data_type.size() != DataTypeSize::Variable {
+        return Err(
+            codec.metadata.bad(
+                alloc,
+                "elements of the data type have one size: their codec is bytes",
+            ),
+        );
+    }
+    if let Some(configuration) = codec.metadata.member(alloc, "configuration")? {
+        configuration.only_members(alloc, &[])?;
+    }
+    Ok(VlenCodec)
+}
+
+// The codec of elements that metadata names. Refused as it is.
+fn first_codec(
+    alloc: Global,
+    codec: &NamedCodec,
+    data_type: DataType,
+) -> Result<DefaultArrayToBytesCodec, MetadataError>
+    requires named { IsNamed codec.now }
+    requires served { IsFirstCodec codec.now.name }
+    ensures read { IfOk result (λ found. first_in (metadata_of codec.now) ≡ Ok found) }
+{
+    match codec.name {
+        CodecName::Bytes => {
+            let bytes = bytes_codec(alloc, &codec.metadata, data_type)?;
+            Ok(DefaultArrayToBytesCodec::Bytes(bytes))
+        }
+        _ => Ok(DefaultArrayToBytesCodec::Vlen(vlen_codec(alloc, codec, data_type)?)),
+    }
+}
+
+// The codec `bytes`. Refused as its `create` refuses, as `BadField` where elements have lengths of their own, or as `MissingField` where
+// elements of more than one byte have no order.
 fn bytes_codec(
     alloc: Global,
     metadata: &Placed,
@@ -187,6 +248,12 @@ fn bytes_codec(
         Ok(codec) => codec,
         Err(error) => return Err(metadata.refused_by(alloc, error)),
     };
+    if data_type.size() == DataTypeSize::Variable {
+        return Err(metadata.bad(
+            alloc,
+            "elements of the data type have lengths of their own: their codec is vlen-utf8 or vlen-bytes",
+        ));
+    }
     let has_order = !matches!(data_type, DataType::Raw(_));
     if codec.endianness().is_none() && has_order && data_type.size() != DataTypeSize::Fixed(1) {
         let error = PluginCreateError::missing_field(alloc, "endian");
@@ -230,7 +297,7 @@ pub fn arranged_codec(
         let codec = listed_elements(alloc, codecs, place, 0, data_type)?;
         return Ok(EitherCodec::First(codec));
     };
-    let order = axis_order(alloc, transpose, place, axes)?;
+    let order = transpose_order(alloc, transpose, place, axes)?;
     let codec = listed_elements(alloc, codecs, place, 1, data_type)?;
     Ok(EitherCodec::Second(TransposeCodec { order, codec }))
 }

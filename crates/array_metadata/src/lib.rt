@@ -10,7 +10,6 @@ mod codecs;
 mod inner_codec;
 mod metadata;
 mod obstacles;
-mod transposes;
 mod unread;
 
 pub use array_codec::ArrayCodec;

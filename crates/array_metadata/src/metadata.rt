@@ -14,8 +14,7 @@ ghost use Rattle.array_metadata.specs.ArrayCodecs.{array_codec_in, encoded_of, s
 ghost use Rattle.array_metadata.specs.UnreadCodecs.{chunks_in, unread_codec_in};
 ghost use Rattle.array_fields.specs.ElementTypes.{IsTypeIn, IsRead, carrier};
 ghost use Rattle.parts_subsets.specs.Grid.{Divides};
-ghost use Rattle.parts_arrays.specs.Types.{size_of, HasElements};
-ghost use Rattle.parts_arrays.specs.declared.data_type.DataTypeSize.TheVariants.{Fixed};
+ghost use Rattle.parts_arrays.specs.Types.{size_of, FitsKind, HasElements};
 
 use crate::array_codec::ArrayCodec;
 use crate::chunk_codecs::array_codec;
@@ -151,7 +150,7 @@ pub(crate) fn fill_in(
     whole: &Placed,
     element_type: ElementType,
 ) -> Result<FillValue, MetadataError>
-    ensures size { IfOk result (λ fill_value. size_of (carrier element_type) ≡ Fixed (length fill_value)) }
+    ensures size { IfOk result (λ fill_value. FitsKind (size_of (carrier element_type)) fill_value) }
     ensures read { IfOk result (IsFillIn element_type (get (codes "fill_value") (view whole.now.value.now))) }
 {
     let fill = whole.required(alloc, "fill_value")?;
@@ -363,8 +362,8 @@ impl ArrayMetadata {
     /// The metadata that a `zarr.json` holds (Zarr V3 core, "Array metadata"). Refused, in this order, where the text is no JSON,
     /// nests deeper than is read, has a number past the range of a float, is no object, of another `zarr_format` than 3, of another
     /// `node_type` than `array`, has an unknown member that must be understood, or `storage_transformers`; and then for `shape` (whole
-    /// numbers), `data_type` (`bool`, `int8` to `int64`, `uint8` to `uint64`, floats, complex numbers, raw bits or times), `chunk_grid` (`regular`), `chunk_key_encoding` (`default` or `v2`), `fill_value` (an element of the type, or of one that
-    /// is not read any value) and `codecs` (`bytes`, up to three of `crc32c`, `gzip`, `numcodecs.zlib` and `zstd` behind it, `transpose`
+    /// numbers), `data_type` (`bool`, `int8` to `int64`, `uint8` to `uint64`, floats, complex numbers, raw bits, times, `string` or `bytes`), `chunk_grid` (`regular`), `chunk_key_encoding` (`default` or `v2`), `fill_value` (an element of the type, or of one that
+    /// is not read any value) and `codecs` (`bytes`, or `vlen-utf8` or `vlen-bytes`, up to three of `crc32c`, `gzip`, `numcodecs.zlib` and `zstd` behind it, `transpose`
     /// before it; or `sharding_indexed` alone, with these inside, `sharding_indexed` once more, or codecs of other names, which are not
     /// looked into; or `transpose` and `sharding_indexed`, of which no subchunk is looked into) in turn: each with its place, and a
     /// sentence that says what is not served; or as `OutOfMemory`. Where no subchunk of shards is looked into, the type of elements may

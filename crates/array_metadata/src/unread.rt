@@ -3,10 +3,10 @@ ghost use Rattle.std.specs.Prelude.{◌≡◌, true, Some, OnOk, IfOk, IfSome, c
 ghost use Rattle.serde_json.specs.Find.{as_array};
 ghost use Rattle.serde_json.specs.View.{view, items_view};
 ghost use Rattle.codec_metadata.specs.Metadata.{name_in};
-ghost use Rattle.array_metadata.specs.Transposes.{transpose_before, untransposed};
+ghost use Rattle.array_codecs.specs.Transposes.{transpose_before, untransposed};
 ghost use Rattle.array_metadata.specs.UnreadCodecs.{sole_shards, shards_of, configured_codecs, innermost, is_element_codec, unserved_in, has_name, have_names, unread_codec_in};
 
-use crate::transposes::{CodecValues, codec_values};
+use array_codecs::{CodecValues, codec_values};
 use array_fields::{MetadataError, Placed};
 use codec_metadata::metadata_name;
 use serde_json::Value;
@@ -64,7 +64,7 @@ fn is_element_codec(name: &str) -> bool
 {
     matches!(
         name,
-        "bytes" | "crc32c" | "gzip" | "numcodecs.zlib" | "zstd"
+        "bytes" | "vlen-utf8" | "vlen-bytes" | "crc32c" | "gzip" | "numcodecs.zlib" | "zstd"
     )
 }
 

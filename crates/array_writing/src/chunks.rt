@@ -1,7 +1,8 @@
 // The chunks of a grid that have elements in the files of an array.
-use array_cli::{Array, Stop, whole_of};
+use array_cli::{Array, ShardCodec, ShardFile, Stop, read_array, whole_of};
+use array_fields::Progress;
 use array_folder::ChunkFile;
-use array_grid::SubsetCells;
+use array_grid::{SubsetCells, SubsetElements};
 use array_metadata::ArrayMetadata;
 use parts_errors::CodecError;
 use parts_row_major::unravel_index;
@@ -111,4 +112,17 @@ pub fn elements_of(
         counts.push(left.min(*size))?;
     }
     Ok(ArraySubset::new_with_start_shape(starts, counts))
+}
+
+/// The elements of a subset as `read_array` gives them, where they have one size, nothing is refused and nothing shows how far it is.
+pub fn read_silently<'a, R: Files + AllocGlobal, C: ShardCodec<ShardFile<'a, R>>>(
+    array: &Array<'a, R, C>,
+    requested: &ArraySubset,
+) -> Result<SubsetCells, Stop> {
+    let mut silent: Vec<u8> = Vec::new(array.alloc());
+    let mut progress = Progress::new(&mut silent, false);
+    match read_array(array, requested, false, &mut progress)? {
+        (SubsetElements::Sized(cells), _) => Ok(cells),
+        (SubsetElements::Varying(_), _) => Err(CodecError::WrongElementKind.into()),
+    }
 }

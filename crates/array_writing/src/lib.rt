@@ -12,7 +12,7 @@ mod new_folder;
 mod rewriting;
 mod subset_writing;
 
-pub use chunks::{chunks_of, elements_of};
+pub use chunks::{chunks_of, elements_of, read_silently};
 pub use compaction::{Way, compact};
 pub use creating::{ArrayWords, create};
 pub use elements::{ElementsFile, header_of};

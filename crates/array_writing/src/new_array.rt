@@ -1,20 +1,21 @@
 // An array laid out anew in another folder.
-use crate::chunks::{chunk_of_fill_values, chunks_of, elements_of};
+use crate::chunks::{chunk_of_fill_values, chunks_of, elements_of, read_silently};
 use crate::layout::{LayoutWords, new_document, order_of};
 use crate::new_folder::{begin_folder, encoded, end_folder, put, test_served};
 use array_cli::{
-    Array, CodecUse, Ending, ShardCodec, ShardFile, ShardWork, SharedArray, SharedSystem, Stop,
-    described, piece_length, piece_of, put_elements, read_silently, run_in_parallel, turned,
-    whole_of, with_codec, written,
+    Array, CodecUse, Ending, ShardCodec, ShardFile, SharedArray, SharedSystem, Stop, described,
+    turned, whole_of, with_codec, written,
 };
 use array_fields::Progress;
 use array_folder::Counted;
-use array_grid::SubsetCells;
+use array_grid::{ShardWork, SubsetCells, piece_length, piece_of, run_in_parallel};
 use array_metadata::ArrayMetadata;
+use parts_arrays::ArrayBytes;
 use parts_errors::CodecError;
 use parts_subsets::ArraySubset;
 use sharding_format::SubchunkWriteOrder;
 use std::alloc::Global;
+use std::borrow::CowSlice;
 use std::fs;
 use std::io::Write;
 use std::rt::Files;
@@ -61,7 +62,11 @@ fn put_at_start(
     cells: &mut SubsetCells,
 ) -> Result<(), CodecError> {
     let part = whole_of(alloc, shape)?;
-    put_elements(new, &part, elements, cells)
+    let size = new.fill_value.as_ne_bytes().len();
+    match ArrayBytes::new_flen(CowSlice::Borrowed(elements), size) {
+        Some(elements) => cells.put(&part, &elements),
+        None => Err(CodecError::WrongElementKind),
+    }
 }
 
 // The elements of a chunk, of which those in the array are put at its start, and fill values behind the array's end.
@@ -294,7 +299,7 @@ pub fn reshard<R: SharedSystem, W: Write, M: Write>(
     out: &mut W,
     progress: &mut Progress<'_, M>,
 ) -> Result<Ending, Stop> {
-    old.test_read()?;
+    old.test_sized()?;
     let order = order_of(old.alloc(), words.order)?;
     let document = new_document(old.alloc(), words, &old.metadata.text, old.metadata)?;
     let wrote = make_described(old, path, &document, order, jobs, progress)?;

@@ -2,8 +2,8 @@
 use crate::chunks::{chunk_of_fill_values, elements_of};
 use crate::elements::{ElementsFile, elements_of_file};
 use array_cli::{
-    Array, Ending, OpenShard, Place, Shard, ShardCodec, ShardFile, Stop, put_elements,
-    shard_of_grid, shards_of, turned, whole_of, written,
+    Array, Ending, OpenShard, Place, Shard, ShardCodec, ShardFile, Stop, shard_of_grid, shards_of,
+    turned, whole_of, written,
 };
 use array_fields::Progress;
 use array_folder::{Counted, save};
@@ -35,7 +35,7 @@ fn put_all<'a, R: Files + 'a, S: OpenShard<ShardFile<'a, R>>>(
     cells: &mut SubsetCells,
 ) -> Result<(), CodecError> {
     let elements = opened.read_subset(alloc, metadata, whole)?;
-    put_elements(metadata, whole, &elements, cells)
+    cells.put(whole, &elements)
 }
 
 // Puts all elements of a shard into cells of its shape.
@@ -302,7 +302,7 @@ pub fn write_subset<
     out: &mut W,
     progress: &mut Progress<'_, M>,
 ) -> Result<Ending, Stop> {
-    array.test_read()?;
+    array.test_sized()?;
     let requested = subset_of(array.alloc(), requested, &array.metadata.shape)?;
     let shards = write_file(array, &requested, file, out, progress)?;
     let shards = Counted(shards, "shard");

@@ -160,7 +160,7 @@ const UNREAD_CODECS: &[(&str, &str)] = &[
 
 // An array of shards behind `transpose`, whose subchunks divide the transposed chunk, of a type of which nothing is known.
 const TRANSPOSED: &str =
-    r#""data_type": "string", "fill_value": "", "chunk_grid": {"name": "regular", "configuration": {"chunk_shape": [4, 6]}},
+    r#""data_type": "quantity", "fill_value": "", "chunk_grid": {"name": "regular", "configuration": {"chunk_shape": [4, 6]}},
     "codecs": [{"name": "transpose", "configuration": {"order": [1, 0]}}, {"name": "sharding_indexed", "configuration": {
         "chunk_shape": [3, 2], "codecs": ["bytes"], "index_codecs": [{"name": "bytes", "configuration": {"endian": "little"}}]}}]"#;
 

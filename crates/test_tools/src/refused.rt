@@ -70,15 +70,15 @@ const MEMBERS: &[(&str, &str)] = &[
     ),
     (
         r#""data_type": "r12""#,
-        "4 BadField data_type: in data_type: elements of the data type r12 are not read, only bool, int8 to int64, uint8 to uint64, floats, complex numbers, raw bits and times",
+        "4 BadField data_type: in data_type: elements of the data type r12 are not read, only bool, int8 to int64, uint8 to uint64, floats, complex numbers, raw bits, times, string and bytes",
     ),
     (
-        r#""data_type": "bytes""#,
-        "4 BadField data_type: in data_type: elements of the data type bytes are not read, only bool, int8 to int64, uint8 to uint64, floats, complex numbers, raw bits and times",
+        r#""data_type": "bytes", "fill_value": """#,
+        "4 BadField codecs: in codecs[0].configuration.codecs[0]: elements of the data type have lengths of their own: their codec is vlen-utf8 or vlen-bytes",
     ),
     (
         r#""data_type": {"name": "x"}"#,
-        "4 BadField data_type: in data_type: elements of the data type x are not read, only bool, int8 to int64, uint8 to uint64, floats, complex numbers, raw bits and times",
+        "4 BadField data_type: in data_type: elements of the data type x are not read, only bool, int8 to int64, uint8 to uint64, floats, complex numbers, raw bits, times, string and bytes",
     ),
     (
         r#""chunk_grid": {"name": "rectilinear"}"#,
@@ -174,7 +174,7 @@ const MEMBERS: &[(&str, &str)] = &[
     ),
     (
         r#""data_type": "a\tb\u202ec""#,
-        r"4 BadField data_type: in data_type: elements of the data type a\tb\u{202e}c are not read, only bool, int8 to int64, uint8 to uint64, floats, complex numbers, raw bits and times",
+        r"4 BadField data_type: in data_type: elements of the data type a\tb\u{202e}c are not read, only bool, int8 to int64, uint8 to uint64, floats, complex numbers, raw bits, times, string and bytes",
     ),
     (
         r#""chunk_grid": {"name": "\u0085"}"#,
@@ -254,11 +254,11 @@ const INNER_CODECS: &[(&str, &str)] = &[
     ),
     (
         "[]",
-        "5 UnsupportedChain: in codecs[0].configuration.codecs: only bytes is served here, or bytes and up to three of crc32c, gzip, zstd and numcodecs.zlib behind it",
+        "5 UnsupportedChain: in codecs[0].configuration.codecs: only bytes, vlen-utf8 or vlen-bytes is served here, and up to three of crc32c, gzip, zstd and numcodecs.zlib behind it",
     ),
     (
         r#"[{"name": "crc32c"}, {"name": "bytes"}]"#,
-        "5 UnsupportedChain: in codecs[0].configuration.codecs: only bytes is served here, or bytes and up to three of crc32c, gzip, zstd and numcodecs.zlib behind it",
+        "5 UnsupportedChain: in codecs[0].configuration.codecs: only bytes, vlen-utf8 or vlen-bytes is served here, and up to three of crc32c, gzip, zstd and numcodecs.zlib behind it",
     ),
     (
         r#"[{"name": "bytes"}]"#,
@@ -330,7 +330,7 @@ const INNER_CODECS: &[(&str, &str)] = &[
     ),
     (
         r#"[{"name": "bytes", "configuration": {"endian": "little"}}, "crc32c", "crc32c", "crc32c", "crc32c"]"#,
-        "5 UnsupportedChain: in codecs[0].configuration.codecs: only bytes is served here, or bytes and up to three of crc32c, gzip, zstd and numcodecs.zlib behind it",
+        "5 UnsupportedChain: in codecs[0].configuration.codecs: only bytes, vlen-utf8 or vlen-bytes is served here, and up to three of crc32c, gzip, zstd and numcodecs.zlib behind it",
     ),
     (
         r#"[{"name": "sharding_indexed", "configuration": {"chunk_shape": [2, 2],

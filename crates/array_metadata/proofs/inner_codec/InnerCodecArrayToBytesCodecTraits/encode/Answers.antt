@@ -11,3 +11,6 @@ returns-in-Opaque-clause-written c = rw c.in-Opaque.is c.encode-in-Opaque.ensure
 
 pub returns-in-Shards-clause-lawful : goal.returns-in-Shards-clause-lawful
 returns-in-Shards-clause-lawful c = rw c.in-Shards.is c.encode-in-Shards.ensures.lawful
+
+pub returns-in-Shards-clause-refused : goal.returns-in-Shards-clause-refused
+returns-in-Shards-clause-refused c = rw c.in-Shards.is c.encode-in-Shards.ensures.refused

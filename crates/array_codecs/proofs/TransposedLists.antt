@@ -5,8 +5,8 @@ use Rattle.parts_errors.specs.Words.{Bytes}
 use Rattle.serde_json.specs.declared.value.Value.{Value}
 use Rattle.serde_json.specs.View.{view, items_view}
 use Rattle.codec_metadata.specs.Metadata.{name_in}
-use Rattle.array_metadata.specs.ByteCodecsMetadata.{is_named}
-use Rattle.array_metadata.specs.Transposes.{is_transposed, first_of, behind_first}
+use Rattle.array_fields.specs.MetadataFields.{is_named}
+use Rattle.array_codecs.specs.Transposes.{is_transposed, first_of, behind_first}
 
 -- a list of fewer than two codecs has no `transpose` before `bytes`
 pub short_list : (name : Bytes) (values : List Value) → length values < 2 → is_transposed name (items_view values) ≡ false

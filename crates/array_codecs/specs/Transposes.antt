@@ -7,7 +7,7 @@ use Rattle.codec_metadata.specs.CreateErrors.{Reading, or_refused, bad_field}
 use Rattle.codec_metadata.specs.Metadata.{codec_of}
 use Rattle.array_fields.specs.MetadataFields.{whole_numbers_in}
 use Rattle.array_codecs.specs.AxisOrders.{is_order}
-use Rattle.array_metadata.specs.ByteCodecsMetadata.{is_named}
+use Rattle.array_fields.specs.MetadataFields.{is_named}
 
 -- the numbers are a permutation of this number of axes
 abbrev pub if_order : ℕ → List ℕ → Option (List ℕ)

@@ -2,17 +2,17 @@
 ghost use Rattle.std.specs.Prelude.{◌≡◌, Ok, Some, IfOk, IfSome, codes, length, option_map};
 ghost use Rattle.serde_json.specs.View.{view, items_view};
 ghost use Rattle.codec_metadata.specs.Metadata.{name_in};
-ghost use Rattle.array_metadata.specs.ByteCodecsMetadata.{is_named};
-ghost use Rattle.array_metadata.specs.CodecNames.{Names};
-ghost use Rattle.array_metadata.specs.Transposes.{is_transposed, transpose_in, transpose_before, untransposed};
+ghost use Rattle.array_fields.specs.MetadataFields.{is_named};
+ghost use Rattle.array_fields.specs.MetadataFields.{Names};
+ghost use Rattle.array_codecs.specs.Transposes.{is_transposed, transpose_in, transpose_before, untransposed};
 
-use array_codecs::AxisOrder;
+use crate::axis_order::AxisOrder;
 use array_fields::{MetadataError, Placed};
 use codec_metadata::metadata_name;
 use serde_json::Value;
 use std::alloc::Global;
 
-// A list of the metadata of codecs: that of `transpose` where it begins the list, and that of the codecs behind it.
+/// A list of the metadata of codecs: that of `transpose` where it begins the list, and that of the codecs behind it.
 #[derive(Clone, Copy)]
 pub struct CodecValues<'a> {
     pub transpose: Option<&'a Value>,
@@ -37,7 +37,7 @@ fn is_transposed(values: &[Value], name: &str) -> bool
     is_named(&values[0], "transpose") && is_named(&values[1], name)
 }
 
-// The codecs of a list, and `transpose` before them where the codec of a name stands behind it.
+/// The codecs of a list, and `transpose` before them where the codec of a name stands behind it.
 #[tactic(auto, using(crate::proofs::TransposedLists::transposed_long, crate::proofs::TransposedLists::transposed_named, crate::proofs::TransposedLists::first_list, crate::proofs::TransposedLists::behind_list))]
 pub fn codec_values<'a>(values: &'a [Value], name: &str) -> CodecValues<'a>
     ensures transpose { option_map (λ metadata. view metadata.now) result.transpose ≡ transpose_before name.now (items_view values.now) }
@@ -75,8 +75,9 @@ fn order_in(alloc: Global, metadata: &Placed, axes: usize) -> Result<AxisOrder, 
     }
 }
 
-// The order of this number of axes that `transpose` names, which stands first in a list at a place. Refused as `order_in` refuses.
-pub fn axis_order(
+/// The order of this number of axes that `transpose` names, which stands first in a list at a place (Zarr V3, codec `transpose`). Refused
+/// as `MissingField` or `BadField` where its configuration has no permutation of the axes.
+pub fn transpose_order(
     alloc: Global,
     value: &Value,
     list: &str,

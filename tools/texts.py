@@ -1,0 +1,173 @@
+#!/usr/bin/env python3
+"""Runs `zarr_shard` on arrays of texts and of bytes of any length, which this script lays out by the Zarr standard and the extensions
+`string`, `bytes`, `vlen-utf8` and `vlen-bytes`: whole ones, with chunks that are absent, and with bytes that are damaged.
+
+    python3 tools/texts.py [PROGRAM]     the program that the merge gate built, if no other is named
+"""
+import base64
+import gzip
+import json
+import os
+import random
+import struct
+import subprocess
+import sys
+import tempfile
+
+TOP = os.path.dirname(os.path.dirname(os.path.abspath(__file__)))
+BUILT = f"{TOP}/crates/zarr_shard/out/zarr_shard"
+MOST = 60  # seconds
+ABSENT = struct.pack("<QQ", 2**64 - 1, 2**64 - 1)
+PLAIN = [{"name": "vlen-utf8"}]
+GZIPPED = [{"name": "vlen-utf8", "configuration": {}}, {"name": "gzip", "configuration": {"level": 1}}]
+bad = []
+
+
+def run(program, *words):
+    ran = subprocess.run([program, *words], capture_output=True, timeout=MOST, stdin=subprocess.DEVNULL)
+    return ran.returncode, ran.stdout.decode(), ran.stderr.decode(errors="replace")
+
+
+def compare(what, found, wanted):
+    if found != wanted:
+        bad.append(f"{what}: {str(found)[:300]}, and {str(wanted)[:300]} was expected")
+
+
+def encoded(elements):
+    """A count of four bytes, and each element behind its length."""
+    return struct.pack("<I", len(elements)) + b"".join(struct.pack("<I", len(element)) + element for element in elements)
+
+
+def shard_of(subchunks):
+    """A shard of these subchunks, of which `None` is absent, with its index at the end and no checksum."""
+    body, index = b"", b""
+    for subchunk in subchunks:
+        index += ABSENT if subchunk is None else struct.pack("<QQ", len(body), len(subchunk))
+        body += subchunk or b""
+    return body + index
+
+
+def document(shape, chunk, codecs, data_type, fill):
+    return {"zarr_format": 3, "node_type": "array", "shape": shape, "data_type": data_type, "fill_value": fill, "codecs": codecs,
+            "chunk_grid": {"name": "regular", "configuration": {"chunk_shape": chunk}}, "chunk_key_encoding": {"name": "default"}}
+
+
+def sharded(subchunk, codecs, index=None):
+    index = index or [{"name": "bytes", "configuration": {"endian": "little"}}]
+    return [{"name": "sharding_indexed", "configuration": {"chunk_shape": subchunk, "codecs": codecs, "index_codecs": index}}]
+
+
+def lay_out(path, metadata, chunks):
+    for key, content in chunks.items():
+        os.makedirs(os.path.dirname(f"{path}/{key}"), exist_ok=True)
+        with open(f"{path}/{key}", "wb") as file:
+            file.write(content)
+    os.makedirs(path, exist_ok=True)
+    with open(f"{path}/zarr.json", "w", encoding="utf-8") as file:
+        json.dump(metadata, file)
+    return path
+
+
+def cells(program, path, *words):
+    status, out, told = run(program, "read", path, "--json", *words)
+    return json.loads(out)["cells"] if status == 0 and not told else (status, out, told)
+
+
+def test_chunks(program, folder):
+    """Chunks that are no shards, of which one is absent."""
+    words = ["a", "", "grüezi\n\"b\"\\", "\u202e", "e"]
+    chunks = {"c/0": encoded([b"a", b""]), "c/2": encoded([words[4].encode(), b"behind the end"])}
+    path = lay_out(f"{folder}/chunks", document([5], [2], PLAIN, "string", "n/a"), chunks)
+    compare("chunks", cells(program, path), ["a", "", "n/a", "n/a", "e"])
+    lay_out(path, document([5], [2], PLAIN, "string", "n/a"), {"c/1": encoded([word.encode() for word in words[2:4]])})
+    compare("chunks, all there", cells(program, path), words)
+    compare("chunks as text", run(program, "read", path), (0, '"a" "" "grüezi\\n\\"b\\"\\\\" "\\u{202e}" "e"\n', ""))
+    compare("one of them", run(program, "read", path, "3..4"), (0, '"\\u{202e}"\n', ""))
+    compare("none of them", cells(program, path, "2..2"), [])
+    compare("check of chunks", run(program, "check", path)[::2], (0, ""))
+    compare("fill value", [line for line in run(program, "info", path)[1].splitlines() if "fill value" in line], ['fill value: "n/a"'])
+
+
+def test_shards(program, folder):
+    """A shard with compressed subchunks: all there but one, which is absent; then one is damaged."""
+    rows = [[f"{row},{column}" * (row + 1) for column in range(4)] for row in range(4)]
+    parts = [[rows[r][c] for r in (a, a + 1) for c in (b, b + 1)] for a in (0, 2) for b in (0, 2)]
+    stored = [gzip.compress(encoded([word.encode() for word in part])) for part in parts]
+    metadata = document([4, 4], [4, 4], sharded([2, 2], GZIPPED), "string", "-")
+    path = lay_out(f"{folder}/shards", metadata, {"c/0/0": shard_of([stored[0], None, *stored[2:]])})
+    wanted = [["-" if row < 2 and column > 1 else word for column, word in enumerate(words)] for row, words in enumerate(rows)]
+    compare("a shard", cells(program, path), sum(wanted, []))
+    compare("a column", cells(program, path, "1..4,1..3"), [word for row in wanted[1:] for word in row[1:3]])
+    hurt = stored[2][:20] + bytes([stored[2][20] ^ 255]) + stored[2][21:]
+    lay_out(path, metadata, {"c/0/0": shard_of([stored[0], None, hurt, stored[3]])})
+    status, out, told = run(program, "read", path, "--json")
+    compare("a damaged subchunk", (status, out, "subchunk 2" in told and "c/0/0" in told), (1, "", True))
+    status, out, told = run(program, "read", path, "--json", "--fill-damaged")
+    filled = [["-" if row > 1 and column < 2 else word for column, word in enumerate(words)] for row, words in enumerate(wanted)]
+    compare("a damaged subchunk that is filled", (status, json.loads(out)["cells"], told.count("filled")), (1, sum(filled, []), 1))
+    status, out, told = run(program, "check", path)
+    compare("check of a damaged subchunk", (status, "c/0/0: 15 Damaged: subchunk 2" in out, told), (1, True, ""))
+
+
+def test_no_text(program, folder):
+    """Bytes that are no text in UTF-8: told where a text is to be shown. An encoding of another count is damaged."""
+    path = lay_out(f"{folder}/no_text", document([2, 2], [2, 2], PLAIN, "string", ""), {"c/0/0": encoded([b"a", b"b", b"c", b"\xff"])})
+    compare("no text", run(program, "read", path), (2, "", "zarr_shard: the element at 1,1 is no text: its bytes are not UTF-8\n"))
+    compare("texts beside it", cells(program, path, "0..2,0"), ["a", "c"])
+    for number, content in enumerate([encoded([b"a"] * 3), encoded([b"a"] * 5), encoded([b"a"] * 4) + b"x", encoded([b"a"] * 4)[:-1], b""]):
+        lay_out(path, document([2, 2], [2, 2], PLAIN, "string", ""), {"c/0/0": content})
+        compare(f"damaged encoding {number}", run(program, "read", path)[:2], (1, ""))
+
+
+def test_bytes(program, folder):
+    """Bytes of any number, by either name of the type, with a fill value in base64 or as a list."""
+    elements = [b"", b"\x00\xff", bytes(range(256))]
+    for name, fill in (("bytes", [1, 2]), ("variable_length_bytes", base64.b64encode(b"\x01\x02").decode())):
+        metadata = document([4], [3], [{"name": "vlen-bytes"}], name, fill)
+        path = lay_out(f"{folder}/{name}", metadata, {"c/0": encoded(elements)})
+        compare(name, cells(program, path), [*map(list, elements), [1, 2]])
+        compare(f"{name} as text", run(program, "read", path, "0..2"), (0, "0x 0x00ff\n", ""))
+
+
+def test_refused(program, folder):
+    """Types and codecs that do not fit together: a sentence on a line, and nothing on standard output."""
+    for number, (data_type, codecs, words) in enumerate([
+        ("string", [{"name": "bytes"}], "their codec is vlen-utf8"), ("uint8", PLAIN, "their codec is bytes"),
+        ("string", [{"name": "vlen-utf8", "configuration": {"level": 1}}], "level"),
+        ("string", sharded([2], PLAIN, PLAIN), "index_codecs"), ("string", PLAIN + PLAIN, "codecs"),
+    ]):
+        path = lay_out(f"{folder}/refused{number}", document([2], [2], codecs, data_type, "" if data_type == "string" else 0), {})
+        status, out, told = run(program, "read", path)
+        compare(f"refused {number}", (status, out, words in told, len(told.splitlines())), (2, "", True, 1))
+    codecs = sharded([2], [*PLAIN, {"name": "blosc", "configuration": {}}])
+    path = lay_out(f"{folder}/blosc", document([2], [2], codecs, "string", ""), {"c/0": shard_of([b"anything"])})
+    compare("info of another codec", run(program, "info", path)[0], 0)
+    compare("read of another codec", (run(program, "read", path)[0], "blosc" in run(program, "read", path)[2]), (2, True))
+
+
+def test_many(program, folder):
+    """100,000 texts in 100 shards, read by one thread and by four."""
+    dice = random.Random(7)
+    words = ["".join(chr(dice.choice([65, 228, 0x6771, 0x1F30D])) for _ in range(dice.randrange(20))) for _ in range(100_000)]
+    chunks = {}
+    for shard in range(100):
+        parts = [words[at : at + 100] for at in range(1000 * shard, 1000 * shard + 1000, 100)]
+        chunks[f"c/{shard}"] = shard_of([gzip.compress(encoded([word.encode() for word in part]), 1) for part in parts])
+    path = lay_out(f"{folder}/many", document([100_000], [1000], sharded([100], GZIPPED), "string", ""), chunks)
+    for jobs in ("1", "4"):
+        compare(f"many texts by {jobs}", cells(program, path, "-j", jobs), words)
+    compare("some of them", cells(program, path, "12345..54321"), words[12345:54321])
+
+
+def main(program):
+    with tempfile.TemporaryDirectory() as folder:
+        for test in (test_chunks, test_shards, test_no_text, test_bytes, test_refused, test_many):
+            test(program, folder)
+    for line in bad:
+        print(line)
+    print(f"arrays of texts and bytes: {len(bad)} differences")
+    return 1 if bad else 0
+
+
+if __name__ == "__main__":
+    sys.exit(main(os.path.abspath(sys.argv[1]) if len(sys.argv) > 1 else BUILT))
