@@ -325,7 +325,8 @@ def test_varying(program, name, path, expected):
     row = shape[-1]
     shown = [shown_text(cell) if data_type == "string" else "0x" + cell for cell in expected["cells"]]
     compare(name, "elements as text", lines, [" ".join(shown[at : at + row]) for at in range(0, len(shown), row)])
-    for words in (["read", path, "--raw"], ["read", path, "--npy", f"{path}.npy"], ["reshard", path, f"{path}.new"], ["compare", path, path]):
+    compare(name, "compare", run(program, "compare", path, path), (0, b"no element differs\n", ""))
+    for words in (["read", path, "--raw"], ["read", path, "--npy", f"{path}.npy"], ["reshard", path, f"{path}.new"]):
         status, out, told = run(program, *words)
         compare(name, words[0], (status, out, "have lengths of their own" in told), (2, b"", True))
     compare(name, "what is left", [os.path.exists(f"{path}{end}") for end in (".npy", ".new", ".new.partial")], [False] * 3)

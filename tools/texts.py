@@ -145,6 +145,19 @@ def test_refused(program, folder):
     compare("read of another codec", (run(program, "read", path)[0], "blosc" in run(program, "read", path)[2]), (2, True))
 
 
+def test_compare(program, folder):
+    """Two arrays of texts in other chunks, compared: as many differ as were changed, and the first is shown."""
+    words = [f"{number}" * (number % 7) for number in range(12)]
+    paths = []
+    for name, size, changed in (("one", 4, {}), ("other", 3, {}), ("third", 3, {5: "", 10: "x"})):
+        told = [changed.get(number, word).encode() for number, word in enumerate(words)]
+        chunks = {f"c/{at // size}": encoded(told[at : at + size]) for at in range(0, 12, size)}
+        paths.append(lay_out(f"{folder}/{name}", document([12], [size], PLAIN, "string", "3"), chunks))
+    compare("texts that are the same", run(program, "compare", *paths[:2]), (0, "no element differs\n", ""))
+    wanted = '2 elements differ, the first one at: 5\n"55555"\n""\n'
+    compare("texts that differ", run(program, "compare", paths[0], paths[2]), (1, wanted, ""))
+
+
 def test_many(program, folder):
     """100,000 texts in 100 shards, read by one thread and by four."""
     dice = random.Random(7)
@@ -161,7 +174,7 @@ def test_many(program, folder):
 
 def main(program):
     with tempfile.TemporaryDirectory() as folder:
-        for test in (test_chunks, test_shards, test_no_text, test_bytes, test_refused, test_many):
+        for test in (test_chunks, test_shards, test_no_text, test_bytes, test_refused, test_compare, test_many):
             test(program, folder)
     for line in bad:
         print(line)

@@ -124,7 +124,7 @@ pub enum Stop {
     #[error("the chunks of the array have 2^64 elements or more, and `read` serves fewer")]
     TooManyElements,
     /// Elements of a data type that have lengths of their own, where each is to have one size.
-    #[error("elements of the data type {0} have lengths of their own: `read` prints them, as text or as JSON, and they are neither written nor compared")]
+    #[error("elements of the data type {0} have lengths of their own, which is not served here: they are read as text or as JSON, and compared")]
     Varying(&'static str),
     /// An element that is no text; its coordinates.
     #[error("the element at {0} is no text: its bytes are not UTF-8")]

@@ -1,9 +1,10 @@
 // Two arrays, compared element by element.
 use array_cli::{Array, Ending, ShardCodec, ShardFile, Stop, written};
 use array_fields::{ElementType, Progress, write_cell_line, write_numbers};
-use array_grid::SubsetCells;
+use array_grid::{SubsetCells, SubsetElements, VaryingCells};
 use array_metadata::ArrayMetadata;
 use array_writing::{chunks_of, elements_of, read_silently};
+use parts_errors::CodecError;
 use parts_row_major::unravel_index;
 use parts_subsets::ArraySubset;
 use std::alloc::Global;
@@ -69,6 +70,23 @@ impl Differences {
         }
         Ok(())
     }
+
+    // Adds the elements of a subset that differ, which have lengths of their own.
+    fn add_varying(
+        &mut self,
+        alloc: Global,
+        subset: &ArraySubset,
+        first: &VaryingCells,
+        second: &VaryingCells,
+    ) -> Result<(), Stop> {
+        for number in 0..first.len() {
+            let elements = (first.element(number), second.element(number));
+            if elements.0 != elements.1 {
+                self.add(alloc, subset, number as u64, elements)?;
+            }
+        }
+        Ok(())
+    }
 }
 
 // Adds the elements of a subset of two arrays that differ, where they have these.
@@ -97,9 +115,15 @@ fn add_subset<
     subset: &ArraySubset,
     found: &mut Differences,
 ) -> Result<(), Stop> {
-    let first = read_silently(one, subset)?;
-    let second = read_silently(other, subset)?;
-    add_cells(one, other, subset, (&first, &second), found)
+    match (read_silently(one, subset)?, read_silently(other, subset)?) {
+        (SubsetElements::Sized(first), SubsetElements::Sized(second)) => {
+            add_cells(one, other, subset, (&first, &second), found)
+        }
+        (SubsetElements::Varying(first), SubsetElements::Varying(second)) => {
+            found.add_varying(one.alloc(), subset, &first, &second)
+        }
+        _ => Err(CodecError::WrongElementKind.into()),
+    }
 }
 
 // Adds what differs in the chunk at these coordinates of the first array's grid.
@@ -238,8 +262,8 @@ pub fn compare<
     out: &mut W,
     progress: &mut Progress<'_, M>,
 ) -> Result<Ending, Stop> {
-    one.test_sized()?;
-    other.test_sized()?;
+    one.test_read()?;
+    other.test_read()?;
     if let Some(words) = differing_metadata(one.metadata, other.metadata) {
         written(out.write_all(words), Ending::Different)?;
         return Ok(Ending::Different);

@@ -114,15 +114,13 @@ pub fn elements_of(
     Ok(ArraySubset::new_with_start_shape(starts, counts))
 }
 
-/// The elements of a subset as `read_array` gives them, where they have one size, nothing is refused and nothing shows how far it is.
+/// The elements of a subset as `read_array` gives them, where nothing is refused and nothing shows how far it is.
 pub fn read_silently<'a, R: Files + AllocGlobal, C: ShardCodec<ShardFile<'a, R>>>(
     array: &Array<'a, R, C>,
     requested: &ArraySubset,
-) -> Result<SubsetCells, Stop> {
+) -> Result<SubsetElements, Stop> {
     let mut silent: Vec<u8> = Vec::new(array.alloc());
     let mut progress = Progress::new(&mut silent, false);
-    match read_array(array, requested, false, &mut progress)? {
-        (SubsetElements::Sized(cells), _) => Ok(cells),
-        (SubsetElements::Varying(_), _) => Err(CodecError::WrongElementKind.into()),
-    }
+    let (elements, _) = read_array(array, requested, false, &mut progress)?;
+    Ok(elements)
 }

@@ -8,7 +8,7 @@ use array_cli::{
 };
 use array_fields::Progress;
 use array_folder::Counted;
-use array_grid::{ShardWork, SubsetCells, piece_length, piece_of, run_in_parallel};
+use array_grid::{ShardWork, SubsetCells, SubsetElements, piece_length, piece_of, run_in_parallel};
 use array_metadata::ArrayMetadata;
 use parts_arrays::ArrayBytes;
 use parts_errors::CodecError;
@@ -100,7 +100,9 @@ fn new_elements<'a, R: Files + AllocGlobal, C: ShardCodec<ShardFile<'a, R>>>(
     requested: &ArraySubset,
     new: &ArrayMetadata,
 ) -> Result<SubsetCells, Stop> {
-    let found = read_silently(old, requested)?;
+    let SubsetElements::Sized(found) = read_silently(old, requested)? else {
+        return Err(CodecError::WrongElementKind.into());
+    };
     let elements = old.least_first(found.bytes())?;
     Ok(stored_chunk(old.alloc(), requested.shape(), &elements, new)?)
 }
