@@ -5,8 +5,10 @@ pub use Rattle.session_runs.specs.Runs
 pub use Rattle.session_runs.specs.Ended
 pub use Rattle.session_runs.specs.FromScratch
 pub use Rattle.session_runs.specs.Histories
-pub use Rattle.session_records.specs.Recorded
-pub use Rattle.session_records.specs.SharedRecords
-pub use Rattle.session_records.specs.Receipts
-pub use Rattle.session_records.specs.Closing
+pub mod Recorded
+pub mod SharedRecords
+pub mod Receipts
+pub mod Closing
+pub mod RefusedErasures
+pub mod steps
 pub use Rattle.zarrs_sharding.specs.Resharding

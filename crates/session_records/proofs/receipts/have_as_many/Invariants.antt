@@ -1,6 +1,0 @@
-use Rattle.std.proofs.Common.{◌≡◌, ◌+◌, length, take}
-use Rattle.session_records.specs.Receipts.{receipts_of}
-use Rattle.session_records.proofs.receipts.have_as_many.Given as goal
-
-abbrev pub invariant-loop-seat : goal.invariant-loop-seat
-invariant-loop-seat l = l.left + length (receipts_of (take l.seat-index l.seats)) ≡ l.count
