@@ -166,7 +166,7 @@ impl<'a, R: Files + AllocGlobal, C> Array<'a, R, C> {
         self.test_read()?;
         match self.metadata.data_type.size() {
             DataTypeSize::Fixed(_) => Ok(()),
-            DataTypeSize::Variable => Err(Stop::Varying(self.metadata.element_type.name())),
+            DataTypeSize::Variable => Err(Stop::Varying(self.metadata.element_type)),
         }
     }
 

@@ -41,15 +41,10 @@ pub fn held_cells<R: Files + AllocGlobal, C>(
     requested: &ArraySubset,
     held: Option<SubsetElements>,
 ) -> Result<SubsetElements, CodecError> {
-    let metadata = array.metadata;
+    let (alloc, metadata) = (array.alloc(), array.metadata);
     match held {
         Some(held) => Ok(held),
-        None => SubsetElements::new(
-            array.alloc(),
-            requested,
-            &metadata.data_type,
-            &metadata.fill_value,
-        ),
+        None => SubsetElements::new(alloc, requested, &metadata.data_type, &metadata.fill_value),
     }
 }
 
@@ -126,11 +121,11 @@ fn place_of<'a, R: Files + AllocGlobal, C, S: OpenShard<ShardFile<'a, R>>>(
 }
 
 // Reads the part of a subset that lies in a shard, which is open, or says how and where that is refused.
-fn read_placed<'a, R: Files + AllocGlobal, C, S: OpenShard<ShardFile<'a, R>>>(
+fn read_placed<'a, 'e, R: Files + AllocGlobal, C, S: OpenShard<ShardFile<'a, R>>>(
     array: &Array<'a, R, C>,
     part: &ShardPart,
     opened: &mut S,
-) -> Result<ArrayBytes<'static>, (CodecError, Place)> {
+) -> Result<ArrayBytes<'e>, (CodecError, Place)> {
     let error = match opened.read_subset(array.alloc(), array.metadata, &part.in_shard) {
         Ok(found) => return Ok(found),
         Err(error) => error,
@@ -143,11 +138,11 @@ fn read_placed<'a, R: Files + AllocGlobal, C, S: OpenShard<ShardFile<'a, R>>>(
 }
 
 // Reads a part of a subset, which lies in a shard.
-fn read_shard<'a, R: Files + AllocGlobal, C: ShardCodec<ShardFile<'a, R>>>(
+fn read_shard<'a, 'e, R: Files + AllocGlobal, C: ShardCodec<ShardFile<'a, R>>>(
     array: &Array<'a, R, C>,
     part: &ShardPart,
     shard: &Shard<'_>,
-) -> Result<ArrayBytes<'static>, Stop> {
+) -> Result<ArrayBytes<'e>, Stop> {
     let mut opened = array.opened(shard, array.file(shard.key)?)?;
     let read = read_placed(array, part, &mut opened);
     let file = opened.close();
@@ -158,12 +153,12 @@ fn read_shard<'a, R: Files + AllocGlobal, C: ShardCodec<ShardFile<'a, R>>>(
 }
 
 // Reads a part of a subset, which lies in a shard; `None` where it is refused and is to be filled.
-fn read_or_fill<'a, R: Files + AllocGlobal, C: ShardCodec<ShardFile<'a, R>>>(
+fn read_or_fill<'a, 'e, R: Files + AllocGlobal, C: ShardCodec<ShardFile<'a, R>>>(
     array: &Array<'a, R, C>,
     part: &ShardPart,
     shard: &Shard<'_>,
     fills: bool,
-) -> Result<Option<ArrayBytes<'static>>, Stop> {
+) -> Result<Option<ArrayBytes<'e>>, Stop> {
     match read_shard(array, part, shard) {
         Ok(found) => Ok(Some(found)),
         Err(Stop::Refused(_)) if fills => Ok(None),
@@ -203,32 +198,32 @@ pub fn shard_of_grid<R: Files + AllocGlobal, C>(
 
 /// A part of a subset, the shard in which it lies, and its elements; `None` where these are refused and are to be filled.
 #[derive(Drop)]
-pub struct PartRead {
+pub struct PartRead<'e> {
     pub part: ShardPart,
     shard: GridShard,
-    pub found: Option<ArrayBytes<'static>>,
+    pub found: Option<ArrayBytes<'e>>,
 }
 
 // Reads a part of a subset.
-fn read_part<'a, R: Files + AllocGlobal, C: ShardCodec<ShardFile<'a, R>>>(
+fn read_part<'a, 'e, R: Files + AllocGlobal, C: ShardCodec<ShardFile<'a, R>>>(
     array: &Array<'a, R, C>,
     grid: &ShardGrid,
     part: ShardPart,
     fills: bool,
-) -> Result<PartRead, Stop> {
+) -> Result<PartRead<'e>, Stop> {
     let shard = shard_of_grid(array, grid, part.shard)?;
     let found = read_or_fill(array, &part, &shard.shard(), fills)?;
     Ok(PartRead { part, shard, found })
 }
 
 /// Reads the part of a subset with this number, which is to be filled where it is refused, if `fills`; nothing past the last one.
-pub fn read_numbered<'a, R: Files + AllocGlobal, C: ShardCodec<ShardFile<'a, R>>>(
+pub fn read_numbered<'a, 'e, R: Files + AllocGlobal, C: ShardCodec<ShardFile<'a, R>>>(
     array: &Array<'a, R, C>,
     grid: &ShardGrid,
     parts: &ShardParts,
     number: u64,
     fills: bool,
-) -> Result<Option<PartRead>, Stop> {
+) -> Result<Option<PartRead<'e>>, Stop> {
     match parts.part(array.alloc(), number)? {
         Some(part) => Ok(Some(read_part(array, grid, part, fills)?)),
         None => Ok(None),
@@ -256,7 +251,7 @@ fn fill_part<'a, R: Files + AllocGlobal, C: ShardCodec<ShardFile<'a, R>>, M: Wri
 fn put_read<'a, R: Files + AllocGlobal, C: ShardCodec<ShardFile<'a, R>>, M: Write>(
     array: &Array<'a, R, C>,
     requested: &ArraySubset,
-    read: &PartRead,
+    read: &PartRead<'_>,
     answer: &mut Answer,
     progress: &mut Progress<'_, M>,
 ) -> Result<(), Stop> {

@@ -28,12 +28,12 @@ pub type ShardFile<'a, R> = FileHandle<&'a R>;
 /// A shard that is opened to be read. A subchunk is named by its coordinates among those of the shard.
 pub trait OpenShard<F> {
     /// Reads the elements of a subset, of an array with this metadata, in row-major order of the subset.
-    fn read_subset(
+    fn read_subset<'e>(
         &mut self,
         alloc: Global,
         metadata: &ArrayMetadata,
         subset: &ArraySubset,
-    ) -> Result<ArrayBytes<'static>, CodecError>;
+    ) -> Result<ArrayBytes<'e>, CodecError>;
 
     /// Where the bytes of a subchunk stand; `None` where it is absent. Reads nothing.
     fn byte_range(&self, subchunk: &[u64]) -> Result<Option<ByteRange>, CodecError>;
@@ -231,7 +231,7 @@ fn read_elements<
 }
 
 // Elements that have a size and these bytes.
-pub(crate) fn sized(bytes: Vec<u8>, size: usize) -> Result<ArrayBytes<'static>, CodecError> {
+pub(crate) fn sized<'e>(bytes: Vec<u8>, size: usize) -> Result<ArrayBytes<'e>, CodecError> {
     match ArrayBytes::new_flen(CowSlice::Owned(bytes), size) {
         Some(elements) => Ok(elements),
         None => Err(CodecError::WrongElementKind),
@@ -239,12 +239,17 @@ pub(crate) fn sized(bytes: Vec<u8>, size: usize) -> Result<ArrayBytes<'static>, 
 }
 
 // Reads the elements of a subset of a shard that is open, which have a size.
-fn read_sized<I: ArrayToBytesCodecTraits, X: ArrayToBytesCodecTraits, H: BytesPartialDecoderTraits>(
+fn read_sized<
+    'e,
+    I: ArrayToBytesCodecTraits,
+    X: ArrayToBytesCodecTraits,
+    H: BytesPartialDecoderTraits,
+>(
     alloc: Global,
     decoder: &mut ShardingPartialDecoder<'_, I, X, H>,
     subset: &ArraySubset,
     size: usize,
-) -> Result<ArrayBytes<'static>, CodecError> {
+) -> Result<ArrayBytes<'e>, CodecError> {
     let mut bytes = room_of(alloc, subset, size)?;
     read_elements(alloc, decoder, subset, size, &mut bytes)?;
     sized(bytes, size)
@@ -341,12 +346,12 @@ impl<
     X: ArrayToBytesCodecTraits,
     H: BytesPartialDecoderTraits,
 > OpenShard<H> for OpenedShard<'a, I, X, H> {
-    fn read_subset(
+    fn read_subset<'e>(
         &mut self,
         alloc: Global,
         metadata: &ArrayMetadata,
         subset: &ArraySubset,
-    ) -> Result<ArrayBytes<'static>, CodecError> {
+    ) -> Result<ArrayBytes<'e>, CodecError> {
         let decoder = &mut self.decoder;
         match metadata.data_type.size() {
             DataTypeSize::Fixed(size) => read_sized(alloc, decoder, subset, size),

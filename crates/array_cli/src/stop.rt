@@ -3,6 +3,7 @@ ghost use Rattle.std.specs.Prelude.{◌≡◌, ◌≤◌};
 ghost use Rattle.array_cli.specs.Statuses.{status_of};
 
 use crate::refusal::Refusal;
+use array_fields::ElementType;
 use array_folder::FolderError;
 use array_grid::SubsetError;
 use array_metadata::Obstacles;
@@ -125,7 +126,7 @@ pub enum Stop {
     TooManyElements,
     /// Elements of a data type that have lengths of their own, where each is to have one size.
     #[error("elements of the data type {0} have lengths of their own, which is not served here: they are read as text or as JSON, and compared")]
-    Varying(&'static str),
+    Varying(ElementType),
     /// An element that is no text; its coordinates.
     #[error("the element at {0} is no text: its bytes are not UTF-8")]
     NoText(String),

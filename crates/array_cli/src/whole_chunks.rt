@@ -98,24 +98,24 @@ fn read_elements<C: ArrayToBytesCodecTraits, H: BytesPartialDecoderTraits>(
 }
 
 // Reads the elements of a subset of a chunk that is open, which have a size.
-fn read_sized<C: ArrayToBytesCodecTraits, H: BytesPartialDecoderTraits>(
+fn read_sized<'e, C: ArrayToBytesCodecTraits, H: BytesPartialDecoderTraits>(
     alloc: Global,
     chunk: &mut WholeChunk<'_, C, H>,
     metadata: &ArrayMetadata,
     subset: &ArraySubset,
     size: usize,
-) -> Result<ArrayBytes<'static>, CodecError> {
+) -> Result<ArrayBytes<'e>, CodecError> {
     let mut bytes = room_of(alloc, subset, size)?;
     read_elements(alloc, chunk, metadata, subset, size, &mut bytes)?;
     sized(bytes, size)
 }
 
 // So many fill values, as many as a subset has elements.
-fn fill_values(
+fn fill_values<'e>(
     alloc: Global,
     metadata: &ArrayMetadata,
     subset: &ArraySubset,
-) -> Result<ArrayBytes<'static>, CodecError> {
+) -> Result<ArrayBytes<'e>, CodecError> {
     match subset.num_elements() {
         Some(count) => {
             let (data_type, fill_value) = (&metadata.data_type, &metadata.fill_value);
@@ -126,12 +126,12 @@ fn fill_values(
 }
 
 // Reads the elements of a subset of a chunk that is open, which have lengths of their own; fill values where there is no file.
-fn read_varying<C: ArrayToBytesCodecTraits, H: BytesPartialDecoderTraits>(
+fn read_varying<'e, C: ArrayToBytesCodecTraits, H: BytesPartialDecoderTraits>(
     alloc: Global,
     chunk: &mut WholeChunk<'_, C, H>,
     metadata: &ArrayMetadata,
     subset: &ArraySubset,
-) -> Result<ArrayBytes<'static>, CodecError> {
+) -> Result<ArrayBytes<'e>, CodecError> {
     let Some(size) = chunk.length else {
         return fill_values(alloc, metadata, subset);
     };
@@ -159,12 +159,12 @@ fn one_entry(alloc: Global, length: u64) -> Result<Vec<u64>, AllocError> {
 
 impl<C: ArrayToBytesCodecTraits, H: BytesPartialDecoderTraits> OpenShard<H>
     for WholeChunk<'_, C, H> {
-    fn read_subset(
+    fn read_subset<'e>(
         &mut self,
         alloc: Global,
         metadata: &ArrayMetadata,
         subset: &ArraySubset,
-    ) -> Result<ArrayBytes<'static>, CodecError> {
+    ) -> Result<ArrayBytes<'e>, CodecError> {
         match metadata.data_type.size() {
             DataTypeSize::Fixed(size) => read_sized(alloc, self, metadata, subset, size),
             DataTypeSize::Variable => read_varying(alloc, self, metadata, subset),

@@ -76,13 +76,13 @@ struct PartPiece<'s, R> {
 }
 
 // Reads the parts of a subset from a number on to before another one, as far as none is refused.
-fn read_each<'a, R: Files + AllocGlobal, C: ShardCodec<ShardFile<'a, R>>>(
+fn read_each<'a, 'e, R: Files + AllocGlobal, C: ShardCodec<ShardFile<'a, R>>>(
     array: &Array<'a, R, C>,
     grid: &ShardGrid,
     parts: &ShardParts,
     first: u64,
     end: u64,
-) -> Result<Vec<PartRead>, Stop> {
+) -> Result<Vec<PartRead<'e>>, Stop> {
     let mut found = Vec::new(array.alloc());
     for number in first..end {
         if let Some(read) = read_numbered(array, grid, parts, number, false)? {
@@ -93,9 +93,9 @@ fn read_each<'a, R: Files + AllocGlobal, C: ShardCodec<ShardFile<'a, R>>>(
 }
 
 impl<'s, R: Files + AllocGlobal> CodecUse<ShardFile<'s, R>> for PartPiece<'s, R> {
-    type Answer = Result<Vec<PartRead>, Stop>;
+    type Answer = Result<Vec<PartRead<'s>>, Stop>;
 
-    fn with<C: ShardCodec<ShardFile<'s, R>>>(self, codec: C) -> Result<Vec<PartRead>, Stop> {
+    fn with<C: ShardCodec<ShardFile<'s, R>>>(self, codec: C) -> Result<Vec<PartRead<'s>>, Stop> {
         let PartPiece { pieces, first, end } = self;
         let PartPieces {
             array,
@@ -108,13 +108,13 @@ impl<'s, R: Files + AllocGlobal> CodecUse<ShardFile<'s, R>> for PartPiece<'s, R>
     }
 }
 
-impl<R: Files + AllocGlobal> ShardWork for PartPieces<'_, R> {
-    type Answer = Result<Vec<PartRead>, Stop>;
+impl<'s, R: Files + AllocGlobal> ShardWork for PartPieces<'s, R> {
+    type Answer = Result<Vec<PartRead<'s>>, Stop>;
 
     // no contract says what files give
     ghost gives = { λ pieces number found. Unit {0} };
 
-    fn run(&self, number: u64) -> Result<Vec<PartRead>, Stop> {
+    fn run(&self, number: u64) -> Result<Vec<PartRead<'s>>, Stop> {
         let before = number.saturating_mul(self.in_piece);
         let first = self.first.saturating_add(before);
         let end = first.saturating_add(self.in_piece).min(self.parts.len());
@@ -131,7 +131,7 @@ impl<R: Files + AllocGlobal> ShardWork for PartPieces<'_, R> {
 fn put_each<R: Files + AllocGlobal>(
     array: &SharedArray<'_, R>,
     requested: &ArraySubset,
-    piece: &[PartRead],
+    piece: &[PartRead<'_>],
     cells: &mut Option<SubsetElements>,
 ) -> Result<(), CodecError> {
     for read in piece {
