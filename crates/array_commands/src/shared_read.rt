@@ -69,8 +69,8 @@ impl<'s, R> PartPieces<'s, R> {
 
 // Of these the parts from a number on to before another one.
 #[derive(Drop)]
-struct PartPiece<'s, R> {
-    pieces: &'s PartPieces<'s, R>,
+struct PartPiece<'p, 's, R> {
+    pieces: &'p PartPieces<'s, R>,
     first: u64,
     end: u64,
 }
@@ -92,7 +92,7 @@ fn read_each<'a, 'e, R: Files + AllocGlobal, C: ShardCodec<ShardFile<'a, R>>>(
     Ok(found)
 }
 
-impl<'s, R: Files + AllocGlobal> CodecUse<ShardFile<'s, R>> for PartPiece<'s, R> {
+impl<'s, R: Files + AllocGlobal> CodecUse<ShardFile<'s, R>> for PartPiece<'_, 's, R> {
     type Answer = Result<Vec<PartRead<'s>>, Stop>;
 
     fn with<C: ShardCodec<ShardFile<'s, R>>>(self, codec: C) -> Result<Vec<PartRead<'s>>, Stop> {
