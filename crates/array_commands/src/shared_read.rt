@@ -4,11 +4,15 @@ use array_cli::{
     held_cells, put_shard_part, read_array, read_numbered, shards_of, with_codec,
 };
 use array_fields::Progress;
-use array_grid::{ShardGrid, ShardParts, ShardWork, SubsetElements, piece_length, run_in_parallel};
+use array_grid::{
+    ShardGrid, ShardPart, ShardParts, ShardWork, SubsetElements, piece_length, run_in_parallel,
+};
 use array_metadata::ArrayMetadata;
-use parts_arrays::DataTypeSize;
+use parts_arrays::{ArrayBytes, DataTypeSize};
 use parts_errors::CodecError;
 use parts_subsets::ArraySubset;
+use std::alloc::Global;
+use std::borrow::CowSlice;
 use std::io::Write;
 use std::rt::Files;
 
@@ -69,33 +73,54 @@ impl<'s, R> PartPieces<'s, R> {
 
 // Of these the parts from a number on to before another one.
 #[derive(Drop)]
-struct PartPiece<'p, 's, R> {
-    pieces: &'p PartPieces<'s, R>,
+struct PartPiece<'s, R> {
+    pieces: &'s PartPieces<'s, R>,
     first: u64,
     end: u64,
 }
 
+// A part of a subset, and the bytes of its elements, which have one size.
+#[derive(Drop)]
+struct SizedPart {
+    part: ShardPart,
+    bytes: Vec<u8>,
+}
+
+// A part that was read, with the bytes of its elements; nothing where these are refused.
+fn sized_part(alloc: Global, read: PartRead<'_>) -> Result<Option<SizedPart>, CodecError> {
+    let PartRead { part, found, .. } = read;
+    match found {
+        Some(elements) => {
+            let bytes = elements.into_fixed()?.into_owned(alloc)?;
+            Ok(Some(SizedPart { part, bytes }))
+        }
+        None => Ok(None),
+    }
+}
+
 // Reads the parts of a subset from a number on to before another one, as far as none is refused.
-fn read_each<'a, 'e, R: Files + AllocGlobal, C: ShardCodec<ShardFile<'a, R>>>(
+fn read_each<'a, R: Files + AllocGlobal, C: ShardCodec<ShardFile<'a, R>>>(
     array: &Array<'a, R, C>,
     grid: &ShardGrid,
     parts: &ShardParts,
     first: u64,
     end: u64,
-) -> Result<Vec<PartRead<'e>>, Stop> {
+) -> Result<Vec<SizedPart>, Stop> {
     let mut found = Vec::new(array.alloc());
     for number in first..end {
         if let Some(read) = read_numbered(array, grid, parts, number, false)? {
-            found.push(read)?;
+            if let Some(part) = sized_part(array.alloc(), read)? {
+                found.push(part)?;
+            }
         }
     }
     Ok(found)
 }
 
-impl<'s, R: Files + AllocGlobal> CodecUse<ShardFile<'s, R>> for PartPiece<'_, 's, R> {
-    type Answer = Result<Vec<PartRead<'s>>, Stop>;
+impl<'s, R: Files + AllocGlobal> CodecUse<ShardFile<'s, R>> for PartPiece<'s, R> {
+    type Answer = Result<Vec<SizedPart>, Stop>;
 
-    fn with<C: ShardCodec<ShardFile<'s, R>>>(self, codec: C) -> Result<Vec<PartRead<'s>>, Stop> {
+    fn with<C: ShardCodec<ShardFile<'s, R>>>(self, codec: C) -> Result<Vec<SizedPart>, Stop> {
         let PartPiece { pieces, first, end } = self;
         let PartPieces {
             array,
@@ -108,13 +133,13 @@ impl<'s, R: Files + AllocGlobal> CodecUse<ShardFile<'s, R>> for PartPiece<'_, 's
     }
 }
 
-impl<'s, R: Files + AllocGlobal> ShardWork for PartPieces<'s, R> {
-    type Answer = Result<Vec<PartRead<'s>>, Stop>;
+impl<R: Files + AllocGlobal> ShardWork for PartPieces<'_, R> {
+    type Answer = Result<Vec<SizedPart>, Stop>;
 
     // no contract says what files give
     ghost gives = { λ pieces number found. Unit {0} };
 
-    fn run(&self, number: u64) -> Result<Vec<PartRead<'s>>, Stop> {
+    fn run(&self, number: u64) -> Result<Vec<SizedPart>, Stop> {
         let before = number.saturating_mul(self.in_piece);
         let first = self.first.saturating_add(before);
         let end = first.saturating_add(self.in_piece).min(self.parts.len());
@@ -127,17 +152,29 @@ impl<'s, R: Files + AllocGlobal> ShardWork for PartPieces<'s, R> {
     }
 }
 
+// Puts a part into the cells of a subset.
+fn put_sized<R: Files + AllocGlobal>(
+    array: &SharedArray<'_, R>,
+    requested: &ArraySubset,
+    read: &SizedPart,
+    cells: &mut Option<SubsetElements>,
+) -> Result<(), CodecError> {
+    let size = array.metadata.fill_value.as_ne_bytes().len();
+    match ArrayBytes::new_flen(CowSlice::Borrowed(&read.bytes), size) {
+        Some(elements) => put_shard_part(array, requested, &read.part, &elements, cells),
+        None => Err(CodecError::WrongElementKind),
+    }
+}
+
 // Puts the parts of a piece into the cells of a subset.
 fn put_each<R: Files + AllocGlobal>(
     array: &SharedArray<'_, R>,
     requested: &ArraySubset,
-    piece: &[PartRead<'_>],
+    piece: &[SizedPart],
     cells: &mut Option<SubsetElements>,
 ) -> Result<(), CodecError> {
     for read in piece {
-        if let Some(found) = &read.found {
-            put_shard_part(array, requested, &read.part, found, cells)?;
-        }
+        put_sized(array, requested, read, cells)?;
     }
     Ok(())
 }
@@ -221,7 +258,7 @@ fn read_by_threads<R: SharedSystem, M: Write>(
 
 /// The elements of a subset as `read_array` gives them. Where more than one thread reads, each has shards of its own, of which some lie in
 /// memory beside the elements; the refusal is that of the first shard in the order of the grid that is refused. Where what is refused is
-/// filled, one thread reads.
+/// filled, and where elements have lengths of their own, one thread reads.
 pub fn read_shared<R: SharedSystem, M: Write>(
     array: &SharedArray<'_, R>,
     requested: &ArraySubset,
@@ -229,7 +266,8 @@ pub fn read_shared<R: SharedSystem, M: Write>(
     threads: usize,
     progress: &mut Progress<'_, M>,
 ) -> Result<(SubsetElements, Ending), Stop> {
-    if threads > 1 && !fills {
+    let is_sized = array.metadata.data_type.size() != DataTypeSize::Variable;
+    if threads > 1 && !fills && is_sized {
         let cells = read_by_threads(array, requested, threads, progress)?;
         return Ok((cells, Ending::Done));
     }
