@@ -159,7 +159,7 @@ def test_compare(program, folder):
 
 
 def test_many(program, folder):
-    """100,000 texts in 100 shards, read by one thread and by four."""
+    """100,000 texts in 100 shards, which one thread reads, whatever `-j` says."""
     dice = random.Random(7)
     words = ["".join(chr(dice.choice([65, 228, 0x6771, 0x1F30D])) for _ in range(dice.randrange(20))) for _ in range(100_000)]
     chunks = {}
