@@ -7,7 +7,7 @@ use Rattle.codec_compression.specs.Options.{◌>>=◌, guard}
 use Rattle.codec_compression.specs.Bits.{Bytes}
 use Rattle.codec_compression.proofs.PartLaws.{one_part}
 use Rattle.codec_deflate.specs.Inflate.{inflated}
-use Rattle.codec_deflate_writer.specs.Streams.{IsStreamOf, stored_length}
+use Rattle.codec_deflate.specs.Streams.{IsStreamOf, stored_length}
 use Rattle.codec_gzip.specs.Checksum.{crc32}
 use Rattle.codec_gzip.specs.Gzip.{after, after_zero, after_extra, after_crc16, if_set, after_header, after_trailer, member_at, gunzipped}
 use Rattle.codec_gzip.specs.Written.{plain_header, plain_file, gzip_bound}

@@ -6,7 +6,7 @@ use Rattle.std.specs.Int.{w32, to_be_bytes}
 use Rattle.codec_compression.specs.Options.{◌>>=◌, guard}
 use Rattle.codec_compression.specs.Bits.{Bytes}
 use Rattle.codec_deflate.specs.Inflate.{inflated}
-use Rattle.codec_deflate_writer.specs.Streams.{IsStreamOf, stored_length}
+use Rattle.codec_deflate.specs.Streams.{IsStreamOf, stored_length}
 use Rattle.codec_gzip.specs.Adler.{adler32}
 use Rattle.codec_gzip.specs.Gzip.{after}
 use Rattle.codec_gzip.specs.Zlib.{after_flags, zlib_content}

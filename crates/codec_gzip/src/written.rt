@@ -4,7 +4,7 @@ ghost use Rattle.codec_gzip.specs.Gzip.{gunzipped};
 ghost use Rattle.codec_gzip.specs.Written.{plain_file, gzip_bound};
 
 use crate::checksum::crc32;
-use codec_deflate_writer::deflate;
+use codec_deflate::deflate;
 use std::alloc::{AllocError, Global};
 
 // XFL: 4 for the fastest level, 2 for the one that compresses most (RFC 1952, 2.3.1).

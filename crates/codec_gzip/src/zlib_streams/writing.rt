@@ -4,7 +4,7 @@ ghost use Rattle.codec_gzip.specs.Zlib.{zlib_content};
 ghost use Rattle.codec_gzip.specs.ZlibWritten.{plain_stream, zlib_bound};
 
 use crate::zlib_streams::adler::adler32;
-use codec_deflate_writer::deflate;
+use codec_deflate::deflate;
 use std::alloc::{AllocError, Global};
 
 // FLG after a CMF of 0x78: FLEVEL is 0 for the fastest levels, 1 for fast ones, 2 for the default and 3 for the slowest, as zlib has it.

@@ -1,6 +1,6 @@
 use Rattle.std.proofs.Common.{◌∙◌, length, ap, arith, subst, sym}
 use Rattle.codec_compression.specs.Bits.{Bytes}
-use Rattle.codec_deflate_writer.specs.Streams.{IsStreamOf}
+use Rattle.codec_deflate.specs.Streams.{IsStreamOf}
 use Rattle.codec_gzip.specs.Gzip.{gunzipped}
 use Rattle.codec_gzip.proofs.WrittenLaws.{file_read, length-file}
 use Rattle.codec_gzip.proofs.written.gzip.Goals as goal

@@ -1,6 +1,6 @@
 use Rattle.std.proofs.Common.{◌∙◌, length, ap, arith, subst, sym}
 use Rattle.codec_compression.specs.Bits.{Bytes}
-use Rattle.codec_deflate_writer.specs.Streams.{IsStreamOf}
+use Rattle.codec_deflate.specs.Streams.{IsStreamOf}
 use Rattle.codec_gzip.specs.Zlib.{zlib_content}
 use Rattle.codec_gzip.proofs.ZlibLaws.{stream_read, length-stream}
 use Rattle.codec_gzip.proofs.zlib_streams.writing.zlib.Goals as goal
