@@ -6,7 +6,7 @@ ghost use Rattle.parts_row_major.specs.Numbering.{count_of};
 ghost use Rattle.parts_subsets.specs.Grid.{grid_of};
 
 use crate::compaction_plans::{Planned, plan_of};
-use crate::sound::whole_of;
+use crate::grid_shards::whole_of;
 use array_metadata::ArrayMetadata;
 use codec_traits::{ArrayToBytesCodecTraits, BytesRepresentation};
 use parts_arrays::{ArrayBytes, DataType, DataTypeSize, FillValue, FixedTarget};

@@ -1,9 +1,9 @@
 // Chunks that are no shards, by what commands do with shards: such a chunk is one subchunk, whose bytes are those of the file.
 use crate::compaction_plans::Planned;
+use crate::grid_shards::whole_of;
 use crate::shard_codec::{
     OpenShard, ShardCodec, ShardEncoder, check_served, encode_chunk, room_of, sized, test_decoding,
 };
-use crate::sound::whole_of;
 use array_metadata::ArrayMetadata;
 use codec_traits::{ArrayToBytesCodecTraits, StoredArray};
 use parts_arrays::{ArrayBytes, DataTypeSize, FixedTarget};

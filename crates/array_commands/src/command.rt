@@ -10,13 +10,14 @@ use array_cli::{
     Array, CodecUse, Ending, ShardCodec, ShardFile, SharedArray, SharedSystem, Stop, metadata_of,
     open_shared, with_codec,
 };
-use array_compaction::{Way, compact};
+use array_creation::{create, reshard};
 use array_fields::{Progress, escaped};
 use array_folder::Listing;
 use array_grid::{ListPart, subset_of, threads_of};
-use array_info::{check, extract, info_of_array, info_of_shard, list_nodes, map_array, map_shard};
+use array_info::{extract, info_of_array, info_of_shard, list_nodes, map_array, map_shard};
 use array_metadata::ArrayMetadata;
-use array_writing::{create, reshard, write_subset};
+use array_reading::check;
+use array_updates::{Way, compact, write_subset};
 use clap::ArgMatches;
 use std::alloc::Global;
 use std::convert::AsStr;

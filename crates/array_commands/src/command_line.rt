@@ -2,7 +2,8 @@
 use crate::writing_line::{
     compare_command, create_command, elements_file, layout_words, reshard_command, write_command,
 };
-use array_writing::{ElementsFile, LayoutWords};
+use array_creation::LayoutWords;
+use array_updates::ElementsFile;
 use clap::{Arg, ArgAction, ArgMatches, Command};
 use std::alloc::{AllocError, Global};
 

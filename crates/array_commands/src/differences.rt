@@ -1,9 +1,9 @@
 // Two arrays, compared element by element.
-use array_cli::{Array, Ending, ShardCodec, ShardFile, Stop, written};
+use array_cli::{Array, Ending, ShardCodec, ShardFile, Stop, elements_of, written};
 use array_fields::{ElementType, Progress, write_cell_line, write_numbers};
 use array_grid::{SubsetCells, SubsetElements, VaryingCells};
 use array_metadata::ArrayMetadata;
-use array_writing::{chunks_of, elements_of, read_silently};
+use array_reading::{chunks_of, read_silently};
 use parts_errors::CodecError;
 use parts_row_major::unravel_index;
 use parts_subsets::ArraySubset;

@@ -4,7 +4,7 @@ use array_cli::{Ending, SharedArray, SharedSystem, Stop};
 use array_fields::Progress;
 use array_folder::{begin_new, npy_beside};
 use array_grid::{Requested, VaryingCells, subset_of};
-use array_writing::header_of;
+use array_updates::header_of;
 use parts_errors::CodecError;
 use std::alloc::Global;
 use std::io;

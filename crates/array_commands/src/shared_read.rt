@@ -1,13 +1,14 @@
 // The elements of a subset of an array that threads share.
 use array_cli::{
-    Array, CodecUse, Ending, PartRead, ShardCodec, ShardFile, SharedArray, SharedSystem, Stop,
-    held_cells, put_shard_part, read_array, read_numbered, shards_of, with_codec,
+    Array, CodecUse, Ending, ShardCodec, ShardFile, SharedArray, SharedSystem, Stop, shards_of,
+    with_codec,
 };
 use array_fields::Progress;
 use array_grid::{
     ShardGrid, ShardPart, ShardParts, ShardWork, SubsetElements, piece_length, run_in_parallel,
 };
 use array_metadata::ArrayMetadata;
+use array_reading::{PartRead, held_cells, put_shard_part, read_array, read_numbered};
 use parts_arrays::{ArrayBytes, DataTypeSize};
 use parts_errors::CodecError;
 use parts_subsets::ArraySubset;

@@ -1,6 +1,7 @@
 // The command line of the commands that make arrays, write into them and compare them.
 use crate::command_line::{jobs_option, path_argument, subset_argument};
-use array_writing::{ArrayWords, ElementsFile, LayoutWords};
+use array_creation::{ArrayWords, LayoutWords};
+use array_updates::ElementsFile;
 use clap::{Arg, ArgAction, ArgMatches, Command};
 use std::alloc::{AllocError, Global};
 

@@ -1,6 +1,7 @@
 // The bytes of a subchunk as they are stored.
-use crate::folder::shard_of;
-use array_cli::{Array, Ending, OpenShard, Place, Shard, ShardCodec, ShardFile, Stop, written};
+use array_cli::{
+    Array, Ending, OpenShard, Place, Shard, ShardCodec, ShardFile, Stop, shard_of, written,
+};
 use array_fields::escaped;
 use parts_errors::CodecError;
 use parts_row_major::unravel_index;

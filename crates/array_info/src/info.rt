@@ -1,8 +1,10 @@
 // What an array on disk holds, and its shards.
-use crate::folder::write_folder;
 use crate::index_info::{index_info, index_range};
 use crate::json;
-use array_cli::{Array, Ending, Place, Refusal, Shard, ShardCodec, ShardFile, Stop, written};
+use array_cli::{
+    Array, Ending, Place, Refusal, Shard, ShardCodec, ShardFile, Stop, write_folder,
+    write_folder_lines, written,
+};
 use array_fields::{Progress, write_cell_line, write_numbers};
 use array_folder::{ChunkFile, ChunkFiles, Counted, FolderFiles, IndexInfo, Listing, info_of};
 use array_grid::{ChunkKeys, KeyEncoding, ListPart};
@@ -389,7 +391,7 @@ fn write_info_lines<R: Files + AllocGlobal, C, W: Write>(
 ) -> io::Result<()> {
     write_array_line(out, array)?;
     write_shard_lines(out, files, shards)?;
-    json::write_folder_lines(out, files)?;
+    write_folder_lines(out, files)?;
     json::write_sums(out, sums)
 }
 

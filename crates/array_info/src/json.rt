@@ -2,7 +2,6 @@
 use crate::info::{ShardInfo, Sums, key_words};
 use array_cli::put_refusal;
 use array_fields::{JsonLine, write_json_cell};
-use array_folder::ChunkFiles;
 use array_metadata::{ArrayCodec, ArrayMetadata};
 use std::io;
 use std::io::Write;
@@ -93,26 +92,6 @@ pub fn write_shard<W: Write>(out: &mut W, key: &str, shard: &ShardInfo) -> io::R
         ])?,
         Err(refusal) => put_refusal(&mut line, refusal)?,
     }
-    line.end()
-}
-
-// Writes a line of the kind `new_file`.
-fn write_new_file<W: Write>(out: &mut W, key: &str) -> io::Result<()> {
-    let mut line = JsonLine::new(out, "new_file")?;
-    line.text("key", key)?;
-    line.end()
-}
-
-/// Writes a line of the kind `new_file` for each new file beside a shard, and one of the kind `other_files` where others stand there.
-pub fn write_folder_lines<W: Write>(out: &mut W, files: &ChunkFiles) -> io::Result<()> {
-    for key in files.replacing.iter() {
-        write_new_file(out, key)?;
-    }
-    if files.others == 0 {
-        return Ok(());
-    }
-    let mut line = JsonLine::new(out, "other_files")?;
-    line.number("count", files.others)?;
     line.end()
 }
 

@@ -1,21 +1,15 @@
-// What an array on disk holds: its shards, and whether they are sound; where in its file each subchunk of a shard lies, as text and as a
-// map, and its bytes; what else stands in its folder; and the arrays below a group.
+// What an array on disk holds: its shards; where in its file each subchunk of a shard lies, as text and as a map, and its bytes; what else
+// stands in its folder; and the arrays below a group.
 #![tactic(auto)]
 
-mod check_pieces;
-mod checked;
-mod checking;
 mod extraction;
-mod folder;
 mod index_info;
 mod info;
 mod json;
 mod list;
 mod map;
 mod shard_info;
-mod subchunks;
 
-pub use checking::check;
 pub use extraction::extract;
 pub use info::info_of_array;
 pub use list::list_nodes;

@@ -1,8 +1,9 @@
 // A map of an array's shards, or of the subchunks of one shard.
-use crate::folder::shard_of;
 use crate::info::{ShardInfo, known_shards};
-use crate::subchunks::check_subchunk;
-use array_cli::{Array, Ending, OpenShard, Place, Shard, ShardCodec, ShardFile, Stop, written};
+use array_cli::{
+    Array, Ending, OpenShard, Place, Shard, ShardCodec, ShardFile, Stop, check_subchunk, shard_of,
+    written,
+};
 use array_fields::{Progress, escaped};
 use array_folder::{
     ChunkFiles, Drawn, Mark, ShardMap, SliceOrder, save_bytes, write_array_map,

@@ -1,8 +1,7 @@
 // Where the subchunks of one shard lie in its file.
-use crate::folder::shard_of;
 use crate::info::{ShardInfo, write_shard};
 use crate::json;
-use array_cli::{Array, Ending, Place, Shard, ShardCodec, ShardFile, Stop, written};
+use array_cli::{Array, Ending, Place, Shard, ShardCodec, ShardFile, Stop, shard_of, written};
 use array_fields::{JsonLine, escaped};
 use array_folder::{DeadBytes, IndexInfo, index_interval, info_of, slice_of};
 use parts_errors::CodecError;

@@ -1,7 +1,7 @@
 // What a check came to, and what is written of it.
-use crate::folder::write_folder;
-use crate::json::write_folder_lines;
-use array_cli::{Array, Ending, Refusal, Stop, put_refusal, written};
+use array_cli::{
+    Array, Ending, Refusal, Stop, put_refusal, write_folder, write_folder_lines, written,
+};
 use array_fields::{JsonLine, Progress};
 use array_folder::{ChunkFiles, Counted};
 use std::io;

@@ -1,5 +1,6 @@
 // Whether a subchunk is sound.
-use array_cli::{Array, OpenShard, ShardFile};
+use crate::arrays::Array;
+use crate::shard_codec::{OpenShard, ShardFile};
 use parts_errors::CodecError;
 use parts_row_major::unravel_index;
 use std::rt::Files;

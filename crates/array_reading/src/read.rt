@@ -1,9 +1,9 @@
 // The elements of a subset of an array.
-use crate::arrays::{Array, Shard};
-use crate::refusal::Place;
-use crate::shard_codec::{OpenShard, ShardCodec, ShardFile};
 use crate::sound::put_sound;
-use crate::stop::{Ending, Stop};
+use array_cli::{
+    Array, Ending, GridShard, OpenShard, Place, Shard, ShardCodec, ShardFile, Stop, shard_of_grid,
+    shards_of,
+};
 use array_fields::Progress;
 use array_grid::{ShardGrid, ShardPart, ShardParts, SubsetElements, shared_elements};
 use parts_arrays::ArrayBytes;
@@ -166,36 +166,6 @@ fn read_or_fill<'a, 'e, R: Files + AllocGlobal, C: ShardCodec<ShardFile<'a, R>>>
     }
 }
 
-/// A shard of a grid: its key and its coordinates.
-#[derive(Drop)]
-pub struct GridShard {
-    pub key: String,
-    coordinates: Vec<u64>,
-}
-
-impl GridShard {
-    /// The shard.
-    pub fn shard(&self) -> Shard<'_> {
-        Shard {
-            key: &self.key,
-            coordinates: &self.coordinates,
-        }
-    }
-}
-
-/// The shard of a grid with this number. Refused as `OutOfBounds` where it has none.
-pub fn shard_of_grid<R: Files + AllocGlobal, C>(
-    array: &Array<'_, R, C>,
-    grid: &ShardGrid,
-    number: u64,
-) -> Result<GridShard, Stop> {
-    let Some(coordinates) = grid.coordinates(array.alloc(), number)? else {
-        return Err(CodecError::OutOfBounds.into());
-    };
-    let key = array.metadata.keys.key_of(array.alloc(), &coordinates)?;
-    Ok(GridShard { key, coordinates })
-}
-
 /// A part of a subset, the shard in which it lies, and its elements; `None` where these are refused and are to be filled.
 #[derive(Drop)]
 pub struct PartRead<'e> {
@@ -282,15 +252,6 @@ fn read_next<'a, R: Files + AllocGlobal, C: ShardCodec<ShardFile<'a, R>>, M: Wri
     match read_numbered(array, grid, parts, number, answer.fills)? {
         Some(read) => put_read(array, requested, &read, answer, progress),
         None => Ok(()),
-    }
-}
-
-/// The shards of an array whose elements have numbers. Refused as `Stop::TooManyElements` where they have not.
-pub fn shards_of<R: Files + AllocGlobal, C>(array: &Array<'_, R, C>) -> Result<ShardGrid, Stop> {
-    match ShardGrid::new(array.alloc(), &array.metadata.shape, &array.metadata.shard) {
-        Ok(grid) => Ok(grid),
-        Err(CodecError::TooLarge) => Err(Stop::TooManyElements),
-        Err(error) => Err(error.into()),
     }
 }
 

@@ -1,8 +1,5 @@
 // What is sound of a part of a subset, where its shard or a subchunk is refused.
-use crate::arrays::{Array, Shard};
-use crate::refusal::{Place, Refusal};
-use crate::shard_codec::{OpenShard, ShardCodec, ShardFile};
-use crate::stop::Stop;
+use array_cli::{Array, OpenShard, Place, Refusal, Shard, ShardCodec, ShardFile, Stop};
 use array_fields::Progress;
 use array_grid::{ShardPart, SharedElements, SubsetElements, shared_elements};
 use parts_errors::CodecError;
@@ -11,11 +8,6 @@ use parts_subsets::ArraySubset;
 use std::alloc::{AllocError, Global};
 use std::io::Write;
 use std::rt::Files;
-
-/// The subset of an array of a shape that is all of it.
-pub fn whole_of(alloc: Global, shape: &[u64]) -> Result<ArraySubset, AllocError> {
-    ArraySubset::new_with_shape(alloc, Vec::from_slice(alloc, shape)?)
-}
 
 // Puts what a subchunk of a shard that is open has of a part of a subset, and says whether it is sound. Refused where it could not be
 // read.

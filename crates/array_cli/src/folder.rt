@@ -1,6 +1,7 @@
 // What stands in an array's folder: the shard that has a key, and what is no shard.
-use array_cli::{Array, Shard, Stop};
-use array_fields::escaped;
+use crate::arrays::{Array, Shard};
+use crate::stop::Stop;
+use array_fields::{JsonLine, escaped};
 use array_folder::{ChunkFiles, age_of};
 use std::io;
 use std::io::Write;
@@ -51,4 +52,24 @@ pub fn write_folder<R: Files + AllocGlobal + Clock, C, W: Write>(
         1 => writeln!(out, "1 file is no chunk of this array"),
         others => writeln!(out, "{others} files are no chunks of this array"),
     }
+}
+
+// Writes a line of the kind `new_file`.
+fn write_new_file<W: Write>(out: &mut W, key: &str) -> io::Result<()> {
+    let mut line = JsonLine::new(out, "new_file")?;
+    line.text("key", key)?;
+    line.end()
+}
+
+/// Writes a line of the kind `new_file` for each new file beside a shard, and one of the kind `other_files` where others stand there.
+pub fn write_folder_lines<W: Write>(out: &mut W, files: &ChunkFiles) -> io::Result<()> {
+    for key in files.replacing.iter() {
+        write_new_file(out, key)?;
+    }
+    if files.others == 0 {
+        return Ok(());
+    }
+    let mut line = JsonLine::new(out, "other_files")?;
+    line.number("count", files.others)?;
+    line.end()
 }

@@ -1,10 +1,9 @@
 // Whether the shards of an array are sound.
 use crate::check_pieces::check_all;
 use crate::checked::{Checked, Found, Told, write_end, write_end_lines};
-use crate::subchunks::check_subchunk;
 use array_cli::{
     Array, Ending, OpenShard, Place, Shard, ShardCodec, ShardFile, SharedArray, SharedSystem, Stop,
-    written,
+    check_subchunk, written,
 };
 use array_fields::Progress;
 use array_folder::{ChunkFile, ChunkFiles, Listing};

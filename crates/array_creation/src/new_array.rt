@@ -1,15 +1,15 @@
 // An array laid out anew in another folder.
-use crate::chunks::{chunk_of_fill_values, chunks_of, elements_of, read_silently};
 use crate::layout::{LayoutWords, new_document, order_of};
 use crate::new_folder::{begin_folder, encoded, end_folder, put, test_served};
 use array_cli::{
-    Array, CodecUse, Ending, ShardCodec, ShardFile, SharedArray, SharedSystem, Stop, described,
-    turned, whole_of, with_codec, written,
+    Array, CodecUse, Ending, ShardCodec, ShardFile, SharedArray, SharedSystem, Stop,
+    chunk_of_fill_values, described, elements_of, turned, whole_of, with_codec, written,
 };
 use array_fields::Progress;
 use array_folder::Counted;
 use array_grid::{ShardWork, SubsetCells, SubsetElements, piece_length, piece_of, run_in_parallel};
 use array_metadata::ArrayMetadata;
+use array_reading::{chunks_of, read_silently};
 use parts_arrays::ArrayBytes;
 use parts_errors::CodecError;
 use parts_subsets::ArraySubset;

@@ -1,10 +1,10 @@
 // The chunks of a grid that have elements in the files of an array.
-use array_cli::{Array, ShardCodec, ShardFile, Stop, read_array, whole_of};
+use crate::read::read_array;
+use array_cli::{Array, ShardCodec, ShardFile, Stop};
 use array_fields::Progress;
 use array_folder::ChunkFile;
-use array_grid::{SubsetCells, SubsetElements};
+use array_grid::SubsetElements;
 use array_metadata::ArrayMetadata;
-use parts_errors::CodecError;
 use parts_row_major::unravel_index;
 use parts_subsets::{ArraySubset, ChunkShape};
 use std::alloc::{AllocError, Global};
@@ -83,35 +83,6 @@ pub fn chunks_of<R: Files + AllocGlobal, C>(
     found.sort_unstable();
     found.dedup();
     Ok(found)
-}
-
-/// The elements of a chunk of an array with this metadata, each of which is the fill value.
-pub fn chunk_of_fill_values(
-    alloc: Global,
-    metadata: &ArrayMetadata,
-) -> Result<SubsetCells, CodecError> {
-    let whole = whole_of(alloc, metadata.shard.as_slice())?;
-    SubsetCells::new(alloc, &whole, &metadata.fill_value)
-}
-
-/// The elements of an array that lie in a chunk of a shape, by its coordinates: the subset that they are, which ends where the array
-/// does. `None` where there are none.
-pub fn elements_of(
-    alloc: Global,
-    coordinates: &[u64],
-    chunk: &ChunkShape,
-    shape: &[u64],
-) -> Result<Option<ArraySubset>, AllocError> {
-    let (mut starts, mut counts) = (Vec::new(alloc), Vec::new(alloc));
-    for ((place, size), end) in coordinates.iter().zip(chunk.as_slice()).zip(shape) {
-        let start = place.saturating_mul(*size);
-        let Some(left) = end.checked_sub(start) else {
-            return Ok(None);
-        };
-        starts.push(start)?;
-        counts.push(left.min(*size))?;
-    }
-    Ok(ArraySubset::new_with_start_shape(starts, counts))
 }
 
 /// The elements of a subset as `read_array` gives them, where nothing is refused and nothing shows how far it is.

@@ -1,0 +1,11 @@
+// Arrays that are created: of no elements, or of those of another array that is laid out anew.
+#![tactic(auto)]
+
+mod creating;
+mod layout;
+mod new_array;
+mod new_folder;
+
+pub use creating::{ArrayWords, create};
+pub use layout::LayoutWords;
+pub use new_array::reshard;
