@@ -1,6 +1,7 @@
 #!/usr/bin/env python3
-"""Runs `zarr_shard` on arrays of texts and of bytes of any length, which this script lays out by the Zarr standard and the extensions
-`string`, `bytes`, `vlen-utf8` and `vlen-bytes`: whole ones, with chunks that are absent, and with bytes that are damaged.
+"""Runs `zarr_shard` on arrays of texts and of bytes, which this script lays out by the Zarr standard and the extensions `string`, `bytes`,
+`vlen-utf8`, `vlen-bytes`, `fixed_length_utf32`, `null_terminated_bytes` and `raw_bytes`: whole ones, with chunks that are absent, and with
+bytes that are damaged.
 
     python3 tools/texts.py [PROGRAM]     the program that the merge gate built, if no other is named
 """
@@ -158,6 +159,74 @@ def test_compare(program, folder):
     compare("texts that differ", run(program, "compare", paths[0], paths[2]), (1, wanted, ""))
 
 
+def fixed(name, size):
+    return {"name": name, "configuration": {"length_bytes": size}}
+
+
+def raw(program, path, *words):
+    return subprocess.run([program, "read", path, "--raw", *words], capture_output=True, timeout=MOST, stdin=subprocess.DEVNULL).stdout
+
+
+def test_utf32(program, folder):
+    """Texts in UTF-32, in either byte order: read, as a file of NumPy's format, written, laid out anew; and what is no character."""
+    words = ["Bern", "", "Z\u00fcrch", "\U0001d11e", "\u0100", "x y", "n\u00e9", "n\u00e9"]
+    for order in ("little", "big"):
+        told = [word.encode(f"utf-32-{order[0]}e").ljust(20, b"\0") for word in words]
+        codecs = sharded([2], [{"name": "bytes", "configuration": {"endian": order}}, GZIPPED[1]])
+        stored = [gzip.compress(b"".join(told[at : at + 2])) for at in (0, 2, 4)]
+        path = lay_out(f"{folder}/{order}", document([8], [4], codecs, fixed("fixed_length_utf32", 20), "n\u00e9"),
+                       {"c/0": shard_of(stored[:2]), "c/1": shard_of([stored[2], None])})
+        compare(f"UTF-32, {order}", cells(program, path), words)
+        compare(f"UTF-32, {order}, as text", run(program, "read", path, "2..5"), (0, '"Z\u00fcrch" "\U0001d11e" "\u0100"\n', ""))
+        least = b"".join(word.encode("utf-32-le").ljust(20, b"\0") for word in words)
+        compare(f"UTF-32, {order}, raw", raw(program, path), least)
+        compare(f"UTF-32, {order}, to NumPy", run(program, "read", path, "--npy", f"{path}.npy"), (0, "", ""))
+        with open(f"{path}.npy", "rb") as file:
+            content = file.read()
+        compare(f"UTF-32, {order}, NumPy's file", (content[:6], b"'descr': '<U5'" in content[:128], content[128:]), (b"\x93NUMPY", True, least))
+        compare(f"UTF-32, {order}, laid out anew", run(program, "reshard", path, f"{path}.new", "--shard", "8", "--subchunk", "4")[::2], (0, ""))
+        compare(f"UTF-32, {order}, compared", run(program, "compare", path, f"{path}.new"), (0, "no element differs\n", ""))
+        with open(f"{path}.npy", "wb") as file:
+            file.write(content[:128].replace(b"(8,)", b"(2,)") + least[40:80])
+        compare(f"UTF-32, {order}, written", run(program, "write", path, "0..2", "--npy", f"{path}.npy")[::2], (0, ""))
+        compare(f"UTF-32, {order}, read again", cells(program, path), words[2:4] + words[2:])
+    for code in (0xD800, 0x110000):
+        metadata = document([2], [2], [{"name": "bytes", "configuration": {"endian": "little"}}], fixed("fixed_length_utf32", 4), "")
+        path = lay_out(f"{folder}/{code}", metadata, {"c/0": struct.pack("<II", 65, code)})
+        compare(f"{code:x}", run(program, "read", path), (2, "", "zarr_shard: the element at 1 is no text: its bytes are not UTF-32\n"))
+        compare(f"{code:x}, raw", raw(program, path), struct.pack("<II", 65, code))
+
+
+def test_null_terminated(program, folder):
+    """Texts in so many bytes, and raw bits by the name `raw_bytes`."""
+    elements = [b"ab", b"", b"a\0b", "gr\u00fc".encode()]
+    metadata = document([5], [4], [{"name": "bytes"}], fixed("null_terminated_bytes", 4), base64.b64encode(b"x").decode())
+    path = lay_out(f"{folder}/null_terminated", metadata, {"c/0": b"".join(element.ljust(4, b"\0") for element in elements)})
+    compare("null-terminated", cells(program, path), [*(element.decode() for element in elements), "x"])
+    compare("null-terminated, as text", run(program, "read", path, "1..3"), (0, '"" "a\\u{0}b"\n', ""))
+    lay_out(path, metadata, {"c/0": b"\xff" * 16})
+    compare("null-terminated, no text", run(program, "read", path), (2, "", "zarr_shard: the element at 0 is no text: its bytes are not UTF-8\n"))
+    metadata = document([2], [1], [{"name": "bytes"}], fixed("raw_bytes", 3), "AQID")
+    path = lay_out(f"{folder}/raw", metadata, {"c/0": b"\xff\0\x01"})
+    compare("raw bytes", cells(program, path), [[255, 0, 1], [1, 2, 3]])
+
+
+def test_fixed_refused(program, folder):
+    """Configurations that do not say how many bytes an element has, and fill values that are none: a sentence, and nothing printed."""
+    for number, (data_type, fill, words) in enumerate([
+        ("fixed_length_utf32", "", "configuration is missing"), ({"name": "raw_bytes", "configuration": {}}, "", "length_bytes is missing"),
+        (fixed("fixed_length_utf32", 6), "", "no multiple of 4 from 4 to 65536"), (fixed("fixed_length_utf32", 0), "", "no multiple of 4"),
+        (fixed("null_terminated_bytes", 65537), "", "no multiple of 1 from 1 to 65536"), (fixed("raw_bytes", -1), "", "no multiple of 1"),
+        ({"name": "raw_bytes", "configuration": {"length_bytes": 1, "unit": "s"}}, "AA==", "unit"),
+        (fixed("fixed_length_utf32", 4), "ab", "no text of at most 1 characters"), (fixed("fixed_length_utf32", 4), 0, "no text"),
+        (fixed("null_terminated_bytes", 1), "YWI=", "at most 1 bytes"), (fixed("null_terminated_bytes", 1), "?", "base64"),
+        (fixed("raw_bytes", 2), "YQ==", "list of 2 bytes"),
+    ]):
+        metadata = document([2], [2], [{"name": "bytes", "configuration": {"endian": "little"}}], data_type, fill)
+        status, out, told = run(program, "read", lay_out(f"{folder}/fixed{number}", metadata, {}))
+        compare(f"of one size, refused {number}", (status, out, words in told, len(told.splitlines())), (2, "", True, 1))
+
+
 def test_many(program, folder):
     """100,000 texts in 100 shards, which one thread reads, whatever `-j` says."""
     dice = random.Random(7)
@@ -174,7 +243,8 @@ def test_many(program, folder):
 
 def main(program):
     with tempfile.TemporaryDirectory() as folder:
-        for test in (test_chunks, test_shards, test_no_text, test_bytes, test_refused, test_compare, test_many):
+        for test in (test_chunks, test_shards, test_no_text, test_bytes, test_refused, test_compare, test_utf32, test_null_terminated,
+                     test_fixed_refused, test_many):
             test(program, folder)
     for line in bad:
         print(line)

@@ -1,5 +1,5 @@
-// What the commands over an array on disk share: an array that is open, its shards, what stands in its folder, why a shard is refused, and
-// why a command stops.
+// What the commands over an array on disk share: an array that is open, its shards, what stands in its folder, why a shard is refused, how far
+// a command is, and why it stops.
 #![tactic(auto)]
 
 mod arrays;
@@ -7,6 +7,7 @@ mod codec_use;
 mod compaction_plans;
 mod folder;
 mod grid_shards;
+mod progress;
 mod refusal;
 mod shard_codec;
 mod shared_array;
@@ -22,6 +23,7 @@ pub use folder::{shard_of, write_folder, write_folder_lines};
 pub use grid_shards::{
     GridShard, chunk_of_fill_values, elements_of, shard_of_grid, shards_of, whole_of,
 };
+pub use progress::Progress;
 pub use refusal::{Place, Refusal, put_refusal};
 pub use shard_codec::{OpenShard, ShardCodec, ShardEncoder, ShardFile, encode_chunk};
 pub use shared_array::{SharedArray, open_shared};

@@ -7,11 +7,11 @@ use crate::npy::save_subset;
 use crate::reading::{Reading, print_subset};
 use crate::writing_line::array_words;
 use array_cli::{
-    Array, CodecUse, Ending, ShardCodec, ShardFile, SharedArray, SharedSystem, Stop, metadata_of,
-    open_shared, with_codec,
+    Array, CodecUse, Ending, Progress, ShardCodec, ShardFile, SharedArray, SharedSystem, Stop,
+    metadata_of, open_shared, with_codec,
 };
 use array_creation::{create, reshard};
-use array_fields::{Progress, escaped};
+use array_fields::escaped;
 use array_folder::Listing;
 use array_grid::{ListPart, subset_of, threads_of};
 use array_info::{extract, info_of_array, info_of_shard, list_nodes, map_array, map_shard};

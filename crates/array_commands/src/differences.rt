@@ -1,7 +1,7 @@
 // Two arrays, compared element by element.
-use array_cli::{Array, Ending, ShardCodec, ShardFile, Stop, elements_of, written};
-use array_fields::{ElementType, Progress, write_cell_line, write_numbers};
-use array_grid::{SubsetCells, SubsetElements, VaryingCells};
+use array_cli::{Array, Ending, Progress, ShardCodec, ShardFile, Stop, elements_of, written};
+use array_fields::ElementType;
+use array_grid::{SubsetCells, SubsetElements, VaryingCells, write_cell_line, write_numbers};
 use array_metadata::ArrayMetadata;
 use array_reading::{chunks_of, read_silently};
 use parts_errors::CodecError;

@@ -1,7 +1,6 @@
 // A subset of an array as a file of NumPy's format.
 use crate::reading::{Reading, Sink, read_bands};
-use array_cli::{Ending, SharedArray, SharedSystem, Stop};
-use array_fields::Progress;
+use array_cli::{Ending, Progress, SharedArray, SharedSystem, Stop};
 use array_folder::{begin_new, npy_beside};
 use array_grid::{Requested, VaryingCells, subset_of};
 use array_updates::header_of;
@@ -37,6 +36,10 @@ impl<R: Files> Sink for NewFile<'_, R> {
 
     fn put_varying(&mut self, _cells: &VaryingCells, _ending: Ending) -> Result<(), Stop> {
         Err(CodecError::WrongElementKind.into())
+    }
+
+    fn shows_text(&self) -> bool {
+        false
     }
 }
 

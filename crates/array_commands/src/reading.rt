@@ -1,17 +1,18 @@
 // Elements that are written as they are read, band by band.
 use crate::command_line::Form;
 use crate::shared_read::{element_size, read_shared};
-use array_cli::{Ending, SharedArray, SharedSystem, Stop, written};
-use array_fields::{
-    ElementType, Progress, TextRows, begin_json, end_json, write_json_cell, write_json_cells,
+use array_cli::{Ending, Progress, SharedArray, SharedSystem, Stop, written};
+use array_fields::ElementType;
+use array_grid::{
+    Bands, SubsetElements, TextRows, VaryingCells, begin_json, end_json, is_text, write_json_cell,
+    write_json_cells,
 };
-use array_grid::{Bands, SubsetElements, VaryingCells};
 use parts_errors::CodecError;
 use parts_row_major::unravel_index;
 use parts_subsets::ArraySubset;
 use std::alloc::Global;
+use std::io;
 use std::io::Write;
-use std::{io, str};
 
 // The most bytes of elements that are read.
 const MOST_BYTES: u64 = 1 << 40;
@@ -33,6 +34,9 @@ pub trait Sink {
 
     /// Takes the next elements, which have lengths of their own.
     fn put_varying(&mut self, cells: &VaryingCells, ending: Ending) -> Result<(), Stop>;
+
+    /// Whether an element that is a text is shown as one.
+    fn shows_text(&self) -> bool;
 }
 
 // Tests that the elements of a subset, of a size, are no more than are read.
@@ -60,20 +64,52 @@ fn coordinates_of(alloc: Global, subset: &ArraySubset, number: u64) -> Result<St
     Ok(name)
 }
 
-// Tests that texts are UTF-8. Refused as `Stop::NoText` with the first element of a band that is not.
-fn test_texts<R: SharedSystem>(
+// Tests that an element of a band, with a number, is a text, in an encoding. Refused as `Stop::NoText`.
+fn test_text<R: SharedSystem>(
+    array: &SharedArray<'_, R>,
+    band: &ArraySubset,
+    number: usize,
+    element: &[u8],
+    encoding: &'static str,
+) -> Result<(), Stop> {
+    if is_text(array.metadata.element_type, element) {
+        return Ok(());
+    }
+    let coordinates = coordinates_of(array.alloc(), band, number as u64)?;
+    Err(Stop::NoText {
+        coordinates,
+        encoding,
+    })
+}
+
+// Tests the elements of a band that have lengths of their own, where they are texts. Refused as `Stop::NoText` with the first one that is
+// none.
+fn test_varying<R: SharedSystem>(
     array: &SharedArray<'_, R>,
     band: &ArraySubset,
     cells: &VaryingCells,
 ) -> Result<(), Stop> {
-    if array.metadata.element_type != ElementType::Utf8 {
+    let Some(encoding) = array.metadata.element_type.encoding() else {
         return Ok(());
-    }
+    };
     for number in 0..cells.len() {
-        if str::from_utf8(cells.element(number)).is_err() {
-            let coordinates = coordinates_of(array.alloc(), band, number as u64)?;
-            return Err(Stop::NoText(coordinates));
-        }
+        test_text(array, band, number, cells.element(number), encoding)?;
+    }
+    Ok(())
+}
+
+// Tests the elements of a band that have one size, where they are texts. Refused as `Stop::NoText` with the first one that is none.
+fn test_sized<R: SharedSystem>(
+    array: &SharedArray<'_, R>,
+    band: &ArraySubset,
+    elements: &[u8],
+) -> Result<(), Stop> {
+    let Some(encoding) = array.metadata.element_type.encoding() else {
+        return Ok(());
+    };
+    let size = array.metadata.fill_value.as_ne_bytes().len().max(1);
+    for (number, element) in elements.chunks(size).enumerate() {
+        test_text(array, band, number, element, encoding)?;
     }
     Ok(())
 }
@@ -94,10 +130,13 @@ fn read_band<R: SharedSystem, S: Sink, M: Write>(
     match &cells {
         SubsetElements::Sized(cells) => {
             let elements = array.least_first(cells.bytes())?;
+            if sink.shows_text() {
+                test_sized(array, band, &elements)?;
+            }
             sink.put(&elements, ending)?;
         }
         SubsetElements::Varying(cells) => {
-            test_texts(array, band, cells)?;
+            test_varying(array, band, cells)?;
             sink.put_varying(cells, ending)?;
         }
     }
@@ -105,7 +144,7 @@ fn read_band<R: SharedSystem, S: Sink, M: Write>(
 }
 
 /// Reads the elements of a subset, with fill values for what is refused if `fills`, and hands them on, in row-major order: those of a band at a time, so that memory is that of a band.
-/// Refused as `Stop::TooLarge` where they have more than 2^40 bytes, and as `read_array` refuses, and as `Stop::NoText` where a text is not UTF-8; then the
+/// Refused as `Stop::TooLarge` where they have more than 2^40 bytes, and as `read_array` refuses, and as `Stop::NoText` where a text that is shown is none; then the
 /// bands before are handed on.
 pub fn read_bands<R: SharedSystem, S: Sink, M: Write>(
     array: &SharedArray<'_, R>,
@@ -192,6 +231,10 @@ impl<W: Write> Sink for Printed<'_, W> {
 
     fn put_varying(&mut self, cells: &VaryingCells, ending: Ending) -> Result<(), Stop> {
         written(self.write_all_varying(cells), ending)
+    }
+
+    fn shows_text(&self) -> bool {
+        !matches!(self.form, Form::Raw)
     }
 }
 

@@ -1,9 +1,8 @@
 // The elements of a subset of an array that threads share.
 use array_cli::{
-    Array, CodecUse, Ending, ShardCodec, ShardFile, SharedArray, SharedSystem, Stop, shards_of,
-    with_codec,
+    Array, CodecUse, Ending, Progress, ShardCodec, ShardFile, SharedArray, SharedSystem, Stop,
+    shards_of, with_codec,
 };
-use array_fields::Progress;
 use array_grid::{
     ShardGrid, ShardPart, ShardParts, ShardWork, SubsetElements, piece_length, run_in_parallel,
 };

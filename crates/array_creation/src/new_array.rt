@@ -2,10 +2,9 @@
 use crate::layout::{LayoutWords, new_document, order_of};
 use crate::new_folder::{begin_folder, encoded, end_folder, put, test_served};
 use array_cli::{
-    Array, CodecUse, Ending, ShardCodec, ShardFile, SharedArray, SharedSystem, Stop,
+    Array, CodecUse, Ending, Progress, ShardCodec, ShardFile, SharedArray, SharedSystem, Stop,
     chunk_of_fill_values, described, elements_of, turned, whole_of, with_codec, written,
 };
-use array_fields::Progress;
 use array_folder::Counted;
 use array_grid::{ShardWork, SubsetCells, SubsetElements, piece_length, piece_of, run_in_parallel};
 use array_metadata::ArrayMetadata;

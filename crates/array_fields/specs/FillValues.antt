@@ -1,9 +1,10 @@
 -- The fill value that the metadata gives: of `bool` true or false, of whole numbers and times a whole number, of floats a number, the
 -- name of one, or its bits; of complex numbers a pair of these; of raw bits, and of bytes of any number, a list of bytes or their base64;
--- and of texts a text.
+-- of bytes behind which zeros stand the same; and of texts a text.
 use Rattle.std.specs.Prelude.{◌≡◌, ℕ, ℤ, pos, negsuc, Option, Some, None, if◌then◌else◌, option_map, option_and_then}
-use Rattle.std.specs.Prelude.{codes, bytes_eq, take, drop}
-use Rattle.std.specs.Int.{w8, w16, w32, w64, from_bool, from_le_bytes, cast_signed}
+use Rattle.std.specs.Prelude.{codes, bytes_eq, take, drop, ◌++◌, List, [], ◌∷◌, replicate}
+use Rattle.std.specs.Str.{chars}
+use Rattle.std.specs.Int.{w8, w16, w32, w64, from_bool, from_le_bytes, to_le_bytes, cast_signed}
 use Rattle.parts_errors.specs.Words.{Bytes as Text}
 use Rattle.parts_arrays.specs.declared.data_type.DataType.{DataType}
 use Rattle.parts_arrays.specs.declared.data_type.DataType.TheVariants.{Bool, Int8, Int16, Int32, Int64}
@@ -13,7 +14,8 @@ use Rattle.serde_json.specs.Find.{as_array, as_bool, as_number, as_integer, as_s
 use Rattle.array_fields.specs.RawBits.{IsRawIn}
 use Rattle.array_fields.specs.declared.floats.FloatFormat.{FloatFormat}
 use Rattle.array_fields.specs.declared.element_types.ElementType.{ElementType}
-use Rattle.array_fields.specs.declared.element_types.ElementType.TheVariants.{Number, Float, Complex, RawBits, DateTime64, TimeDelta64, Utf8, Binary, Unread}
+use Rattle.array_fields.specs.declared.element_types.ElementType.TheVariants.{Number, Float, Complex, RawBits, DateTime64, TimeDelta64}
+use Rattle.array_fields.specs.declared.element_types.ElementType.TheVariants.{Utf8, Binary, Utf32, NullTerminated, Unread}
 use Rattle.array_fields.specs.ElementTypes.{carrier, float_carrier, float_size}
 use Rattle.array_fields.specs.Floats.{IsFloatText, IsFloatNumber}
 
@@ -61,6 +63,8 @@ IsElementIn (Complex format) d z = ⊥
 IsElementIn (RawBits size) d z = ⊥
 IsElementIn Utf8 d z = ⊥
 IsElementIn Binary d z = ⊥
+IsElementIn (Utf32 size) d z = ⊥
+IsElementIn (NullTerminated size) d z = ⊥
 
 -- a complex number is two floats, the real part and then the imaginary one
 pub record IsComplexOf (format : FloatFormat) (real imaginary : Data) (element : Text) : Type 0 where
@@ -74,12 +78,28 @@ IsComplexIn format (Some (item real no_items)) element = ⊥
 IsComplexIn format (Some (item real (item imaginary no_items))) element = IsComplexOf format real imaginary element
 IsComplexIn format (Some (item real (item imaginary (item d later)))) element = ⊥
 
+-- characters in UTF-32, each of four bytes, least significant first
+unfoldable pub utf32 : List ℕ → Text
+utf32 [] = []
+utf32 (c ∷ cs) = to_le_bytes w32 c ++ utf32 cs
+
+-- an element is these bytes, and zeros behind them
+abbrev pub IsFilledUp : Text → Text → Type 0
+IsFilledUp bytes element = (zeros : ℕ) × (element ≡ bytes ++ replicate zeros 0)
+
+-- an element is a text in UTF-32, and zeros behind it
+abbrev pub IsUtf32Of : Option Text → Text → Type 0
+IsUtf32Of None element = ⊥
+IsUtf32Of (Some text) element = IsFilledUp (utf32 (chars text)) element
+
 -- what a value says of an element with these bytes
 abbrev pub IsValueIn : ElementType → Data → Text → Type 0
 IsValueIn (Complex format) d element = IsComplexIn format (as_array d) element
 IsValueIn (RawBits size) d element = IsRawIn d element
 IsValueIn Binary d element = IsRawIn d element
 IsValueIn Utf8 d element = as_str d ≡ Some element
+IsValueIn (Utf32 size) d element = IsUtf32Of (as_str d) element
+IsValueIn (NullTerminated size) d element = (bytes : Text) × IsRawIn d bytes × IsFilledUp bytes element
 IsValueIn element_type d element = IsElementIn element_type d (number_of (carrier element_type) element)
 
 -- the fill value of metadata that gives a value of one

@@ -13,6 +13,7 @@ ghost use Rattle.array_fields.specs.FillValues.{number_in, number_of, time_in, I
 use crate::element_types::ElementType;
 use crate::error::MetadataError;
 use crate::fields::Placed;
+use crate::fixed_texts::{null_terminated_bytes, utf32_bytes};
 use crate::floats::FloatFormat;
 use crate::raw_bits::{raw_bytes, said_bytes};
 use parts_arrays::{DataType, DataTypeSize, FillValue};
@@ -106,6 +107,7 @@ fn element_bits(value: &Value, element_type: ElementType) -> Option<u64>
         ElementType::DateTime64 | ElementType::TimeDelta64 => time_bits(value),
         ElementType::Complex(_) | ElementType::RawBits(_) | ElementType::Unread(_) => None,
         ElementType::Utf8 | ElementType::Binary => None,
+        ElementType::Utf32(_) | ElementType::NullTerminated(_) => None,
     }
 }
 
@@ -181,6 +183,8 @@ fn element_bytes(
         ElementType::RawBits(size) => raw_bytes(alloc, fill, size),
         ElementType::Utf8 => Ok(text_bytes(alloc, fill.value)?),
         ElementType::Binary => said_bytes(alloc, fill),
+        ElementType::Utf32(size) => Ok(utf32_bytes(alloc, fill.value, size)?),
+        ElementType::NullTerminated(size) => null_terminated_bytes(alloc, fill, size),
         ElementType::Unread(size) => Ok(Some(Vec::from_elem(alloc, 0u8, size)?)),
         _ => Ok(number_bytes(alloc, fill.value, element_type)?),
     }
@@ -201,6 +205,12 @@ fn sentence_of(
             format!(in alloc; "this is no list of {size} bytes, and no base64 of as many")
         }
         ElementType::Binary => format!(in alloc; "this is no list of bytes, and no base64"),
+        ElementType::Utf32(size) => {
+            format!(in alloc; "this is no text of at most {} characters", size / 4)
+        }
+        ElementType::NullTerminated(size) => {
+            format!(in alloc; "this is no list of at most {size} bytes, and no base64 of one")
+        }
         _ => format!(in alloc; "this is no element of {name}"),
     }
 }

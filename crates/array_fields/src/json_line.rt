@@ -8,8 +8,8 @@ pub struct JsonLine<'w, W> {
     out: &'w mut W,
 }
 
-// Writes a character of a text of JSON (RFC 8259, 7).
-fn write_character<W: Write>(out: &mut W, character: char) -> io::Result<()> {
+/// Writes a character of a text as JSON does (RFC 8259, 7); a control character as an escape.
+pub fn write_json_character<W: Write>(out: &mut W, character: char) -> io::Result<()> {
     match character {
         '"' => out.write_all(b"\\\""),
         '\\' => out.write_all(b"\\\\"),
@@ -23,7 +23,7 @@ fn write_character<W: Write>(out: &mut W, character: char) -> io::Result<()> {
 pub fn write_json_text<W: Write>(out: &mut W, text: &str) -> io::Result<()> {
     out.write_all(b"\"")?;
     for character in text.chars() {
-        write_character(out, character)?;
+        write_json_character(out, character)?;
     }
     out.write_all(b"\"")
 }

@@ -1,5 +1,5 @@
 // The values of an array's metadata: what stands under which key of a JSON text, where, and why metadata is refused; and a
-// stranger's text on a terminal, which is short, and nothing in it acts; lines of JSON that are written, and the progress of a command.
+// stranger's text on a terminal, which is short, and nothing in it acts; and lines of JSON that are written.
 #![tactic(auto)]
 
 mod element_types;
@@ -7,16 +7,14 @@ mod error;
 mod escape;
 mod fields;
 mod fill;
+mod fixed_texts;
 mod floats;
 mod json;
 mod json_line;
 mod kept;
 mod members;
 mod printed;
-mod progress;
-mod quoted;
 mod raw_bits;
-mod text;
 
 pub use element_types::{ElementType, element_type_in, unread_type};
 pub use error::{LONGEST_TEXT, MetadataError};
@@ -25,12 +23,8 @@ pub use fields::Placed;
 pub use fill::fill_value_in;
 pub use floats::{FloatFormat, half_to_f32};
 pub use json::value_in;
-pub use json_line::{JsonLine, write_json_numbers, write_json_text};
+pub use json_line::{JsonLine, write_json_character, write_json_numbers, write_json_text};
 pub use kept::{KeptText, TypeText, kept_text};
 pub use members::{MOST_AXES, axes_in, test_array, test_understood};
-pub use progress::Progress;
+pub use printed::is_printed;
 pub use raw_bits::raw_bytes;
-pub use text::{
-    TextRows, begin_json, end_json, write_cell_line, write_json_cell, write_json_cells,
-    write_numbers,
-};

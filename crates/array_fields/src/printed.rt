@@ -26,8 +26,8 @@ fn is_unseen(c: char) -> bool
     )
 }
 
-// Whether a character is shown as it is.
-pub(crate) fn is_printed(c: char) -> bool
+/// Whether a terminal shows a character as it is, so that it neither acts there nor is unseen.
+pub fn is_printed(c: char) -> bool
     ensures { IsTrue result ↔ IsPrinted c }
 {
     !is_control(c) && !is_direction(c) && !is_unseen(c)

@@ -43,11 +43,15 @@ fn raw_descr(alloc: Global, name: &str) -> Result<Option<String>, AllocError> {
     }
 }
 
-// What NumPy calls elements of the data type with a name.
-fn full_descr(alloc: Global, name: &str) -> Result<Option<String>, AllocError> {
-    match descr_of(name) {
-        Some(descr) => Ok(Some(String::from_str(alloc, descr)?)),
-        None => raw_descr(alloc, name),
+// What NumPy calls elements of the data type with a name, of a size in bytes.
+fn full_descr(alloc: Global, name: &str, size: usize) -> Result<Option<String>, AllocError> {
+    match name {
+        "fixed_length_utf32" => Ok(Some(format!(in alloc; "<U{}", size / 4)?)),
+        "null_terminated_bytes" => Ok(Some(format!(in alloc; "|S{size}")?)),
+        _ => match descr_of(name) {
+            Some(descr) => Ok(Some(String::from_str(alloc, descr)?)),
+            None => raw_descr(alloc, name),
+        },
     }
 }
 
@@ -84,9 +88,9 @@ fn header_of(alloc: Global, text: &str) -> Result<Vec<u8>, AllocError>
     Ok(header)
 }
 
-// The header of a file of elements of the data type with a name, and with a shape.
-fn described(alloc: Global, name: &str, shape: &[u64]) -> io::Result<Vec<u8>> {
-    let Some(descr) = full_descr(alloc, name)? else {
+// The header of a file of elements of the data type with a name, of a size in bytes, and with a shape.
+fn described(alloc: Global, name: &str, size: usize, shape: &[u64]) -> io::Result<Vec<u8>> {
+    let Some(descr) = full_descr(alloc, name, size)? else {
         return Err(io::Error::new(
             ErrorKind::Unsupported,
             "elements of this data type are not written in NumPy's format",
@@ -105,17 +109,18 @@ fn described(alloc: Global, name: &str, shape: &[u64]) -> io::Result<Vec<u8>> {
     Ok(header_of(alloc, &text)?)
 }
 
-/// What stands before the elements in a file at a path, of the data type with a name and with a shape. Refused where
+/// What stands before the elements in a file at a path, of the data type with a name, of a size in bytes, and with a shape. Refused where
 /// elements of the type are not written.
 pub fn npy_header(
     alloc: Global,
     path: &str,
     name: &str,
+    size: usize,
     shape: &[u64],
 ) -> Result<Vec<u8>, FolderError>
     ensures { IfErr result IsPathPrinted }
 {
-    named(alloc, path, described(alloc, name, shape))
+    named(alloc, path, described(alloc, name, size, shape))
 }
 
 /// The path at which a new file stands until it is whole, and is put at a path. Refused where anything but a regular file stands at

@@ -2,12 +2,11 @@
 use crate::index_info::{index_info, index_range};
 use crate::json;
 use array_cli::{
-    Array, Ending, Place, Refusal, Shard, ShardCodec, ShardFile, Stop, write_folder,
+    Array, Ending, Place, Progress, Refusal, Shard, ShardCodec, ShardFile, Stop, write_folder,
     write_folder_lines, written,
 };
-use array_fields::{Progress, write_cell_line, write_numbers};
 use array_folder::{ChunkFile, ChunkFiles, Counted, FolderFiles, IndexInfo, Listing, info_of};
-use array_grid::{ChunkKeys, KeyEncoding, ListPart};
+use array_grid::{ChunkKeys, KeyEncoding, ListPart, write_cell_line, write_numbers};
 use array_metadata::{ArrayCodec, ArrayMetadata};
 use parts_errors::CodecError;
 use std::io;

@@ -1,7 +1,8 @@
 // What an array holds, as lines of JSON.
 use crate::info::{ShardInfo, Sums, key_words};
 use array_cli::put_refusal;
-use array_fields::{JsonLine, write_json_cell};
+use array_fields::JsonLine;
+use array_grid::write_json_cell;
 use array_metadata::{ArrayCodec, ArrayMetadata};
 use std::io;
 use std::io::Write;

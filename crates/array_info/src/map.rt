@@ -1,10 +1,10 @@
 // A map of an array's shards, or of the subchunks of one shard.
 use crate::info::{ShardInfo, known_shards};
 use array_cli::{
-    Array, Ending, OpenShard, Place, Shard, ShardCodec, ShardFile, Stop, check_subchunk, shard_of,
-    written,
+    Array, Ending, OpenShard, Place, Progress, Shard, ShardCodec, ShardFile, Stop, check_subchunk,
+    shard_of, written,
 };
-use array_fields::{Progress, escaped};
+use array_fields::escaped;
 use array_folder::{
     ChunkFiles, Drawn, Mark, ShardMap, SliceOrder, save_bytes, write_array_map,
     write_array_picture, write_shard_map, write_shard_picture,

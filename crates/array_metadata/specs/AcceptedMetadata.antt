@@ -27,8 +27,7 @@ pub record IsServedText (text : Bytes) : Type 0 where
 -- metadata says what its text says
 pub record IsReadAs (text : Bytes) (metadata : ArrayMetadata) : Type 0 where
   pub shape : option_and_then whole_numbers_in (member_in (codes "shape") text) ≡ Some metadata.shape.items
-  pub element_type : IsTypeIn (option_map string_bytes metadata.unread) (option_and_then name_in (member_in (codes "data_type") text))
-      metadata.element_type
+  pub element_type : IsTypeIn (option_map string_bytes metadata.unread) (member_in (codes "data_type") text) metadata.element_type
   pub shard : option_and_then whole_numbers_in (option_and_then (configured_in (codes "chunk_shape")) (member_in (codes "chunk_grid") text))
       ≡ Some metadata.shard
   pub encoding : option_and_then name_in (member_in (codes "chunk_key_encoding") text) ≡ Some (encoding_name metadata.keys.encoding)

@@ -1,4 +1,4 @@
--- The byte order of complex numbers, which the codecs take as bytes and so do not turn.
+-- The byte order of complex numbers and of texts in UTF-32, which the codecs take as bytes and so do not turn.
 use Rattle.std.specs.Prelude.{ℕ, Option, Some, None}
 use Rattle.codec_bytes.specs.declared.bytes_codec.Endianness.{Endianness}
 use Rattle.codec_bytes.specs.declared.bytes_codec.Endianness.TheVariants.{Big, Little}
@@ -14,7 +14,7 @@ use Rattle.array_metadata.specs.declared.array_codec.ArrayCodec.{ArrayCodec}
 use Rattle.array_metadata.specs.declared.array_codec.ArrayCodec.TheVariants.{Sharded, Transposed, Unsharded}
 use Rattle.array_fields.specs.ElementTypes.{float_size}
 use Rattle.array_fields.specs.declared.element_types.ElementType.{ElementType}
-use Rattle.array_fields.specs.declared.element_types.ElementType.TheVariants.{Complex}
+use Rattle.array_fields.specs.declared.element_types.ElementType.TheVariants.{Complex, Utf32}
 
 -- the byte order that the first codec of elements has, where it is `bytes`
 abbrev pub first_order : DefaultArrayToBytesCodec → Option Endianness
@@ -47,4 +47,5 @@ size_if_big size (Some Big) = Some size
 
 abbrev pub reversed_size : ElementType → Option Endianness → Option ℕ
 reversed_size (Complex format) order = size_if_big (float_size format) order
+reversed_size (Utf32 size) order = size_if_big 4 order
 reversed_size element_type order = None

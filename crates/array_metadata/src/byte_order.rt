@@ -1,4 +1,4 @@
-// The byte order of complex numbers.
+// The byte order of complex numbers, and of texts in UTF-32.
 ghost use Rattle.std.specs.Prelude.{◌≡◌};
 ghost use Rattle.array_metadata.specs.ByteOrders.{first_order, order_of, arranged_order, subchunks_order, chunks_order, size_if_big, reversed_size};
 
@@ -79,14 +79,15 @@ fn size_of_parts(element_type: ElementType, order: Option<Endianness>) -> Option
 {
     match element_type {
         ElementType::Complex(format) => size_if_big(format.size(), order),
+        ElementType::Utf32(_) => size_if_big(4, order),
         ElementType::Number(_) | ElementType::Float(_) | ElementType::RawBits(_) => None,
         ElementType::DateTime64 | ElementType::TimeDelta64 | ElementType::Unread(_) => None,
-        ElementType::Utf8 | ElementType::Binary => None,
+        ElementType::Utf8 | ElementType::Binary | ElementType::NullTerminated(_) => None,
     }
 }
 
-/// How many bytes each part has of elements whose parts the codecs give most significant byte first: of complex numbers that are stored
-/// so. `None` where elements come least significant byte first.
+/// How many bytes each part has of elements whose parts the codecs give most significant byte first: of complex numbers and of texts in
+/// UTF-32 that are stored so. `None` where elements come least significant byte first.
 pub fn reversed_size(element_type: ElementType, codec: &ArrayCodec) -> Option<usize>
     ensures { result ≡ reversed_size element_type (chunks_order codec.now) }
 {

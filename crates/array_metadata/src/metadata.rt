@@ -105,7 +105,7 @@ pub(crate) struct Cells {
 // The type of an array's elements. Refused for `data_type`.
 pub(crate) fn type_in(alloc: Global, whole: &Placed) -> Result<ElementType, MetadataError>
     ensures read { IfOk result (IsTypeIn (unread_codec_in (option_and_then as_array (get (codes "codecs") (view whole.now.value.now))))
-        (option_and_then name_in (get (codes "data_type") (view whole.now.value.now)))) }
+        (get (codes "data_type") (view whole.now.value.now))) }
     ensures elements { IfOk result (λ element_type. HasElements (carrier element_type)) }
 {
     let codec = unread_in(alloc, whole)?;
@@ -126,7 +126,7 @@ pub(crate) fn shape_in(alloc: Global, whole: &Placed) -> Result<Vec<u64>, Metada
 fn cells_in(alloc: Global, whole: &Placed) -> Result<Cells, MetadataError>
     ensures shape_read { IfOk result (λ cells. option_and_then whole_numbers_in (get (codes "shape") (view whole.now.value.now)) ≡ Some cells.shape.items) }
     ensures element_type_read { IfOk result (λ cells. IsTypeIn (unread_codec_in (option_and_then as_array (get (codes "codecs") (view whole.now.value.now))))
-        (option_and_then name_in (get (codes "data_type") (view whole.now.value.now))) cells.element_type) }
+        (get (codes "data_type") (view whole.now.value.now)) cells.element_type) }
     ensures shard_read { IfOk result (λ cells.
         option_and_then whole_numbers_in (option_and_then (configured_in (codes "chunk_shape")) (get (codes "chunk_grid") (view whole.now.value.now))) ≡ Some cells.shard) }
     ensures grid_read { OnOk result (option_and_then name_in (get (codes "chunk_grid") (view whole.now.value.now)) ≡ Some (codes "regular")) }

@@ -2,10 +2,9 @@
 use crate::checked::{Checked, Told};
 use crate::checking::check_each_file;
 use array_cli::{
-    Array, CodecUse, Ending, ShardCodec, ShardFile, SharedArray, SharedSystem, Stop, with_codec,
-    written,
+    Array, CodecUse, Ending, Progress, ShardCodec, ShardFile, SharedArray, SharedSystem, Stop,
+    with_codec, written,
 };
-use array_fields::Progress;
 use array_folder::ChunkFile;
 use array_grid::{ShardWork, piece_length, piece_of, run_in_parallel};
 use std::io;

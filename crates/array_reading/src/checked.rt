@@ -1,8 +1,8 @@
 // What a check came to, and what is written of it.
 use array_cli::{
-    Array, Ending, Refusal, Stop, put_refusal, write_folder, write_folder_lines, written,
+    Array, Ending, Progress, Refusal, Stop, put_refusal, write_folder, write_folder_lines, written,
 };
-use array_fields::{JsonLine, Progress};
+use array_fields::JsonLine;
 use array_folder::{ChunkFiles, Counted};
 use std::io;
 use std::io::Write;

@@ -2,10 +2,9 @@
 use crate::check_pieces::check_all;
 use crate::checked::{Checked, Found, Told, write_end, write_end_lines};
 use array_cli::{
-    Array, Ending, OpenShard, Place, Shard, ShardCodec, ShardFile, SharedArray, SharedSystem, Stop,
-    check_subchunk, written,
+    Array, Ending, OpenShard, Place, Progress, Shard, ShardCodec, ShardFile, SharedArray,
+    SharedSystem, Stop, check_subchunk, written,
 };
-use array_fields::Progress;
 use array_folder::{ChunkFile, ChunkFiles, Listing};
 use parts_errors::CodecError;
 use std::io;

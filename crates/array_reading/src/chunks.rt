@@ -1,7 +1,6 @@
 // The chunks of a grid that have elements in the files of an array.
 use crate::read::read_array;
-use array_cli::{Array, ShardCodec, ShardFile, Stop};
-use array_fields::Progress;
+use array_cli::{Array, Progress, ShardCodec, ShardFile, Stop};
 use array_folder::ChunkFile;
 use array_grid::SubsetElements;
 use array_metadata::ArrayMetadata;

@@ -1,10 +1,9 @@
 // The elements of a subset of an array.
 use crate::sound::put_sound;
 use array_cli::{
-    Array, Ending, GridShard, OpenShard, Place, Shard, ShardCodec, ShardFile, Stop, shard_of_grid,
-    shards_of,
+    Array, Ending, GridShard, OpenShard, Place, Progress, Shard, ShardCodec, ShardFile, Stop,
+    shard_of_grid, shards_of,
 };
-use array_fields::Progress;
 use array_grid::{ShardGrid, ShardPart, ShardParts, SubsetElements, shared_elements};
 use parts_arrays::ArrayBytes;
 use parts_errors::CodecError;

@@ -1,6 +1,5 @@
 // What is sound of a part of a subset, where its shard or a subchunk is refused.
-use array_cli::{Array, OpenShard, Place, Refusal, Shard, ShardCodec, ShardFile, Stop};
-use array_fields::Progress;
+use array_cli::{Array, OpenShard, Place, Progress, Refusal, Shard, ShardCodec, ShardFile, Stop};
 use array_grid::{ShardPart, SharedElements, SubsetElements, shared_elements};
 use parts_errors::CodecError;
 use parts_row_major::unravel_index;

@@ -1,10 +1,10 @@
 // The compaction of an array's shards.
 use crate::rewriting::replace;
 use array_cli::{
-    Array, Ending, Place, Planned, Refusal, Shard, ShardCodec, ShardFile, Stop, put_refusal,
-    written,
+    Array, Ending, Place, Planned, Progress, Refusal, Shard, ShardCodec, ShardFile, Stop,
+    put_refusal, written,
 };
-use array_fields::{JsonLine, Progress, escaped};
+use array_fields::{JsonLine, escaped};
 use array_folder::{ChunkFiles, Listing, age_of, save};
 use array_grid::ListPart;
 use sharding_layout::CompactionPlan;

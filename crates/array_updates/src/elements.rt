@@ -141,7 +141,8 @@ pub fn header_of<R: Files + AllocGlobal, C>(
     let element_type = array.metadata.element_type;
     let shape = requested.kept_shape(alloc)?;
     let name = format!(in alloc; "{element_type}")?;
-    Ok(npy_header(alloc, path, &name, &shape)?)
+    let size = array.metadata.fill_value.as_ne_bytes().len();
+    Ok(npy_header(alloc, path, &name, size, &shape)?)
 }
 
 // Where the elements of a file of NumPy's format begin. Refused as `Stop::Header` where it has not the description that is wanted.

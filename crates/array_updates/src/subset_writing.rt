@@ -1,10 +1,9 @@
 // Elements that are written into an array.
 use crate::elements::{ElementsFile, elements_of_file};
 use array_cli::{
-    Array, Ending, OpenShard, Place, Shard, ShardCodec, ShardFile, Stop, chunk_of_fill_values,
-    elements_of, shard_of_grid, shards_of, turned, whole_of, written,
+    Array, Ending, OpenShard, Place, Progress, Shard, ShardCodec, ShardFile, Stop,
+    chunk_of_fill_values, elements_of, shard_of_grid, shards_of, turned, whole_of, written,
 };
-use array_fields::Progress;
 use array_folder::{Counted, save};
 use array_grid::{Requested, ShardGrid, ShardPart, ShardParts, SubsetCells, subset_of};
 use array_metadata::ArrayMetadata;

@@ -70,7 +70,7 @@ const MEMBERS: &[(&str, &str)] = &[
     ),
     (
         r#""data_type": "r12""#,
-        "4 BadField data_type: in data_type: elements of the data type r12 are not read, only bool, int8 to int64, uint8 to uint64, floats, complex numbers, raw bits, times, string and bytes",
+        "4 BadField data_type: in data_type: elements of the data type r12 are not read, only bool, int8 to int64, uint8 to uint64, floats, complex numbers, raw bits, times, texts and bytes",
     ),
     (
         r#""data_type": "bytes", "fill_value": """#,
@@ -78,7 +78,7 @@ const MEMBERS: &[(&str, &str)] = &[
     ),
     (
         r#""data_type": {"name": "x"}"#,
-        "4 BadField data_type: in data_type: elements of the data type x are not read, only bool, int8 to int64, uint8 to uint64, floats, complex numbers, raw bits, times, string and bytes",
+        "4 BadField data_type: in data_type: elements of the data type x are not read, only bool, int8 to int64, uint8 to uint64, floats, complex numbers, raw bits, times, texts and bytes",
     ),
     (
         r#""chunk_grid": {"name": "rectilinear"}"#,
@@ -174,7 +174,7 @@ const MEMBERS: &[(&str, &str)] = &[
     ),
     (
         r#""data_type": "a\tb\u202ec""#,
-        r"4 BadField data_type: in data_type: elements of the data type a\tb\u{202e}c are not read, only bool, int8 to int64, uint8 to uint64, floats, complex numbers, raw bits, times, string and bytes",
+        r"4 BadField data_type: in data_type: elements of the data type a\tb\u{202e}c are not read, only bool, int8 to int64, uint8 to uint64, floats, complex numbers, raw bits, times, texts and bytes",
     ),
     (
         r#""chunk_grid": {"name": "\u0085"}"#,

@@ -1,10 +1,8 @@
 // Cells as text and as JSON.
 ghost use Rattle.std.specs.Prelude.{◌<◌};
 
-use crate::element_types::ElementType;
-use crate::floats::{FloatFormat, half_to_f32};
-use crate::json_line::write_json_numbers;
-use crate::quoted::write_quoted;
+use crate::quoted::{write_null_terminated, write_quoted, write_utf32};
+use array_fields::{ElementType, FloatFormat, half_to_f32, write_json_numbers};
 use parts_arrays::{DataType, DataTypeSize};
 use std::io;
 use std::io::Write;
@@ -177,6 +175,8 @@ fn write_element<W: Write>(
     match element_type {
         ElementType::Complex(format) => write_complex(out, format, element, is_json),
         ElementType::Utf8 => write_quoted(out, element, is_json),
+        ElementType::Utf32(_) => write_utf32(out, element, is_json),
+        ElementType::NullTerminated(_) => write_null_terminated(out, element, is_json),
         ElementType::RawBits(_) | ElementType::Binary if is_json => write_bytes(out, element),
         ElementType::RawBits(_) | ElementType::Binary => write_digits(out, element),
         _ => write_number(out, element_type, element, is_json),
