@@ -1,5 +1,6 @@
 -- The data type of an array: what its elements are, and as what the codecs take them.
-use Rattle.std.specs.Prelude.{◌≡◌, ◌⊎◌, ◌<◌, ◌*◌, ◌%◌, ℕ, Option, Some, None, if◌then◌else◌, codes, bytes_eq, drop, unwrap_or, option_and_then}
+use Rattle.std.specs.Prelude.{◌≡◌, ◌⊎◌, ◌<◌, ◌*◌, ◌%◌, ℕ, Option, Some, None, if◌then◌else◌, codes, bytes_eq, drop, unwrap_or}
+use Rattle.std.specs.Prelude.{option_and_then}
 use Rattle.std.specs.Str.Parse.{digits_value, without_leading_plus}
 use Rattle.parts_errors.specs.Words.{Bytes as Text}
 use Rattle.serde_json.specs.Data.{Data}
@@ -12,7 +13,8 @@ use Rattle.array_fields.specs.declared.floats.FloatFormat.{FloatFormat}
 use Rattle.array_fields.specs.declared.floats.FloatFormat.TheVariants.{Float16, BFloat16, Float32, Float64}
 use Rattle.array_fields.specs.declared.element_types.ElementType.{ElementType}
 use Rattle.array_fields.specs.declared.element_types.ElementType.TheVariants.{Number, Float, Complex, RawBits}
-use Rattle.array_fields.specs.declared.element_types.ElementType.TheVariants.{DateTime64, TimeDelta64, Utf8, Binary, Utf32, NullTerminated, Unread}
+use Rattle.array_fields.specs.declared.element_types.ElementType.TheVariants.{DateTime64, TimeDelta64, Utf8, Binary, Utf32, NullTerminated}
+use Rattle.array_fields.specs.declared.element_types.ElementType.TheVariants.{Unread}
 
 -- the types of the names that the codecs do not know: floats, pairs of them, times, and elements that have lengths of their own
 abbrev pub listed_type : Text → Option ElementType

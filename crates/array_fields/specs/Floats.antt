@@ -1,5 +1,6 @@
 -- Which bits a float has that metadata gives by a name, by its bits, or by a number (IEEE 754; Zarr V3 core, "Data types").
-use Rattle.std.specs.Prelude.{◌≡◌, ◌⊎◌, ◌<◌, ◌+◌, ◌-◌, ◌*◌, ◌%◌, ◌^◌, ℕ, pos, Bool, true, ◌&&◌, ◌==◌, Float, length, take, drop, nat_lt, if◌then◌else◌, ◌↔◌, ◌≤◌, false, Option, Some, None, codes, bytes_eq, to_bits, from_bits}
+use Rattle.std.specs.Prelude.{◌≡◌, ◌⊎◌, ◌<◌, ◌+◌, ◌-◌, ◌*◌, ◌%◌, ◌^◌, ℕ, pos, Bool, true, ◌&&◌, ◌==◌, Float, length, take, drop, nat_lt}
+use Rattle.std.specs.Prelude.{if◌then◌else◌, ◌↔◌, ◌≤◌, false, Option, Some, None, codes, bytes_eq, to_bits, from_bits}
 use Rattle.std.specs.Float.{binary32, binary64, is_sign_negative, float_with_sign, round_to_format}
 use Rattle.std.specs.Float.Ieee.{le, lt, neg, div, of_int}
 use Rattle.std.specs.Str.Parse.{AllDigits, digits_value}

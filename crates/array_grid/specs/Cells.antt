@@ -7,7 +7,8 @@ use Rattle.parts_row_major.specs.Subsets.{Subset, LiesIn}
 use Rattle.parts_row_major.specs.Pieces.{piece}
 use Rattle.parts_arrays.specs.Arrays.{Array}
 use Rattle.parts_arrays.specs.declared.data_type.DataTypeSize.TheVariants.{Fixed}
-use Rattle.parts_errors.specs.declared.error.CodecError.TheVariants.{BadFillValue, TooLarge, WrongElementKind, InvalidNumberOfElements, IncompatibleDimensionality, OutOfBounds}
+use Rattle.parts_errors.specs.declared.error.CodecError.TheVariants.{BadFillValue, TooLarge, WrongElementKind, InvalidNumberOfElements}
+use Rattle.parts_errors.specs.declared.error.CodecError.TheVariants.{IncompatibleDimensionality, OutOfBounds}
 
 -- the cells of a subset in row-major order: their bytes, how many a cell has, and the shape of the subset
 pub record CellsOfSubset : Type 0 where

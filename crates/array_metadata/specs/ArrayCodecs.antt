@@ -1,5 +1,6 @@
 -- The codecs that the metadata of an array names.
-use Rattle.std.specs.Prelude.{◌≡◌, ℕ, Bool, true, false, ◌||◌, if◌then◌else◌, Option, Ok, Err, Some, None, List, length, option_and_then, codes, bytes_eq}
+use Rattle.std.specs.Prelude.{◌≡◌, ℕ, Bool, true, false, ◌||◌, if◌then◌else◌, Option, Ok, Err, Some, None, List, length, option_and_then}
+use Rattle.std.specs.Prelude.{codes, bytes_eq}
 use Rattle.serde_json.specs.Data.{Data, Items, no_items, item}
 use Rattle.codec_metadata.specs.CreateErrors.{Reading, and_then, unsupported_chain, bad_field}
 use Rattle.codec_metadata.specs.Metadata.{codec_of}

@@ -1,5 +1,6 @@
 -- Codecs from bytes to bytes that metadata names.
-use Rattle.std.specs.Prelude.{◌≡◌, ℕ, ℤ, pos, neg_ℤ, int_le, Bool, false, ◌&&◌, Option, Ok, Err, Some, None, codes, bytes_eq, nat_le, if◌then◌else◌, option_and_then, option_map, unwrap_or}
+use Rattle.std.specs.Prelude.{◌≡◌, ℕ, ℤ, pos, neg_ℤ, int_le, Bool, false, ◌&&◌, Option, Ok, Err, Some, None, codes, bytes_eq, nat_le}
+use Rattle.std.specs.Prelude.{if◌then◌else◌, option_and_then, option_map, unwrap_or}
 use Rattle.parts_errors.specs.Words.{Bytes}
 use Rattle.serde_json.specs.Data.{Data, Items, no_items, item}
 use Rattle.serde_json.specs.Find.{get, as_bool}

@@ -5,7 +5,8 @@ use Rattle.serde_json.specs.View.{view, items_of}
 use Rattle.parts_errors.specs.Words.{Bytes as Text}
 use Rattle.array_fields.specs.MetadataFields.{Names}
 use Rattle.array_metadata.specs.declared.codecs.CodecName.{CodecName}
-use Rattle.array_metadata.specs.declared.codecs.CodecName.TheVariants.{Bytes, VlenUtf8, VlenBytes, Crc32c, Gzip, Zlib, Zstd, ShardingIndexed}
+use Rattle.array_metadata.specs.declared.codecs.CodecName.TheVariants.{Bytes, VlenUtf8, VlenBytes, Crc32c, Gzip, Zlib, Zstd}
+use Rattle.array_metadata.specs.declared.codecs.CodecName.TheVariants.{ShardingIndexed}
 use Rattle.array_metadata.specs.declared.codecs.NamedCodec.{NamedCodec}
 
 -- the name of a codec that is served

@@ -1,5 +1,6 @@
 -- Codecs of elements that are not served, by their names.
-use Rattle.std.specs.Prelude.{Bool, true, false, not, ◌||◌, ◌&&◌, Option, Some, None, if◌then◌else◌, codes, bytes_eq, is_some, option_map, option_and_then, unwrap_or}
+use Rattle.std.specs.Prelude.{Bool, true, false, not, ◌||◌, ◌&&◌, Option, Some, None, if◌then◌else◌, codes, bytes_eq, is_some, option_map}
+use Rattle.std.specs.Prelude.{option_and_then, unwrap_or}
 use Rattle.parts_errors.specs.Words.{Bytes}
 use Rattle.serde_json.specs.Data.{Data, Items, no_items, item}
 use Rattle.serde_json.specs.Find.{as_array}

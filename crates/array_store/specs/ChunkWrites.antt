@@ -1,5 +1,6 @@
 -- What a write of a whole chunk leaves.
-use Rattle.std.specs.Prelude.{◌≡◌, ◌<◌, ◌⊎◌, ℕ, Bool, true, false, IsTrue, List, [], Option, Some, None, length, map, slice_index_or, string_bytes}
+use Rattle.std.specs.Prelude.{◌≡◌, ◌<◌, ◌⊎◌, ℕ, Bool, true, false, IsTrue, List, [], Option, Some, None, length, map, slice_index_or}
+use Rattle.std.specs.Prelude.{string_bytes}
 use Rattle.parts_errors.specs.Words.{Bytes, Elements}
 use Rattle.parts_errors.specs.declared.error.CodecError.{CodecError}
 use Rattle.parts_errors.specs.declared.error.CodecError.TheVariants.{OutOfMemory, Fault}

@@ -1,5 +1,6 @@
 -- What a gzip file stands for (RFC 1952, 2.2 and 2.3).
-use Rattle.std.specs.Prelude.{ℕ, zero, suc, ◌-◌, ◌/◌, ◌%◌, ◌^◌, ◌++◌, ◌==◌, nat_le, nat_lt, true, false, [], ◌∷◌, Option, Some, None, length, take, drop, slice_index, bytes_eq}
+use Rattle.std.specs.Prelude.{ℕ, zero, suc, ◌-◌, ◌/◌, ◌%◌, ◌^◌, ◌++◌, ◌==◌, nat_le, nat_lt, true, false, [], ◌∷◌, Option, Some, None}
+use Rattle.std.specs.Prelude.{length, take, drop, slice_index, bytes_eq}
 use Rattle.std.specs.Int.{w16, w32, to_le_bytes, from_le_bytes}
 use Rattle.codec_compression.specs.Options.{◌>>=◌, guard}
 use Rattle.codec_compression.specs.Bits.{Bytes}
