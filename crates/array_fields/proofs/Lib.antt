@@ -4,3 +4,4 @@ mod Elements
 mod SaidFloats
 mod Types
 mod SaidBytes
+mod Utf32Lemmas

@@ -79,7 +79,7 @@ IsComplexIn format (Some (item real (item imaginary no_items))) element = IsComp
 IsComplexIn format (Some (item real (item imaginary (item d later)))) element = ⊥
 
 -- characters in UTF-32, each of four bytes, least significant first
-unfoldable pub utf32 : List ℕ → Text
+abbrev pub utf32 : List ℕ → Text
 utf32 [] = []
 utf32 (c ∷ cs) = to_le_bytes w32 c ++ utf32 cs
 
