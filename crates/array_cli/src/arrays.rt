@@ -127,6 +127,10 @@ fn chunks_in(
     chunks: Vec<ChunkFile>,
     part: &ListPart,
 ) -> Result<Vec<ChunkFile>, AllocError> {
+    // of two places beside each other both are in one part only where it is the only one
+    if part.has(0) && part.has(1) {
+        return Ok(chunks);
+    }
     let mut kept = Vec::new(alloc);
     for (place, chunk) in chunks.into_iter().enumerate() {
         if part.has(place as u64) {

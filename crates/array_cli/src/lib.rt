@@ -10,6 +10,7 @@ mod grid_shards;
 mod progress;
 mod refusal;
 mod shard_codec;
+mod shard_indexes;
 mod shared_array;
 mod stop;
 mod subchunks;
@@ -26,6 +27,7 @@ pub use grid_shards::{
 pub use progress::Progress;
 pub use refusal::{Place, Refusal, put_refusal};
 pub use shard_codec::{OpenShard, ShardCodec, ShardEncoder, ShardFile, encode_chunk};
+pub use shard_indexes::DecodeIndexes;
 pub use shared_array::{SharedArray, open_shared};
 pub use stop::{Ending, Stop, written};
 pub use subchunks::check_subchunk;

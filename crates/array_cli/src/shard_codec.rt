@@ -7,15 +7,14 @@ ghost use Rattle.parts_subsets.specs.Grid.{grid_of};
 
 use crate::compaction_plans::{Planned, plan_of};
 use crate::grid_shards::whole_of;
+use crate::shard_indexes::{DecodeIndexes, ShardIndexes};
 use array_metadata::ArrayMetadata;
-use codec_traits::{ArrayToBytesCodecTraits, BytesRepresentation};
-use parts_arrays::{ArrayBytes, DataType, DataTypeSize, FillValue, FixedTarget};
+use codec_traits::ArrayToBytesCodecTraits;
+use parts_arrays::{ArrayBytes, DataTypeSize, FixedTarget};
 use parts_errors::{CodecError, CodecOptions};
 use parts_subsets::{ArraySubset, ChunkShape};
 use sharding_codec::{ShardingCodec, ShardingPartialDecoder};
-use sharding_format::{
-    ShardIndex, ShardingIndexLocation, calculate_chunks_per_shard, of_stored, sharding_index_shape,
-};
+use sharding_format::{ShardIndex, ShardingIndexLocation, calculate_chunks_per_shard, of_stored};
 use std::alloc::Global;
 use std::borrow::CowSlice;
 use std::rt::Files;
@@ -74,6 +73,9 @@ pub trait ShardCodec<F>: Copy + ShardEncoder {
     /// A shard of this codec that is open.
     type Open: OpenShard<F>;
 
+    /// What decodes the indexes of an array's shards.
+    type Indexes: DecodeIndexes + Drop;
+
     /// How many subchunks the shards of an array have along each axis, where the codec serves them.
     fn subchunks(self, alloc: Global, metadata: &ArrayMetadata) -> Result<ChunkShape, CodecError>;
 
@@ -85,9 +87,8 @@ pub trait ShardCodec<F>: Copy + ShardEncoder {
         metadata: &ArrayMetadata,
     ) -> Result<Self::Open, (F, CodecError)>;
 
-    /// How many bytes the index of a shard with these subchunks along each axis has. Refused as `VariableIndexSize` where that is not
-    /// fixed.
-    fn index_size(self, alloc: Global, subchunks: &ChunkShape) -> Result<u64, CodecError>;
+    /// The indexes of shards with these subchunks along each axis. Refused as `VariableIndexSize` where their size is not fixed.
+    fn indexes(self, alloc: Global, subchunks: &ChunkShape) -> Result<Self::Indexes, CodecError>;
 
     /// Whether the index stands at the start or at the end.
     fn index_location(self) -> ShardingIndexLocation;
@@ -99,15 +100,6 @@ pub trait ShardCodec<F>: Copy + ShardEncoder {
         length: u64,
         shape: &ChunkShape,
     ) -> Result<Interval, CodecError>;
-
-    /// The numbers of the index of a shard in an object of a length, which has these bytes.
-    fn decode_index(
-        self,
-        alloc: Global,
-        bytes: &[u8],
-        length: u64,
-        subchunks: &ChunkShape,
-    ) -> Result<Vec<u64>, CodecError>;
 
     /// The index of the shard of a shape that a file of a length holds. Only the index is read, a long one in pieces.
     fn read_index(
@@ -284,17 +276,6 @@ fn test_in<I: ArrayToBytesCodecTraits, X: ArrayToBytesCodecTraits, H: BytesParti
     }
 }
 
-// How long the index of a shard with these subchunks along each axis is.
-fn index_representation<X: ArrayToBytesCodecTraits>(
-    alloc: Global,
-    codec: &X,
-    subchunks: &ChunkShape,
-) -> Result<BytesRepresentation, CodecError> {
-    let shape = sharding_index_shape(alloc, subchunks)?;
-    let absent = FillValue::from_number(alloc, u64::MAX)?;
-    codec.encoded_representation(alloc, &shape, &DataType::UInt64, &absent)
-}
-
 // The index of the shard that is an object of a length.
 pub(crate) fn whole_index<I, X: ArrayToBytesCodecTraits, H: BytesPartialDecoderTraits>(
     alloc: Global,
@@ -406,6 +387,8 @@ impl<
 > ShardCodec<H> for &'a ShardingCodec<I, X> {
     type Open = OpenedShard<'a, I, X, H>;
 
+    type Indexes = ShardIndexes<'a, X>;
+
     fn subchunks(self, alloc: Global, metadata: &ArrayMetadata) -> Result<ChunkShape, CodecError> {
         check_served(alloc, self, metadata)?;
         calculate_chunks_per_shard(alloc, &metadata.encoded, &metadata.subchunk)
@@ -426,11 +409,12 @@ impl<
         }
     }
 
-    fn index_size(self, alloc: Global, subchunks: &ChunkShape) -> Result<u64, CodecError> {
-        match index_representation(alloc, &self.index_codec, subchunks)? {
-            BytesRepresentation::FixedSize(size) => Ok(size),
-            _ => Err(CodecError::VariableIndexSize),
-        }
+    fn indexes(
+        self,
+        alloc: Global,
+        subchunks: &ChunkShape,
+    ) -> Result<ShardIndexes<'a, X>, CodecError> {
+        ShardIndexes::new(alloc, self, subchunks)
     }
 
     fn index_location(self) -> ShardingIndexLocation {
@@ -444,16 +428,6 @@ impl<
         shape: &ChunkShape,
     ) -> Result<Interval, CodecError> {
         ShardingCodec::index_interval(self, alloc, length, shape)
-    }
-
-    fn decode_index(
-        self,
-        alloc: Global,
-        bytes: &[u8],
-        _length: u64,
-        subchunks: &ChunkShape,
-    ) -> Result<Vec<u64>, CodecError> {
-        ShardingCodec::decode_index(self, alloc, bytes, subchunks, &CodecOptions::default())
     }
 
     fn read_index(

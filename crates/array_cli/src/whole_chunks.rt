@@ -4,6 +4,7 @@ use crate::grid_shards::whole_of;
 use crate::shard_codec::{
     OpenShard, ShardCodec, ShardEncoder, check_served, encode_chunk, room_of, sized, test_decoding,
 };
+use crate::shard_indexes::DecodeIndexes;
 use array_metadata::ArrayMetadata;
 use codec_traits::{ArrayToBytesCodecTraits, StoredArray};
 use parts_arrays::{ArrayBytes, DataTypeSize, FixedTarget};
@@ -157,6 +158,20 @@ fn one_entry(alloc: Global, length: u64) -> Result<Vec<u64>, AllocError> {
     Vec::from_slice(alloc, &[0, length])
 }
 
+/// What takes chunks that are no shards as shards whose indexes have no bytes.
+#[derive(Clone, Copy)]
+pub struct NoIndexes;
+
+impl DecodeIndexes for NoIndexes {
+    fn size(&self) -> u64 {
+        0
+    }
+
+    fn numbers(&self, alloc: Global, _bytes: &[u8], length: u64) -> Result<Vec<u64>, CodecError> {
+        Ok(one_entry(alloc, length)?)
+    }
+}
+
 impl<C: ArrayToBytesCodecTraits, H: BytesPartialDecoderTraits> OpenShard<H>
     for WholeChunk<'_, C, H> {
     fn read_subset<'e>(
@@ -221,6 +236,8 @@ impl<'a, C: ArrayToBytesCodecTraits, H: BytesPartialDecoderTraits> ShardCodec<H>
     for WholeChunks<'a, C> {
     type Open = WholeChunk<'a, C, H>;
 
+    type Indexes = NoIndexes;
+
     fn subchunks(self, alloc: Global, metadata: &ArrayMetadata) -> Result<ChunkShape, CodecError> {
         check_served(alloc, self.codec, metadata)?;
         calculate_chunks_per_shard(alloc, &metadata.shard, &metadata.subchunk)
@@ -243,8 +260,8 @@ impl<'a, C: ArrayToBytesCodecTraits, H: BytesPartialDecoderTraits> ShardCodec<H>
         }
     }
 
-    fn index_size(self, _alloc: Global, _subchunks: &ChunkShape) -> Result<u64, CodecError> {
-        Ok(0)
+    fn indexes(self, _alloc: Global, _subchunks: &ChunkShape) -> Result<NoIndexes, CodecError> {
+        Ok(NoIndexes)
     }
 
     fn index_location(self) -> ShardingIndexLocation {
@@ -261,16 +278,6 @@ impl<'a, C: ArrayToBytesCodecTraits, H: BytesPartialDecoderTraits> ShardCodec<H>
             offset: length,
             size: 0,
         })
-    }
-
-    fn decode_index(
-        self,
-        alloc: Global,
-        _bytes: &[u8],
-        length: u64,
-        _subchunks: &ChunkShape,
-    ) -> Result<Vec<u64>, CodecError> {
-        Ok(one_entry(alloc, length)?)
     }
 
     fn read_index(

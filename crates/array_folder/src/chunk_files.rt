@@ -151,7 +151,14 @@ fn list_folder<R: Files + AllocGlobal>(
     }
 }
 
-// Lists the folders of a level.
+// Sorts files from a place on.
+fn sort_from(chunks: &mut [ChunkFile], place: usize) {
+    let place = place.min(chunks.len());
+    let (_, last) = chunks.split_at_mut(place);
+    last.sort_unstable();
+}
+
+// Lists the folders of a level, which are sorted, and so are then the folders or files that they hold.
 fn list_level<R: Files + AllocGlobal>(
     rt: &R,
     path: &str,
@@ -171,7 +178,9 @@ fn list_level<R: Files + AllocGlobal>(
             is_first,
             is_last,
         };
+        let place = found.chunks.len();
         list_folder(rt, path, &walk, room, found)?;
+        sort_from(&mut found.chunks, place);
     }
     Ok(())
 }
@@ -200,7 +209,6 @@ pub fn list_chunks<R: Files + AllocGlobal>(
         let is_last = depth.saturating_add(1) == levels.len();
         list_level(rt, path, level, depth == 0, is_last, &mut room, &mut found)?;
     }
-    found.chunks.sort_unstable();
     found.replacing.sort_unstable();
     Ok(found)
 }

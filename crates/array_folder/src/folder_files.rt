@@ -5,32 +5,31 @@ use std::rt::Files;
 use storage_files::read_file_range;
 use storage_handles::ByteRange;
 
-/// The files of a folder that has this path, to be read one after the other. Path and bytes of a file stand in memory that the next
-/// one has again.
+/// The files of a folder, to be read one after the other. Path and bytes of a file stand in memory that the next one has again.
 #[derive(Drop)]
 pub struct FolderFiles<'a, R> {
     files: &'a R,
-    folder: &'a str,
+    // what the path of each file begins with
+    folder: String,
     path: String,
     room: Vec<u8>,
 }
 
 impl<'a, R: Files> FolderFiles<'a, R> {
-    /// The files of a folder.
-    pub fn new(alloc: Global, files: &'a R, folder: &'a str) -> Self {
-        FolderFiles {
+    /// The files of the folder that has this path.
+    pub fn new(alloc: Global, files: &'a R, folder: &str) -> Result<Self, AllocError> {
+        Ok(FolderFiles {
             files,
-            folder,
+            folder: format!(in alloc; "{folder}/")?,
             path: String::new(alloc),
             room: Vec::new(alloc),
-        }
+        })
     }
 
     // Makes the path that of the file with a key.
     fn set_path(&mut self, key: &str) -> Result<(), AllocError> {
         self.path.clear();
-        self.path.push_str(self.folder)?;
-        self.path.push('/')?;
+        self.path.push_str(&self.folder)?;
         self.path.push_str(key)
     }
 

@@ -24,19 +24,17 @@ pub fn slice_of(offset: u64, size: u64, length: u64) -> Option<(u64, u64)> {
 }
 
 // How many slices an index names. Refused as `BadIndexEntry` where one passes the object.
-fn present_in(numbers: &[u64], length: u64) -> Result<u64, CodecError> {
+fn present_in(entries: &[[u64; 2]], length: u64) -> Result<u64, CodecError> {
     let mut present = 0u64;
-    let mut number = 0u64;
-    for entry in numbers.chunks(2) {
-        match entry {
-            [u64::MAX, u64::MAX] => {}
-            [offset, size] => match slice_of(*offset, *size, length) {
-                Some(_) => present = present.saturating_add(1),
-                None => return Err(CodecError::BadIndexEntry { number }),
-            },
-            _ => {}
+    for (number, [offset, size]) in entries.iter().enumerate() {
+        if *offset == u64::MAX && *size == u64::MAX {
+            continue;
         }
-        number = number.saturating_add(1);
+        if slice_of(*offset, *size, length).is_none() {
+            let number = number as u64;
+            return Err(CodecError::BadIndexEntry { number });
+        }
+        present = present.saturating_add(1);
     }
     Ok(present)
 }
@@ -122,9 +120,9 @@ pub fn info_of(
     size: u64,
     length: u64,
 ) -> Result<IndexInfo, CodecError> {
-    let present = present_in(numbers, length)?;
-    let subchunks = (numbers.len() / 2) as u64;
     let (slices, _) = numbers.as_chunks_mut::<2>();
+    let present = present_in(slices, length)?;
+    let subchunks = slices.len() as u64;
     // an absent pair is the largest of all
     slices.sort_unstable();
     let index = index_interval(location, size, length);

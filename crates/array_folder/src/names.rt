@@ -10,15 +10,25 @@ pub struct Level<'a> {
     counts: &'a [u64],
 }
 
+// The number that decimal digits are, at least one, with no zero before others.
+fn number_in(digits: &[u8]) -> Option<u64> {
+    if digits.is_empty() || digits.len() > 1 && digits[0] == b'0' {
+        return None;
+    }
+    let mut number = 0u64;
+    for byte in digits {
+        let digit = byte.wrapping_sub(b'0');
+        if digit > 9 {
+            return None;
+        }
+        number = number.checked_mul(10)?.checked_add(digit as u64)?;
+    }
+    Some(number)
+}
+
 // The coordinate below a count that a word is, in decimal digits with no zero before them.
-fn coordinate_in(word: &str, count: u64) -> Option<u64> {
-    if word.len() > 1 && word.starts_with('0') {
-        return None;
-    }
-    if !word.bytes().all(|byte| byte.is_ascii_digit()) {
-        return None;
-    }
-    let coordinate: u64 = word.parse().ok()?;
+fn coordinate_in(word: &[u8], count: u64) -> Option<u64> {
+    let coordinate = number_in(word)?;
     if coordinate < count {
         Some(coordinate)
     } else {
@@ -32,7 +42,7 @@ fn push_coordinates(
     text: &str,
     counts: &[u64],
 ) -> Result<bool, AllocError> {
-    let mut words = text.split('.');
+    let mut words = text.as_bytes().split(|byte| *byte == b'.');
     for count in counts {
         match words.next().and_then(|word| coordinate_in(word, *count)) {
             Some(coordinate) => coordinates.push(coordinate)?,

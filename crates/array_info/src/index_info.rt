@@ -1,5 +1,5 @@
 // What the index of a shard says.
-use array_cli::{Array, ShardCodec, ShardFile};
+use array_cli::{Array, DecodeIndexes, ShardCodec, ShardFile};
 use array_folder::{IndexInfo, info_of};
 use parts_errors::CodecError;
 use sharding_format::ShardingIndexLocation;
@@ -17,14 +17,14 @@ pub fn index_range(location: ShardingIndexLocation, size: u64) -> ByteRange {
 /// What the index of a shard in an object of a length says, which has these bytes.
 pub fn index_info<'a, R: Files + AllocGlobal, C: ShardCodec<ShardFile<'a, R>>>(
     array: &Array<'a, R, C>,
+    indexes: &C::Indexes,
     bytes: &[u8],
     length: u64,
 ) -> Result<IndexInfo, CodecError> {
-    let codec = array.codec;
-    let mut numbers = codec.decode_index(array.alloc(), bytes, length, &array.subchunks)?;
+    let mut numbers = indexes.numbers(array.alloc(), bytes, length)?;
     info_of(
         &mut numbers,
-        codec.index_location(),
+        array.codec.index_location(),
         bytes.len() as u64,
         length,
     )

@@ -2,13 +2,14 @@
 use crate::index_info::{index_info, index_range};
 use crate::json;
 use array_cli::{
-    Array, Ending, Place, Progress, Refusal, Shard, ShardCodec, ShardFile, Stop, write_folder,
-    write_folder_lines, written,
+    Array, DecodeIndexes, Ending, Place, Progress, Refusal, Shard, ShardCodec, ShardFile, Stop,
+    write_folder, write_folder_lines, written,
 };
 use array_folder::{ChunkFile, ChunkFiles, Counted, FolderFiles, IndexInfo, Listing, info_of};
 use array_grid::{ChunkKeys, KeyEncoding, ListPart, write_cell_line, write_numbers};
 use array_metadata::{ArrayCodec, ArrayMetadata};
 use parts_errors::CodecError;
+use std::alloc::{AllocError, Global};
 use std::io;
 use std::io::Write;
 use std::rt::{Clock, Files};
@@ -47,28 +48,29 @@ const LONGEST_AT_ONCE: u64 = 65_536;
 // What the index of a shard says, which has these bytes, or why it is refused.
 fn index_of<'a, R: Files + AllocGlobal, C: ShardCodec<ShardFile<'a, R>>>(
     array: &Array<'a, R, C>,
+    indexes: &C::Indexes,
     shard: &Shard<'_>,
     bytes: &[u8],
     length: u64,
 ) -> Result<Result<IndexInfo, Refusal>, Stop> {
-    match index_info(array, bytes, length) {
+    match index_info(array, indexes, bytes, length) {
         Ok(info) => Ok(Ok(info)),
         Err(CodecError::OutOfMemory) => Err(Stop::OutOfMemory),
         Err(error) => Ok(Err(array.refusal_at(shard, error, Place::opening(&error))?)),
     }
 }
 
-// What is known of a shard, whose index has a size and is read at once; nothing where its file is gone.
+// What is known of a shard, whose index is read at once; nothing where its file is gone.
 fn read_at_once<'a, R: Files + AllocGlobal, C: ShardCodec<ShardFile<'a, R>>>(
     array: &Array<'a, R, C>,
+    indexes: &C::Indexes,
     shard: &Shard<'_>,
-    size: u64,
     files: &mut FolderFiles<'_, R>,
 ) -> Result<Option<ShardInfo>, Stop> {
-    let range = index_range(array.codec.index_location(), size);
+    let range = index_range(array.codec.index_location(), indexes.size());
     match files.read(shard.key, range) {
         Ok(Some((length, bytes))) => {
-            let index = index_of(array, shard, bytes, length)?;
+            let index = index_of(array, indexes, shard, bytes, length)?;
             Ok(Some(ShardInfo { length, index }))
         }
         Ok(None) => Ok(None),
@@ -122,50 +124,51 @@ fn read_in_pieces<'a, R: Files + AllocGlobal, C: ShardCodec<ShardFile<'a, R>>>(
     }
 }
 
-// What is known of the shard in a file, whose index has a size; nothing where the file is gone.
+// What is known of the shard in a file; nothing where the file is gone.
 fn read_info<'a, R: Files + AllocGlobal, C: ShardCodec<ShardFile<'a, R>>>(
     array: &Array<'a, R, C>,
+    indexes: &C::Indexes,
     chunk: &ChunkFile,
-    size: u64,
     files: &mut FolderFiles<'_, R>,
 ) -> Result<Option<ShardInfo>, Stop> {
     let shard = Shard {
         key: &chunk.key,
         coordinates: &chunk.coordinates,
     };
+    let size = indexes.size();
     if size > LONGEST_AT_ONCE {
         read_in_pieces(array, &shard, size)
     } else {
-        read_at_once(array, &shard, size, files)
+        read_at_once(array, indexes, &shard, files)
     }
 }
 
-// Adds what is known of the shards in these files, whose indexes have a size; nothing of one whose file is gone.
+// Adds what is known of the shards in these files; nothing of one whose file is gone.
 fn add_shards<'a, R: Files + AllocGlobal, C: ShardCodec<ShardFile<'a, R>>, M: Write>(
     array: &Array<'a, R, C>,
+    indexes: &C::Indexes,
     chunks: &[ChunkFile],
-    size: u64,
     files: &mut FolderFiles<'_, R>,
     shards: &mut Vec<Option<ShardInfo>>,
     progress: &mut Progress<'_, M>,
 ) -> Result<(), Stop> {
     for (number, chunk) in chunks.iter().enumerate() {
         progress.step(number as u64, chunks.len() as u64);
-        shards.push(read_info(array, chunk, size, files)?)?;
+        shards.push(read_info(array, indexes, chunk, files)?)?;
     }
     Ok(())
 }
 
-// What is known of the shards in these files, whose indexes have a size; nothing of one whose file is gone.
+// What is known of the shards in these files; nothing of one whose file is gone.
 fn listed<'a, R: Files + AllocGlobal, C: ShardCodec<ShardFile<'a, R>>, M: Write>(
     array: &Array<'a, R, C>,
+    indexes: &C::Indexes,
     chunks: &[ChunkFile],
-    size: u64,
     progress: &mut Progress<'_, M>,
 ) -> Result<Vec<Option<ShardInfo>>, Stop> {
     let mut shards: Vec<Option<ShardInfo>> = Vec::with_capacity(array.alloc(), chunks.len())?;
-    let mut files = FolderFiles::new(array.alloc(), array.rt, array.path);
-    add_shards(array, chunks, size, &mut files, &mut shards, progress)?;
+    let mut files = FolderFiles::new(array.alloc(), array.rt, array.path)?;
+    add_shards(array, indexes, chunks, &mut files, &mut shards, progress)?;
     Ok(shards)
 }
 
@@ -264,32 +267,44 @@ fn write_unread<W: Write>(out: &mut W, unread: Option<String>) -> io::Result<()>
     }
 }
 
-// Writes numbers, each with words behind it, and ends the line.
-fn write_counts<W: Write>(out: &mut W, counts: &[(u64, &str)]) -> io::Result<()> {
+/// Adds numbers to a line, each with words behind it.
+pub fn push_counts(line: &mut String, counts: &[(u64, &str)]) -> Result<(), AllocError> {
     for (count, words) in counts {
-        out.write_all(itoa::Buffer::new().format(*count).as_bytes())?;
-        out.write_all(words.as_bytes())?;
+        line.push_str(itoa::Buffer::new().format(*count))?;
+        line.push_str(words)?;
     }
     Ok(())
 }
 
-/// Writes what is known of a shard.
-pub fn write_shard<W: Write>(out: &mut W, key: &str, shard: &ShardInfo) -> io::Result<()> {
-    out.write_all(key.as_bytes())?;
-    out.write_all(b": ")?;
-    write_counts(out, &[(shard.length, " bytes, ")])?;
+// Makes a line what is known of a shard whose index is read.
+fn set_line(line: &mut String, key: &str, length: u64, info: &IndexInfo) -> Result<(), AllocError> {
+    line.clear();
+    line.push_str(key)?;
+    line.push_str(": ")?;
+    let counts = [
+        (length, " bytes, "),
+        (info.present, " present, "),
+        (info.absent, " absent, "),
+        (info.dead, " dead bytes\n"),
+    ];
+    push_counts(line, &counts)
+}
+
+/// Writes what is known of a shard, by a line in memory that the next one has again.
+pub fn write_shard<W: Write>(
+    out: &mut W,
+    line: &mut String,
+    key: &str,
+    shard: &ShardInfo,
+) -> io::Result<()> {
     match &shard.index {
-        Ok(info) => write_counts(
-            out,
-            &[
-                (info.present, " present, "),
-                (info.absent, " absent, "),
-                (info.dead, " dead bytes\n"),
-            ],
-        ),
+        Ok(info) => {
+            set_line(line, key, shard.length, info)?;
+            out.write_all(line.as_bytes())
+        }
         Err(refusal) => {
-            let reason = refusal.reason();
-            writeln!(out, "refused: {reason}")
+            let (length, reason) = (shard.length, refusal.reason());
+            writeln!(out, "{key}: {length} bytes, refused: {reason}")
         }
     }
 }
@@ -297,12 +312,14 @@ pub fn write_shard<W: Write>(out: &mut W, key: &str, shard: &ShardInfo) -> io::R
 // Writes a line for each shard.
 fn write_shards<W: Write>(
     out: &mut W,
+    alloc: Global,
     files: &ChunkFiles,
     shards: &[Option<ShardInfo>],
 ) -> io::Result<()> {
+    let mut line = String::new(alloc);
     for (file, shard) in files.chunks.iter().zip(shards) {
         if let Some(shard) = shard {
-            write_shard(out, &file.key, shard)?;
+            write_shard(out, &mut line, &file.key, shard)?;
         }
     }
     Ok(())
@@ -350,7 +367,7 @@ fn write_info<R: Files + AllocGlobal + Clock, C, W: Write>(
     write_metadata(out, array.metadata)?;
     write_unread(out, array.unread()?)?;
     write_count(out, array, sums.shards)?;
-    write_shards(out, files, shards)?;
+    write_shards(out, array.alloc(), files, shards)?;
     write_folder(array, out, files)?;
     write_sums(out, sums)
 }
@@ -358,12 +375,14 @@ fn write_info<R: Files + AllocGlobal + Clock, C, W: Write>(
 // Writes a line of JSON for each shard.
 fn write_shard_lines<W: Write>(
     out: &mut W,
+    alloc: Global,
     files: &ChunkFiles,
     shards: &[Option<ShardInfo>],
 ) -> io::Result<()> {
+    let mut line = String::new(alloc);
     for (file, shard) in files.chunks.iter().zip(shards) {
         if let Some(shard) = shard {
-            json::write_shard(out, &file.key, shard)?;
+            json::write_shard(out, &mut line, &file.key, shard)?;
         }
     }
     Ok(())
@@ -389,7 +408,7 @@ fn write_info_lines<R: Files + AllocGlobal, C, W: Write>(
     sums: &Sums,
 ) -> io::Result<()> {
     write_array_line(out, array)?;
-    write_shard_lines(out, files, shards)?;
+    write_shard_lines(out, array.alloc(), files, shards)?;
     write_folder_lines(out, files)?;
     json::write_sums(out, sums)
 }
@@ -401,9 +420,9 @@ pub fn known_shards<'a, R: Files + AllocGlobal, C: ShardCodec<ShardFile<'a, R>>,
     part: &ListPart,
     progress: &mut Progress<'_, M>,
 ) -> Result<KnownShards, Stop> {
-    let size = array.codec.index_size(array.alloc(), &array.subchunks)?;
+    let indexes = array.codec.indexes(array.alloc(), &array.subchunks)?;
     let files = array.files_in(part)?;
-    let shards = listed(array, &files.chunks, size, progress)?;
+    let shards = listed(array, &indexes, &files.chunks, progress)?;
     Ok(KnownShards { files, shards })
 }
 

@@ -1,9 +1,11 @@
 // What an array holds, as lines of JSON.
-use crate::info::{ShardInfo, Sums, key_words};
+use crate::info::{ShardInfo, Sums, key_words, push_counts};
 use array_cli::put_refusal;
 use array_fields::JsonLine;
+use array_folder::IndexInfo;
 use array_grid::write_json_cell;
 use array_metadata::{ArrayCodec, ArrayMetadata};
+use std::alloc::AllocError;
 use std::io;
 use std::io::Write;
 
@@ -80,8 +82,28 @@ pub fn write_array<W: Write>(
     line.end()
 }
 
-/// Writes a line of the kind `shard`.
-pub fn write_shard<W: Write>(out: &mut W, key: &str, shard: &ShardInfo) -> io::Result<()> {
+// Makes a line the one of the kind `shard` of one whose index is read. All characters of the key stand there as they are.
+fn set_line(line: &mut String, key: &str, length: u64, info: &IndexInfo) -> Result<(), AllocError> {
+    line.clear();
+    line.push_str("{\"kind\":\"shard\",\"key\":\"")?;
+    line.push_str(key)?;
+    line.push_str("\",\"bytes\":")?;
+    let counts = [
+        (length, ",\"present\":"),
+        (info.present, ",\"absent\":"),
+        (info.absent, ",\"dead\":"),
+        (info.dead, "}\n"),
+    ];
+    push_counts(line, &counts)
+}
+
+// Whether all characters of a key stand as they are in a text of JSON: letters and digits, and the separators of keys.
+fn is_plain(key: &str) -> bool {
+    key.bytes().all(|byte| byte.is_ascii_alphanumeric() || matches!(byte, b'/' | b'.'))
+}
+
+// Writes a line of the kind `shard` of any shard.
+fn write_any_shard<W: Write>(out: &mut W, key: &str, shard: &ShardInfo) -> io::Result<()> {
     let mut line = JsonLine::new(out, "shard")?;
     line.text("key", key)?;
     line.number("bytes", shard.length)?;
@@ -94,6 +116,22 @@ pub fn write_shard<W: Write>(out: &mut W, key: &str, shard: &ShardInfo) -> io::R
         Err(refusal) => put_refusal(&mut line, refusal)?,
     }
     line.end()
+}
+
+/// Writes a line of the kind `shard`, by a line in memory that the next one has again.
+pub fn write_shard<W: Write>(
+    out: &mut W,
+    line: &mut String,
+    key: &str,
+    shard: &ShardInfo,
+) -> io::Result<()> {
+    match &shard.index {
+        Ok(info) if is_plain(key) => {
+            set_line(line, key, shard.length, info)?;
+            out.write_all(line.as_bytes())
+        }
+        _ => write_any_shard(out, key, shard),
+    }
 }
 
 /// Writes a line of the kind `sum`.

@@ -1,7 +1,9 @@
 // Where the subchunks of one shard lie in its file.
 use crate::info::{ShardInfo, write_shard};
 use crate::json;
-use array_cli::{Array, Ending, Place, Shard, ShardCodec, ShardFile, Stop, shard_of, written};
+use array_cli::{
+    Array, DecodeIndexes, Ending, Place, Shard, ShardCodec, ShardFile, Stop, shard_of, written,
+};
 use array_fields::{JsonLine, escaped};
 use array_folder::{DeadBytes, IndexInfo, index_interval, info_of, slice_of};
 use parts_errors::CodecError;
@@ -195,8 +197,13 @@ fn write_dead_lines<W: Write>(out: &mut W, mut bytes: DeadBytes<'_>) -> io::Resu
 }
 
 // Writes what the index of a shard says, as lines of JSON.
-fn write_layout_lines<W: Write>(out: &mut W, key: &str, layout: &Layout) -> io::Result<()> {
-    json::write_shard(out, key, &layout.known())?;
+fn write_layout_lines<W: Write>(
+    out: &mut W,
+    alloc: Global,
+    key: &str,
+    layout: &Layout,
+) -> io::Result<()> {
+    json::write_shard(out, &mut String::new(alloc), key, &layout.known())?;
     write_subchunk_lines(out, layout)?;
     write_range_line(out, "index", layout.index, None)?;
     write_dead_lines(out, layout.dead_bytes())
@@ -210,7 +217,7 @@ fn write_layout<W: Write>(
     layout: &Layout,
     subchunks: &[u64],
 ) -> io::Result<()> {
-    write_shard(out, key, &layout.known())?;
+    write_shard(out, &mut String::new(alloc), key, &layout.known())?;
     out.write_all(b"subchunk          offset            size             end  coordinates\n")?;
     write_subchunks(out, alloc, layout, subchunks)?;
     write_bytes(out, "index", layout.index)?;
@@ -228,10 +235,10 @@ pub fn info_of_shard<'a, R: Files + AllocGlobal, C: ShardCodec<ShardFile<'a, R>>
     is_json: bool,
     out: &mut W,
 ) -> Result<Ending, Stop> {
-    let size = array.codec.index_size(array.alloc(), &array.subchunks)?;
+    let size = array.codec.indexes(array.alloc(), &array.subchunks)?.size();
     let layout = layout_of_key(array, size, key)?;
     let wrote = if is_json {
-        write_layout_lines(out, key, &layout)
+        write_layout_lines(out, array.alloc(), key, &layout)
     } else {
         write_layout(out, array.alloc(), key, &layout, array.subchunks.as_slice())
     };
