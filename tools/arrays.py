@@ -145,26 +145,51 @@ def words(shape):
     return ",".join(map(str, shape))
 
 
-def test_reshard(program, name, path, expected):
-    """The array in three other layouts, and back to its own: the elements stay."""
-    chunk, part = expected["chunk_shape"], expected["subchunk_shape"]
+def whole(program, path, data_type):
+    """All elements of an array, as far as they are read: as a checksum of their bytes, or as JSON where they have lengths of their own."""
+    if data_type in VARYING:
+        status, out, told = run(program, "read", path, "--json")
+        return status, out and json.loads(out)["cells"], told
+    status, out, told = run(program, "read", path, "--raw")
+    return status, hashlib.sha256(out).hexdigest(), told
+
+
+def layouts_of(chunk, part):
+    """Three other layouts of an array, and two with shards and subchunks as they were; of one that has no axis only what has no shape."""
+    if not chunk:
+        return [["--inner", "zstd", "--index", "start"], ["--inner", "crc32c", "--no-crc32c"], ["--index", "end", "--crc32c"]]
     rows = [1] * (len(chunk) - 1) + chunk[-1:]
-    layouts = [
+    return [
         ["--subchunk", words(chunk), "--inner", "none", "--index", "start", "--no-crc32c"],
         ["--shard", words(chunk), "--subchunk", words(rows), "--inner", "zstd", "--order", "morton"],
         ["--shard", words([3 * size for size in part]), "--subchunk", words(part), "--inner", "gzip", "--index", "end", "--crc32c"],
         ["--shard", words(chunk), "--subchunk", words(part), "--inner", "crc32c"],
         ["--shard", words(chunk), "--subchunk", words(rows), "--inner", "zlib"],
+        ["--shard", words(chunk), "--subchunk", words(part), "--inner", "none"],
     ]
-    old = path
-    for number, layout in enumerate(layouts if chunk else layouts[:0]):
+
+
+def test_reshard(program, name, path, expected):
+    """The array in other layouts, one made of the other, and back to its own: the elements stay."""
+    data_type, old = expected["data_type"], path
+    cells = [as_json(cell, data_type) for cell in expected["cells"]] if data_type in VARYING else expected["raw_sha256"]
+    for number, layout in enumerate(layouts_of(expected["chunk_shape"], expected["subchunk_shape"])):
         new = f"{path}.{number}"
         compare(name, f"reshard {layout}", run(program, "reshard", old, new, *layout)[::2], (0, ""))
-        status, out, told = run(program, "read", new, "--raw")
-        compare(name, f"elements of {layout}", (status, hashlib.sha256(out).hexdigest(), told), (0, expected["raw_sha256"], ""))
+        compare(name, f"elements of {layout}", whole(program, new, data_type), (0, cells, ""))
+        compare(name, f"text of {layout}", run(program, "read", new), run(program, "read", path))
         compare(name, f"comparison of {layout}", run(program, "compare", path, new)[:2], (0, b"no element differs\n"))
         compare(name, f"check of {layout}", run(program, "check", new)[0], 0)
         old = new
+
+
+def test_reshard_damaged(program, name, path, expected):
+    """An array of which something is damaged is not laid out anew: the first shard that is, is told, and nothing is left."""
+    new = f"{path}.new"
+    status, out, told = run(program, "reshard", path, new)
+    keys = [place[0] for place in expected["damaged"]]
+    compare(name, "reshard of what is damaged", (status, out, any(told.startswith(f"zarr_shard: {key}: ") for key in keys)), (1, b"", True))
+    compare(name, "what is left of it", [os.path.exists(new + end) for end in ("", ".partial")], [False] * 2)
 
 
 def test_write(program, name, path, expected):
@@ -326,10 +351,10 @@ def test_varying(program, name, path, expected):
     shown = [shown_text(cell) if data_type == "string" else "0x" + cell for cell in expected["cells"]]
     compare(name, "elements as text", lines, [" ".join(shown[at : at + row]) for at in range(0, len(shown), row)])
     compare(name, "compare", run(program, "compare", path, path), (0, b"no element differs\n", ""))
-    for words in (["read", path, "--raw"], ["read", path, "--npy", f"{path}.npy"], ["reshard", path, f"{path}.new"]):
+    for words in (["read", path, "--raw"], ["read", path, "--npy", f"{path}.npy"], ["write", path, "--raw", f"{path}/zarr.json"]):
         status, out, told = run(program, *words)
         compare(name, words[0], (status, out, "have lengths of their own" in told), (2, b"", True))
-    compare(name, "what is left", [os.path.exists(f"{path}{end}") for end in (".npy", ".new", ".new.partial")], [False] * 3)
+    compare(name, "what is left", os.path.exists(f"{path}.npy"), False)
 
 
 def shown_text(text):
@@ -374,8 +399,11 @@ def test_array(program, name, folder, expected):
     test_map(program, name, path, expected, is_decoded)
     test_extract(program, name, path, expected["shards"])
     test_copy(program, name, path, expected["shards"])
-    if is_read and not expected["damaged"]:
+    if (is_read or is_varying) and not expected["damaged"]:
         test_reshard(program, name, path, expected)
+    elif is_read:
+        test_reshard_damaged(program, name, path, expected)
+    if is_read and not expected["damaged"]:
         test_write(program, name, path, expected)
     test_compact(program, name, path, expected["shards"])
     if is_varying:

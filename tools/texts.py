@@ -227,6 +227,176 @@ def test_fixed_refused(program, folder):
         compare(f"of one size, refused {number}", (status, out, words in told, len(told.splitlines())), (2, "", True, 1))
 
 
+def content_of(stored, codecs):
+    """The encoding behind its compression or its checksum."""
+    for codec in reversed(codecs[1:]):
+        stored = stored[:-4] if codec["name"] == "crc32c" else gzip.decompress(stored)
+    return stored
+
+
+def elements_in(content):
+    """The elements of an encoding."""
+    elements, at = [], 4
+    for _ in range(struct.unpack_from("<I", content)[0]):
+        size = struct.unpack_from("<I", content, at)[0]
+        elements.append(content[at + 4 : at + 4 + size])
+        at += 4 + size
+    return elements
+
+
+def subchunks_in(shard, configuration, count):
+    """The subchunks of a shard: their offsets, and their elements; `None` of one that is absent."""
+    size = 16 * count + (4 if len(configuration["index_codecs"]) > 1 else 0)
+    index = shard[:size] if configuration["index_location"] == "start" else shard[-size:]
+    for number in range(count):
+        offset, length = struct.unpack_from("<QQ", index, 16 * number)
+        if offset == 2**64 - 1:
+            yield None, None
+        else:
+            yield offset, elements_in(content_of(shard[offset : offset + length], configuration["codecs"]))
+
+
+def decoded(path, fill):
+    """The elements of an array of two axes, decoded here, by their coordinates; and the offsets of the subchunks of each shard."""
+    with open(f"{path}/zarr.json", encoding="utf-8") as file:
+        told = json.load(file)
+    configuration, shape = told["codecs"][0]["configuration"], told["shape"]
+    chunk, part = told["chunk_grid"]["configuration"]["chunk_shape"], configuration["chunk_shape"]
+    grid, found, offsets = [size // of for size, of in zip(chunk, part)], {}, {}
+    for key in keys_in(path):
+        with open(f"{path}/{key}", "rb") as file:
+            shard = file.read()
+        start = [int(place) * size for place, size in zip(key.split("/")[1:], chunk)]
+        offsets[key] = []
+        for number, (offset, elements) in enumerate(subchunks_in(shard, configuration, grid[0] * grid[1])):
+            offsets[key].append(offset)
+            first = [start[0] + number // grid[1] * part[0], start[1] + number % grid[1] * part[1]]
+            for place, element in enumerate(elements or []):
+                found[first[0] + place // part[1], first[1] + place % part[1]] = element
+    outside = [element for at, element in found.items() if at[0] >= shape[0] or at[1] >= shape[1]]
+    compare(f"what {path} has behind its edge", set(outside) - {fill}, set())
+    return [found.get((row, column), fill) for row in range(shape[0]) for column in range(shape[1])], offsets
+
+
+def keys_in(path):
+    return sorted(os.path.relpath(f"{place}/{file}", path) for place, _, files in os.walk(path) for file in files if file != "zarr.json")
+
+
+LAYOUTS = (
+    ["--shard", "4,4", "--subchunk", "2,2", "--inner", "gzip", "--index", "start", "--no-crc32c"],
+    ["--shard", "3,8", "--subchunk", "1,2", "--inner", "crc32c", "--order", "morton", "--crc32c", "--index", "end"],
+    ["--shard", "5,7", "--subchunk", "5,7", "--inner", "none"],
+    ["--shard", "16,16", "--subchunk", "8,1", "--inner", "gzip", "--order", "morton", "--index", "start"],
+    ["--shard", "2,3", "--subchunk", "1,3", "--inner", "none", "--index", "end", "--no-crc32c"],
+)
+
+
+def test_reshard(program, folder):
+    """Elements of many lengths laid out anew in five ways, one made of the other: from chunks that are no shards, of which some are absent,
+    with elements behind the array's edge, none of a byte, one of a mebibyte, and bytes that are no text."""
+    dice = random.Random(11)
+    long = bytes(dice.randrange(256) for _ in range(1 << 20))
+    choices = [b"", b"fill", b"a", "grüezi".encode(), b"\xff\xfe", b"x" * 300]
+    for data_type, name, fill in (("string", "vlen-utf8", "fill"), ("bytes", "vlen-bytes", list(b"fill"))):
+        rows = [[dice.choice(choices) for _ in range(8)] for _ in range(6)]
+        rows[1][4] = long if data_type == "bytes" else "\u6771".encode() * 350_000
+        chunks = {f"c/{row}/{column}": encoded([*rows[2 * row][3 * column : 3 * column + 3], *rows[2 * row + 1][3 * column : 3 * column + 3]])
+                  for row in range(3) for column in range(2) if (row, column) != (1, 0)}
+        metadata = document([5, 6], [2, 3], [{"name": name}, {"name": "gzip", "configuration": {"level": 1}}], data_type, fill)
+        old = lay_out(f"{folder}/{data_type}", metadata, {key: gzip.compress(content) for key, content in chunks.items()})
+        wanted = [rows[row][column] if (row // 2, column // 3) != (1, 0) else b"fill" for row in range(5) for column in range(6)]
+        reshard_each(program, old, wanted)
+        told = run(program, "reshard", old, f"{old}.same")[1]
+        compare("reshard to shards of one chunk", told.split(":")[0], f"{len(chunks)} shards")
+
+
+def reshard_each(program, path, wanted):
+    old = path
+    for number, layout in enumerate(LAYOUTS):
+        new = f"{path}.{number}"
+        status, out, told = run(program, "reshard", old, new, *layout)
+        compare(f"reshard {layout}", (status, told), (0, ""))
+        elements, offsets = decoded(new, b"fill")
+        compare(f"elements of {layout}", elements == wanted, True)
+        sizes = sum(os.path.getsize(f"{new}/{key}") for key in offsets)
+        compare(f"what is told of {layout}", out, f"{len(offsets)} shard{'' if len(offsets) == 1 else 's'}: {sizes} bytes\n")
+        compare(f"comparison of {layout}", run(program, "compare", path, new), (0, "no element differs\n", ""))
+        compare(f"check of {layout}", run(program, "check", new)[::2], (0, ""))
+        old = new
+
+
+def test_reshard_order(program, folder):
+    """Subchunks along the Z-curve, an absent one, and shards of fill values alone, which are not written."""
+    chunks = {"c/0/0": encoded([b"a", b"b", b"c", b"d"]), "c/0/1": encoded([b"-"] * 4), "c/1/1": encoded([b"e", b"-", b"-", b"f"])}
+    old = lay_out(f"{folder}/order", document([4, 8], [2, 2], PLAIN, "string", "-"), {**chunks, "c/0/3": encoded([b"-"] * 4)})
+    new = f"{folder}/order.new"
+    words = ["--shard", "4,4", "--subchunk", "1,2", "--order", "morton", "--index", "end", "--inner", "none"]
+    compare("reshard along the Z-curve", run(program, "reshard", old, new, *words)[::2], (0, ""))
+    wanted = [b"a", b"b", b"-", b"-", b"c", b"d", b"-", b"-", b"-", b"-", b"e", b"-", b"-", b"-", b"-", b"f"]
+    elements, offsets = decoded(new, b"-")
+    compare("elements along the Z-curve", [elements[row * 8 : row * 8 + 4] for row in range(4)], [wanted[row * 4 : row * 4 + 4] for row in range(4)])
+    compare("shards that are written", list(offsets), ["c/0/0"])
+    there = [number for number in (0, 1, 2, 3, 4, 5, 6, 7) if offsets["c/0/0"][number] is not None]
+    compare("subchunks that are there", there, [0, 2, 5, 7])
+    compare("their order in the file", sorted(there, key=lambda number: offsets["c/0/0"][number]), [0, 2, 5, 7])
+
+
+def test_reshard_nested(program, folder):
+    """Shards in a shard, laid out anew as they are, and with texts that are compressed in their place."""
+    parts = [shard_of([encoded([b"a", b""]), None]), shard_of([None, encoded([b"b", b"c"])])]
+    old = lay_out(f"{folder}/nested", document([7], [8], sharded([4], sharded([2], PLAIN)), "string", "-"), {"c/0": shard_of(parts)})
+    wanted = ["a", "", "-", "-", "-", "-", "b"]
+    for number, (layout, codecs) in enumerate(((["--shard", "4"], ["sharding_indexed"]), (["--inner", "gzip"], ["vlen-utf8", "gzip"]))):
+        new = f"{old}.{number}"
+        compare(f"reshard {layout} of shards in a shard", run(program, "reshard", old, new, *layout)[::2], (0, ""))
+        compare(f"elements of {layout} of shards in a shard", cells(program, new), wanted)
+        with open(f"{new}/zarr.json", encoding="utf-8") as file:
+            told = json.load(file)["codecs"][0]["configuration"]["codecs"]
+        compare(f"codecs of {layout} of shards in a shard", [codec["name"] for codec in told], codecs)
+
+
+def test_reshard_refused(program, folder):
+    """A damaged chunk and a damaged subchunk: told with its place, and nothing is left; and words that cannot stand there."""
+    hurt = encoded([b"a", b"b", b"c"])[:-1]
+    path = lay_out(f"{folder}/hurt", document([7], [3], PLAIN, "string", ""), {"c/0": encoded([b"a"] * 3), "c/1": hurt})
+    refused_anew(program, path, "zarr_shard: c/1: 15 Damaged")
+    parts = [gzip.compress(encoded([b"a", b"b"])), gzip.compress(encoded([b"c", b"d"]))[:-3]]
+    metadata = document([4], [4], sharded([2], GZIPPED), "string", "")
+    path = lay_out(f"{folder}/hurt_shard", metadata, {"c/0": shard_of(parts)})
+    refused_anew(program, path, "zarr_shard: c/0: 15 Damaged: subchunk 1")
+    refused_anew(program, path, "is none of the words", "--inner", "vlen-utf8")
+    refused_anew(program, path, "/zarr.json: ", "--shard", "5")
+
+
+def refused_anew(program, path, wanted, *layout):
+    new = f"{path}.new"
+    status, out, told = run(program, "reshard", path, new, *layout)
+    compare(f"reshard of {path}", (status, out, wanted in told), (2 if layout else 1, "", True))
+    compare(f"what is left of {path}", [os.path.exists(new + end) for end in ("", ".partial")], [False] * 2)
+
+
+def test_create(program, folder):
+    """Arrays of such elements that are created: of fill values, and with elements that another program writes."""
+    shapes = ["--shape", "5", "--shard", "4", "--subchunk", "2", "--inner", "gzip"]
+    for data_type, fill, wanted, shown in (("string", '"n/a"', "n/a", '"n/a"'), ("string", None, "", '""'), ("bytes", "[1,2]", [1, 2], "0x0102"),
+                                           ("variable_length_bytes", None, [], "0x"), ("bytes", '"AQI="', [1, 2], "0x0102")):
+        path = f"{folder}/created_{data_type}_{len(os.listdir(folder))}"
+        made = run(program, "create", path, *shapes, "--type", data_type, *(["--fill", fill] if fill else []))
+        compare(f"create {data_type} {fill}", made, (0, "", ""))
+        compare(f"elements of {data_type} {fill}", run(program, "read", path), (0, " ".join([shown] * 5) + "\n", ""))
+        with open(f"{path}/zarr.json", encoding="utf-8") as file:
+            metadata = json.load(file)
+        told = metadata["codecs"][0]["configuration"]
+        name = "vlen-utf8" if data_type == "string" else "vlen-bytes"
+        compare(f"codecs of {data_type}", [codec["name"] for codec in told["codecs"]], [name, "gzip"])
+        told["index_codecs"] = told["index_codecs"][:1]
+        lay_out(path, metadata, {"c/0": shard_of([gzip.compress(encoded([b"a", b"b"])), None])})
+        texts = ["a", "b"] if data_type == "string" else [[97], [98]]
+        compare(f"elements written into {data_type}", cells(program, path), [*texts, *[wanted] * 3])
+        status, out, told = run(program, "write", path, "--raw", f"{path}/zarr.json")
+        compare(f"write into {data_type}", (status, out, "have lengths of their own" in told), (2, "", True))
+
+
 def test_many(program, folder):
     """100,000 texts in 100 shards, which one thread reads, whatever `-j` says."""
     dice = random.Random(7)
@@ -239,13 +409,22 @@ def test_many(program, folder):
     for jobs in ("1", "4"):
         compare(f"many texts by {jobs}", cells(program, path, "-j", jobs), words)
     compare("some of them", cells(program, path, "12345..54321"), words[12345:54321])
+    for jobs in ("1", "4"):
+        new = f"{path}.{jobs}"
+        anew = run(program, "reshard", path, new, "--shard", "1500", "--subchunk", "250", "--inner", "zstd", "-j", jobs)
+        compare(f"many texts laid out anew by {jobs}", (anew[0], anew[1].split(":")[0], anew[2]), (0, "67 shards", ""))
+        compare(f"elements laid out anew by {jobs}", cells(program, new), words)
+
+
+TESTS = (test_chunks, test_shards, test_no_text, test_bytes, test_refused, test_compare, test_reshard, test_reshard_order,
+         test_reshard_nested, test_reshard_refused, test_create, test_utf32, test_null_terminated, test_fixed_refused, test_many)
 
 
 def main(program):
     with tempfile.TemporaryDirectory() as folder:
-        for test in (test_chunks, test_shards, test_no_text, test_bytes, test_refused, test_compare, test_utf32, test_null_terminated,
-                     test_fixed_refused, test_many):
-            test(program, folder)
+        for test in TESTS:
+            os.mkdir(f"{folder}/{test.__name__}")
+            test(program, f"{folder}/{test.__name__}")
     for line in bad:
         print(line)
     print(f"arrays of texts and bytes: {len(bad)} differences")

@@ -6,17 +6,15 @@ ghost use Rattle.parts_row_major.specs.Numbering.{count_of};
 ghost use Rattle.parts_subsets.specs.Grid.{grid_of};
 
 use crate::compaction_plans::{Planned, plan_of};
-use crate::grid_shards::whole_of;
 use crate::shard_indexes::{DecodeIndexes, ShardIndexes};
 use array_metadata::ArrayMetadata;
 use codec_traits::ArrayToBytesCodecTraits;
-use parts_arrays::{ArrayBytes, DataTypeSize, FixedTarget};
+use parts_arrays::ArrayBytes;
 use parts_errors::{CodecError, CodecOptions};
 use parts_subsets::{ArraySubset, ChunkShape};
 use sharding_codec::{ShardingCodec, ShardingPartialDecoder};
 use sharding_format::{ShardIndex, ShardingIndexLocation, calculate_chunks_per_shard, of_stored};
 use std::alloc::Global;
-use std::borrow::CowSlice;
 use std::rt::Files;
 use storage_files::FileHandle;
 use storage_handles::{ByteRange, BytesPartialDecoderTraits, Interval};
@@ -186,67 +184,6 @@ pub(crate) fn test_decoding<C: ArrayToBytesCodecTraits>(
     }
 }
 
-// Room for the elements of a subset, which have a size.
-pub(crate) fn room_of(
-    alloc: Global,
-    subset: &ArraySubset,
-    size: usize,
-) -> Result<Vec<u8>, CodecError> {
-    let Some(count) = subset.num_elements() else {
-        return Err(CodecError::TooLarge);
-    };
-    match count.checked_mul(size as u64) {
-        Some(length) => Ok(vec![in alloc; 0u8; length as usize]?),
-        None => Err(CodecError::TooLarge),
-    }
-}
-
-// Reads the elements of a subset of a shard that is open, which have a size, into room for them.
-fn read_elements<
-    I: ArrayToBytesCodecTraits,
-    X: ArrayToBytesCodecTraits,
-    H: BytesPartialDecoderTraits,
->(
-    alloc: Global,
-    decoder: &mut ShardingPartialDecoder<'_, I, X, H>,
-    subset: &ArraySubset,
-    size: usize,
-    room: &mut [u8],
-) -> Result<(), CodecError> {
-    let whole = whole_of(alloc, subset.shape())?;
-    match FixedTarget::new(room, size, subset.shape(), &whole) {
-        Some(mut target) => {
-            decoder.partial_decode_into(alloc, subset, &mut target, &CodecOptions::default())
-        }
-        None => Err(CodecError::InvalidNumberOfElements),
-    }
-}
-
-// Elements that have a size and these bytes.
-pub(crate) fn sized<'e>(bytes: Vec<u8>, size: usize) -> Result<ArrayBytes<'e>, CodecError> {
-    match ArrayBytes::new_flen(CowSlice::Owned(bytes), size) {
-        Some(elements) => Ok(elements),
-        None => Err(CodecError::WrongElementKind),
-    }
-}
-
-// Reads the elements of a subset of a shard that is open, which have a size.
-fn read_sized<
-    'e,
-    I: ArrayToBytesCodecTraits,
-    X: ArrayToBytesCodecTraits,
-    H: BytesPartialDecoderTraits,
->(
-    alloc: Global,
-    decoder: &mut ShardingPartialDecoder<'_, I, X, H>,
-    subset: &ArraySubset,
-    size: usize,
-) -> Result<ArrayBytes<'e>, CodecError> {
-    let mut bytes = room_of(alloc, subset, size)?;
-    read_elements(alloc, decoder, subset, size, &mut bytes)?;
-    sized(bytes, size)
-}
-
 // The bytes of a subchunk of a shard that is open.
 fn stored_in<I: ArrayToBytesCodecTraits, X: ArrayToBytesCodecTraits, H: BytesPartialDecoderTraits>(
     alloc: Global,
@@ -330,16 +267,11 @@ impl<
     fn read_subset<'e>(
         &mut self,
         alloc: Global,
-        metadata: &ArrayMetadata,
+        _metadata: &ArrayMetadata,
         subset: &ArraySubset,
     ) -> Result<ArrayBytes<'e>, CodecError> {
-        let decoder = &mut self.decoder;
-        match metadata.data_type.size() {
-            DataTypeSize::Fixed(size) => read_sized(alloc, decoder, subset, size),
-            DataTypeSize::Variable => {
-                decoder.partial_decode(alloc, subset, &CodecOptions::default())
-            }
-        }
+        self.decoder
+            .partial_decode(alloc, subset, &CodecOptions::default())
     }
 
     fn byte_range(&self, subchunk: &[u64]) -> Result<Option<ByteRange>, CodecError> {

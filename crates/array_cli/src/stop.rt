@@ -125,7 +125,7 @@ pub enum Stop {
     #[error("the chunks of the array have 2^64 elements or more, and `read` serves fewer")]
     TooManyElements,
     /// Elements of a data type that have lengths of their own, where each is to have one size.
-    #[error("elements of the data type {0} have lengths of their own, which is not served here: they are read as text or as JSON, and compared")]
+    #[error("elements of the data type {0} have lengths of their own, which is not served here: they are read as text or as JSON, compared, and laid out anew")]
     Varying(ElementType),
     /// An element that is no text, whose type says in which encoding it is one.
     #[error("the element at {coordinates} is no text: its bytes are not {encoding}")]

@@ -2,7 +2,7 @@
 use crate::compaction_plans::Planned;
 use crate::grid_shards::whole_of;
 use crate::shard_codec::{
-    OpenShard, ShardCodec, ShardEncoder, check_served, encode_chunk, room_of, sized, test_decoding,
+    OpenShard, ShardCodec, ShardEncoder, check_served, encode_chunk, test_decoding,
 };
 use crate::shard_indexes::DecodeIndexes;
 use array_metadata::ArrayMetadata;
@@ -12,6 +12,7 @@ use parts_errors::{CodecError, CodecOptions};
 use parts_subsets::{ArraySubset, ChunkShape};
 use sharding_format::{ShardIndex, ShardingIndexLocation, calculate_chunks_per_shard, of_stored};
 use std::alloc::{AllocError, Global};
+use std::borrow::CowSlice;
 use storage_handles::{ByteRange, BytesPartialDecoderTraits, Interval, copy_range};
 
 /// The codec of chunks that are no shards.
@@ -82,6 +83,17 @@ fn read_into<C: ArrayToBytesCodecTraits, H: BytesPartialDecoderTraits>(
     }
 }
 
+// Room for the elements of a subset, which have a size.
+fn room_of(alloc: Global, subset: &ArraySubset, size: usize) -> Result<Vec<u8>, CodecError> {
+    let Some(count) = subset.num_elements() else {
+        return Err(CodecError::TooLarge);
+    };
+    match count.checked_mul(size as u64) {
+        Some(length) => Ok(vec![in alloc; 0u8; length as usize]?),
+        None => Err(CodecError::TooLarge),
+    }
+}
+
 // Reads the elements of a subset of a chunk that is open, which have a size, into room for them.
 fn read_elements<C: ArrayToBytesCodecTraits, H: BytesPartialDecoderTraits>(
     alloc: Global,
@@ -95,6 +107,14 @@ fn read_elements<C: ArrayToBytesCodecTraits, H: BytesPartialDecoderTraits>(
     match FixedTarget::new(room, size, subset.shape(), &whole) {
         Some(mut target) => read_into(alloc, chunk, metadata, subset, &mut target),
         None => Err(CodecError::InvalidNumberOfElements),
+    }
+}
+
+// Elements that have a size and these bytes.
+fn sized<'e>(bytes: Vec<u8>, size: usize) -> Result<ArrayBytes<'e>, CodecError> {
+    match ArrayBytes::new_flen(CowSlice::Owned(bytes), size) {
+        Some(elements) => Ok(elements),
+        None => Err(CodecError::WrongElementKind),
     }
 }
 

@@ -1,8 +1,11 @@
 // A new array that has no shard yet.
-use crate::layout::{BEFORE_SUBCHUNK, LayoutWords, add, list_of, new_document, order_of};
+use crate::layout::{
+    BEFORE_SUBCHUNK, LayoutWords, add, codec_of_elements, list_of, new_document, order_of,
+};
 use crate::new_folder::{begin_folder, end_folder, test_served};
 use array_cli::{Ending, Stop, described};
-use array_fields::escaped;
+use array_fields::{ElementType, escaped};
+use parts_arrays::DataType;
 use serde_json::Value;
 use sharding_format::SubchunkWriteOrder;
 use std::alloc::Global;
@@ -18,7 +21,8 @@ pub struct ArrayWords<'a> {
     pub subchunk: &'a str,
     /// The name of the data type, as `uint16`.
     pub data_type: &'a str,
-    /// The fill value, as it stands in metadata, or as a text of it; the zero of the data type where it is `None`.
+    /// The fill value, as it stands in metadata, or as a text of it; the zero of the data type where it is `None`, or no byte where its
+    /// elements have lengths of their own.
     pub fill: Option<&'a str>,
     /// How shards are laid out.
     pub layout: LayoutWords<'a>,
@@ -34,11 +38,13 @@ fn text_of(alloc: Global, word: &str) -> Result<String, Stop> {
     Ok(format!(in alloc; "\"{word}\"")?)
 }
 
-// The zero of a data type, in the form that metadata has (Zarr V3 core, "Fill value list").
+// The zero of a data type, in the form that metadata has (Zarr V3 core, "Fill value list"); no byte of those whose elements have lengths of
+// their own.
 fn zero_of(data_type: &str) -> &'static str {
     match data_type {
         "bool" => "false",
         "complex64" | "complex128" => "[0,0]",
+        "string" | "bytes" | "variable_length_bytes" => "\"\"",
         _ => "0",
     }
 }
@@ -55,8 +61,17 @@ fn fill_text(alloc: Global, word: Option<&str>, data_type: &str) -> Result<Strin
     }
 }
 
-// What stands in the `zarr.json` of a new array before its shape, its data type, the shape of its shards, its fill value and its codecs, and
-// behind the shape of its subchunks.
+// The type by which the codec of elements of a data type is chosen.
+fn codec_type(data_type: &str) -> ElementType {
+    match data_type {
+        "string" => ElementType::Utf8,
+        "bytes" | "variable_length_bytes" => ElementType::Binary,
+        _ => ElementType::Number(DataType::UInt8),
+    }
+}
+
+// What stands in the `zarr.json` of a new array before its shape, its data type, the shape of its shards, its fill value and its codecs,
+// behind the shape of its subchunks, and behind the codec of its elements.
 const BEFORE_SHAPE: &str = "{\"zarr_format\":3,\"node_type\":\"array\",\"shape\":";
 
 const BEFORE_DATA_TYPE: &str = ",\"data_type\":";
@@ -67,8 +82,10 @@ const BEFORE_SHARD: &str =
 const BEFORE_FILL_VALUE: &str =
     "}},\"chunk_key_encoding\":{\"name\":\"default\",\"configuration\":{\"separator\":\"/\"}},\"fill_value\":";
 
-const BEHIND_SUBCHUNK: &str =
-    ",\"codecs\":[{\"name\":\"bytes\",\"configuration\":{\"endian\":\"little\"}}],\"index_codecs\":[{\"name\":\"bytes\",\"configuration\":{\"endian\":\"little\"}},{\"name\":\"crc32c\"}],\"index_location\":\"end\"}}],\"attributes\":{}}";
+const BEHIND_SUBCHUNK: &str = ",\"codecs\":[";
+
+const BEHIND_ELEMENTS: &str =
+    "],\"index_codecs\":[{\"name\":\"bytes\",\"configuration\":{\"endian\":\"little\"}},{\"name\":\"crc32c\"}],\"index_location\":\"end\"}}],\"attributes\":{}}";
 
 // The `zarr.json` of a new array, whose shards are laid out as no word says otherwise.
 fn plain_document(alloc: Global, words: &ArrayWords<'_>) -> Result<String, Stop> {
@@ -81,6 +98,8 @@ fn plain_document(alloc: Global, words: &ArrayWords<'_>) -> Result<String, Stop>
     text.push_str(",\"codecs\":")?;
     add(&mut text, BEFORE_SUBCHUNK, list_of(alloc, words.subchunk))?;
     text.push_str(BEHIND_SUBCHUNK)?;
+    text.push_str(codec_of_elements(codec_type(words.data_type)))?;
+    text.push_str(BEHIND_ELEMENTS)?;
     Ok(text)
 }
 

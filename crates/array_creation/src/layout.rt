@@ -1,7 +1,8 @@
 // How an array is laid out anew, and its metadata then.
 use array_cli::Stop;
-use array_fields::escaped;
+use array_fields::{ElementType, escaped};
 use array_metadata::{ArrayCodec, ArrayMetadata};
+use parts_arrays::DataType;
 use serde_json::Value;
 use sharding_format::{ShardingIndexLocation, SubchunkWriteOrder};
 use std::alloc::{AllocError, Global};
@@ -16,7 +17,7 @@ pub struct LayoutWords<'a> {
     pub index: Option<&'a str>,
     /// Whether `crc32c` is behind the index.
     pub is_checked: Option<bool>,
-    /// The codec behind `bytes` inside a shard: `none`, `crc32c`, `gzip`, `zlib` or `zstd`.
+    /// The codec behind that of elements inside a shard: `none`, `crc32c`, `gzip`, `zlib` or `zstd`.
     pub inner: Option<&'a str>,
     /// In which order the subchunks are written: `c` or `morton`.
     pub order: Option<&'a str>,
@@ -48,8 +49,8 @@ fn shape_text(alloc: Global, word: Option<&str>, shape: &[u64]) -> Result<String
     Ok(text)
 }
 
-// The metadata of a codec behind `bytes`, with a comma before it.
-fn behind_bytes(name: &str) -> Option<&'static str> {
+// The metadata of a codec behind that of elements, with a comma before it.
+fn behind_elements(name: &str) -> Option<&'static str> {
     match name {
         "none" => Some(""),
         "crc32c" => Some(",{\"name\":\"crc32c\"}"),
@@ -67,30 +68,46 @@ fn first_of(list: Option<&Value>) -> Option<(&Value, &str)> {
     Some((codec, name))
 }
 
-// The codec `bytes` of a list, or one of little endian where the list does not begin with one.
-fn bytes_text(alloc: Global, list: Option<&Value>) -> Result<String, AllocError> {
+/// The metadata of the codec of elements of a type, in a new array: `bytes`, least significant byte first, or the codec of those that have
+/// lengths of their own.
+pub fn codec_of_elements(element_type: ElementType) -> &'static str {
+    match element_type {
+        ElementType::Utf8 => "{\"name\":\"vlen-utf8\"}",
+        ElementType::Binary => "{\"name\":\"vlen-bytes\"}",
+        _ => "{\"name\":\"bytes\",\"configuration\":{\"endian\":\"little\"}}",
+    }
+}
+
+// The codec of elements of a list, or that of elements of a type where the list does not begin with one.
+fn first_text(
+    alloc: Global,
+    list: Option<&Value>,
+    element_type: ElementType,
+) -> Result<String, AllocError> {
     match first_of(list) {
-        Some((codec, "bytes")) => codec.to_string(alloc),
-        _ => String::from_str(
-            alloc,
-            "{\"name\":\"bytes\",\"configuration\":{\"endian\":\"little\"}}",
-        ),
+        Some((codec, "bytes" | "vlen-utf8" | "vlen-bytes")) => codec.to_string(alloc),
+        _ => String::from_str(alloc, codec_of_elements(element_type)),
     }
 }
 
 // The codecs inside a shard as a list of JSON.
-fn inner_text(alloc: Global, word: Option<&str>, old: Option<&Value>) -> Result<String, Stop> {
+fn inner_text(
+    alloc: Global,
+    word: Option<&str>,
+    old: Option<&Value>,
+    element_type: ElementType,
+) -> Result<String, Stop> {
     let Some(word) = word else {
         return match old {
             Some(list) => Ok(list.to_string(alloc)?),
             None => Ok(String::from_str(alloc, "[]")?),
         };
     };
-    let Some(behind) = behind_bytes(word) else {
+    let Some(behind) = behind_elements(word) else {
         return Err(Stop::BadWord(escaped(alloc, word)?));
     };
-    let bytes = bytes_text(alloc, old)?;
-    Ok(format!(in alloc; "[{bytes}{behind}]")?)
+    let first = first_text(alloc, old, element_type)?;
+    Ok(format!(in alloc; "[{first}{behind}]")?)
 }
 
 // The codecs of an index as a list of JSON; where there was none, `bytes` and `crc32c`.
@@ -104,7 +121,8 @@ fn index_text(
         (Some(false), _) => "",
         (Some(true), _) | (None, None) => ",{\"name\":\"crc32c\"}",
     };
-    let bytes = bytes_text(alloc, old)?;
+    // the numbers of an index are of 64 bits
+    let bytes = first_text(alloc, old, ElementType::Number(DataType::UInt64))?;
     format!(in alloc; "[{bytes}{behind}]")
 }
 
@@ -174,7 +192,7 @@ fn codecs_text(
     let chunk = shape_text(alloc, words.subchunk, metadata.subchunk.as_slice());
     let mut text = String::new(alloc);
     add(&mut text, BEFORE_SUBCHUNK, chunk)?;
-    let inner = inner_text(alloc, words.inner, old.inner);
+    let inner = inner_text(alloc, words.inner, old.inner, metadata.element_type);
     add(&mut text, ",\"codecs\":", inner)?;
     let index = index_text(alloc, words.is_checked, old.index);
     add(&mut text, ",\"index_codecs\":", Ok(index?))?;

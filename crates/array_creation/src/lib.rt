@@ -1,6 +1,7 @@
 // Arrays that are created: of no elements, or of those of another array that is laid out anew.
 #![tactic(auto)]
 
+mod chunk_elements;
 mod creating;
 mod layout;
 mod new_array;

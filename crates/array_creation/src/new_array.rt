@@ -1,25 +1,24 @@
 // An array laid out anew in another folder.
+use crate::chunk_elements::{encoded_sized, encoded_varying};
 use crate::layout::{LayoutWords, new_document, order_of};
-use crate::new_folder::{begin_folder, encoded, end_folder, put, test_served};
+use crate::new_folder::{begin_folder, end_folder, put, test_served};
 use array_cli::{
     Array, CodecUse, Ending, Progress, ShardCodec, ShardFile, SharedArray, SharedSystem, Stop,
-    chunk_of_fill_values, described, elements_of, turned, whole_of, with_codec, written,
+    described, elements_of, with_codec, written,
 };
 use array_folder::Counted;
-use array_grid::{ShardWork, SubsetCells, SubsetElements, piece_length, piece_of, run_in_parallel};
+use array_grid::{ShardWork, SubsetElements, piece_length, piece_of, run_in_parallel};
 use array_metadata::ArrayMetadata;
-use array_reading::{chunks_of, read_silently};
-use parts_arrays::ArrayBytes;
+use array_reading::{chunks_of, read_into, read_silently};
+use parts_arrays::DataTypeSize;
 use parts_errors::CodecError;
 use parts_subsets::ArraySubset;
 use sharding_format::SubchunkWriteOrder;
-use std::alloc::Global;
-use std::borrow::CowSlice;
 use std::fs;
 use std::io::Write;
 use std::rt::Files;
 
-// How many chunks a thread makes at a time at most, where there are several.
+// How many chunks a thread makes at a time at most: their elements are read into the same room.
 const CHUNKS_OF_A_PIECE: usize = 4;
 
 // A new array: the folder in which its shards are made, and its metadata.
@@ -52,58 +51,38 @@ impl Written {
     }
 }
 
-// Puts elements, which have a shape, at the start of a chunk.
-fn put_at_start(
-    alloc: Global,
-    shape: &[u64],
-    elements: &[u8],
+// The bytes of the chunk of a new array whose elements lie in a subset of the old one, have a size, and are read into room for them.
+fn encoded_in_room<'a, R: Files + AllocGlobal, C: ShardCodec<ShardFile<'a, R>>>(
+    old: &Array<'a, R, C>,
+    requested: &ArraySubset,
+    size: usize,
     new: &ArrayMetadata,
-    cells: &mut SubsetCells,
-) -> Result<(), CodecError> {
-    let part = whole_of(alloc, shape)?;
-    let size = new.fill_value.as_ne_bytes().len();
-    match ArrayBytes::new_flen(CowSlice::Borrowed(elements), size) {
-        Some(elements) => cells.put(&part, &elements),
-        None => Err(CodecError::WrongElementKind),
-    }
+    room: &mut Vec<u8>,
+) -> Result<Option<Vec<u8>>, Stop> {
+    let count = requested.num_elements().ok_or(Stop::TooLarge)?;
+    let length = count.checked_mul(size as u64).ok_or(Stop::TooLarge)?;
+    room.resize(length as usize, 0)?;
+    read_into(old, requested, room.as_mut_slice())?;
+    let elements = old.least_first(room.as_slice())?;
+    Ok(encoded_sized(old.rt, requested.shape(), &elements, new)?)
 }
 
-// The elements of a chunk, of which those in the array are put at its start, and fill values behind the array's end.
-fn padded(
-    alloc: Global,
-    shape: &[u64],
-    elements: &[u8],
-    new: &ArrayMetadata,
-) -> Result<SubsetCells, CodecError> {
-    let mut cells = chunk_of_fill_values(alloc, new)?;
-    put_at_start(alloc, shape, elements, new, &mut cells)?;
-    Ok(cells)
-}
-
-// The elements of a chunk as they are stored: `padded` of them in the order of bytes of the new array.
-fn stored_chunk(
-    alloc: Global,
-    shape: &[u64],
-    elements: &[u8],
-    new: &ArrayMetadata,
-) -> Result<SubsetCells, CodecError> {
-    match turned(alloc, new, elements)? {
-        Some(stored) => padded(alloc, shape, &stored, new),
-        None => padded(alloc, shape, elements, new),
-    }
-}
-
-// The elements of a new chunk that lie in a subset of the old array, and fill values behind its end.
-fn new_elements<'a, R: Files + AllocGlobal, C: ShardCodec<ShardFile<'a, R>>>(
+// The bytes of the chunk of a new array whose elements lie in a subset of the old one; `None` where it has no file.
+fn encoded_subset<'a, R: Files + AllocGlobal, C: ShardCodec<ShardFile<'a, R>>>(
     old: &Array<'a, R, C>,
     requested: &ArraySubset,
     new: &ArrayMetadata,
-) -> Result<SubsetCells, Stop> {
-    let SubsetElements::Sized(found) = read_silently(old, requested)? else {
-        return Err(CodecError::WrongElementKind.into());
-    };
-    let elements = old.least_first(found.bytes())?;
-    Ok(stored_chunk(old.alloc(), requested.shape(), &elements, new)?)
+    room: &mut Vec<u8>,
+) -> Result<Option<Vec<u8>>, Stop> {
+    if let DataTypeSize::Fixed(size) = new.data_type.size() {
+        return encoded_in_room(old, requested, size, new, room);
+    }
+    match read_silently(old, requested)? {
+        SubsetElements::Varying(found) => {
+            Ok(encoded_varying(old.rt, requested.shape(), &found, new)?)
+        }
+        SubsetElements::Sized(_) => Err(CodecError::WrongElementKind.into()),
+    }
 }
 
 // The bytes of the chunk at these coordinates of a new array, with the elements that the old one has there; `None` where it has no file.
@@ -111,13 +90,11 @@ fn new_chunk<'a, R: Files + AllocGlobal, C: ShardCodec<ShardFile<'a, R>>>(
     old: &Array<'a, R, C>,
     new: &NewArray<'_>,
     coordinates: &[u64],
+    room: &mut Vec<u8>,
 ) -> Result<Option<Vec<u8>>, Stop> {
     let metadata = new.metadata;
     match elements_of(old.alloc(), coordinates, &metadata.shard, &metadata.shape)? {
-        Some(requested) => {
-            let cells = new_elements(old, &requested, metadata)?;
-            Ok(encoded(old.rt, &cells, metadata)?)
-        }
+        Some(requested) => encoded_subset(old, &requested, metadata, room),
         None => Ok(None),
     }
 }
@@ -127,8 +104,9 @@ fn put_chunk<'a, R: Files + AllocGlobal, C: ShardCodec<ShardFile<'a, R>>>(
     old: &Array<'a, R, C>,
     new: &NewArray<'_>,
     coordinates: &[u64],
+    room: &mut Vec<u8>,
 ) -> Result<Option<u64>, Stop> {
-    let Some(bytes) = new_chunk(old, new, coordinates)? else {
+    let Some(bytes) = new_chunk(old, new, coordinates, room)? else {
         return Ok(None);
     };
     let key = new.metadata.keys.key_of(old.alloc(), coordinates)?;
@@ -143,8 +121,9 @@ fn put_each<'a, R: Files + AllocGlobal, C: ShardCodec<ShardFile<'a, R>>>(
     chunks: &[Vec<u64>],
 ) -> Result<Written, Stop> {
     let mut sum = Written::nothing();
+    let mut room = Vec::new(old.alloc());
     for coordinates in chunks {
-        if let Some(bytes) = put_chunk(old, new, coordinates)? {
+        if let Some(bytes) = put_chunk(old, new, coordinates, &mut room)? {
             sum.add(Written { shards: 1, bytes });
         }
     }
@@ -213,8 +192,7 @@ fn put_all<'s, R: SharedSystem, M: Write>(
     progress: &mut Progress<'_, M>,
 ) -> Result<Written, Stop> {
     let mut sum = Written::nothing();
-    let most = if jobs == 1 { 1 } else { CHUNKS_OF_A_PIECE };
-    let in_piece = piece_length(chunks.len(), jobs, most);
+    let in_piece = piece_length(chunks.len(), jobs, CHUNKS_OF_A_PIECE);
     let at_once = in_piece.saturating_mul(jobs).max(1);
     for (number, some) in chunks.chunks(at_once).enumerate() {
         progress.step(number.saturating_mul(at_once) as u64, chunks.len() as u64);
@@ -300,7 +278,7 @@ pub fn reshard<R: SharedSystem, W: Write, M: Write>(
     out: &mut W,
     progress: &mut Progress<'_, M>,
 ) -> Result<Ending, Stop> {
-    old.test_sized()?;
+    old.test_read()?;
     let order = order_of(old.alloc(), words.order)?;
     let document = new_document(old.alloc(), words, &old.metadata.text, old.metadata)?;
     let wrote = make_described(old, path, &document, order, jobs, progress)?;

@@ -1,10 +1,8 @@
 // The folder of a new array, which stands beside its path until it is whole.
 use array_cli::{Array, CodecUse, ShardCodec, ShardEncoder, ShardFile, Stop, with_codec};
-use array_grid::SubsetCells;
 use array_metadata::ArrayMetadata;
 use parts_arrays::ArrayBytes;
 use parts_errors::CodecError;
-use std::borrow::CowSlice;
 use std::io::ErrorKind;
 use std::rt::Files;
 use std::{fs, io};
@@ -81,7 +79,7 @@ impl<'t, R: Files + AllocGlobal> CodecUse<ShardFile<'t, R>> for NewArrayTest<'t,
 
     fn with<C: ShardCodec<ShardFile<'t, R>>>(self, codec: C) -> Result<(), Stop> {
         let array = Array::open(self.rt, self.path, self.metadata, codec)?;
-        array.test_sized()
+        array.test_read()
     }
 }
 
@@ -113,26 +111,16 @@ impl<'t, R: Files + AllocGlobal> CodecUse<ShardFile<'t, R>> for Unencoded<'t, '_
     }
 }
 
-/// The bytes of a shard of a new array that has these elements, by the codec that its metadata names, as `encode_chunk` says. Refused as
-/// `WrongElementKind` where they are not as long as the fill value.
+/// The bytes of a shard of a new array that has these elements, by the codec that its metadata names, as `encode_chunk` says.
 pub fn encoded<R: Files + AllocGlobal>(
     rt: &R,
-    cells: &SubsetCells,
+    elements: &ArrayBytes,
     metadata: &ArrayMetadata,
 ) -> Result<Option<Vec<u8>>, CodecError> {
-    let size = metadata.fill_value.as_ne_bytes().len();
-    match ArrayBytes::new_flen(CowSlice::Borrowed(cells.bytes()), size) {
-        Some(elements) => {
-            let elements = &elements;
-            with_codec(
-                metadata,
-                Unencoded {
-                    rt,
-                    elements,
-                    metadata,
-                },
-            )
-        }
-        None => Err(CodecError::WrongElementKind),
-    }
+    let unencoded = Unencoded {
+        rt,
+        elements,
+        metadata,
+    };
+    with_codec(metadata, unencoded)
 }

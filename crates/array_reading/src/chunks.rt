@@ -1,9 +1,11 @@
 // The chunks of a grid that have elements in the files of an array.
-use crate::read::read_array;
-use array_cli::{Array, Progress, ShardCodec, ShardFile, Stop};
+use crate::read::{PartRead, read_array, read_numbered};
+use array_cli::{Array, Progress, ShardCodec, ShardFile, Stop, shards_of};
 use array_folder::ChunkFile;
-use array_grid::SubsetElements;
+use array_grid::{ShardGrid, ShardParts, SubsetElements};
 use array_metadata::ArrayMetadata;
+use parts_arrays::FixedTarget;
+use parts_errors::CodecError;
 use parts_row_major::unravel_index;
 use parts_subsets::{ArraySubset, ChunkShape};
 use std::alloc::{AllocError, Global};
@@ -93,4 +95,49 @@ pub fn read_silently<'a, R: Files + AllocGlobal, C: ShardCodec<ShardFile<'a, R>>
     let mut progress = Progress::new(&mut silent, false);
     let (elements, _) = read_array(array, requested, false, &mut progress)?;
     Ok(elements)
+}
+
+// Puts a part that was read where it lies in a subset of a shape, whose elements have a size and these bytes.
+fn put_part(
+    read: &PartRead<'_>,
+    size: usize,
+    shape: &[u64],
+    bytes: &mut [u8],
+) -> Result<(), CodecError> {
+    let Some(found) = &read.found else {
+        return Err(CodecError::OutOfBounds);
+    };
+    match FixedTarget::new(bytes, size, shape, &read.part.in_subset) {
+        Some(mut target) => target.copy_from(found),
+        None => Err(CodecError::OutOfBounds),
+    }
+}
+
+// Reads the parts of a subset of a shape, and puts each where it lies.
+fn put_parts<'a, R: Files + AllocGlobal, C: ShardCodec<ShardFile<'a, R>>>(
+    array: &Array<'a, R, C>,
+    grid: &ShardGrid,
+    parts: &ShardParts,
+    shape: &[u64],
+    bytes: &mut [u8],
+) -> Result<(), Stop> {
+    let size = array.metadata.fill_value.as_ne_bytes().len();
+    for number in 0..parts.len() {
+        if let Some(read) = read_numbered(array, grid, parts, number, false)? {
+            put_part(&read, size, shape, bytes)?;
+        }
+    }
+    Ok(())
+}
+
+/// Reads the elements of a subset, which have one size, into as many bytes as they have: each of these is written, unless a part of the
+/// subset is refused.
+pub fn read_into<'a, R: Files + AllocGlobal, C: ShardCodec<ShardFile<'a, R>>>(
+    array: &Array<'a, R, C>,
+    requested: &ArraySubset,
+    bytes: &mut [u8],
+) -> Result<(), Stop> {
+    let grid = shards_of(array)?;
+    let parts = grid.parts(array.alloc(), requested)?;
+    put_parts(array, &grid, &parts, requested.shape(), bytes)
 }

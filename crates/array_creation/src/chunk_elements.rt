@@ -1,0 +1,139 @@
+// The chunks of a new array, by the elements at their start; behind the array's end they have fill values.
+use crate::new_folder::encoded;
+use array_cli::{chunk_of_fill_values, turned, whole_of};
+use array_grid::{SubsetCells, VaryingCells};
+use array_metadata::ArrayMetadata;
+use parts_arrays::ArrayBytes;
+use parts_errors::CodecError;
+use parts_subsets::check_subset;
+use std::alloc::{AllocError, Global};
+use std::borrow::CowSlice;
+use std::rt::Files;
+
+// Puts elements, which have a shape, at the start of a chunk.
+fn put_at_start(
+    alloc: Global,
+    shape: &[u64],
+    elements: &[u8],
+    new: &ArrayMetadata,
+    cells: &mut SubsetCells,
+) -> Result<(), CodecError> {
+    let part = whole_of(alloc, shape)?;
+    let size = new.fill_value.as_ne_bytes().len();
+    match ArrayBytes::new_flen(CowSlice::Borrowed(elements), size) {
+        Some(elements) => cells.put(&part, &elements),
+        None => Err(CodecError::WrongElementKind),
+    }
+}
+
+// The bytes of a chunk, at whose start elements stand that have a shape; `None` where it has no file.
+fn encoded_padded<R: Files + AllocGlobal>(
+    rt: &R,
+    shape: &[u64],
+    elements: &[u8],
+    new: &ArrayMetadata,
+) -> Result<Option<Vec<u8>>, CodecError> {
+    let mut cells = chunk_of_fill_values(rt.alloc(), new)?;
+    put_at_start(rt.alloc(), shape, elements, new, &mut cells)?;
+    encoded(rt, &cells.array(), new)
+}
+
+// The bytes of a chunk whose elements these are; `None` where it has no file.
+fn encoded_whole<R: Files + AllocGlobal>(
+    rt: &R,
+    elements: &[u8],
+    new: &ArrayMetadata,
+) -> Result<Option<Vec<u8>>, CodecError> {
+    let size = new.fill_value.as_ne_bytes().len();
+    match ArrayBytes::new_flen(CowSlice::Borrowed(elements), size) {
+        Some(elements) => encoded(rt, &elements, new),
+        None => Err(CodecError::WrongElementKind),
+    }
+}
+
+// The bytes of a chunk, at whose start elements stand that have a shape: these alone where they are all of it, so that they are not copied.
+fn encoded_stored<R: Files + AllocGlobal>(
+    rt: &R,
+    shape: &[u64],
+    elements: &[u8],
+    new: &ArrayMetadata,
+) -> Result<Option<Vec<u8>>, CodecError> {
+    if shape == new.shard.as_slice() {
+        return encoded_whole(rt, elements, new);
+    }
+    encoded_padded(rt, shape, elements, new)
+}
+
+/// The bytes of a chunk of a new array, at whose start elements of one size stand that have a shape, least significant byte first; `None`
+/// where it has no file.
+pub fn encoded_sized<R: Files + AllocGlobal>(
+    rt: &R,
+    shape: &[u64],
+    elements: &[u8],
+    new: &ArrayMetadata,
+) -> Result<Option<Vec<u8>>, CodecError> {
+    match turned(rt.alloc(), new, elements)? {
+        Some(stored) => encoded_stored(rt, shape, &stored, new),
+        None => encoded_stored(rt, shape, elements, new),
+    }
+}
+
+// Which element stands at each place of a chunk at whose start `count` of them stand that have a shape; `None` where none does.
+fn places_in(
+    alloc: Global,
+    shape: &[u64],
+    count: usize,
+    chunk: &[u64],
+) -> Result<Vec<Option<usize>>, CodecError> {
+    let part = whole_of(alloc, shape)?;
+    let total = check_subset(&part, chunk)?;
+    if part.num_elements() != Some(count as u64) {
+        return Err(CodecError::InvalidNumberOfElements);
+    }
+    let mut places = Vec::from_elem(alloc, None, total as usize)?;
+    for number in 0..count {
+        let place = part.number_at(number as u64, chunk);
+        if let Some(found) = places.get_mut(place as usize) {
+            *found = Some(number);
+        }
+    }
+    Ok(places)
+}
+
+// The elements at the places of a chunk, one behind the other, and where each begins and the last one ends: fill values where none is.
+fn laid_out(
+    alloc: Global,
+    elements: &VaryingCells,
+    places: &[Option<usize>],
+    fill: &[u8],
+) -> Result<(Vec<u8>, Vec<usize>), AllocError> {
+    let mut bytes = Vec::new(alloc);
+    let mut offsets = Vec::with_capacity(alloc, places.len().saturating_add(1))?;
+    offsets.push(0)?;
+    for place in places {
+        let element = match place {
+            Some(number) => elements.element(*number),
+            None => fill,
+        };
+        bytes.extend_from_slice(element)?;
+        offsets.push(bytes.len())?;
+    }
+    Ok((bytes, offsets))
+}
+
+/// The bytes of a chunk of a new array, at whose start elements with lengths of their own stand that have a shape; `None` where it has no
+/// file.
+pub fn encoded_varying<R: Files + AllocGlobal>(
+    rt: &R,
+    shape: &[u64],
+    elements: &VaryingCells,
+    new: &ArrayMetadata,
+) -> Result<Option<Vec<u8>>, CodecError> {
+    let places = places_in(rt.alloc(), shape, elements.len(), new.shard.as_slice())?;
+    let fill = new.fill_value.as_ne_bytes();
+    let (bytes, offsets) = laid_out(rt.alloc(), elements, &places, fill)?;
+    match ArrayBytes::new_vlen(CowSlice::Owned(bytes), offsets) {
+        Some(elements) => encoded(rt, &elements, new),
+        None => Err(CodecError::WrongElementKind),
+    }
+}
