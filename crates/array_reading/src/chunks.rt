@@ -123,9 +123,10 @@ fn put_parts<'a, R: Files + AllocGlobal, C: ShardCodec<ShardFile<'a, R>>>(
 ) -> Result<(), Stop> {
     let size = array.metadata.fill_value.as_ne_bytes().len();
     for number in 0..parts.len() {
-        if let Some(read) = read_numbered(array, grid, parts, number, false)? {
-            put_part(&read, size, shape, bytes)?;
-        }
+        let Some(read) = read_numbered(array, grid, parts, number, false)? else {
+            return Err(CodecError::OutOfBounds.into());
+        };
+        put_part(&read, size, shape, bytes)?;
     }
     Ok(())
 }
