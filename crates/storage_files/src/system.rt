@@ -7,18 +7,26 @@ use std::io::{ErrorKind, Read, Seek, SeekFrom, Write};
 use std::rt::Files;
 use std::{fs, io};
 
+// Opens what stands at a path, to be read; none where nothing is there.
+pub fn open_to_read<R: Files>(files: &R, path: &str) -> io::Result<Option<R::File>> {
+    match fs::open(files, path) {
+        Ok(file) => Ok(Some(file)),
+        Err(error) if error.kind() == ErrorKind::NotFound => Ok(None),
+        Err(error) => Err(error),
+    }
+}
+
 // The regular file at a path, to be read, and how many bytes it holds; none where there is none.
 pub fn open_if_there<R: Files>(files: &R, path: &str) -> io::Result<Option<(R::File, u64)>> {
     if file_length(files, path)?.is_none() {
         return Ok(None);
     }
-    match fs::open(files, path) {
-        Ok(file) => {
+    match open_to_read(files, path)? {
+        Some(file) => {
             let length = length_of(&file)?;
             Ok(Some((file, length)))
         }
-        Err(error) if error.kind() == ErrorKind::NotFound => Ok(None),
-        Err(error) => Err(error),
+        None => Ok(None),
     }
 }
 
