@@ -16,6 +16,8 @@ mod fresh;
 #[cfg(test)]
 mod grids;
 #[cfg(test)]
+mod hostile;
+#[cfg(test)]
 mod laws;
 #[cfg(test)]
 mod lengths;

@@ -15,38 +15,13 @@ mod closed;
 mod disk;
 mod steps;
 
-// Tests of arrays on disk, their metadata and their shards, of subsets on a command line, of files of NumPy's format, and of scripts whose
-// reader or writer fails.
-#[cfg(test)]
-mod array_stores;
-#[cfg(test)]
-mod byte_parts;
+// Tests of scripts: what is said of a line that is refused, and of a reader or a writer that fails.
 #[cfg(test)]
 mod compared;
 #[cfg(test)]
-mod escapes;
-#[cfg(test)]
-mod examples;
-#[cfg(test)]
 mod faults;
 #[cfg(test)]
-mod limits;
-#[cfg(test)]
-mod list_parts;
-#[cfg(test)]
 mod messages;
-#[cfg(test)]
-mod metadata;
-#[cfg(test)]
-mod npy;
-#[cfg(test)]
-mod refused;
-#[cfg(test)]
-mod shards;
-#[cfg(test)]
-mod subsets;
-#[cfg(test)]
-mod transposes;
 
 use crate::closed::Closed;
 use crate::disk::Disk;

@@ -1,6 +1,6 @@
 // Sixteen elements read where they lie, and shards with a mark after a slice or after the index.
 use crate::compared::same;
-use crate::shards::{Shards, in_squares, said, shape_of, squares};
+use crate::hostile::shards::{Shards, in_squares, said, shape_of, squares};
 use std::alloc::Global;
 use std::process::Abort;
 use test_helpers::{ABSENT, MarkedCodec, object_of};

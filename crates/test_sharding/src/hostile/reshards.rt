@@ -1,6 +1,6 @@
 // Arrays that are encoded anew by another codec.
 use crate::compared::{same, same_at};
-use crate::shards::{Case, Plain, around, case_of, in_squares, said, shape_of, squares};
+use crate::hostile::shards::{Case, Plain, around, case_of, in_squares, said, shape_of, squares};
 use std::alloc::Global;
 use std::process::Abort;
 use test_helpers::{HostileObject, hostile_table, object_of};

@@ -1,6 +1,6 @@
 // A shard that was cut after each of its bytes.
 use crate::compared::same_at;
-use crate::shards::{Case, plain, seven};
+use crate::hostile::shards::{Case, plain, seven};
 use std::alloc::Global;
 use std::process::Abort;
 use std::thread::Threads;

@@ -1,6 +1,8 @@
 // Objects that nobody wrote as a shard, as the bytes of inner shards: in one shard, and in three.
 use crate::compared::same_at;
-use crate::shards::{Answer, Plain, Shards, around, location_of, said, shards_of, subset_of};
+use crate::hostile::shards::{
+    Answer, Plain, Shards, around, location_of, said, shards_of, subset_of,
+};
 use std::alloc::Global;
 use std::process::Abort;
 use std::thread::Threads;

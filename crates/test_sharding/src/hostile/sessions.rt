@@ -1,6 +1,6 @@
 // Objects that are opened for writing, and those that are given back.
 use crate::compared::{same, same_at};
-use crate::shards::{
+use crate::hostile::shards::{
     Answer, Case, Session, Shards, case_of, listed, plain, said, seven, subset_of,
 };
 use std::alloc::Global;

@@ -1,6 +1,6 @@
 // Whole shards: decoded, also in parallel and into a target, and compacted.
 use crate::compared::same_at;
-use crate::shards::{Case, case_of, over, said};
+use crate::hostile::shards::{Case, case_of, over, said};
 use std::alloc::Global;
 use std::process::Abort;
 use test_helpers::{HostileObject, hostile_table};

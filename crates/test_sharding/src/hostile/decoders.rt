@@ -1,6 +1,6 @@
 // Objects that are read in part.
 use crate::compared::same_at;
-use crate::shards::{Case, Decoder, case_of, listed, over, said, subset_of};
+use crate::hostile::shards::{Case, Decoder, case_of, listed, over, said, subset_of};
 use std::alloc::Global;
 use std::ops::Range;
 use std::process::Abort;
