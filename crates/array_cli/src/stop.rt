@@ -127,12 +127,12 @@ pub enum Stop {
     /// Elements of a data type that have lengths of their own, where each is to have one size.
     #[error("elements of the data type {0} have lengths of their own, which is not served here: they are read as text or as JSON, compared, and laid out anew")]
     Varying(ElementType),
-    /// An element that is no text, whose type says in which encoding it is one.
-    #[error("the element at {coordinates} is no text: its bytes are not {encoding}")]
-    NoText {
-        coordinates: String,
-        encoding: &'static str,
-    },
+    /// An element that is no text in UTF-8; its coordinates.
+    #[error("the element at {0} is no text: its bytes are not UTF-8")]
+    NoUtf8(String),
+    /// An element that is no text in UTF-32; its coordinates.
+    #[error("the element at {0} is no text: its bytes are not UTF-32")]
+    NoUtf32(String),
     /// A size that no number here can say.
     #[error("the box has more elements than this program can hold")]
     TooLarge,

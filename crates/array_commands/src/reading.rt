@@ -64,52 +64,57 @@ fn coordinates_of(alloc: Global, subset: &ArraySubset, number: u64) -> Result<St
     Ok(name)
 }
 
-// Tests that an element of a band, with a number, is a text, in an encoding. Refused as `Stop::NoText`.
+// Whether the elements of an array are texts.
+fn are_texts<R: SharedSystem>(array: &SharedArray<'_, R>) -> bool {
+    array.metadata.element_type.encoding().is_some()
+}
+
+// Tests that an element of a band, with a number, is the text that its type says it is. Refused as `Stop::NoUtf8` and `Stop::NoUtf32`.
 fn test_text<R: SharedSystem>(
     array: &SharedArray<'_, R>,
     band: &ArraySubset,
     number: usize,
     element: &[u8],
-    encoding: &'static str,
 ) -> Result<(), Stop> {
-    if is_text(array.metadata.element_type, element) {
+    let element_type = array.metadata.element_type;
+    if is_text(element_type, element) {
         return Ok(());
     }
     let coordinates = coordinates_of(array.alloc(), band, number as u64)?;
-    Err(Stop::NoText {
-        coordinates,
-        encoding,
-    })
+    match element_type {
+        ElementType::Utf32(_) => Err(Stop::NoUtf32(coordinates)),
+        _ => Err(Stop::NoUtf8(coordinates)),
+    }
 }
 
-// Tests the elements of a band that have lengths of their own, where they are texts. Refused as `Stop::NoText` with the first one that is
+// Tests the elements of a band that have lengths of their own, where they are texts. Refused as `test_text` refuses the first one that is
 // none.
 fn test_varying<R: SharedSystem>(
     array: &SharedArray<'_, R>,
     band: &ArraySubset,
     cells: &VaryingCells,
 ) -> Result<(), Stop> {
-    let Some(encoding) = array.metadata.element_type.encoding() else {
+    if !are_texts(array) {
         return Ok(());
-    };
+    }
     for number in 0..cells.len() {
-        test_text(array, band, number, cells.element(number), encoding)?;
+        test_text(array, band, number, cells.element(number))?;
     }
     Ok(())
 }
 
-// Tests the elements of a band that have one size, where they are texts. Refused as `Stop::NoText` with the first one that is none.
+// Tests the elements of a band that have one size, where they are texts. Refused as `test_text` refuses the first one that is none.
 fn test_sized<R: SharedSystem>(
     array: &SharedArray<'_, R>,
     band: &ArraySubset,
     elements: &[u8],
 ) -> Result<(), Stop> {
-    let Some(encoding) = array.metadata.element_type.encoding() else {
+    if !are_texts(array) {
         return Ok(());
-    };
+    }
     let size = array.metadata.fill_value.as_ne_bytes().len().max(1);
     for (number, element) in elements.chunks(size).enumerate() {
-        test_text(array, band, number, element, encoding)?;
+        test_text(array, band, number, element)?;
     }
     Ok(())
 }
@@ -144,7 +149,7 @@ fn read_band<R: SharedSystem, S: Sink, M: Write>(
 }
 
 /// Reads the elements of a subset, with fill values for what is refused if `fills`, and hands them on, in row-major order: those of a band at a time, so that memory is that of a band.
-/// Refused as `Stop::TooLarge` where they have more than 2^40 bytes, and as `read_array` refuses, and as `Stop::NoText` where a text that is shown is none; then the
+/// Refused as `Stop::TooLarge` where they have more than 2^40 bytes, and as `read_array` refuses, and as `test_text` where a text that is shown is none; then the
 /// bands before are handed on.
 pub fn read_bands<R: SharedSystem, S: Sink, M: Write>(
     array: &SharedArray<'_, R>,
