@@ -1,4 +1,5 @@
-// Tests of shards that are held open for reading and writing, and of whole shards in parallel, over their public calls alone.
+// Tests of shards that are held open for reading and writing, of whole shards in parallel, and of objects that nobody wrote
+// as a shard, over their public calls alone.
 #![tactic(auto)]
 
 #[cfg(test)]
@@ -7,6 +8,8 @@ mod compared;
 mod faults;
 #[cfg(test)]
 mod gates;
+#[cfg(test)]
+mod hostile;
 #[cfg(test)]
 mod laws;
 #[cfg(test)]

@@ -16,8 +16,6 @@ mod fresh;
 #[cfg(test)]
 mod grids;
 #[cfg(test)]
-mod hostile;
-#[cfg(test)]
 mod laws;
 #[cfg(test)]
 mod lengths;
