@@ -1,5 +1,6 @@
 // Arrays in folders: two are made, one without shards and one with, and a subset of the first is written into the second.
 
+use array_grid::SubsetCells;
 use array_store::{Array, FileStore, create_metadata, open_metadata};
 use std::alloc::{AllocError, Global};
 use std::ops::Range;
@@ -21,15 +22,37 @@ const SHARDED: &str =
         "codecs": [{"name": "bytes", "configuration": {"endian": "little"}}],
         "index_codecs": [{"name": "bytes", "configuration": {"endian": "little"}}, {"name": "crc32c"}]}}]}"#;
 
+// The elements of a subset of the array in a folder.
+fn read(rt: &HostRuntime, folder: &str, subset: &ArraySubset) -> anyhow::Result<SubsetCells> {
+    let alloc = rt.alloc();
+    let store = FileStore::new(alloc, rt, folder)?;
+    let metadata = open_metadata(alloc, &store)?;
+    Ok(Array::of(store, &metadata).read(alloc, subset)?)
+}
+
+// Writes elements into a subset of the array in a folder.
+fn write(
+    rt: &HostRuntime,
+    folder: &str,
+    subset: &ArraySubset,
+    elements: &ArrayBytes,
+) -> anyhow::Result<()> {
+    let alloc = rt.alloc();
+    let store = FileStore::new(alloc, rt, folder)?;
+    let metadata = open_metadata(alloc, &store)?;
+    Ok(Array::of(store, &metadata).write(alloc, subset, elements)?)
+}
+
 // Writes a subset of the array in one folder into the array of the same shape and type in another.
 fn copy_subset(rt: &HostRuntime, from: &str, to: &str, subset: &ArraySubset) -> anyhow::Result<()> {
-    let alloc = rt.alloc();
-    let source = FileStore::new(alloc, rt, from)?;
-    let metadata = open_metadata(alloc, &source)?;
-    let elements = Array::of(source, &metadata).read(alloc, subset)?;
-    let target = FileStore::new(alloc, rt, to)?;
-    let metadata = open_metadata(alloc, &target)?;
-    Array::of(target, &metadata).write(alloc, subset, &elements.array())?;
+    let elements = read(rt, from, subset)?;
+    write(rt, to, subset, &elements.array())
+}
+
+// Makes an array of this metadata in a folder.
+fn create(rt: &HostRuntime, folder: &str, text: &str) -> anyhow::Result<()> {
+    let mut store = FileStore::new(rt.alloc(), rt, folder)?;
+    create_metadata(rt.alloc(), &mut store, text)?;
     Ok(())
 }
 
@@ -41,21 +64,15 @@ fn make(
     subset: &ArraySubset,
     numbers: &[u16],
 ) -> anyhow::Result<()> {
-    let alloc = rt.alloc();
-    let mut store = FileStore::new(alloc, rt, folder)?;
-    let metadata = create_metadata(alloc, &mut store, text)?;
-    let elements = ArrayBytes::from_numbers(alloc, numbers)?;
-    Array::of(store, &metadata).write(alloc, subset, &elements)?;
-    Ok(())
+    create(rt, folder, text)?;
+    let elements = ArrayBytes::from_numbers(rt.alloc(), numbers)?;
+    write(rt, folder, subset, &elements)
 }
 
 // Prints the numbers of a subset of the array in a folder.
 fn print(rt: &HostRuntime, folder: &str, subset: &ArraySubset) -> anyhow::Result<()> {
-    let alloc = rt.alloc();
-    let store = FileStore::new(alloc, rt, folder)?;
-    let metadata = open_metadata(alloc, &store)?;
-    let elements = Array::of(store, &metadata).read(alloc, subset)?;
-    let numbers: Vec<u16> = elements.array().to_numbers(alloc)?;
+    let elements = read(rt, folder, subset)?;
+    let numbers: Vec<u16> = elements.array().to_numbers(rt.alloc())?;
     println!(rt; "{numbers:?}")?;
     Ok(())
 }
