@@ -76,8 +76,17 @@ def opened(name):
     return open(f"{TOP}/out/{name}", "wb")
 
 
+def checks_at_once():
+    """How many checks run side by side: one a processor, where each has five gigabytes of the memory that is free."""
+    with open("/proc/meminfo", encoding="ascii") as file:
+        free = int(re.search(r"MemAvailable:\s+(\d+) kB", file.read())[1]) * 1024
+    return max(1, min(os.cpu_count() or 1, free // (5 << 30)))
+
+
 def test():
     names, proved = libraries(), set()
+    # rt ci itself guesses that a check may take more, and lets processors wait
+    os.environ.setdefault("RT_JOBS", str(checks_at_once()))
 
     def tell(line):
         found = re.match(r"rt: (\w+) (proved|is kept)", line)
