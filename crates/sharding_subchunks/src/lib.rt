@@ -11,6 +11,7 @@ mod plain_decoded;
 mod plain_rows;
 mod plain_subset;
 mod plain_target;
+mod plain_whole;
 mod read;
 mod requested;
 mod runs;
