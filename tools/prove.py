@@ -76,10 +76,22 @@ def opened(name):
     return open(f"{TOP}/out/{name}", "wb")
 
 
+def number_in(path, pattern):
+    """The number that a pattern finds in a file, if there is one."""
+    try:
+        with open(path, encoding="ascii") as file:
+            found = re.search(pattern, file.read())
+    except OSError:
+        return None
+    return int(found[1]) if found else None
+
+
 def checks_at_once():
-    """How many checks run side by side: one a processor, where each has five gigabytes of the memory that is free."""
-    with open("/proc/meminfo", encoding="ascii") as file:
-        free = int(re.search(r"MemAvailable:\s+(\d+) kB", file.read())[1]) * 1024
+    """How many checks run side by side: one a processor, where each has five gigabytes of the memory that is free, also to the group."""
+    free = 1024 * (number_in("/proc/meminfo", r"MemAvailable:\s+(\d+) kB") or 0)
+    limit, used = (number_in(f"/sys/fs/cgroup/memory.{it}", r"(\d+)") for it in ("max", "current"))
+    if limit is not None and used is not None:
+        free = min(free, limit - used)
     return max(1, min(os.cpu_count() or 1, free // (5 << 30)))
 
 

@@ -10,4 +10,3 @@ pub mod SortingLemmas
 pub mod SortedReads
 pub mod PlacingLemmas
 pub mod SubchunkOverlapLemmas
-pub mod SubchunkRowLemmas

@@ -9,7 +9,6 @@ mod overlap;
 mod placing;
 mod requested;
 mod sorted;
-mod subchunk_rows;
 mod update;
 
 pub use fill_values::filled;
@@ -20,5 +19,4 @@ pub use overlap::{SubchunkOverlap, subchunk_overlap};
 pub use placing::{placed_part, placed_subset};
 pub use requested::{check_requested, put_together};
 pub use sorted::{RequestedCell, list_positions, located, put_cells, run_length, sorted_cells};
-pub use subchunk_rows::{first_cell_of, put_rows, rows_of_each};
 pub use update::check_update;

@@ -11,7 +11,6 @@ mod plain_decoded;
 mod plain_rows;
 mod plain_subset;
 mod plain_target;
-mod plain_whole;
 mod read;
 mod requested;
 mod runs;

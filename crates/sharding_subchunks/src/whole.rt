@@ -15,11 +15,9 @@ ghost use Rattle.sharding_format.specs.steps.Decoding.{FitsSlot};
 ghost use Rattle.sharding_format.specs.declared.slot.Slot.TheVariants.{Absent};
 ghost use Rattle.sharding_subchunks.specs.Reads.{HasElementsOf};
 ghost use Rattle.sharding_subchunks.specs.steps.Inner.{spec_of_subchunks, inner_meaning};
-ghost use Rattle.sharding_gather.specs.SubchunkRows.{AreRowsOfEach};
 ghost use Rattle.sharding_subchunks.specs.steps.Writes.{IsSlotWritten};
 
 use crate::held_shard::HeldShard;
-use crate::plain_whole::PlainLayout;
 use codec_traits::ArrayToBytesCodecTraits;
 use parts_arrays::{ArrayBytes, FixedTarget};
 use parts_errors::CodecError;
@@ -44,7 +42,7 @@ fn any_absent(index: &ShardIndex) -> bool
 impl<I: ArrayToBytesCodecTraits> HeldShard<'_, '_, I> {
     // Decodes the subchunk that a slot names to the cells of its subset, in the shard's elements, which have these bytes; nothing where
     // it is absent. A slice of as many bytes as a plain one has is copied.
-    fn decode_to_subset(
+    fn decode_to(
         &self,
         alloc: Global,
         number: u64,
@@ -100,37 +98,6 @@ impl<I: ArrayToBytesCodecTraits> HeldShard<'_, '_, I> {
         }
     }
 
-    // The same; a plain subchunk is copied row by row where its rows are as far apart.
-    fn decode_to(
-        &self,
-        alloc: Global,
-        number: u64,
-        slot: Slot,
-        plain: &PlainLayout,
-        grid: &ChunkShape,
-        output: &mut [u8],
-    ) -> Result<(), CodecError>
-        requires slot { FitsSlot (length self.now.bytes.now) slot }
-        requires serves { (inner_meaning I.meaning self.now.subchunks.now).serves }
-        requires some { 0 < length self.now.subchunks.now.fill_value.now }
-        requires fixed { size_of self.now.subchunks.now.data_type.now ≡ Fixed (length self.now.subchunks.now.fill_value.now) }
-        requires whole { length output.old ≡ count_of self.now.shape.now * length self.now.subchunks.now.fill_value.now }
-        requires grid { grid.now ≡ grid_of self.now.shape.now self.now.subchunks.now.shape.now }
-        requires below { number < count_of grid.now }
-        requires plain { IfSome plain.now.size (IsPlain (spec_of_subchunks self.now.subchunks.now) (inner_meaning I.meaning self.now.subchunks.now)) }
-        requires rows { IfSome plain.now.rows (λ rows. AreRowsOfEach self.now.shape.now self.now.subchunks.now.shape.now rows.run rows.rows rows.stride) }
-        ensures written { let s = self.now.subchunks.now in let inner = inner_meaning I.meaning s in let size = length s.fill_value.now in
-            OnOk result (IsSlotWritten inner.cells s.fill_value.now self.now.bytes.now slot (count_of s.shape.now) (cell_number self.now.shape.now s.shape.now number)
-            (piece size output.old) (piece size output.new)) }
-        ensures refused { let inner = inner_meaning I.meaning self.now.subchunks.now in
-            IfErr result (RefusedBy (RefusesSubchunk inner.decode_refusals inner.cells self.now.bytes.now slot number)) }
-    {
-        if self.put_plain_rows(number, slot, plain, grid, output) {
-            return Ok(());
-        }
-        self.decode_to_subset(alloc, number, slot, plain.size, grid, output)
-    }
-
     // The bytes of the shard's elements.
     fn whole_bytes(&self, alloc: Global) -> Result<Vec<u8>, CodecError>
         requires serves { (inner_meaning I.meaning self.now.subchunks.now).serves }
@@ -148,10 +115,13 @@ impl<I: ArrayToBytesCodecTraits> HeldShard<'_, '_, I> {
         let fill = self.subchunks.fill_value.as_ne_bytes();
         let grid = calculate_chunks_per_shard(alloc, self.shape, sub)?;
         let mut whole = room_for(alloc, any_absent(index), self.cells as usize, fill)?;
-        let plain = self.plain_layout(alloc, &grid)?;
+        let inner = self.subchunks;
+        let plain = inner
+            .codec
+            .plain_size(inner.shape, inner.data_type, inner.fill_value);
         for k in 0..index.subchunks() {
             let slot = index.slot(k);
-            self.decode_to(alloc, k as u64, slot, &plain, &grid, &mut whole)?;
+            self.decode_to(alloc, k as u64, slot, plain, &grid, &mut whole)?;
         }
         Ok(whole)
     }

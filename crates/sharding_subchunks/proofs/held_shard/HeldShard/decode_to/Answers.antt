@@ -16,7 +16,7 @@ use Rattle.sharding_format.proofs.SubsetLemmas.{subset_refused}
 use Rattle.sharding_subchunks.specs.steps.Inner.{spec_of_subchunks}
 use Rattle.sharding_subchunks.proofs.TargetLemmas.{fitting_target}
 use Rattle.sharding_subchunks.proofs.WholeLemmas.{cells_written, slice_written, part_cells_written, plain_written, stored_refused}
-use Rattle.sharding_subchunks.proofs.held_shard.HeldShard.decode_to_subset.Goals as goal
+use Rattle.sharding_subchunks.proofs.held_shard.HeldShard.decode_to.Goals as goal
 
 pub returns-in_err-subset-in-InRange-clause-refused : goal.returns-in_err-subset-in-InRange-clause-refused
 returns-in_err-subset-in-InRange-clause-refused g c =
