@@ -3,8 +3,10 @@
 
 mod pieces;
 mod rows;
+mod strided;
 mod subsets;
 
 pub use pieces::{fill_run, fill_subset, piece_at, push_front, run_at};
 pub use rows::{gather, scatter};
+pub use strided::StridedSubset;
 pub use subsets::copy_subset;

@@ -7,7 +7,8 @@ ghost use Rattle.parts_row_major.specs.Pieces.{piece, IsUpdated};
 ghost use Rattle.parts_row_major.specs.Runs.{row_position};
 
 use crate::pieces::copy_run;
-use parts_subsets::{ArraySubset, SubsetRows, points_in};
+use crate::strided::StridedSubset;
+use parts_subsets::{ArraySubset, points_in};
 use std::alloc::{AllocError, Global};
 
 // Where rows of elements begin: the first, and how far behind it each further one.
@@ -90,62 +91,8 @@ pub fn scatter(output: &mut [u8], size: usize, subset: &ArraySubset, shape: &[u6
     requires whole_update { length update.now ≡ count_of subset.now.shape * size }
     ensures { IsUpdated (count_of subset.now.shape) (number_in subset.now shape.now) (piece size output.old) (piece size update.now) (piece size output.new) }
 {
-    let set = subset.rows_in(shape);
-    let each = set.rows * set.run;
-    let mut starts = subset.set_starts(shape, each, set.sets);
-    for q in 0..set.sets {
-        let done = q * each;
-        let to = Rows {
-            first: starts.next_start() as usize,
-            stride: set.stride as usize,
-        };
-        let from = Rows {
-            first: done as usize,
-            stride: set.run as usize,
-        };
-        copy_rows(
-            output,
-            size,
-            to,
-            update,
-            from,
-            set.rows as usize,
-            set.run as usize,
-        );
-    }
-}
-
-// Writes the elements at the points of a subset of an array of a shape one after the other, in row-major order of the subset.
-fn gather_into(part: &mut [u8], bytes: &[u8], size: usize, subset: &ArraySubset, shape: &[u64])
-    requires some { 0 < size }
-    requires served { IsServed subset.now shape.now }
-    requires whole { length bytes.now ≡ count_of shape.now * size }
-    requires whole_part { length part.old ≡ count_of subset.now.shape * size }
-    ensures { (k : ℕ) → k < count_of subset.now.shape → piece size part.new k ≡ piece size bytes.now (number_in subset.now shape.now k) }
-{
-    let set = subset.rows_in(shape);
-    let each = set.rows * set.run;
-    let mut starts = subset.set_starts(shape, each, set.sets);
-    for q in 0..set.sets {
-        let done = q * each;
-        let to = Rows {
-            first: done as usize,
-            stride: set.run as usize,
-        };
-        let from = Rows {
-            first: starts.next_start() as usize,
-            stride: set.stride as usize,
-        };
-        copy_rows(
-            part,
-            size,
-            to,
-            bytes,
-            from,
-            set.rows as usize,
-            set.run as usize,
-        );
-    }
+    let strided = StridedSubset::new(subset, shape);
+    strided.scatter(output, size, 0, update);
 }
 
 /// The elements at the points of a subset of an array of a shape, one after the other, in row-major order of the subset.
@@ -163,6 +110,7 @@ pub fn gather(
 {
     let room = points_in(subset, shape) as usize * size;
     let mut part = Vec::from_elem(alloc, 0, room)?;
-    gather_into(&mut part, bytes, size, subset, shape);
+    let strided = StridedSubset::new(subset, shape);
+    strided.gather(&mut part, bytes, size, 0);
     Ok(part)
 }

@@ -1,0 +1,98 @@
+// The elements of a subset of an array, copied row by row.
+ghost use Rattle.std.specs.Prelude.{◌≡◌, ℕ, ◌+◌, ◌*◌, ◌<◌, ◌≤◌, length};
+ghost use Rattle.parts_row_major.specs.Numbering.{count_of};
+ghost use Rattle.parts_row_major.specs.Subsets.{number_in, IsServed};
+ghost use Rattle.parts_row_major.specs.Pieces.{piece, IsUpdated};
+
+use crate::rows::{Rows, copy_rows};
+use parts_subsets::{ArraySubset, SubsetRows};
+use std::marker::Model;
+
+/// A subset of an array that it lies in, with the rows in which its elements lie there.
+#[derive(Drop)]
+pub struct StridedSubset<'a> {
+    subset: &'a ArraySubset,
+    shape: &'a [u64],
+    rows: SubsetRows,
+}
+
+impl<'a> Model for StridedSubset<'a> {
+    ghost use Rattle.parts_row_major.specs.Subsets.{IsSubset, IsServed};
+    ghost use Rattle.parts_row_major.specs.Runs.{AreSubsetRows};
+    ghost use Rattle.parts_strided_copy.specs.Strided.{SubsetIn};
+
+    ghost Value = { SubsetIn };
+
+    ghost view = { λ s. record { subset = s.subset.now; around = s.shape.now } };
+
+    ghost invariant = { λ s. IsServed s.subset.now s.shape.now × IsSubset s.subset.now.start s.subset.now.shape × AreSubsetRows s.subset.now s.shape.now s.rows.run s.rows.rows s.rows.stride s.rows.sets };
+}
+
+impl<'a> StridedSubset<'a> {
+    /// The rows of a subset of an array of a shape that it lies in. Takes no memory.
+    pub fn new(subset: &'a ArraySubset, shape: &'a [u64]) -> StridedSubset<'a>
+        requires { IsServed subset.now shape.now }
+        ensures { result ≡ record { subset = subset.now; around = shape.now } }
+    {
+        let rows = subset.rows_in(shape);
+        StridedSubset {
+            subset,
+            shape,
+            rows,
+        }
+    }
+}
+
+impl StridedSubset<'_> {
+    /// Writes elements that come one after the other at the subset's points, in row-major order of the subset, each `moved` positions
+    /// further on in the array. Takes no memory.
+    pub fn scatter(&self, output: &mut [u8], size: usize, moved: usize, update: &[u8])
+        requires some { 0 < size }
+        requires inside { (k : ℕ) → k < count_of self.now.subset.shape → (moved + number_in self.now.subset self.now.around k) * size + size ≤ length output.old }
+        requires whole { length update.now ≡ count_of self.now.subset.shape * size }
+        ensures { IsUpdated (count_of self.now.subset.shape) (λ k. moved + number_in self.now.subset self.now.around k) (piece size output.old) (piece size update.now) (piece size output.new) }
+    {
+        let set = self.rows;
+        let each = set.rows * set.run;
+        let mut starts = self.subset.set_starts(self.shape, each, set.sets);
+        for q in 0..set.sets {
+            let done = q * each;
+            let to = Rows {
+                first: moved + starts.next_start() as usize,
+                stride: set.stride as usize,
+            };
+            let from = Rows {
+                first: done as usize,
+                stride: set.run as usize,
+            };
+            let (rows, run) = (set.rows as usize, set.run as usize);
+            copy_rows(output, size, to, update, from, rows, run);
+        }
+    }
+
+    /// Writes the elements at the subset's points, each taken `moved` positions further on in the array, one after the other, in row-major
+    /// order of the subset. Takes no memory.
+    pub fn gather(&self, part: &mut [u8], bytes: &[u8], size: usize, moved: usize)
+        requires some { 0 < size }
+        requires inside { (k : ℕ) → k < count_of self.now.subset.shape → (moved + number_in self.now.subset self.now.around k) * size + size ≤ length bytes.now }
+        requires whole { length part.old ≡ count_of self.now.subset.shape * size }
+        ensures { (k : ℕ) → k < count_of self.now.subset.shape → piece size part.new k ≡ piece size bytes.now (moved + number_in self.now.subset self.now.around k) }
+    {
+        let set = self.rows;
+        let each = set.rows * set.run;
+        let mut starts = self.subset.set_starts(self.shape, each, set.sets);
+        for q in 0..set.sets {
+            let done = q * each;
+            let to = Rows {
+                first: done as usize,
+                stride: set.run as usize,
+            };
+            let from = Rows {
+                first: moved + starts.next_start() as usize,
+                stride: set.stride as usize,
+            };
+            let (rows, run) = (set.rows as usize, set.run as usize);
+            copy_rows(part, size, to, bytes, from, rows, run);
+        }
+    }
+}
