@@ -10,3 +10,4 @@ pub mod SortingLemmas
 pub mod SortedReads
 pub mod PlacingLemmas
 pub mod SubchunkOverlapLemmas
+pub mod SubchunkRowLemmas

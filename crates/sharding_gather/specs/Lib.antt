@@ -1,3 +1,4 @@
 pub mod Updates
 pub mod SubchunkOverlaps
+pub mod SubchunkRows
 pub mod steps

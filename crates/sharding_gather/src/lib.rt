@@ -9,6 +9,7 @@ mod overlap;
 mod placing;
 mod requested;
 mod sorted;
+mod subchunk_rows;
 mod update;
 
 pub use fill_values::filled;
@@ -19,4 +20,5 @@ pub use overlap::{SubchunkOverlap, subchunk_overlap};
 pub use placing::{placed_part, placed_subset};
 pub use requested::{check_requested, put_together};
 pub use sorted::{RequestedCell, list_positions, located, put_cells, run_length, sorted_cells};
+pub use subchunk_rows::{SubchunkRows, first_subchunk};
 pub use update::check_update;

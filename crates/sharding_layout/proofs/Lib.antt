@@ -6,3 +6,5 @@ mod OffsetLemmas
 mod PlanLemmas
 pub mod PlannedLemmas
 pub mod EndLemmas
+pub mod StoringLemmas
+pub mod RunLemmas

@@ -8,6 +8,7 @@ mod morton;
 mod offsets;
 mod packing;
 mod plan;
+mod runs;
 mod sequence;
 mod storing;
 
@@ -20,5 +21,6 @@ pub use laying::{
 pub use offsets::{CachedIndex, fresh_offset, index_offset, length_after, offset_after, slot_in};
 pub use packing::{compact_size, packed_numbers, push_slices};
 pub use plan::{CompactionPlan, plan_compaction, plan_compaction_of_index};
+pub use runs::elements_in_run;
 pub use sequence::SubchunkSequence;
-pub use storing::store_after;
+pub use storing::{slot_after, store_after, zeros_after};

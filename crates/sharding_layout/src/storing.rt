@@ -1,17 +1,22 @@
-// One array, stored after bytes that are there, unless it is all fill.
-ghost use Rattle.std.specs.Prelude.{◌≡◌, IfOk, IfErr, OnErr};
+// One array, stored behind bytes that are there, unless it is all fill.
+ghost use Rattle.std.specs.Prelude.{◌≡◌, ◌≤◌, ◌++◌, IsTrue, ◌↔◌, IfOk, IfErr, OnOk, OnErr, length, take, drop, replicate};
+ghost use Rattle.std.specs.List.{concat};
 ghost use Rattle.parts_errors.specs.Order.{RefusedBy};
 ghost use Rattle.parts_arrays.specs.ArraySpec.{IsArrayOf};
+ghost use Rattle.parts_arrays.specs.Arrays.{IsWhole, fixed_array};
 ghost use Rattle.parts_arrays.specs.Types.{size_of};
+ghost use Rattle.parts_errors.specs.declared.error.CodecError.TheVariants.{OutOfMemory};
+ghost use Rattle.sharding_format.specs.Encoding.{IsAllFill};
 ghost use Rattle.sharding_format.specs.Laying.{IsStoredAfter};
 ghost use Rattle.sharding_format.specs.EncodeRefusals.{RefusesToStore};
 ghost use Rattle.sharding_index.specs.steps.Plans.{spec_of};
 
 use codec_traits::ArrayToBytesCodecTraits;
-use parts_arrays::ArrayBytes;
+use parts_arrays::{ArrayBytes, FillValue};
 use parts_errors::{CodecError, CodecOptions};
 use sharding_format::{ArraySpecRef, Slot};
 use std::alloc::Global;
+use std::borrow::CowSlice;
 
 /// Puts the encoding of an array that isn't all fill behind the slices that are there, and tells where it stands. A refusal leaves
 /// the slices. Refused as `CannotEncode` or `TooLarge`; or as `OutOfMemory`.
@@ -49,4 +54,46 @@ pub fn store_after<I: ArrayToBytesCodecTraits>(
         offset: offset as u64,
         size: (slices.len() - offset) as u64,
     })
+}
+
+/// Puts so many zeros behind the slices. Refused only as out of memory, which leaves the slices.
+pub fn zeros_after(slices: &mut Vec<u8>, size: usize) -> Result<(), CodecError>
+    ensures appended { OnOk result (slices.new.items ≡ slices.old.items ++ replicate size 0) }
+    ensures kept { OnErr result (slices.new.items ≡ slices.old.items) }
+    ensures refused { IfErr result (λ e. e ≡ OutOfMemory) }
+{
+    let Some(end) = slices.len().checked_add(size) else {
+        return Err(CodecError::OutOfMemory);
+    };
+    slices.resize(end, 0)?;
+    Ok(())
+}
+
+// Whether elements of one size are all fill.
+fn are_fill(bytes: &[u8], size: usize, fill_value: &FillValue) -> bool
+    requires { IsWhole size bytes.now }
+    ensures { IsTrue result ↔ IsAllFill fill_value.now (fixed_array size bytes.now).elements }
+{
+    match ArrayBytes::new_flen(CowSlice::Borrowed(bytes), size) {
+        Some(array) => array.is_fill_value(fill_value),
+        None => unreachable!(),
+    }
+}
+
+/// Where the subchunk stands that was put behind the slices from a position on: nowhere, and its bytes are taken back, where it is all
+/// fill.
+pub fn slot_after(slices: &mut Vec<u8>, from: usize, size: usize, fill_value: &FillValue) -> Slot
+    requires from { from ≤ length slices.old.items }
+    requires whole { IsWhole size (drop from slices.old.items) }
+    ensures stored { IsStoredAfter (λ elements bytes. bytes ≡ concat elements) fill_value.now (fixed_array size (drop from slices.old.items)).elements
+        (take from slices.old.items) slices.new.items result }
+{
+    if are_fill(&slices[from..], size, fill_value) {
+        slices.truncate(from);
+        return Slot::Absent;
+    }
+    Slot::InRange {
+        offset: from as u64,
+        size: (slices.len() - from) as u64,
+    }
 }

@@ -33,7 +33,7 @@ use Rattle.sharding_write.proofs.EntryLemmas.{no_entries, one_more_entry}
 use Rattle.sharding_write.proofs.AnewLemmas.{entry_absent, all_absent, in_list}
 use Rattle.sharding_write.proofs.OffsetLemmas.{goes_after}
 use Rattle.sharding_write.proofs.PutLemmas.{same_slice}
-use Rattle.sharding_write.proofs.AppendLemmas.{tail_is}
+use Rattle.sharding_layout.proofs.StoringLemmas.{tail_is}
 use Rattle.sharding_write.proofs.MadeLemmas.{write_erased, write_begun, write_appended}
 use Rattle.sharding_plans.specs.declared.write_plan.Outcome.{Outcome}
 use Rattle.sharding_plans.specs.declared.write_plan.Outcome.TheVariants.{Erase, Anew, Append}

@@ -1,6 +1,6 @@
-pub mod RunLemmas
 pub mod AppendLemmas
 pub mod PlainRowLemmas
+pub mod PlainSubchunkLemmas
 pub mod TargetLemmas
 pub mod PlainLemmas
 pub mod DecodedRowLemmas

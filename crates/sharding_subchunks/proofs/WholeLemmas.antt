@@ -91,17 +91,6 @@ part_written_through : (subset position : Subset) (axes : List ℕ) (size : ℕ)
     → IsUpdated (count_of subset.shape) (number_in subset axes) (piece size before) element (piece size after)
 part_written_through subset position axes size element old new before after sized shaped by_position first last wrote = rw (← sized, ← shaped, ← first, ← last, ← by_position) wrote.elements
 
--- where the part is the subset of a subchunk, these are its cells
-pub part_cells_written : (shape sub : List ℕ) (k size : ℕ) (position : Subset) (element : ℕ → List ℕ) (old new : FixedTarget) (before after : List ℕ)
-    → target_element_size old ≡ size → target_shape old ≡ shape → position ≡ subset_of_subchunk shape sub k → (target_bytes old).now ≡ before → (target_bytes new).now ≡ after → IsPartWritten old new position element
-    → IsUpdated (count_of sub) (cell_number shape sub k) (piece size before) element (piece size after)
-part_cells_written shape sub k size position element old new before after sized shaped by_position first last wrote =
-    let through = part_written_through (subset_of_subchunk shape sub k) position shape size element old new before after sized shaped by_position first last wrote in
-    record {
-      inside = λ p lt. ap (piece size after) (sym (number_in-subset_of_subchunk shape sub k p)) ∙ through.inside p lt;
-      outside = λ i h. through.outside i (λ p lt e. h p lt (sym (number_in-subset_of_subchunk shape sub k p) ∙ e));
-    }
-
 -- the slice of a plain codec, copied to where its cells lie
 pub plain_written : (g : ArraySpec) (m : Meaning) (fill b : List ℕ) (offset size : ℕ) (position : ℕ → ℕ) (old new : ℕ → List ℕ)
     → fill ≡ g.fill → IsPlain g m size → length (slice_at offset size b) ≡ size → IsUpdated (count_of g.shape) position old (piece (length fill) (slice_at offset size b)) new

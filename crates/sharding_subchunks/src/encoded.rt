@@ -1,5 +1,5 @@
 // Subchunks of an array, encoded and laid end to end in an order.
-ghost use Rattle.std.specs.Prelude.{◌≡◌, ◌<◌, IfOk, IfErr, OnErr, IsPermutation, length, take, drop};
+ghost use Rattle.std.specs.Prelude.{◌≡◌, ◌<◌, IfOk, IfErr, IfSome, OnErr, IsPermutation, length, take, drop};
 ghost use Rattle.std.specs.List.{range_with_len};
 ghost use Rattle.parts_errors.specs.Order.{done, RefusedBy};
 ghost use Rattle.parts_errors.specs.declared.error.CodecError.TheVariants.{OutOfMemory};
@@ -12,12 +12,15 @@ ghost use Rattle.sharding_format.specs.Laying.{IsStoredAfter, IsStoredInOrder};
 ghost use Rattle.sharding_format.specs.EncodeRefusals.{RefusesToStore, StoreRefusals};
 ghost use Rattle.sharding_layout.specs.steps.Cutting.{CanBeCut};
 ghost use Rattle.sharding_subchunks.specs.steps.Inner.{spec_of_subchunks, inner_meaning};
+ghost use Rattle.sharding_subchunks.specs.steps.PlainSubchunks.{IsPlainCut};
 
+use crate::plain_subchunks::PlainCut;
 use crate::subchunks::Subchunks;
 use codec_traits::ArrayToBytesCodecTraits;
 use parts_arrays::ArrayBytes;
 use parts_errors::CodecError;
 use sharding_format::{ArraySpecRef, Slot};
+use sharding_gather::first_subchunk;
 use sharding_layout::{
     CutArray, SubchunkSequence, absent_slots, gather_subchunk, placed, room_for_next, store_after,
 };
@@ -149,17 +152,20 @@ impl<I: ArrayToBytesCodecTraits> Subchunks<'_, I> {
         refusal
     }
 
-    // Puts the encoding of a subchunk that isn't all fill behind bytes that are there, and tells where it stands. A refusal leaves
-    // them, and is that of the lowest subchunk that is refused.
+    // Puts the encoding of a subchunk that isn't all fill behind bytes that are there, and tells where it stands: its elements, where
+    // the inner codec stores these as they are in memory. A refusal leaves the bytes, and is that of the lowest subchunk that is
+    // refused.
     fn store_number(
         &self,
         alloc: Global,
         cut: &CutArray,
+        plain: &Option<PlainCut>,
         number: u64,
         bytes: &mut Vec<u8>,
     ) -> Result<Slot, CodecError>
         requires serves { (inner_meaning I.meaning self.now).serves }
         requires cut { CanBeCut (spec_of_subchunks self.now) cut.now }
+        requires plain { IfSome plain.now (IsPlainCut (spec_of_subchunks self.now) (inner_meaning I.meaning self.now) cut.now) }
         requires below { number < count_of cut.now.grid.now }
         ensures stored { let inner = inner_meaning I.meaning self.now in
             IfOk result (IsStoredAfter inner.written self.now.fill_value.now
@@ -169,6 +175,9 @@ impl<I: ArrayToBytesCodecTraits> Subchunks<'_, I> {
             IfErr result (RefusedBy (StoreRefusals inner self.now.fill_value.now
             (subchunk cut.now.shape.now self.now.shape.now cut.now.array.now.elements) (count_of cut.now.grid.now) done)) }
     {
+        if let Some(plain) = plain {
+            return self.store_gathered(cut, plain, number, bytes);
+        }
         let part = self.cut_out(alloc, cut, number)?;
         match self.store_after(alloc, &part, bytes) {
             Ok(slot) => Ok(slot),
@@ -182,11 +191,13 @@ impl<I: ArrayToBytesCodecTraits> Subchunks<'_, I> {
         &self,
         alloc: Global,
         cut: &CutArray,
+        plain: &Option<PlainCut>,
         sequence: &SubchunkSequence,
         bytes: &mut Vec<u8>,
     ) -> Result<Vec<Slot>, CodecError>
         requires serves { (inner_meaning I.meaning self.now).serves }
         requires cut { CanBeCut (spec_of_subchunks self.now) cut.now }
+        requires plain { IfSome plain.now (IsPlainCut (spec_of_subchunks self.now) (inner_meaning I.meaning self.now) cut.now) }
         requires order { IsPermutation (range_with_len 0 (count_of cut.now.grid.now)) sequence.now }
         ensures stay { take (length bytes.old.items) bytes.new.items ≡ bytes.old.items }
         ensures stored_slices { let inner = inner_meaning I.meaning self.now in
@@ -210,7 +221,7 @@ impl<I: ArrayToBytesCodecTraits> Subchunks<'_, I> {
             )?;
             let number = sequence.number_at(position);
             let from = bytes.len();
-            let slot = self.store_number(alloc, cut, number, bytes)?;
+            let slot = self.store_number(alloc, cut, plain, number, bytes)?;
             let (offset, size) = (from - start, bytes.len() - from);
             longest = longest.max(size);
             slots[number as usize] = placed(slot != Slot::Absent, offset as u64, size as u64);
@@ -242,6 +253,8 @@ impl<I: ArrayToBytesCodecTraits> Subchunks<'_, I> {
         if let Some(slots) = self.lay_out_rows(alloc, cut, sequence, bytes)? {
             return Ok(slots);
         }
-        self.lay_out_each(alloc, cut, sequence, bytes)
+        let first = first_subchunk(alloc, cut.shape, self.shape, cut.grid)?;
+        let plain = self.plain_cut(cut, &first);
+        self.lay_out_each(alloc, cut, &plain, sequence, bytes)
     }
 }

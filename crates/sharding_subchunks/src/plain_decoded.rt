@@ -11,12 +11,12 @@ ghost use Rattle.sharding_subchunks.specs.steps.Inner.{inner_meaning};
 ghost use Rattle.sharding_subchunks.specs.steps.DecodedRows.{IsPlainSlot, plain_bytes, bytes_of_run, AreRowsOfShard, AreGathered};
 
 use crate::held_shard::HeldShard;
-use crate::runs::elements_in_run;
 use codec_traits::ArrayToBytesCodecTraits;
 use parts_arrays::{ArrayBytes, repeated};
 use parts_errors::CodecError;
 use parts_subsets::ChunkShape;
 use sharding_format::{ShardIndex, Slot};
+use sharding_layout::elements_in_run;
 use std::alloc::{AllocError, Global};
 use std::borrow::CowSlice;
 

@@ -9,12 +9,13 @@ ghost use Rattle.sharding_layout.specs.steps.Cutting.{CanBeCut};
 ghost use Rattle.sharding_subchunks.specs.steps.Inner.{spec_of_subchunks, inner_meaning};
 ghost use Rattle.sharding_subchunks.specs.PlainRows.{ArePlainRows};
 
-use crate::runs::elements_in_run;
 use crate::subchunks::Subchunks;
 use codec_traits::ArrayToBytesCodecTraits;
 use parts_arrays::{ArrayBytes, FillValue};
 use sharding_format::Slot;
-use sharding_layout::{CutArray, SubchunkSequence, absent_slots, placed, room_for_next};
+use sharding_layout::{
+    CutArray, SubchunkSequence, absent_slots, elements_in_run, placed, room_for_next,
+};
 use std::alloc::{AllocError, Global};
 use std::borrow::CowSlice;
 

@@ -7,7 +7,6 @@ ghost use Rattle.parts_row_major.specs.Pieces.{piece, pieces};
 ghost use Rattle.parts_subsets.specs.Grid.{grid_of, cell_number};
 ghost use Rattle.parts_arrays.specs.Types.{size_of};
 ghost use Rattle.parts_arrays.specs.declared.data_type.DataTypeSize.TheVariants.{Fixed};
-ghost use Rattle.codec_traits.specs.Encodings.{IsPlain};
 ghost use Rattle.sharding_format.specs.Index.{slot_at};
 ghost use Rattle.sharding_format.specs.Cells.{indexed_cell};
 ghost use Rattle.sharding_format.specs.DecodeRefusals.{RefusesSubchunk, SubchunkRefusals};
@@ -15,15 +14,17 @@ ghost use Rattle.sharding_format.specs.steps.Decoding.{FitsSlot};
 ghost use Rattle.sharding_format.specs.declared.slot.Slot.TheVariants.{Absent};
 ghost use Rattle.sharding_subchunks.specs.Reads.{HasElementsOf};
 ghost use Rattle.sharding_subchunks.specs.steps.Inner.{spec_of_subchunks, inner_meaning};
+ghost use Rattle.sharding_subchunks.specs.steps.PlainSubchunks.{ArePlainSubchunks};
 ghost use Rattle.sharding_subchunks.specs.steps.Writes.{IsSlotWritten};
 
 use crate::held_shard::HeldShard;
+use crate::plain_subchunks::PlainSubchunks;
 use codec_traits::ArrayToBytesCodecTraits;
 use parts_arrays::{ArrayBytes, FixedTarget};
 use parts_errors::CodecError;
 use parts_subsets::ChunkShape;
 use sharding_format::{ShardIndex, Slot, calculate_chunks_per_shard, of_stored, subchunk_subset};
-use sharding_gather::room_for;
+use sharding_gather::{first_subchunk, room_for};
 use std::alloc::Global;
 use std::borrow::CowSlice;
 
@@ -41,13 +42,12 @@ fn any_absent(index: &ShardIndex) -> bool
 
 impl<I: ArrayToBytesCodecTraits> HeldShard<'_, '_, I> {
     // Decodes the subchunk that a slot names to the cells of its subset, in the shard's elements, which have these bytes; nothing where
-    // it is absent. A slice of as many bytes as a plain one has is copied.
-    fn decode_to(
+    // it is absent.
+    fn decode_to_subset(
         &self,
         alloc: Global,
         number: u64,
         slot: Slot,
-        plain: Option<u64>,
         grid: &ChunkShape,
         output: &mut [u8],
     ) -> Result<(), CodecError>
@@ -58,7 +58,6 @@ impl<I: ArrayToBytesCodecTraits> HeldShard<'_, '_, I> {
         requires whole { length output.old ≡ count_of self.now.shape.now * length self.now.subchunks.now.fill_value.now }
         requires grid { grid.now ≡ grid_of self.now.shape.now self.now.subchunks.now.shape.now }
         requires below { number < count_of grid.now }
-        requires plain { IfSome plain (IsPlain (spec_of_subchunks self.now.subchunks.now) (inner_meaning I.meaning self.now.subchunks.now)) }
         ensures written { let s = self.now.subchunks.now in let inner = inner_meaning I.meaning s in let size = length s.fill_value.now in
             OnOk result (IsSlotWritten inner.cells s.fill_value.now self.now.bytes.now slot (count_of s.shape.now) (cell_number self.now.shape.now s.shape.now number)
             (piece size output.old) (piece size output.new)) }
@@ -77,10 +76,6 @@ impl<I: ArrayToBytesCodecTraits> HeldShard<'_, '_, I> {
                 };
                 let element = inner.fill_value.as_ne_bytes();
                 let mut target = FixedTarget::over(output, element.len(), axes, &subset);
-                if plain == Some(size) {
-                    target.copy_part(&subset, part);
-                    return Ok(());
-                }
                 match inner.codec.decode_into(
                     alloc,
                     part,
@@ -96,6 +91,38 @@ impl<I: ArrayToBytesCodecTraits> HeldShard<'_, '_, I> {
             }
             Slot::Bad => Err(CodecError::BadIndexEntry { number }),
         }
+    }
+
+    // The same; a slice of as many bytes as a plain subchunk has is copied.
+    fn decode_to(
+        &self,
+        alloc: Global,
+        number: u64,
+        slot: Slot,
+        plain: &Option<PlainSubchunks>,
+        grid: &ChunkShape,
+        output: &mut [u8],
+    ) -> Result<(), CodecError>
+        requires slot { FitsSlot (length self.now.bytes.now) slot }
+        requires serves { (inner_meaning I.meaning self.now.subchunks.now).serves }
+        requires some { 0 < length self.now.subchunks.now.fill_value.now }
+        requires fixed { size_of self.now.subchunks.now.data_type.now ≡ Fixed (length self.now.subchunks.now.fill_value.now) }
+        requires whole { length output.old ≡ count_of self.now.shape.now * length self.now.subchunks.now.fill_value.now }
+        requires grid { grid.now ≡ grid_of self.now.shape.now self.now.subchunks.now.shape.now }
+        requires below { number < count_of grid.now }
+        requires plain { IfSome plain.now (ArePlainSubchunks (spec_of_subchunks self.now.subchunks.now) (inner_meaning I.meaning self.now.subchunks.now) self.now.shape.now) }
+        ensures written { let s = self.now.subchunks.now in let inner = inner_meaning I.meaning s in let size = length s.fill_value.now in
+            OnOk result (IsSlotWritten inner.cells s.fill_value.now self.now.bytes.now slot (count_of s.shape.now) (cell_number self.now.shape.now s.shape.now number)
+            (piece size output.old) (piece size output.new)) }
+        ensures refused { let inner = inner_meaning I.meaning self.now.subchunks.now in
+            IfErr result (RefusedBy (RefusesSubchunk inner.decode_refusals inner.cells self.now.bytes.now slot number)) }
+    {
+        if let Some(plain) = plain {
+            if self.put_plain_slice(number, slot, plain, output) {
+                return Ok(());
+            }
+        }
+        self.decode_to_subset(alloc, number, slot, grid, output)
     }
 
     // The bytes of the shard's elements.
@@ -115,13 +142,11 @@ impl<I: ArrayToBytesCodecTraits> HeldShard<'_, '_, I> {
         let fill = self.subchunks.fill_value.as_ne_bytes();
         let grid = calculate_chunks_per_shard(alloc, self.shape, sub)?;
         let mut whole = room_for(alloc, any_absent(index), self.cells as usize, fill)?;
-        let inner = self.subchunks;
-        let plain = inner
-            .codec
-            .plain_size(inner.shape, inner.data_type, inner.fill_value);
+        let first = first_subchunk(alloc, self.shape, sub, &grid)?;
+        let plain = self.subchunks.plain_in(self.shape, &grid, &first);
         for k in 0..index.subchunks() {
             let slot = index.slot(k);
-            self.decode_to(alloc, k as u64, slot, plain, &grid, &mut whole)?;
+            self.decode_to(alloc, k as u64, slot, &plain, &grid, &mut whole)?;
         }
         Ok(whole)
     }

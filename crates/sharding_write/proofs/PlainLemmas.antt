@@ -37,7 +37,7 @@ use Rattle.sharding_write.proofs.OldLemmas.{has_array}
 use Rattle.sharding_write.proofs.CellLemmas.{axes_of, no_straddle, overlaid_array, overlaid_part}
 use Rattle.sharding_write.proofs.ChangedLemmas.{new_cells_at}
 use Rattle.sharding_write.proofs.StoredInRowLemmas.{one_more}
-use Rattle.sharding_write.proofs.AppendLemmas.{stored_plainly}
+use Rattle.sharding_layout.proofs.StoringLemmas.{stored_plainly}
 
 -- a stored subchunk's bytes are its cells
 pub old_stored : (g : ArraySpec) (inner : Meaning) (size : ℕ) (bytes part : List ℕ) (offset : ℕ) → IsPlain g inner size → length part ≡ size → part ≡ slice_at offset size bytes

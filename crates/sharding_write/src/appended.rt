@@ -1,41 +1,22 @@
-// Bytes put after slices: those of an old subchunk, and what becomes of them.
-ghost use Rattle.std.specs.Prelude.{◌≡◌, ◌≤◌, ◌<◌, ◌*◌, ◌++◌, IsTrue, ◌↔◌, IfOk, IfErr, OnOk, length, take, drop, replicate};
-ghost use Rattle.std.specs.List.{concat};
+// Bytes put after slices: those of an old subchunk, and what an update writes over them.
+ghost use Rattle.std.specs.Prelude.{◌≡◌, ◌≤◌, ◌<◌, ◌*◌, IsTrue, IfOk, IfErr, length, take, drop};
 ghost use Rattle.parts_errors.specs.Order.{done, RefusedBy};
 ghost use Rattle.parts_row_major.specs.Numbering.{count_of};
 ghost use Rattle.parts_row_major.specs.Subsets.{IsServed};
-ghost use Rattle.parts_arrays.specs.Arrays.{IsWhole, fixed_array, extracted, IsOverlaid};
-ghost use Rattle.parts_errors.specs.declared.error.CodecError.TheVariants.{OutOfMemory};
+ghost use Rattle.parts_arrays.specs.Arrays.{fixed_array, extracted, IsOverlaid};
 ghost use Rattle.parts_arrays.specs.declared.data_type.DataTypeSize.TheVariants.{Fixed};
 ghost use Rattle.storage_handles.specs.Handles.{IsRead, IsCounted};
 ghost use Rattle.storage_handles.specs.Objects.{HasInterval, ObjectRefusals};
 ghost use Rattle.storage_handles.specs.Writes.{bytes_of};
 ghost use Rattle.sharding_format.specs.Index.{slice_at};
-ghost use Rattle.sharding_format.specs.Encoding.{IsAllFill};
-ghost use Rattle.sharding_format.specs.Laying.{IsStoredAfter};
 ghost use Rattle.sharding_write.specs.Slices.{IsPutAfter};
 
 use crate::writing::Update;
-use parts_arrays::{ArrayBytes, FillValue};
 use parts_errors::CodecError;
 use parts_strided_copy::copy_subset;
-use sharding_format::Slot;
 use sharding_gather::SubchunkOverlap;
 use std::alloc::Global;
-use std::borrow::CowSlice;
 use storage_handles::{ByteRange, BytesPartialDecoderTraits, read_range};
-
-// Puts so many zeros after the slices. Refused only as out of memory.
-pub fn zeros_after(slices: &mut Vec<u8>, size: usize) -> Result<(), CodecError>
-    ensures appended { OnOk result (slices.new.items ≡ slices.old.items ++ replicate size 0) }
-    ensures refused { IfErr result (λ e. e ≡ OutOfMemory) }
-{
-    let Some(end) = slices.len().checked_add(size) else {
-        return Err(CodecError::OutOfMemory);
-    };
-    slices.resize(end, 0)?;
-    Ok(())
-}
 
 // Puts a slice of an object behind the slices that are there. `false` where there is no object. Refused as `Fault`, where the
 // handle failed, or `OutOfMemory`.
@@ -102,33 +83,4 @@ pub fn overlay_after(
         (extracted update.now.elements.now overlap.now.in_subset update.now.subset.now.shape) (fixed_array size (drop from slices.new.items)) }
 {
     overlay(&mut slices[from..], size, overlap, sub, update);
-}
-
-// Whether elements of one size are all fill.
-fn are_fill(bytes: &[u8], size: usize, fill_value: &FillValue) -> bool
-    requires { IsWhole size bytes.now }
-    ensures { IsTrue result ↔ IsAllFill fill_value.now (fixed_array size bytes.now).elements }
-{
-    match ArrayBytes::new_flen(CowSlice::Borrowed(bytes), size) {
-        Some(array) => array.is_fill_value(fill_value),
-        None => unreachable!(),
-    }
-}
-
-// Where the subchunk stands that was put after the slices from a place on: nowhere, and its bytes are taken back, where it is all
-// fill.
-pub fn slot_after(slices: &mut Vec<u8>, from: usize, size: usize, fill_value: &FillValue) -> Slot
-    requires from { from ≤ length slices.old.items }
-    requires whole { IsWhole size (drop from slices.old.items) }
-    ensures stored { IsStoredAfter (λ elements bytes. bytes ≡ concat elements) fill_value.now (fixed_array size (drop from slices.old.items)).elements
-        (take from slices.old.items) slices.new.items result }
-{
-    if are_fill(&slices[from..], size, fill_value) {
-        slices.truncate(from);
-        return Slot::Absent;
-    }
-    Slot::InRange {
-        offset: from as u64,
-        size: (slices.len() - from) as u64,
-    }
 }

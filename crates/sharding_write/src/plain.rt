@@ -17,14 +17,14 @@ ghost use Rattle.sharding_write.specs.steps.NewCells.{HoldsSlices};
 ghost use Rattle.sharding_write.specs.WriteRefusals.{HasOldCells};
 ghost use Rattle.sharding_write.specs.Slices.{IsPutAfter, AreOldCells, IsNewAfter, AreNewSlices};
 
-use crate::appended::{overlay_after, slice_after, slot_after, zeros_after};
+use crate::appended::{overlay_after, slice_after};
 use crate::writing::{OldEntry, Update, Writing};
 use codec_traits::ArrayToBytesCodecTraits;
 use parts_arrays::repeated;
 use parts_errors::CodecError;
 use sharding_format::Slot;
 use sharding_gather::subchunk_overlap;
-use sharding_layout::{CachedIndex, StoredSlices, is_whole, slot_in};
+use sharding_layout::{CachedIndex, StoredSlices, is_whole, slot_after, slot_in, zeros_after};
 use sharding_subchunks::Subchunks;
 use std::alloc::Global;
 use storage_handles::BytesPartialDecoderTraits;

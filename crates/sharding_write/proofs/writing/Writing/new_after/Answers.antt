@@ -3,7 +3,7 @@ use Rattle.std.proofs.lemmas.List.{length-append}
 use Rattle.storage_handles.specs.Writes.{bytes_of}
 use Rattle.sharding_subchunks.specs.steps.Inner.{spec_of_subchunks, inner_meaning}
 use Rattle.sharding_write.proofs.CellLemmas.{served_in_subset}
-use Rattle.sharding_write.proofs.AppendLemmas.{front_of, part_of, long_after}
+use Rattle.sharding_layout.proofs.StoringLemmas.{front_of, part_of, long_after}
 use Rattle.sharding_write.proofs.PlainLemmas.{whole_bytes, is_new}
 use Rattle.sharding_write.proofs.writing.Writing.new_after.Goals as goal
 

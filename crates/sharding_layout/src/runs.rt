@@ -31,7 +31,7 @@ fn are_runs(shape: &[u64], sub: &[u64]) -> bool
 
 /// How many elements each subchunk has, where the subchunks of a shape follow one another in it, each one run of its elements. Takes no
 /// memory.
-pub(crate) fn elements_in_run(shape: &ChunkShape, sub: &ChunkShape) -> Option<u64>
+pub fn elements_in_run(shape: &ChunkShape, sub: &ChunkShape) -> Option<u64>
     requires { Divides sub.now shape.now }
     ensures positions { IfSome result (λ positions. positions ≡ count_of sub.now) }
     ensures runs { IfSome result (λ positions. (k p : ℕ) → p < positions → cell_number shape.now sub.now k p ≡ k * positions + p) }

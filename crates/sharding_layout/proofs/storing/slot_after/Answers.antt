@@ -1,7 +1,7 @@
 use Rattle.std.proofs.Common.{◌≡◌, ◌-◌, ◌∙◌, sym, length, arith}
 use Rattle.std.proofs.lemmas.Bool.{false≢true}
-use Rattle.sharding_write.proofs.AppendLemmas.{kept_after, tail_is}
-use Rattle.sharding_write.proofs.appended.slot_after.Goals as goal
+use Rattle.sharding_layout.proofs.StoringLemmas.{kept_after, tail_is}
+use Rattle.sharding_layout.proofs.storing.slot_after.Goals as goal
 
 pub returns : goal.returns
 returns c =

@@ -1,6 +1,6 @@
 use Rattle.std.proofs.lemmas.List.{take_rest}
-use Rattle.sharding_subchunks.proofs.RunLemmas.{runs_past}
-use Rattle.sharding_subchunks.proofs.runs.are_runs.Goals as goal
+use Rattle.sharding_layout.proofs.RunLemmas.{runs_past}
+use Rattle.sharding_layout.proofs.runs.are_runs.Goals as goal
 
 pub returns : goal.returns
 returns c = λ holds.

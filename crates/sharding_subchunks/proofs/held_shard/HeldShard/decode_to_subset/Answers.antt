@@ -1,12 +1,11 @@
-use Rattle.std.proofs.Common.{◌≡◌, ◌∙◌, ◌%◌, Some, inl, refl, sym, ap, subst, drop, length, length-drop, rules, arith}
-use Rattle.std.proofs.lemmas.List.{take_rest, length-take-le}
+use Rattle.std.proofs.Common.{◌≡◌, ◌∙◌, ◌%◌, inl, sym, ap, length, rules}
+use Rattle.std.proofs.lemmas.List.{take_rest}
 use Rattle.std.proofs.lemmas.List.Elements.{length_all_zip}
 use Rattle.parts_subsets.proofs.GridLaws.{subset_of_subchunk-lies_in}
 use Rattle.parts_row_major.specs.Numbering.{count_of}
 use Rattle.parts_row_major.specs.Subsets.{Subset}
 use Rattle.parts_row_major.specs.Pieces.{piece}
 use Rattle.parts_subsets.specs.Grid.{cell_number}
-use Rattle.parts_arrays.specs.Targets.{IsPartWritten}
 use Rattle.parts_arrays.specs.Types.{size_of}
 use Rattle.parts_arrays.specs.declared.data_type.DataTypeSize.TheVariants.{Fixed}
 use Rattle.codec_traits.specs.Refusals.{RefusesUnserved}
@@ -15,8 +14,8 @@ use Rattle.sharding_format.specs.Index.{slice_at}
 use Rattle.sharding_format.proofs.SubsetLemmas.{subset_refused}
 use Rattle.sharding_subchunks.specs.steps.Inner.{spec_of_subchunks}
 use Rattle.sharding_subchunks.proofs.TargetLemmas.{fitting_target}
-use Rattle.sharding_subchunks.proofs.WholeLemmas.{cells_written, slice_written, part_cells_written, plain_written, stored_refused}
-use Rattle.sharding_subchunks.proofs.held_shard.HeldShard.decode_to.Goals as goal
+use Rattle.sharding_subchunks.proofs.WholeLemmas.{cells_written, slice_written, stored_refused}
+use Rattle.sharding_subchunks.proofs.held_shard.HeldShard.decode_to_subset.Goals as goal
 
 pub returns-in_err-subset-in-InRange-clause-refused : goal.returns-in_err-subset-in-InRange-clause-refused
 returns-in_err-subset-in-InRange-clause-refused g c =
@@ -39,30 +38,6 @@ over-target-requires g c =
       some = c.requires.some;
       whole = c.requires.whole;
     })
-
-pub returns-then-eq-clause-written : goal.returns-then-eq-clause-written
-returns-then-eq-clause-written g c =
-    let a = c.args in
-    let s = a.self.now.subchunks.now in
-    let sub_g = spec_of_subchunks s in
-    let m = g.I.ArrayToBytesCodecTraits.meaning s.codec.now sub_g in
-    let size = length s.fill_value.now in
-    let b = a.self.now.bytes.now in
-    let offset = c.in-InRange.offset in
-    let len = c.in-InRange.size in
-    let part = slice_at offset len b in
-    let found = rw (c.in-Some.is, c.requires.grid) at c.in_ok-subset-in-InRange.ensures.subset in
-    let fits = rw c.in-InRange.is at c.requires.slot in
-    let long = length-take-le len (drop offset b) (omega (arith, fits, length-drop offset b)) in
-    let same : a.plain ≡ Some len = search rules in
-    let plain = rw same at c.requires.plain in
-    let sized = rw c.as_ne_bytes-element.ensures at c.over-target.ensures.element_size in
-    let put = rw (take_rest b offset) at c.copy_part.ensures in
-    let wrote = part_cells_written a.self.now.shape.now s.shape.now a.number size _ (piece size part) c.over-target.result c.copy_part.new.self a.output.now _
-    sized (c.over-target.ensures.shape ∙ c.as_slice-axes.ensures.value) found.1 (search rules) (search rules)
-    (subst (λ n. IsPartWritten c.over-target.result c.copy_part.new.self c.in-Some.subset (piece n part)) sized put) in
-    rw c.in-InRange.is
-    (plain_written sub_g m s.fill_value.now b offset len (cell_number a.self.now.shape.now s.shape.now a.number) (piece size a.output.now) _ refl plain long wrote)
 
 pub returns-in-Ok-clause-written : goal.returns-in-Ok-clause-written
 returns-in-Ok-clause-written g c =
