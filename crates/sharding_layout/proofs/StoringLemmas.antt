@@ -1,15 +1,34 @@
 -- Bytes put behind slices: kept as a subchunk, or taken back.
-use Rattle.std.proofs.Common.{◌≡◌, ℕ, ◌-◌, ◌≤◌, Bool, true, false, List, [], ◌++◌, length, take, drop, refl, sym, ap, ◌∙◌, arith, length-append}
+use Rattle.std.proofs.Common.{◌≡◌, ◌↔◌, ℕ, ◌-◌, ◌/◌, ◌<◌, ◌≤◌, Bool, true, false, List, [], ◌++◌, length, get_or, take, drop, refl, sym, ap, ◌∙◌, arith, length-append, get_or-take}
 use Rattle.std.specs.List.{concat}
-use Rattle.std.proofs.lemmas.List.{append-nil, take-append-drop, length-drop, length-take-le, take_at, drop_at}
+use Rattle.std.proofs.lemmas.List.{append-nil, take-append-drop, length-drop, length-take-le, take_at, drop_at, take_all, ext_get_or}
 use Rattle.std.proofs.Math.Seq.{take-length}
 use Rattle.parts_errors.specs.Words.{Elements}
+use Rattle.parts_row_major.specs.Pieces.{piece}
 use Rattle.parts_arrays.specs.Arrays.{IsWhole, fixed_array}
 use Rattle.parts_arrays.proofs.ArrayLaws.{concat-fixed_array}
+use Rattle.parts_arrays.proofs.FillLaws.{pieces_from_shift, shift_from_pieces, all_from_each, each_from_all}
 use Rattle.sharding_format.specs.Encoding.{IsAllFill, IsStored}
 use Rattle.sharding_format.specs.Laying.{IsStoredAfter}
 use Rattle.sharding_format.specs.declared.slot.Slot.{Slot}
 use Rattle.sharding_format.specs.declared.slot.Slot.TheVariants.{Absent, InRange}
+
+-- elements that are all fill begin as the fill value
+pub blank_begins : (row fill : List ℕ) → IsWhole (length fill) row → 0 < length row → IsAllFill fill (fixed_array (length fill) row).elements → get_or row 0 0 ≡ get_or fill 0 0
+blank_begins row fill whole some all =
+    let first = (shift_from_pieces (length fill) row fill whole some (each_from_all (piece (length fill) row) (length row / length fill) fill all)).0 in
+    sym (get_or-take (length fill) row 0 0 whole.0) ∙ ap (λ (e : List ℕ). get_or e 0 0) first
+
+-- one element is all fill where it is the fill value
+pub blank_one : (row fill : List ℕ) → IsWhole (length fill) row → length row ≡ length fill → row ≡ fill ↔ IsAllFill fill (fixed_array (length fill) row).elements
+blank_one row fill whole one =
+    let n = length fill in
+    let all_of : take n row ≡ row = take_all n row (omega arith) in
+    let none : length (drop n row) ≡ 0 = omega (arith, length-drop n row) in
+    let nothing : drop n row ≡ [] = ext_get_or 0 (drop n row) [] none (λ i lt. absurd (omega arith)) in (
+      λ same. all_from_each (piece n row) (length row / n) fill (pieces_from_shift n row fill whole (all_of ∙ same) (nothing ∙ ap (λ m. take m row) (sym none))),
+      λ all. sym all_of ∙ (shift_from_pieces n row fill whole (omega (arith, whole.0)) (each_from_all (piece n row) (length row / n) fill all)).0,
+    )
 
 -- a codec that lays elements end to end has written what is so laid
 stored_as : (inner_written : List (List ℕ) → List ℕ → Type 0) (fill : List ℕ) (e : Elements) (present : Bool) (slice : List ℕ) → inner_written e (concat e)

@@ -69,26 +69,34 @@ pub fn zeros_after(slices: &mut Vec<u8>, size: usize) -> Result<(), CodecError>
     Ok(())
 }
 
-// Whether elements of one size are all fill.
-fn are_fill(bytes: &[u8], size: usize, fill_value: &FillValue) -> bool
-    requires { IsWhole size bytes.now }
-    ensures { IsTrue result ↔ IsAllFill fill_value.now (fixed_array size bytes.now).elements }
+/// Whether the elements that a subchunk's bytes are, of the size that the fill value has, are all fill. The first byte tells it of most
+/// that aren't.
+pub fn is_blank(bytes: &[u8], fill_value: &FillValue) -> bool
+    requires { IsWhole (length fill_value.now) bytes.now }
+    ensures { IsTrue result ↔ IsAllFill fill_value.now (fixed_array (length fill_value.now) bytes.now).elements }
 {
-    match ArrayBytes::new_flen(CowSlice::Borrowed(bytes), size) {
-        Some(array) => array.is_fill_value(fill_value),
+    let fill = fill_value.as_ne_bytes();
+    if bytes.len() > 0 && bytes[0] != fill[0] {
+        return false;
+    }
+    if bytes.len() == fill.len() {
+        return bytes == fill;
+    }
+    match ArrayBytes::new_flen(CowSlice::Borrowed(bytes), fill.len()) {
+        Some(elements) => elements.is_fill_value(fill_value),
         None => unreachable!(),
     }
 }
 
 /// Where the subchunk stands that was put behind the slices from a position on: nowhere, and its bytes are taken back, where it is all
 /// fill.
-pub fn slot_after(slices: &mut Vec<u8>, from: usize, size: usize, fill_value: &FillValue) -> Slot
+pub fn slot_after(slices: &mut Vec<u8>, from: usize, fill_value: &FillValue) -> Slot
     requires from { from ≤ length slices.old.items }
-    requires whole { IsWhole size (drop from slices.old.items) }
-    ensures stored { IsStoredAfter (λ elements bytes. bytes ≡ concat elements) fill_value.now (fixed_array size (drop from slices.old.items)).elements
+    requires whole { IsWhole (length fill_value.now) (drop from slices.old.items) }
+    ensures stored { IsStoredAfter (λ elements bytes. bytes ≡ concat elements) fill_value.now (fixed_array (length fill_value.now) (drop from slices.old.items)).elements
         (take from slices.old.items) slices.new.items result }
 {
-    if are_fill(&slices[from..], size, fill_value) {
+    if is_blank(&slices[from..], fill_value) {
         slices.truncate(from);
         return Slot::Absent;
     }

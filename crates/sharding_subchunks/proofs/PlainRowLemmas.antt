@@ -1,10 +1,10 @@
 -- Rows of the bytes of an array, laid end to end.
-use Rattle.std.proofs.Common.{◌≡◌, ◌↔◌, ℕ, ◌+◌, ◌-◌, ◌*◌, ◌/◌, ◌<◌, ◌≤◌, ◌⊎◌, inl, inr, Bool, Decides, IsPermutation, List, [], ◌∷◌, ◌++◌, length, get_or, set, take, drop, refl, sym, ap, ◌∙◌, arith, true, false, append_assoc, length-append, length-drop, get_or-take}
+use Rattle.std.proofs.Common.{◌≡◌, ℕ, ◌+◌, ◌-◌, ◌*◌, ◌/◌, ◌<◌, ◌≤◌, ◌⊎◌, inl, inr, Bool, Decides, IsPermutation, List, [], ◌∷◌, ◌++◌, length, get_or, set, take, drop, refl, sym, ap, ◌∙◌, arith, true, false, append_assoc, length-append, length-drop}
 use Rattle.std.specs.List.{All, concat, range_with_len}
 use Rattle.std.proofs.lemmas.Bool.{false_from_ne_true}
 use Rattle.std.proofs.Math.Seq.{take-add}
 use Rattle.std.proofs.Math.Nat.{div-eq_of_eq-mul_left}
-use Rattle.std.proofs.lemmas.List.{ext_get_or, take_all, drop-drop, length-take-le}
+use Rattle.std.proofs.lemmas.List.{ext_get_or, drop-drop, length-take-le}
 use Rattle.std.proofs.lemmas.Nat.{row_fits}
 use Rattle.parts_errors.specs.Words.{Written}
 use Rattle.parts_row_major.specs.Numbering.{count_of}
@@ -16,7 +16,6 @@ use Rattle.parts_arrays.specs.Arrays.{IsWhole, fixed_array}
 use Rattle.parts_subsets.proofs.GridLaws.{count-grid, length-subchunk, get_or-subchunk}
 use Rattle.parts_row_major.proofs.PieceLaws.{length-concat, piece_of-concat, concat-pieces, length-pieces, piece_of-pieces, piece_in_run}
 use Rattle.parts_arrays.proofs.ArrayLaws.{length-piece, whole_from_length}
-use Rattle.parts_arrays.proofs.FillLaws.{pieces_from_shift, shift_from_pieces, all_from_each, each_from_all}
 use Rattle.codec_traits.specs.Encodings.{IsPlain}
 use Rattle.codec_traits.specs.Meanings.{Meaning}
 use Rattle.sharding_format.specs.Laws.{IsArrayOf-subchunk}
@@ -28,23 +27,6 @@ use Rattle.sharding_format.specs.declared.slot.Slot.TheVariants.{Absent, InRange
 use Rattle.sharding_format.proofs.LayingLemmas.{IsStoredUpTo, next_stored, all_stored}
 use Rattle.sharding_subchunks.proofs.AppendLemmas.{one_more_after}
 use Rattle.sharding_subchunks.specs.PlainRows.{ArePlainRows}
-
--- elements that are all fill begin as the fill value
-pub blank_begins : (row fill : List ℕ) → IsWhole (length fill) row → 0 < length row → IsAllFill fill (fixed_array (length fill) row).elements → get_or row 0 0 ≡ get_or fill 0 0
-blank_begins row fill whole some all =
-    let first = (shift_from_pieces (length fill) row fill whole some (each_from_all (piece (length fill) row) (length row / length fill) fill all)).0 in
-    sym (get_or-take (length fill) row 0 0 whole.0) ∙ ap (λ (e : List ℕ). get_or e 0 0) first
-
--- one element is all fill where it is the fill value
-pub blank_one : (row fill : List ℕ) → IsWhole (length fill) row → length row ≡ length fill → row ≡ fill ↔ IsAllFill fill (fixed_array (length fill) row).elements
-blank_one row fill whole one =
-    let n = length fill in
-    let all_of : take n row ≡ row = take_all n row (omega arith) in
-    let none : length (drop n row) ≡ 0 = omega (arith, length-drop n row) in
-    let nothing : drop n row ≡ [] = ext_get_or 0 (drop n row) [] none (λ i lt. absurd (omega arith)) in (
-      λ same. all_from_each (piece n row) (length row / n) fill (pieces_from_shift n row fill whole (all_of ∙ same) (nothing ∙ ap (λ m. take m row) (sym none))),
-      λ all. sym all_of ∙ (shift_from_pieces n row fill whole (omega (arith, whole.0)) (each_from_all (piece n row) (length row / n) fill all)).0,
-    )
 
 -- the bytes of a row, by its elements
 row_is : (n many size k : ℕ) (bytes : List ℕ) → size ≡ many * n → take (many * n) (drop ((k * many) * n) bytes) ≡ piece size bytes k

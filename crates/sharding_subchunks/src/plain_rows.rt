@@ -1,5 +1,5 @@
 // Subchunks that are rows of an array's bytes, laid end to end where the inner codec stores elements as they are in memory.
-ghost use Rattle.std.specs.Prelude.{◌≡◌, ◌<◌, ◌++◌, ◌⊎◌, [], OnOk, OnErr, IfOk, IfSome, IfNone, IsTrue, IsPermutation, ◌↔◌, length, take, drop};
+ghost use Rattle.std.specs.Prelude.{◌≡◌, ◌<◌, ◌++◌, ◌⊎◌, [], OnOk, OnErr, IfOk, IfSome, IfNone, IsPermutation, length, take, drop};
 ghost use Rattle.std.specs.List.{range_with_len};
 ghost use Rattle.parts_row_major.specs.Numbering.{count_of};
 ghost use Rattle.parts_arrays.specs.Arrays.{IsWhole, fixed_array};
@@ -11,32 +11,12 @@ ghost use Rattle.sharding_subchunks.specs.PlainRows.{ArePlainRows};
 
 use crate::subchunks::Subchunks;
 use codec_traits::ArrayToBytesCodecTraits;
-use parts_arrays::{ArrayBytes, FillValue};
+use parts_arrays::FillValue;
 use sharding_format::Slot;
 use sharding_layout::{
-    CutArray, SubchunkSequence, absent_slots, elements_in_run, placed, room_for_next,
+    CutArray, SubchunkSequence, absent_slots, elements_in_run, is_blank, placed, room_for_next,
 };
 use std::alloc::{AllocError, Global};
-use std::borrow::CowSlice;
-
-// Whether each element that a row's bytes are is the fill value. The first byte tells it of most rows that aren't.
-fn is_blank(row: &[u8], fill_value: &FillValue) -> bool
-    requires whole { IsWhole (length fill_value.now) row.now }
-    requires some { 0 < length row.now }
-    ensures { IsTrue result ↔ IsAllFill fill_value.now (fixed_array (length fill_value.now) row.now).elements }
-{
-    let fill = fill_value.as_ne_bytes();
-    if row[0] != fill[0] {
-        return false;
-    }
-    if row.len() == fill.len() {
-        return row == fill;
-    }
-    match ArrayBytes::new_flen(CowSlice::Borrowed(row), fill.len()) {
-        Some(elements) => elements.is_fill_value(fill_value),
-        None => unreachable!(),
-    }
-}
 
 // What is to be stored of a row: nothing where each element is the fill value.
 fn stored_row<'a>(row: &'a [u8], fill_value: &FillValue) -> &'a [u8]

@@ -95,7 +95,7 @@ impl<I: ArrayToBytesCodecTraits> Subchunks<'_, I> {
         let from = slices.len();
         zeros_after(slices, *size as usize)?;
         rows.gather_at(slices, from, plain.bytes, element, number);
-        Ok(slot_after(slices, from, element, fill))
+        Ok(slot_after(slices, from, fill))
     }
 }
 

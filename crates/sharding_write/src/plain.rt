@@ -141,7 +141,7 @@ impl<I: ArrayToBytesCodecTraits, X> Writing<'_, I, X> {
             let fill = self.subchunks.fill_value;
             let len = fill.as_ne_bytes().len();
             overlay_after(slices, from, len, &overlap, sub.as_slice(), update);
-            let new = slot_after(slices, from, len, fill);
+            let new = slot_after(slices, from, fill);
             return Ok(Some(new));
         }
         Ok(None)

@@ -4,7 +4,6 @@ use Rattle.std.specs.List.{concat}
 use Rattle.parts_arrays.specs.ArraySpec.{ArraySpec}
 use Rattle.codec_traits.specs.Meanings.{Meaning}
 use Rattle.codec_traits.specs.Encodings.{IsPlain}
-use Rattle.sharding_gather.specs.SubchunkRows.{SubchunksIn}
 use Rattle.sharding_layout.specs.declared.laying.CutArray.{CutArray}
 use Rattle.sharding_subchunks.specs.declared.plain_subchunks.PlainSubchunks.{PlainSubchunks}
 use Rattle.sharding_subchunks.specs.declared.plain_subchunks.PlainCut.{PlainCut}

@@ -1,4 +1,4 @@
-use Rattle.std.proofs.Common.{◌≡◌, ◌∙◌, ◌<◌, ◌≤◌, ◌+◌, ◌*◌, ◌/◌, ◌%◌, ◌^◌, ℕ, drop, length, get_or, refl, ap, sym, arith}
+use Rattle.std.proofs.Common.{◌≡◌, ◌<◌, ◌+◌, ◌*◌, ◌/◌, ◌%◌, ◌^◌, drop, get_or, refl, arith}
 use Rattle.parts_row_major.specs.Numbering.{count_of, number_of, point_of, zip_with}
 use Rattle.parts_row_major.proofs.NumberingLaws.{stride_divided}
 use Rattle.sharding_gather.proofs.SubchunkRowLemmas.{first_more, first_small, rest_positive_count}

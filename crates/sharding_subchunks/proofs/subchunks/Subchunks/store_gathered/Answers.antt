@@ -33,8 +33,7 @@ pub slot_after-requires-clause-whole : goal.slot_after-requires-clause-whole
 slot_after-requires-clause-whole g c =
     let s = c.args.self.now in
     let part = long g (goal.at.slot_after-requires-clause-whole g c).After-gather_at in
-    rw c.as_ne_bytes-element.ensures
-    (whole_from_length (length s.fill_value.now) (count_of s.shape.now) (drop c.len-from.result c.gather_at.new.bytes.items) c.requires.plain.subchunks.plain.some part)
+    whole_from_length (length s.fill_value.now) (count_of s.shape.now) (drop c.len-from.result c.gather_at.new.bytes.items) c.requires.plain.subchunks.plain.some part
 
 pub returns-clause-stored : goal.returns-clause-stored
 returns-clause-stored g c =
@@ -51,7 +50,7 @@ returns-clause-stored g c =
     let gathered = rw (c.requires.plain.subchunks.rows, c.as_ne_bytes-element.ensures) at c.gather_at.ensures.gathered in
     let elements = gathered_subchunk s.data_type.now fill cut.shape.now cut.array.now.elements a.plain.now.bytes.now plain.fixed c.requires.cut.array c.requires.plain.bytes
     s.shape.now (drop c.len-from.result c.gather_at.new.bytes.items) a.number plain.some c.requires.cut.divides below (long g (goal.at.returns-clause-stored g c).After-gather_at) gathered in
-    let stored = rw (c.as_ne_bytes-element.ensures, c.gather_at.ensures.kept, front, elements) at c.slot_after.ensures.stored in
+    let stored = rw (c.gather_at.ensures.kept, front, elements) at c.slot_after.ensures.stored in
     let e = subchunk cut.shape.now s.shape.now cut.array.now.elements a.number in
     stored_plainly (inner_meaning g.I.ArrayToBytesCodecTraits.meaning s).written fill e old c.slot_after.new.slices.items c.slot_after.result
     (plain.written e (IsArrayOf-subchunk s.shape.now (array_spec cut.shape.now s.data_type.now fill) cut.array.now.elements a.number c.requires.cut.divides c.requires.cut.array below)) stored

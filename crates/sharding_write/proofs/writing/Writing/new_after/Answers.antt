@@ -35,9 +35,8 @@ slot_after-new-requires-clause-whole g c =
     let put = c.in_ok-there.ensures.appended c.if-there.true in
     let from : length a.slices.now.items ≡ c.len-from.result = omega (arith, c.len-from.ensures, a.slices.now.ok.0) in
     let over = c.overlay_after.new.slices.items in
-    rw c.as_ne_bytes-len.ensures
-    (whole_bytes (spec_of_subchunks s) (inner_meaning g.I.ArrayToBytesCodecTraits.meaning s) a.size c.requires.plain (drop c.len-from.result over)
-    (long_after c.len-from.result a.size a.slices.now.items put.part c.before_after.new.slices.items over from put.appended put.long c.overlay_after.ensures.long))
+    whole_bytes (spec_of_subchunks s) (inner_meaning g.I.ArrayToBytesCodecTraits.meaning s) a.size c.requires.plain (drop c.len-from.result over)
+    (long_after c.len-from.result a.size a.slices.now.items put.part c.before_after.new.slices.items over from put.appended put.long c.overlay_after.ensures.long)
 
 pub returns-then-there-clause-stored_slices : goal.returns-then-there-clause-stored_slices
 returns-then-there-clause-stored_slices g c =
@@ -52,7 +51,7 @@ returns-then-there-clause-stored_slices g c =
     let front = front_of c.len-from.result a.slices.now.items put.part mid from put.appended in
     let part = part_of c.len-from.result a.slices.now.items put.part mid from put.appended in
     let overlaid = rw (c.as_ne_bytes-len.ensures, c.as_slice.ensures.value, part) at c.overlay_after.ensures.overlaid in
-    let stored = rw (c.as_ne_bytes-len.ensures, c.overlay_after.ensures.kept, front) at c.slot_after-new.ensures.stored in
+    let stored = rw (c.overlay_after.ensures.kept, front) at c.slot_after-new.ensures.stored in
     is_new (spec_of_subchunks s) (inner_meaning g.I.ArrayToBytesCodecTraits.meaning s) a.size c.requires.plain a.self.now.shape.now a.update.now.subset.now a.entry.number overlap.in_subchunk overlap.in_subset c.in_ok-overlap.ensures.meets c.requires.touches
     a.update.now.elements.now c.args.update.now.counted (rw c.requires.kind at c.args.update.now.fitting) put.part (drop c.len-from.result over) put.long overlaid (bytes_of state.contents) a.entry.slot state.transparent c.is_whole-whole.result c.is_whole-whole.ensures.whole.0 put.holds
     a.slices.now.items c.slot_after-new.new.slices.items c.slot_after-new.result stored
