@@ -2,4 +2,5 @@
 pub mod Gathering
 pub mod Grouping
 pub mod Placings
+pub mod PlainShards
 pub mod Sorting
