@@ -134,4 +134,25 @@ impl PlainShard<'_> {
         }
         Ok(Some(read))
     }
+
+    /// The elements of cells with these row-major numbers, one after the other. `None` where a subchunk in which they lie is stored in
+    /// another number of bytes. Refused only as out of memory.
+    pub fn listed_elements(
+        &self,
+        alloc: Global,
+        numbers: &[u64],
+    ) -> Result<Option<Vec<u8>>, AllocError>
+        requires shard { IsPlainShard self.now }
+        requires numbers { All (λ number. number < count_of self.now.shape.now) numbers.now }
+        requires whole { length numbers.now * length self.now.fill.now < 2 ^ 64 }
+        ensures { IfOk result (λ found. IfSome found (λ read. AreAppended self.now numbers.now [] read.items)) }
+    {
+        let mut read = Vec::with_capacity(alloc, numbers.len() * self.fill.len())?;
+        for i in 0..numbers.len() {
+            if !self.push_cells(numbers[i], 1, &mut read)? {
+                return Ok(None);
+            }
+        }
+        Ok(Some(read))
+    }
 }

@@ -1,4 +1,5 @@
 pub mod AppendLemmas
+pub mod PlainReadLemmas
 pub mod PlainRowLemmas
 pub mod PlainSubchunkLemmas
 pub mod TargetLemmas

@@ -2,4 +2,5 @@
 pub mod DecodedRows
 pub mod Inner
 pub mod PlainSubchunks
+pub mod Requests
 pub mod Writes
