@@ -11,4 +11,3 @@ pub mod SortedReads
 pub mod PlacingLemmas
 pub mod SubchunkOverlapLemmas
 pub mod SubchunkRowLemmas
-pub mod PlainShardLemmas

@@ -36,7 +36,7 @@ first_more shape sub grid axis rest first total in_shape in_sub in_grid e =
     omega (arith, whole)
 
 -- a subchunk begins at a point of as many axes
-pub start_axes : (shape sub : List ℕ) (k : ℕ) → Divides sub shape → length (zip_with ◌*◌ (point_of k (grid_of shape sub)) sub) ≡ length sub
+start_axes : (shape sub : List ℕ) (k : ℕ) → Divides sub shape → length (zip_with ◌*◌ (point_of k (grid_of shape sub)) sub) ≡ length sub
 start_axes shape sub k divides =
     let same = length_all_zip (λ part axis. axis % part ≡ 0) sub shape divides in
     let point = length-point_of k (grid_of shape sub) ∙ length-grid shape sub divides in

@@ -2,5 +2,4 @@
 pub mod Gathering
 pub mod Grouping
 pub mod Placings
-pub mod PlainShards
 pub mod Sorting

@@ -1,5 +1,4 @@
 pub mod AppendLemmas
-pub mod PlainReadLemmas
 pub mod PlainRowLemmas
 pub mod PlainSubchunkLemmas
 pub mod TargetLemmas

@@ -2,5 +2,4 @@
 pub mod DecodedRows
 pub mod Inner
 pub mod PlainSubchunks
-pub mod Requests
 pub mod Writes

@@ -14,7 +14,6 @@ ghost use Rattle.sharding_gather.specs.steps.Sorting.{AreSorted};
 ghost use Rattle.sharding_subchunks.specs.steps.Inner.{inner_meaning};
 ghost use Rattle.sharding_subchunks.specs.Reads.{HasElementsOf};
 
-use crate::plain::Requested;
 use crate::stored_shard::StoredShard;
 use codec_traits::ArrayToBytesCodecTraits;
 use parts_arrays::ArrayBytes;
@@ -94,8 +93,7 @@ impl<I: ArrayToBytesCodecTraits> StoredShard<'_, I> {
             IfErr result (RefusedBy (ObjectRefusals (H.state handle.old) (H.state handle.new) (
             ReadByRefusals inner self.now.shape.now s.shape.now s.fill_value.now bytes self.now.index.now.numbers.items numbers.now))) }
     {
-        let listed = Requested::Listed(numbers);
-        if let Some(bytes) = self.read_plain(alloc, handle, listed, numbers.len() as u64)? {
+        if let Some(bytes) = self.read_plain(alloc, handle, numbers)? {
             return Ok(bytes);
         }
         let requested = sorted_cells(

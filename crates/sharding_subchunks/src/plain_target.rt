@@ -12,9 +12,8 @@ ghost use Rattle.sharding_format.specs.Index.{slot_at};
 ghost use Rattle.sharding_format.specs.Cells.{indexed_cell};
 ghost use Rattle.sharding_format.specs.steps.Decoding.{FitsSlot};
 ghost use Rattle.sharding_gather.specs.steps.Placings.{shifted_subset, no_subset};
-ghost use Rattle.sharding_gather.specs.steps.PlainShards.{IsOfSize};
 ghost use Rattle.sharding_subchunks.specs.steps.Inner.{spec_of_subchunks, inner_meaning};
-ghost use Rattle.sharding_subchunks.specs.steps.Writes.{IsSlotPut};
+ghost use Rattle.sharding_subchunks.specs.steps.Writes.{IsOfSize, IsSlotPut};
 
 use crate::held_shard::HeldShard;
 use crate::subchunks::Subchunks;

@@ -1,6 +1,6 @@
 use Rattle.std.proofs.Common.{◌<◌, ℕ}
 use Rattle.sharding_format.specs.Index.{slot_at}
-use Rattle.sharding_gather.specs.steps.PlainShards.{IsOfSize}
+use Rattle.sharding_subchunks.specs.steps.Writes.{IsOfSize}
 use Rattle.sharding_subchunks.proofs.plain_target.are_plain.Given as goal
 
 abbrev pub invariant-loop-k : goal.invariant-loop-k
