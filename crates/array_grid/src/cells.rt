@@ -10,6 +10,7 @@ ghost use Rattle.array_grid.specs.Cells.{AreWhole, AreFilled, FillRefusals, PutR
 
 use parts_arrays::{ArrayBytes, FillValue, FixedTarget};
 use parts_errors::CodecError;
+use parts_strided_copy::fill_run;
 use parts_subsets::{ArraySubset, check_subset};
 use sharding_gather::room_for;
 use std::alloc::Global;
@@ -59,6 +60,24 @@ fn put_into(
     target.copy_from(part)
 }
 
+// How many cells a subset has, whose bytes a number can say, where each is a fill value.
+fn count_cells(subset: &ArraySubset, fill: &[u8]) -> Result<u64, CodecError>
+    ensures counted { IfOk result (λ count. count ≡ count_of subset.now.shape) }
+    ensures served { OnOk result ((0 < length fill.now) × (count_of subset.now.shape < 2 ^ 64) × (count_of subset.now.shape * length fill.now < 2 ^ 64)) }
+    ensures refused { IfErr result (RefusedBy (FillRefusals subset.now.shape fill.now)) }
+{
+    if fill.is_empty() {
+        return Err(CodecError::BadFillValue);
+    }
+    let Some(count) = subset.num_elements() else {
+        return Err(CodecError::TooLarge);
+    };
+    if count.checked_mul(fill.len() as u64).is_none() {
+        return Err(CodecError::TooLarge);
+    }
+    Ok(count)
+}
+
 impl SubsetCells {
     /// The cells of a subset, each of them the fill value. Refused, in this order, as `BadFillValue` where it has no byte, and as
     /// `TooLarge` where the cells or their bytes are more than `u64::MAX`; or as `OutOfMemory`.
@@ -72,15 +91,7 @@ impl SubsetCells {
         ensures refused { IfErr result (RefusedBy (FillRefusals subset.now.shape fill_value.now)) }
     {
         let fill = fill_value.as_ne_bytes();
-        if fill.is_empty() {
-            return Err(CodecError::BadFillValue);
-        }
-        let Some(count) = subset.num_elements() else {
-            return Err(CodecError::TooLarge);
-        };
-        if count.checked_mul(fill.len() as u64).is_none() {
-            return Err(CodecError::TooLarge);
-        }
+        let count = count_cells(subset, fill)?;
         let bytes = room_for(alloc, true, count as usize, fill)?;
         let shape = Vec::from_slice(alloc, subset.shape())?;
         Ok(SubsetCells {
@@ -88,6 +99,29 @@ impl SubsetCells {
             element_size: fill.len(),
             shape,
         })
+    }
+
+    /// Makes them the cells of a subset, each of them the fill value, in the memory that is there as far as it reaches. Refused as `new`
+    /// refuses, which leaves all as it was.
+    pub fn refill(
+        &mut self,
+        alloc: Global,
+        subset: &ArraySubset,
+        fill_value: &FillValue,
+    ) -> Result<(), CodecError>
+        ensures filled { OnOk result (AreFilled subset.now.shape fill_value.now self.new) }
+        ensures served { OnOk result ((0 < length fill_value.now) × (count_of subset.now.shape < 2 ^ 64) × (count_of subset.now.shape * length fill_value.now < 2 ^ 64)) }
+        ensures kept { OnErr result (self.new ≡ self.old) }
+        ensures refused { IfErr result (RefusedBy (FillRefusals subset.now.shape fill_value.now)) }
+    {
+        let fill = fill_value.as_ne_bytes();
+        let count = count_cells(subset, fill)? as usize;
+        let shape = Vec::from_slice(alloc, subset.shape())?;
+        self.bytes.resize(count * fill.len(), 0)?;
+        fill_run(&mut self.bytes, fill.len(), 0, count, fill);
+        self.element_size = fill.len();
+        self.shape = shape;
+        Ok(())
     }
 
     /// Writes the cells of a part, in row-major order of it, where it lies in the subset. Refused, in this order, as

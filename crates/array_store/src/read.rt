@@ -141,4 +141,28 @@ impl<S: Store, C: ArrayToBytesCodecTraits> Array<'_, S, C> {
         self.read_parts(alloc, &parts, &mut cells)?;
         Ok(cells)
     }
+
+    /// As `read`, into cells that are there: they become those of the subset, in their memory as far as it reaches. Where it is refused
+    /// they may be any cells.
+    pub fn read_into(
+        &self,
+        alloc: Global,
+        subset: &ArraySubset,
+        cells: &mut SubsetCells,
+    ) -> Result<(), ArrayError>
+        ensures shape { OnOk result (cells.new.shape ≡ subset.now.shape) }
+        ensures size { OnOk result (cells.new.element_size ≡ length self.now.format.fill_value.now) }
+        ensures inside { OnOk result (LiesIn subset.now self.now.format.shape.now) }
+        ensures elements { let f = self.now.format in
+            OnOk result (IsTrue (S.state self.now.store).transparent
+            → AreElementsAt (element_at (S.state self.now.store).contents f (C.meaning self.now.codec.now (chunk_spec f)).cells) subset.now cells.new) }
+        ensures refused { IfErr result (IsReadRefusal self.now.format subset.now) }
+    {
+        let _axes = self.format.chunk.as_slice();
+        let grid = ShardGrid::new(alloc, self.format.shape, self.format.chunk)?;
+        let parts = grid.parts(alloc, subset)?;
+        cells.refill(alloc, subset, self.format.fill_value)?;
+        self.read_parts(alloc, &parts, cells)?;
+        Ok(())
+    }
 }
