@@ -27,7 +27,7 @@ fn length_of<R: Files>(rt: &R, path: &str) -> io::Result<u64> {
     }
 }
 
-// The text of a file, of at most so many bytes.
+// The text of a file: `most` bytes of it at most.
 fn text_of<R: Files + AllocGlobal>(rt: &R, path: &str, most: u64) -> io::Result<String> {
     io::read_to_string(rt.alloc(), fs::open(rt, path)?.take(most))
 }

@@ -51,7 +51,7 @@ fn middle<R: Abort>(rt: &R, alloc: Global) -> ArraySubset {
     ArraySubset::from_ranges(alloc, &[1..3, 1..3]).expect(rt, "refused")
 }
 
-// Ends the test where a subset has other elements.
+// Ends the test where a subset has other elements, also where they are read into cells of another subset.
 fn read_back<R: Abort>(
     rt: &R,
     alloc: Global,
@@ -61,6 +61,12 @@ fn read_back<R: Abort>(
 ) {
     let cells = array.read(alloc, subset).expect(rt, "refused");
     assert_eq!(rt; cells.bytes(), want);
+    let first = ArraySubset::from_ranges(alloc, &[0..1, 0..1]).expect(rt, "refused");
+    let mut room = array.read(alloc, &first).expect(rt, "refused");
+    array
+        .read_into(alloc, subset, &mut room)
+        .expect(rt, "refused");
+    assert_eq!(rt; room.bytes(), want);
 }
 
 // What the metadata says of the array.
