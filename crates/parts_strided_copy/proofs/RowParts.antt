@@ -1,9 +1,9 @@
 -- Rows of elements, within the bytes of an array.
-use Rattle.std.proofs.Common.{◌≡◌, ◌∙◌, ℕ, ◌+◌, ◌-◌, ◌*◌, ◌<◌, ◌≤◌, List, ap, arith}
+use Rattle.std.proofs.Common.{◌≡◌, ◌∙◌, ℕ, ◌+◌, ◌-◌, ◌*◌, ◌<◌, ◌≤◌, List, ap, sym, arith}
 use Rattle.std.proofs.lemmas.Nat.{row_fits}
 use Rattle.parts_row_major.specs.Numbering.{count_of}
 use Rattle.parts_row_major.specs.Subsets.{Subset, LiesIn, number_in}
-use Rattle.parts_row_major.specs.Runs.{AreSubsetRows}
+use Rattle.parts_row_major.specs.Runs.{row_position, AreSubsetRows}
 use Rattle.parts_row_major.proofs.PieceLaws.{number_in_below}
 use Rattle.parts_subsets.proofs.GridLaws.{at_least}
 use Rattle.parts_subsets.proofs.RowSetLaws.{row_at}
@@ -30,3 +30,24 @@ pub element_inside : (subset : Subset) (shape : List ℕ) (k size : ℕ) → Lie
     → (0 + number_in subset shape k) * size + size ≤ most
 element_inside subset shape k size inside lt whole =
     omega (arith, row_fits (number_in subset shape k) size (count_of shape) size (number_in_below subset shape k inside lt) (omega arith), whole)
+
+-- where the elements of a subset lie that has one set of rows, each moved by as much
+pub record OneSet (subset : Subset) (shape : List ℕ) (run rows stride first moved : ℕ) : Type 0 where
+  pub count_is : rows * run ≡ count_of subset.shape
+  pub start : moved + first ≡ moved + number_in subset shape (0 * (rows * run))
+  pub at : (k : ℕ) → k < rows * run → row_position (moved + first) stride run k ≡ moved + number_in subset shape k
+
+pub one_set : (subset : Subset) (shape : List ℕ) (run rows stride sets first moved : ℕ) → AreSubsetRows subset shape run rows stride sets → sets ≡ 1
+    → (0 < sets → first ≡ number_in subset shape 0) → OneSet subset shape run rows stride first moved
+one_set subset shape run rows stride sets first moved are one first_is =
+    let lt : 0 < sets = omega (arith, one) in
+    let none : 0 ≡ 0 * (rows * run) = omega arith in
+    let begins = first_is lt ∙ ap (number_in subset shape) none in
+    let all : 1 * (rows * run) ≡ count_of subset.shape = ap (λ q. q * (rows * run)) (sym one) ∙ are.all in
+    record {
+      count_is = omega (arith, all);
+      start = omega (arith, begins);
+      at = λ k small.
+          let here : k ≡ 0 * (rows * run) + k = omega arith in
+          omega (arith, begins, ap (number_in subset shape) here, are.each 0 k lt small);
+    }

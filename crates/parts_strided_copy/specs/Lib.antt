@@ -1,1 +1,1 @@
-pub mod Strided
+pub mod steps

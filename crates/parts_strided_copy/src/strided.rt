@@ -5,7 +5,7 @@ ghost use Rattle.parts_row_major.specs.Subsets.{number_in, IsServed};
 ghost use Rattle.parts_row_major.specs.Pieces.{piece, IsUpdated};
 
 use crate::rows::{Rows, copy_rows};
-use parts_subsets::{ArraySubset, SubsetRows};
+use parts_subsets::{ArraySubset, SubsetRows, first_number};
 use std::marker::Model;
 
 /// A subset of an array that it lies in, with the rows in which its elements lie there.
@@ -14,18 +14,21 @@ pub struct StridedSubset<'a> {
     subset: &'a ArraySubset,
     shape: &'a [u64],
     rows: SubsetRows,
+    first: u64,
 }
 
 impl<'a> Model for StridedSubset<'a> {
-    ghost use Rattle.parts_row_major.specs.Subsets.{IsSubset, IsServed};
+    ghost use Rattle.std.specs.Prelude.{◌≡◌, ◌<◌};
+    ghost use Rattle.parts_row_major.specs.Subsets.{IsSubset, IsServed, number_in};
     ghost use Rattle.parts_row_major.specs.Runs.{AreSubsetRows};
-    ghost use Rattle.parts_strided_copy.specs.Strided.{SubsetIn};
+    ghost use Rattle.parts_strided_copy.specs.steps.Strided.{SubsetIn};
 
     ghost Value = { SubsetIn };
 
     ghost view = { λ s. record { subset = s.subset.now; around = s.shape.now } };
 
-    ghost invariant = { λ s. IsServed s.subset.now s.shape.now × IsSubset s.subset.now.start s.subset.now.shape × AreSubsetRows s.subset.now s.shape.now s.rows.run s.rows.rows s.rows.stride s.rows.sets };
+    ghost invariant = { λ s. IsServed s.subset.now s.shape.now × IsSubset s.subset.now.start s.subset.now.shape × AreSubsetRows s.subset.now s.shape.now s.rows.run s.rows.rows s.rows.stride s.rows.sets
+        × (0 < s.rows.sets → s.first ≡ number_in s.subset.now s.shape.now 0) };
 }
 
 impl<'a> StridedSubset<'a> {
@@ -35,18 +38,23 @@ impl<'a> StridedSubset<'a> {
         ensures { result ≡ record { subset = subset.now; around = shape.now } }
     {
         let rows = subset.rows_in(shape);
+        let first = if rows.sets == 0 {
+            0
+        } else {
+            first_number(subset, shape)
+        };
         StridedSubset {
             subset,
             shape,
             rows,
+            first,
         }
     }
 }
 
 impl StridedSubset<'_> {
-    /// Writes elements that come one after the other at the subset's points, in row-major order of the subset, each `moved` positions
-    /// further on in the array. Takes no memory.
-    pub fn scatter(&self, output: &mut [u8], size: usize, moved: usize, update: &[u8])
+    // As `scatter`, set by set.
+    fn scatter_sets(&self, output: &mut [u8], size: usize, moved: usize, update: &[u8])
         requires some { 0 < size }
         requires inside { (k : ℕ) → k < count_of self.now.subset.shape → (moved + number_in self.now.subset self.now.around k) * size + size ≤ length output.old }
         requires whole { length update.now ≡ count_of self.now.subset.shape * size }
@@ -70,9 +78,40 @@ impl StridedSubset<'_> {
         }
     }
 
-    /// Writes the elements at the subset's points, each taken `moved` positions further on in the array, one after the other, in row-major
-    /// order of the subset. Takes no memory.
-    pub fn gather(&self, part: &mut [u8], bytes: &[u8], size: usize, moved: usize)
+    /// Writes elements that come one after the other at the subset's points, in row-major order of the subset, each `moved` positions
+    /// further on in the array. Takes no memory.
+    pub fn scatter(&self, output: &mut [u8], size: usize, moved: usize, update: &[u8])
+        requires some { 0 < size }
+        requires inside { (k : ℕ) → k < count_of self.now.subset.shape → (moved + number_in self.now.subset self.now.around k) * size + size ≤ length output.old }
+        requires whole { length update.now ≡ count_of self.now.subset.shape * size }
+        ensures { IsUpdated (count_of self.now.subset.shape) (λ k. moved + number_in self.now.subset self.now.around k) (piece size output.old) (piece size update.now) (piece size output.new) }
+    {
+        let set = self.rows;
+        if set.sets != 1 {
+            self.scatter_sets(output, size, moved, update);
+            return;
+        }
+        let to = Rows {
+            first: moved + self.first as usize,
+            stride: set.stride as usize,
+        };
+        let from = Rows {
+            first: 0,
+            stride: set.run as usize,
+        };
+        copy_rows(
+            output,
+            size,
+            to,
+            update,
+            from,
+            set.rows as usize,
+            set.run as usize,
+        );
+    }
+
+    // As `gather`, set by set.
+    fn gather_sets(&self, part: &mut [u8], bytes: &[u8], size: usize, moved: usize)
         requires some { 0 < size }
         requires inside { (k : ℕ) → k < count_of self.now.subset.shape → (moved + number_in self.now.subset self.now.around k) * size + size ≤ length bytes.now }
         requires whole { length part.old ≡ count_of self.now.subset.shape * size }
@@ -94,5 +133,37 @@ impl StridedSubset<'_> {
             let (rows, run) = (set.rows as usize, set.run as usize);
             copy_rows(part, size, to, bytes, from, rows, run);
         }
+    }
+
+    /// Writes the elements at the subset's points, each taken `moved` positions further on in the array, one after the other, in row-major
+    /// order of the subset. Takes no memory.
+    pub fn gather(&self, part: &mut [u8], bytes: &[u8], size: usize, moved: usize)
+        requires some { 0 < size }
+        requires inside { (k : ℕ) → k < count_of self.now.subset.shape → (moved + number_in self.now.subset self.now.around k) * size + size ≤ length bytes.now }
+        requires whole { length part.old ≡ count_of self.now.subset.shape * size }
+        ensures { (k : ℕ) → k < count_of self.now.subset.shape → piece size part.new k ≡ piece size bytes.now (moved + number_in self.now.subset self.now.around k) }
+    {
+        let set = self.rows;
+        if set.sets != 1 {
+            self.gather_sets(part, bytes, size, moved);
+            return;
+        }
+        let to = Rows {
+            first: 0,
+            stride: set.run as usize,
+        };
+        let from = Rows {
+            first: moved + self.first as usize,
+            stride: set.stride as usize,
+        };
+        copy_rows(
+            part,
+            size,
+            to,
+            bytes,
+            from,
+            set.rows as usize,
+            set.run as usize,
+        );
     }
 }

@@ -218,19 +218,20 @@ axis_le_count (n ∷ ns) zero pos lt = at_least n (count_of ns) (count-positive 
 axis_le_count (n ∷ ns) (suc axis) pos lt =
     le_product n (count_of ns) (get_or ns axis 0) (pos 0 0 (omega arith)) (axis_le_count ns axis (λ i d small. pos (suc i) d (omega arith)) (omega arith))
 
+-- the subset of a subchunk begins at a point of as many axes
+pub subset_of_subchunk-axes : (shape sub : List ℕ) (k : ℕ) → Divides sub shape → length (zip_with ◌*◌ (point_of k (grid_of shape sub)) sub) ≡ length sub
+subset_of_subchunk-axes shape sub k divides =
+    let same = length_all_zip (λ part axis. axis % part ≡ 0) sub shape divides in
+    let point = length-point_of k (grid_of shape sub) ∙ length-grid shape sub divides in
+    length-zip_with ◌*◌ (point_of k (grid_of shape sub)) sub (omega arith) ∙ omega arith
+
 module _ (shape sub : List ℕ) (k : ℕ) (divides : Divides sub shape) (below : k < count_of (grid_of shape sub)) where
   -- the subset of a subchunk lies in the shape
   pub subset_of_subchunk-lies_in : LiesIn (subset_of_subchunk shape sub k) shape
   subset_of_subchunk-lies_in = corner_lies_in (point_of k (grid_of shape sub)) shape sub divides (point_inside k (grid_of shape sub) below)
 
-  pub subset_of_subchunk-axes : length (zip_with ◌*◌ (point_of k (grid_of shape sub)) sub) ≡ length sub
-  subset_of_subchunk-axes =
-      let same = length_all_zip (λ part axis. axis % part ≡ 0) sub shape divides in
-      let point = length-point_of k (grid_of shape sub) ∙ length-grid shape sub divides in
-      length-zip_with ◌*◌ (point_of k (grid_of shape sub)) sub (omega arith) ∙ omega arith
-
   pub subset_of_subchunk-is_subset : ((axis : ℕ) → axis < length shape → get_or shape axis 0 < 2 ^ 64) → IsSubset (subset_of_subchunk shape sub k).start (subset_of_subchunk shape sub k).shape
-  subset_of_subchunk-is_subset fits = is_subset_within (subset_of_subchunk shape sub k).start sub shape subset_of_subchunk-axes fits subset_of_subchunk-lies_in
+  subset_of_subchunk-is_subset fits = is_subset_within (subset_of_subchunk shape sub k).start sub shape (subset_of_subchunk-axes shape sub k divides) fits subset_of_subchunk-lies_in
 
 -- the cell at a place of a subchunk is the place's of its subset
 pub number_in-subset_of_subchunk : (shape sub : List ℕ) (k p : ℕ) → number_in (subset_of_subchunk shape sub k) shape p ≡ cell_number shape sub k p

@@ -17,6 +17,6 @@ pub use indexer::{Coordinates, Indexer};
 pub use rows::SubsetRows;
 pub use runs::subset_numbers;
 pub use selection::{check_selection, point_numbers, requested_number};
-pub use sets::SetStarts;
+pub use sets::{SetStarts, first_number};
 pub use shape::ChunkShape;
 pub use subset::{ArraySubset, check_subset, points_in, touched_subset};

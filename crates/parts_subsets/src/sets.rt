@@ -88,8 +88,8 @@ fn set_group(subset: &ArraySubset, shape: &[u64], each: u64, sets: u64) -> SetGr
     one
 }
 
-// The number in an array of a subset's first point.
-fn first_number(subset: &ArraySubset, shape: &[u64]) -> u64
+/// The number in an array of a shape of the first point of a subset that lies in it. Takes no memory.
+pub fn first_number(subset: &ArraySubset, shape: &[u64]) -> u64
     requires served { IsServed subset.now shape.now }
     requires some { 0 < count_of subset.now.shape }
     ensures { result ≡ number_in subset.now shape.now 0 }

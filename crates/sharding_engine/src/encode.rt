@@ -17,7 +17,7 @@ use codec_traits::ArrayToBytesCodecTraits;
 use parts_arrays::ArrayBytes;
 use parts_errors::CodecError;
 use sharding_format::ShardingIndexLocation;
-use sharding_layout::{CutArray, SubchunkSequence, elements_in_row};
+use sharding_layout::{CutArray, SubchunkSequence, elements_in_row, zeros_after};
 use std::alloc::{AllocError, Global};
 
 // Puts zeros after bytes that are there where the index of a shard, of this size, stands in front of the data part. A refusal
@@ -34,11 +34,7 @@ fn make_room(
     if location == ShardingIndexLocation::End {
         return Ok(());
     }
-    let Some(end) = bytes.len().checked_add(size as usize) else {
-        return Err(CodecError::OutOfMemory);
-    };
-    bytes.resize(end, 0)?;
-    Ok(())
+    zeros_after(bytes, size as usize)
 }
 
 // Puts the index of a shard, which begins at `start`, into its room in front of the data part, or behind this.

@@ -74,7 +74,7 @@ module _ (shape sub : List ℕ) (k : ℕ) (positive : AllPositive shape) (divide
       → RefusedBy (SubsetRefusals subset shape (ValidRefusals array (count_of shape) data_type done)) e → e ≡ OutOfMemory
   part_refused array data_type subset e same supported kind counted is h =
       let refusals = rw is at h in
-      let axes : length (subset_of_subchunk shape sub k).start ≡ length shape = subset_of_subchunk-axes shape sub k divides below ∙ sym same in
+      let axes : length (subset_of_subchunk shape sub k).start ≡ length shape = subset_of_subchunk-axes shape sub k divides ∙ sym same in
       elim refusals [
         | inl memory ↦ memory
         | inr refusals ↦ elim refusals [

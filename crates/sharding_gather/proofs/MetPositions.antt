@@ -98,7 +98,7 @@ position_rising shape sub k i j divides below li lj at_i at_j lt =
       | inl less ↦ less
       | inr ge ↦ elim (cases_lt (position_number shape sub j) (position_number shape sub i)) [
         | inl more ↦
-            let rises = number_rising (subset_of_subchunk shape sub k).start sub shape (position_number shape sub j) (position_number shape sub i) (subset_of_subchunk-axes shape sub k divides below)
+            let rises = number_rising (subset_of_subchunk shape sub k).start sub shape (position_number shape sub j) (position_number shape sub i) (subset_of_subchunk-axes shape sub k divides)
             (subset_of_subchunk-lies_in shape sub k divides below) more (position_number-below shape sub divides i li) in
             absurd (omega (arith, rises, lt, cell_i, cell_j, number_in-subset_of_subchunk shape sub k (position_number shape sub i), number_in-subset_of_subchunk shape sub k (position_number shape sub j)))
         | inr le ↦

@@ -1,16 +1,14 @@
 -- Subchunks whose elements lie in rows that are as far apart.
 use Rattle.std.proofs.Common.{◌≡◌, ℕ, ◌+◌, ◌*◌, ◌/◌, ◌%◌, ◌^◌, ◌<◌, List, [], ◌∷◌, ◌≤◌, length, get_or, drop, refl, ap, sym, ◌∙◌, arith}
 use Rattle.std.proofs.lemmas.List.{drop_more, get_or-drop, length-drop}
-use Rattle.std.proofs.lemmas.List.Elements.{length_all_zip}
 use Rattle.std.proofs.lemmas.Nat.{row_fits}
 use Rattle.std.proofs.Math.Nat.{zero-div, zero-mod}
 use Rattle.parts_row_major.specs.Numbering.{AllPositive, count_of, number_of, point_of, zip_with}
 use Rattle.parts_row_major.specs.Subsets.{Subset, number_in}
 use Rattle.parts_row_major.specs.Pieces.{IsUpdated}
 use Rattle.parts_row_major.proofs.NumberingLaws.{count_positive, length-point_of}
-use Rattle.parts_row_major.proofs.SubsetLaws.{length-zip_with}
 use Rattle.parts_subsets.specs.Grid.{Divides, grid_of, cell_number, subset_of_subchunk}
-use Rattle.parts_subsets.proofs.GridLaws.{at_least, cell_number-below, length-grid, number_in-subset_of_subchunk}
+use Rattle.parts_subsets.proofs.GridLaws.{at_least, cell_number-below, number_in-subset_of_subchunk, subset_of_subchunk-axes}
 use Rattle.parts_subsets.proofs.SetLaws.{first_point}
 
 -- the number of a sum of two points is the sum of their numbers
@@ -35,13 +33,6 @@ first_more shape sub grid axis rest first total in_shape in_sub in_grid e =
     let whole = rw (drop_more shape axis 0 in_shape, drop_more sub axis 0 in_sub, drop_more grid axis 0 in_grid) at e in
     omega (arith, whole)
 
--- a subchunk begins at a point of as many axes
-start_axes : (shape sub : List ℕ) (k : ℕ) → Divides sub shape → length (zip_with ◌*◌ (point_of k (grid_of shape sub)) sub) ≡ length sub
-start_axes shape sub k divides =
-    let same = length_all_zip (λ part axis. axis % part ≡ 0) sub shape divides in
-    let point = length-point_of k (grid_of shape sub) ∙ length-grid shape sub divides in
-    length-zip_with ◌*◌ (point_of k (grid_of shape sub)) sub (omega arith) ∙ omega arith
-
 -- what is left of a number that has all axes
 pub first_small : (first count left total : ℕ) → 0 < count → first * count + left ≡ total → first ≤ total
 first_small first count left total some e = omega (arith, at_least first count some, e)
@@ -55,7 +46,7 @@ pub start_small : (shape sub : List ℕ) (k : ℕ) → Divides sub shape → cou
     → number_of (zip_with ◌*◌ (point_of k (grid_of shape sub)) sub) shape < 2 ^ 64
 start_small shape sub k divides fits below some =
     let subset = subset_of_subchunk shape sub k in
-    let begins : number_of subset.start shape ≡ number_in subset shape 0 = ap (λ point. number_of point shape) (sym (first_point subset.start sub (start_axes shape sub k divides) some)) in
+    let begins : number_of subset.start shape ≡ number_in subset shape 0 = ap (λ point. number_of point shape) (sym (first_point subset.start sub (subset_of_subchunk-axes shape sub k divides) some)) in
     omega (arith, begins, number_in-subset_of_subchunk shape sub k 0, cell_number-below shape sub divides k 0 below some, fits)
 
 -- the first cell of the first subchunk is the first of all
@@ -70,8 +61,8 @@ none_before (n ∷ ns) (b ∷ bs) (s ∷ ss) = rw (zero-div (count_of ns), zero-
 pub moved_from_first : (shape sub : List ℕ) (k first p : ℕ) → Divides sub shape → first ≡ number_of (zip_with ◌*◌ (point_of k (grid_of shape sub)) sub) shape
     → cell_number shape sub k p ≡ first + number_in (subset_of_subchunk shape sub 0) shape p
 moved_from_first shape sub k first p divides is =
-    let here = number_in-from (subset_of_subchunk shape sub k) shape p (start_axes shape sub k divides) in
-    let there = number_in-from (subset_of_subchunk shape sub 0) shape p (start_axes shape sub 0 divides) in
+    let here = number_in-from (subset_of_subchunk shape sub k) shape p (subset_of_subchunk-axes shape sub k divides) in
+    let there = number_in-from (subset_of_subchunk shape sub 0) shape p (subset_of_subchunk-axes shape sub 0 divides) in
     omega (arith, number_in-subset_of_subchunk shape sub k p, here, there, none_before (grid_of shape sub) sub shape, is)
 
 -- a cell of a subchunk lies within the bytes of the array

@@ -1,4 +1,3 @@
 pub mod Updates
 pub mod SubchunkOverlaps
-pub mod SubchunkRows
 pub mod steps

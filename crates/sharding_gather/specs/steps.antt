@@ -3,3 +3,4 @@ pub mod Gathering
 pub mod Grouping
 pub mod Placings
 pub mod Sorting
+pub mod SubchunkRows

@@ -23,7 +23,7 @@ pub struct SubchunkRows<'a> {
 }
 
 impl<'a> Model for SubchunkRows<'a> {
-    ghost use Rattle.sharding_gather.specs.SubchunkRows.{SubchunksIn, AreSubchunkRows};
+    ghost use Rattle.sharding_gather.specs.steps.SubchunkRows.{SubchunksIn, AreSubchunkRows};
 
     ghost Value = { SubchunksIn };
 

@@ -1,7 +1,7 @@
 use Rattle.std.proofs.Common.{◌≡◌, ◌+◌, ◌*◌, ◌<◌, ℕ, length}
 use Rattle.parts_row_major.specs.Subsets.{number_in}
 use Rattle.parts_row_major.specs.Pieces.{piece}
-use Rattle.parts_strided_copy.proofs.strided.StridedSubset.gather.Given as goal
+use Rattle.parts_strided_copy.proofs.strided.StridedSubset.gather_sets.Given as goal
 
 abbrev pub invariant-loop-q : goal.invariant-loop-q
 invariant-loop-q l = record {

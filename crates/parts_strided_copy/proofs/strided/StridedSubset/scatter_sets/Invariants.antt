@@ -1,7 +1,7 @@
 use Rattle.std.proofs.Common.{◌≡◌, ◌+◌, ◌*◌, length}
 use Rattle.parts_row_major.specs.Subsets.{number_in}
 use Rattle.parts_row_major.specs.Pieces.{piece, IsUpdated}
-use Rattle.parts_strided_copy.proofs.strided.StridedSubset.scatter.Given as goal
+use Rattle.parts_strided_copy.proofs.strided.StridedSubset.scatter_sets.Given as goal
 
 abbrev pub invariant-loop-q : goal.invariant-loop-q
 invariant-loop-q l = record {

@@ -2,7 +2,7 @@
 use Rattle.std.specs.Prelude.{◌≡◌, ◌<◌, ◌^◌, ℕ, List}
 use Rattle.parts_row_major.specs.Numbering.{AllPositive, count_of}
 use Rattle.parts_subsets.specs.Grid.{Divides, grid_of, subset_of_subchunk}
-use Rattle.parts_strided_copy.specs.Strided.{SubsetIn}
+use Rattle.parts_strided_copy.specs.steps.Strided.{SubsetIn}
 
 -- the shape of an array, and that of its subchunks
 pub record SubchunksIn : Type 0 where
