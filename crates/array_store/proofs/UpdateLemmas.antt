@@ -4,23 +4,12 @@ use Rattle.parts_errors.specs.Words.{Bytes, CellsOf, Elements}
 use Rattle.parts_row_major.specs.Numbering.{count_of, number_of, point_of, zip_with}
 use Rattle.parts_row_major.specs.Pieces.{piece, pieces, IsUpdated}
 use Rattle.parts_row_major.specs.Subsets.{Subset, LiesIn, number_in}
-use Rattle.parts_row_major.proofs.NumberingLaws.{number_of-point_of, length-point_of}
 use Rattle.parts_row_major.proofs.PieceLaws.{length-pieces, number_in_below, piece_of-pieces}
+use Rattle.sharding_gather.proofs.PlacingLemmas.{number_in-whole}
 use Rattle.array_grid.specs.Cells.{CellsOfSubset}
 use Rattle.array_store.specs.ArrayElements.{cell_of}
 use Rattle.array_store.specs.ChunkWrites.{AreUpdated}
 use Rattle.array_store.specs.steps.Reading.{IsPartPut}
-
-zeros : (n : ℕ) (xs : List ℕ) → length xs ≡ n → zip_with ◌+◌ (replicate n 0) xs ≡ xs
-zeros zero [] same = refl
-zeros zero (x ∷ xs) same = absurd (omega (arith, same))
-zeros (suc n) [] same = absurd (omega (arith, same))
-zeros (suc n) (x ∷ xs) same = let first : 0 + x ≡ x = omega arith in rw (first, zeros n xs (omega (arith, same))) refl
-
--- a point of a whole chunk has its own number
-pub whole_number : (chunk : List ℕ) (p : ℕ) → p < count_of chunk → number_in (record { start = replicate (length chunk) 0; shape = chunk }) chunk p ≡ p
-whole_number chunk p below =
-    ap (λ point. number_of point chunk) (zeros (length chunk) (point_of p chunk) (length-point_of p chunk)) ∙ number_of-point_of p chunk below
 
 -- the elements of a chunk that has been read as a whole, where the fill value stood
 pub whole_read : (cells : CellsOf) (fill : Bytes) (object : Option Bytes) (chunk : List ℕ) (old new : CellsOfSubset) → old.shape ≡ chunk
@@ -29,7 +18,7 @@ pub whole_read : (cells : CellsOf) (fill : Bytes) (object : Option Bytes) (chunk
     → (p : ℕ) → p < count_of chunk → cell_of cells fill object p ≡ Some (piece old.element_size new.bytes p)
 whole_read cells fill None chunk old new around blank same p below = ap Some (sym (blank p below) ∙ ap (λ c. piece old.element_size c.bytes p) (sym same))
 whole_read cells fill (Some bytes) chunk old new around blank put p below =
-    let own = whole_number chunk p below in
+    let own = number_in-whole chunk p below in
     let there : number_in (record { start = replicate (length chunk) 0; shape = chunk }) old.shape p ≡ p =
     ap (λ shape. number_in (record { start = replicate (length chunk) 0; shape = chunk }) shape p) around ∙ own in
     ap (λ n. get_or (cells bytes) n None) (sym own) ∙ sym (put.inside p below) ∙ ap (λ n. Some (piece old.element_size new.bytes n)) there

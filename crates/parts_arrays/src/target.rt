@@ -1,10 +1,11 @@
 // A subset of borrowed bytes to write elements into.
-ghost use Rattle.std.specs.Prelude.{◌≡◌, ℕ, ◌*◌, ◌<◌, IsTrue, IfOk, IfErr, OnOk, OnErr, IsSome, IfSome, ◌↔◌, length};
+ghost use Rattle.std.specs.Prelude.{◌≡◌, ℕ, ◌+◌, ◌*◌, ◌^◌, ◌<◌, ◌≤◌, IsTrue, IfOk, IfErr, OnOk, OnErr, IsSome, IfSome, ◌↔◌, length};
 ghost use Rattle.parts_errors.specs.Order.{◌or◌then◌, done};
 ghost use Rattle.parts_row_major.specs.Numbering.{count_of};
-ghost use Rattle.parts_row_major.specs.Subsets.{number_in, IsServed, IsTarget};
+ghost use Rattle.parts_row_major.specs.Subsets.{Subset, number_in, IsServed, IsTarget};
 ghost use Rattle.parts_arrays.specs.TargetLaws.{target-prop};
 ghost use Rattle.parts_row_major.specs.Pieces.{piece};
+ghost use Rattle.parts_strided_copy.specs.Paired.{elements_in_rows, from_at, AreRowsWithin, AreRowsOf};
 ghost use Rattle.parts_arrays.specs.Arrays.{element_of};
 ghost use Rattle.parts_arrays.specs.declared.data_type.DataTypeSize.TheVariants.{Fixed};
 ghost use Rattle.parts_errors.specs.declared.error.CodecError.TheVariants.{InvalidNumberOfElements, WrongElementKind};
@@ -13,7 +14,7 @@ use crate::array_bytes::ArrayBytes;
 use crate::data_type::DataTypeSize;
 use crate::fill_value::FillValue;
 use parts_errors::CodecError;
-use parts_strided_copy::{copy_subset, fill_subset, scatter};
+use parts_strided_copy::{PairedRows, copy_subset, fill_subset, scatter};
 use parts_subsets::{ArraySubset, check_subset, points_in};
 
 /// A subset of borrowed bytes to write elements into: the bytes are an array of a shape in row-major order, whose elements
@@ -131,6 +132,13 @@ impl<'a> FixedTarget<'a> {
         ensures { result ≡ target_element_size self.now }
     {
         self.element_size
+    }
+
+    /// The shape of the array that the bytes are.
+    pub fn shape(&self) -> &[u64]
+        ensures { result.now ≡ target_shape self.now }
+    {
+        self.shape
     }
 
     /// The subset that elements are written into.
@@ -254,5 +262,25 @@ impl<'a> FixedTarget<'a> {
         ensures { IsPartWritten self.old self.new position.now (λ k. element.now) }
     {
         fill_subset(self.bytes, self.element_size, position, self.shape, element);
+    }
+
+    /// Writes elements of bytes where their rows lie in the target's array. Takes no memory.
+    pub fn copy_rows(&mut self, rows: &PairedRows, elements: &[u8])
+        requires rows { AreRowsWithin rows.now (count_of (target_shape self.old)) }
+        requires from { (k : ℕ) → k < elements_in_rows rows.now → from_at rows.now k * target_element_size self.old + target_element_size self.old ≤ length elements.now }
+        ensures { (position : Subset) → AreRowsOf rows.now position (target_shape self.old)
+            → IsPartWritten self.old self.new position (λ k. piece (target_element_size self.old) elements.now (from_at rows.now k)) }
+    {
+        rows.copy(self.bytes, self.element_size, elements);
+    }
+
+    /// Writes one element over each of the rows in the target's array. Takes no memory.
+    pub fn fill_rows(&mut self, rows: &PairedRows, element: &[u8])
+        requires rows { AreRowsWithin rows.now (count_of (target_shape self.old)) }
+        requires from { (k : ℕ) → k < elements_in_rows rows.now → from_at rows.now k < 2 ^ 64 }
+        requires whole { length element.now ≡ target_element_size self.old }
+        ensures { (position : Subset) → AreRowsOf rows.now position (target_shape self.old) → IsPartWritten self.old self.new position (λ k. element.now) }
+    {
+        rows.fill(self.bytes, self.element_size, element);
     }
 }

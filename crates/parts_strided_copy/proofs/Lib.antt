@@ -1,2 +1,3 @@
 pub mod BothRows
+pub mod PairedLemmas
 pub mod RowParts

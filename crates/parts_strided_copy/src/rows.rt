@@ -6,7 +6,7 @@ ghost use Rattle.parts_row_major.specs.Subsets.{number_in, numbers_in, IsServed}
 ghost use Rattle.parts_row_major.specs.Pieces.{piece, IsUpdated};
 ghost use Rattle.parts_row_major.specs.Runs.{row_position};
 
-use crate::pieces::copy_run;
+use crate::pieces::{copy_run, fill_run};
 use crate::strided::StridedSubset;
 use parts_subsets::{ArraySubset, points_in};
 use std::alloc::{AllocError, Global};
@@ -79,6 +79,26 @@ pub(crate) fn copy_rows(
         33..=63 => copy_rows_of::<0, 32>(output, size, to, update, from, rows, run),
         65..=128 => copy_rows_of::<0, 64>(output, size, to, update, from, rows, run),
         _ => copy_rows_of::<0, 0>(output, size, to, update, from, rows, run),
+    }
+}
+
+// Writes one element over each of so many rows of so many.
+pub(crate) fn fill_rows(
+    output: &mut [u8],
+    size: usize,
+    to: Rows,
+    rows: usize,
+    run: usize,
+    element: &[u8],
+)
+    requires some { 0 < size }
+    requires inside { (k : ℕ) → k < rows → (to.first + k * to.stride + run) * size ≤ length output.old }
+    requires apart { (i j : ℕ) → i < rows * run → j < rows * run → row_position to.first to.stride run i ≡ row_position to.first to.stride run j → i ≡ j }
+    requires whole { length element.now ≡ size }
+    ensures { IsUpdated (rows * run) (row_position to.first to.stride run) (piece size output.old) (λ j. element.now) (piece size output.new) }
+{
+    for k in 0..rows {
+        fill_run(output, size, to.first + k * to.stride, run, element);
     }
 }
 

@@ -11,3 +11,4 @@ pub mod SortedReads
 pub mod PlacingLemmas
 pub mod SubchunkOverlapLemmas
 pub mod SubchunkRowLemmas
+pub mod OverlapRowLemmas

@@ -1,10 +1,10 @@
 -- A subset of an array that is itself a subset of another array.
-use Rattle.std.proofs.Common.{◌≡◌, ℕ, ◌+◌, ◌*◌, ◌<◌, ◌≤◌, List, [], ◌∷◌, length, refl, sym, ap, ◌∙◌, arith}
+use Rattle.std.proofs.Common.{◌≡◌, ℕ, zero, suc, ◌+◌, ◌*◌, ◌<◌, ◌≤◌, List, [], ◌∷◌, length, replicate, refl, sym, ap, ◌∙◌, arith}
 use Rattle.std.specs.List.{AllZip}
 use Rattle.parts_row_major.specs.Numbering.{count_of, zip_with, number_of, point_of}
 use Rattle.parts_row_major.specs.Subsets.{Subset, IsSubset, LiesIn, point_in, number_in}
 use Rattle.parts_subsets.specs.Grid.{Divides, grid_of, grid_subset, joined, cell_number}
-use Rattle.parts_row_major.proofs.NumberingLaws.{point_inside, point_of-number_of}
+use Rattle.parts_row_major.proofs.NumberingLaws.{point_inside, point_of-number_of, number_of-point_of, length-point_of}
 use Rattle.parts_row_major.proofs.SubsetLaws.{shifted_inside}
 use Rattle.parts_subsets.proofs.GridLaws.{joined_inside}
 use Rattle.sharding_gather.specs.steps.Placings.{shifted_subset}
@@ -77,3 +77,23 @@ placed_point outer inner axes r lies lt =
     let inside = shifted_inside inner.start inner.shape point outer.shape (point_inside r inner.shape lt) lies in
     ap (λ c. number_of c axes) (sums_in_order outer.start inner.start point)
     ∙ sym (ap (λ c. number_of (zip_with ◌+◌ outer.start c) axes) (point_of-number_of (point_in inner r) outer.shape inside))
+
+-- nothing is added
+zeros : (n : ℕ) (xs : List ℕ) → length xs ≡ n → zip_with ◌+◌ (replicate n 0) xs ≡ xs
+zeros zero [] same = refl
+zeros zero (x ∷ xs) same = absurd (omega (arith, same))
+zeros (suc n) [] same = absurd (omega (arith, same))
+zeros (suc n) (x ∷ xs) same = let first : 0 + x ≡ x = omega arith in rw (first, zeros n xs (omega (arith, same))) refl
+
+-- a point of the subset of all coordinates has its own number
+pub number_in-whole : (shape : List ℕ) (p : ℕ) → p < count_of shape → number_in (record { start = replicate (length shape) 0; shape = shape }) shape p ≡ p
+number_in-whole shape p below =
+    ap (λ point. number_of point shape) (zeros (length shape) (point_of p shape) (length-point_of p shape)) ∙ number_of-point_of p shape below
+
+no_less : (xs : List ℕ) → AllZip ◌≤◌ xs xs
+no_less [] = tt
+no_less (x ∷ xs) = (omega arith, no_less xs)
+
+-- the subset of all coordinates of a shape lies in the shape
+pub lies_in-whole : (shape : List ℕ) → LiesIn (record { start = replicate (length shape) 0; shape = shape }) shape
+lies_in-whole shape = rw (zeros (length shape) shape refl) (no_less shape)

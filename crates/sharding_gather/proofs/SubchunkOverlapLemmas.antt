@@ -98,8 +98,8 @@ module _ (start len point sub : List ℕ) where
 module _ (shape sub : List ℕ) (k : ℕ) (subset : Subset) (positive : AllPositive shape) (fits : count_of shape < 2 ^ 64) (divides : Divides sub shape) (below : k < count_of (grid_of shape sub))
     (well : IsSubset subset.start subset.shape) (inside : LiesIn subset shape) where
   module _ (touches : Touches shape sub subset k) where
-    some : 0 < count_of (overlap_of subset (subset_of_subchunk shape sub k)).shape
-    some =
+    pub overlap_some : 0 < count_of (overlap_of subset (subset_of_subchunk shape sub k)).shape
+    overlap_some =
         let q = touches.0 in
         let i = number_in subset shape q in
         let i_below = number_in_below subset shape q inside touches.1 in
@@ -109,11 +109,11 @@ module _ (shape sub : List ℕ) (k : ℕ) (subset : Subset) (positive : AllPosit
         omega (arith, met.below)
 
     -- the overlap, seen from either's start
-    meets : (in_subchunk in_subset : Subset) → in_subchunk ≡ relative_subset (overlap_of subset (subset_of_subchunk shape sub k)) (subset_of_subchunk shape sub k).start
+    pub meets : (in_subchunk in_subset : Subset) → in_subchunk ≡ relative_subset (overlap_of subset (subset_of_subchunk shape sub k)) (subset_of_subchunk shape sub k).start
         → in_subset ≡ relative_subset (overlap_of subset (subset_of_subchunk shape sub k)) subset.start → IsSubchunkOverlap shape sub subset k in_subchunk in_subset
     meets in_subchunk in_subset sub_is subset_is =
-        let w = overlap_within subset (subset_of_subchunk shape sub k) (subchunk_axes shape sub k subset positive fits divides below well inside) some in
-        let v = overlap_within_other subset (subset_of_subchunk shape sub k) (subchunk_axes shape sub k subset positive fits divides below well inside) some in
+        let w = overlap_within subset (subset_of_subchunk shape sub k) (subchunk_axes shape sub k subset positive fits divides below well inside) overlap_some in
+        let v = overlap_within_other subset (subset_of_subchunk shape sub k) (subchunk_axes shape sub k subset positive fits divides below well inside) overlap_some in
         rw (sub_is, subset_is) (record {
           sub_inside = v.inside;
           subset_inside = w.inside;

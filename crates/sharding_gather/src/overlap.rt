@@ -22,10 +22,10 @@ pub struct SubchunkOverlap {
 
 // What a subset and a subchunk both have along an axis: the first as either counts it, and how many there are.
 #[derive(Clone, Copy)]
-struct Span {
-    in_subchunk: u64,
-    in_subset: u64,
-    len: u64,
+pub(crate) struct Span {
+    pub in_subchunk: u64,
+    pub in_subset: u64,
+    pub len: u64,
 }
 
 // What a subset and a subchunk both have along each axis.
@@ -37,7 +37,7 @@ struct Spans {
 }
 
 // What a range of a subset and one of a subchunk both have.
-fn span_of(start: u64, len: u64, origin: u64, part: u64) -> Span
+pub(crate) fn span_of(start: u64, len: u64, origin: u64, part: u64) -> Span
     requires fits { start + len < 2 ^ 64 }
     requires part_fits { origin + part < 2 ^ 64 }
     ensures in_subchunk { result.in_subchunk ≡ max start origin - origin }

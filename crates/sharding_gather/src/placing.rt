@@ -1,5 +1,5 @@
 // Where a subchunk lies of an array that is itself a subset of another array.
-ghost use Rattle.std.specs.Prelude.{◌≡◌, ◌+◌, ◌^◌, ◌<◌, IfOk, IfErr};
+ghost use Rattle.std.specs.Prelude.{◌≡◌, ◌+◌, ◌^◌, ◌<◌, IfOk, IfErr, length, replicate};
 ghost use Rattle.parts_row_major.specs.Numbering.{count_of, zip_with};
 ghost use Rattle.parts_row_major.specs.Subsets.{IsSubset, LiesIn};
 ghost use Rattle.parts_subsets.specs.Grid.{Divides, grid_of, grid_subset};
@@ -21,6 +21,18 @@ fn moved(alloc: Global, start: &[u64], origin: &[u64]) -> Result<Axes, AllocErro
         axes.push(origin[axis] + start[axis])?;
     }
     Ok(axes)
+}
+
+/// The subset of all coordinates of a shape. Refused only as out of memory.
+pub fn whole_subset(alloc: Global, shape: &[u64]) -> Result<ArraySubset, AllocError>
+    ensures { IfOk result (λ whole. whole ≡ record { start = replicate (length shape.now) 0; shape = shape.now }) }
+{
+    let start = Axes::from_elem(alloc, 0, shape.len())?;
+    let lengths = Axes::from_slice(alloc, shape)?;
+    match ArraySubset::new_with_axes(start, lengths) {
+        Some(whole) => Ok(whole),
+        None => unreachable!(),
+    }
 }
 
 /// A subset of an array that is itself a subset of another array, as a subset of this one. Refused only as out of memory.

@@ -16,6 +16,7 @@ use Rattle.parts_subsets.proofs.GridLaws.{position_number-below, cell_number-loc
 use Rattle.codec_traits.specs.Reads.{IsDecodedInto, IsOverwritten}
 use Rattle.sharding_format.specs.Index.{slot_at}
 use Rattle.sharding_format.specs.Cells.{cell_in, indexed_cell}
+use Rattle.sharding_format.specs.declared.slot.Slot.{Slot}
 use Rattle.sharding_gather.specs.SubchunkOverlaps.{IsSubchunkOverlap}
 use Rattle.sharding_gather.specs.steps.Placings.{shifted_subset}
 use Rattle.sharding_gather.proofs.PlacingLemmas.{placed_point}
@@ -24,6 +25,15 @@ use Rattle.sharding_subchunks.specs.steps.Writes.{IsPartPut}
 -- the element of a target at a point of its subset
 abbrev pub element_at_point : (first target : FixedTarget) (size q : ℕ) → List ℕ
 element_at_point first target size q = piece size (target_bytes target).now (number_in (target_subset first) (target_shape first) q)
+
+-- cells that were put are those of places that are the same
+pub part_put_at : {told : Type 0} {inner_cells : CellsOf} {fill b : List ℕ} {slot : Slot} {many other : ℕ} {from there : ℕ → ℕ} {position : Subset} {old new : FixedTarget} → many ≡ other
+    → ((r : ℕ) → r < other → from r ≡ there r) → IsPartPut told inner_cells fill b slot many from position old new → IsPartPut told inner_cells fill b slot other there position old new
+part_put_at {inner_cells = inner_cells} {fill = fill} {b = b} {slot = slot} counted same put = record {
+  element = put.element;
+  cells = λ t r lt. ap (cell_in inner_cells fill b slot) (sym (same r lt)) ∙ put.cells t r (omega (arith, lt, counted));
+  written = put.written;
+}
 
 -- the touched subchunks before j were put into a target where they meet the subset
 pub record IsSubsetPut (told : Type 0) (inner_cells : CellsOf) (shape sub fill b index : List ℕ) (len : ℕ) (subset : Subset) (touched : List ℕ) (j : ℕ) (first new : FixedTarget) : Type 0 where

@@ -1,15 +1,19 @@
 -- Reads into a target that fits what is read.
-use Rattle.std.proofs.Common.{◌≡◌, ℕ, List, [], Some, length, get_or, inl, inr}
+use Rattle.std.proofs.Common.{◌≡◌, ◌∙◌, ℕ, ◌<◌, List, [], Option, Some, length, get_or, map, replicate, inl, inr, ap, sym, arith}
+use Rattle.std.proofs.lemmas.List.{ext_get_or, length-map}
 use Rattle.parts_errors.specs.Order.{◌or◌then◌, ◌or_as◌then◌, RefusedBy}
 use Rattle.parts_errors.specs.Words.{Bytes, CellsOf, Refusals}
 use Rattle.parts_row_major.specs.Numbering.{count_of}
 use Rattle.parts_row_major.specs.Subsets.{Subset, number_in}
-use Rattle.parts_row_major.specs.Pieces.{piece}
+use Rattle.parts_row_major.specs.Pieces.{piece, pieces}
+use Rattle.parts_row_major.proofs.PieceLaws.{length-pieces, piece_of-pieces}
 use Rattle.parts_errors.specs.declared.error.CodecError.{CodecError}
 use Rattle.parts_arrays.specs.declared.data_type.DataTypeSize.{DataTypeSize}
 use Rattle.parts_arrays.specs.declared.data_type.DataTypeSize.TheVariants.{Fixed}
 use Rattle.parts_arrays.specs.declared.target.FixedTarget.{FixedTarget}
 use Rattle.parts_arrays.specs.Targets.{target_bytes, target_element_size, target_shape, target_subset, IsWritten, TargetRefusals}
+use Rattle.codec_traits.specs.Reads.{IsDecodedInto}
+use Rattle.sharding_gather.proofs.PlacingLemmas.{number_in-whole}
 use Rattle.sharding_format.specs.steps.Reading.{IsReadAt}
 use Rattle.sharding_format.specs.declared.slot.Slot.{Slot}
 use Rattle.sharding_subchunks.specs.Reads.{IsReadInto}
@@ -46,3 +50,17 @@ read_through inner_cells b slot positions subset axes size kind elements old new
   read = read;
   written = rw (← sized, ← shaped, ← first, ← last, counted, ← by_subset) wrote.elements;
 }
+
+-- what was decoded into all of a target's array are its elements
+pub whole_decoded : (cells : List (Option (List ℕ))) (axes : List ℕ) (size count : ℕ) (old new : FixedTarget) (after : Bytes) → target_element_size old ≡ size → target_shape old ≡ axes
+    → target_subset old ≡ record { start = replicate (length axes) 0; shape = axes } → (target_bytes new).now ≡ after → count ≡ count_of axes → length cells ≡ count → IsDecodedInto old new cells
+    → cells ≡ map Some (pieces size count after)
+whole_decoded cells axes size count old new after sized shaped by_subset last counted many decoded =
+    let long : length decoded.elements ≡ count = sym (length-map decoded.elements Some) ∙ (ap length (sym decoded.there) ∙ many) in
+    let wrote = rw (sized, shaped, by_subset, last) at decoded.written.elements in
+    let same : decoded.elements ≡ pieces size count after =
+    ext_get_or [] decoded.elements (pieces size count after) (long ∙ sym (length-pieces size count after)) (λ k lt.
+    let small : k < count = omega (arith, lt, long) in
+    let below : k < count_of axes = omega (arith, small, counted) in
+    sym (wrote.inside k below) ∙ (ap (piece size after) (number_in-whole axes k below) ∙ sym (piece_of-pieces size count after k small))) in
+    decoded.there ∙ ap (map Some) same

@@ -1,9 +1,11 @@
 // The cells of a subset of a shard whose inner codec stores elements as they are in memory, copied from each slice to where they lie in
 // a target.
-ghost use Rattle.std.specs.Prelude.{◌≡◌, ◌+◌, ◌<◌, IsTrue, IfOk, IfErr, OnErr, map, length};
+ghost use Rattle.std.specs.Prelude.{◌≡◌, ◌*◌, ◌^◌, ◌<◌, ℕ, Some, IsTrue, IfOk, IfErr, IfSome, OnErr, map, length};
 ghost use Rattle.parts_errors.specs.Order.{done, RefusedBy};
 ghost use Rattle.parts_row_major.specs.Numbering.{count_of};
-ghost use Rattle.parts_row_major.specs.Subsets.{IsServed, LiesIn, number_in, numbers_in};
+ghost use Rattle.parts_row_major.specs.Pieces.{pieces};
+ghost use Rattle.parts_row_major.specs.Subsets.{Subset, LiesIn, numbers_in};
+ghost use Rattle.parts_strided_copy.specs.Paired.{elements_in_rows, from_at, AreRowsWithin, AreRowsOf};
 ghost use Rattle.parts_subsets.specs.Grid.{grid_of};
 ghost use Rattle.parts_subsets.specs.Selections.{IsSelectionOf};
 ghost use Rattle.parts_arrays.specs.Types.{size_of};
@@ -24,43 +26,38 @@ use crate::stored_shard::StoredShard;
 use codec_traits::ArrayToBytesCodecTraits;
 use parts_arrays::FixedTarget;
 use parts_errors::CodecError;
+use parts_strided_copy::PairedRows;
 use parts_subsets::{ArraySubset, ChunkShape, Indexer};
-use sharding_format::Slot;
-use sharding_gather::{placed_part, subchunk_overlap};
+use sharding_format::{Slot, calculate_chunks_per_shard};
+use sharding_gather::{SubsetInGrid, whole_subset};
 use std::alloc::Global;
 use storage_handles::{ByteRange, BytesPartialDecoderTraits, read_range};
 
-// A part of a subchunk, and the subset of a target's array that it belongs to, which has as many cells.
-#[derive(Drop)]
-struct PlacedPart<'a> {
-    in_subchunk: &'a ArraySubset,
-    in_target: &'a ArraySubset,
-    ghost same_count: { count_of in_subchunk.now.shape ≡ count_of in_target.now.shape },
-}
-
 impl<I: ArrayToBytesCodecTraits> StoredShard<'_, I> {
-    // Copies a part of the subchunk that a slot names to a subset of a target's array: from its slice, or fill values where it is
-    // absent. `false`, with the target as it was, where the entry is bad, the slice has another size than the elements of a subchunk
-    // have together, or there is no object. Refused as `Fault`, where the handle failed, or `OutOfMemory`; that leaves the target.
-    fn put_part<H: BytesPartialDecoderTraits>(
+    // Copies rows of the subchunk that a slot names to a target's array: from its slice, or fill values where it is absent. `false`, with
+    // the target as it was, where the entry is bad, the slice has another size than the elements of a subchunk have together, or there is
+    // no object. Refused as `Fault`, where the handle failed, or `OutOfMemory`; that leaves the target.
+    fn put_rows<H: BytesPartialDecoderTraits>(
         &self,
         alloc: Global,
         handle: &mut H,
         slot: Slot,
         size: u64,
-        part: &PlacedPart,
+        rows: &PairedRows,
         target: &mut FixedTarget,
     ) -> Result<bool, CodecError>
         requires inside { IsTrue (H.state handle.old).transparent → HasInterval self.now.interval (H.state handle.old).contents }
         requires plain { IsPlain (spec_of_subchunks self.now.subchunks) (inner_meaning I.meaning self.now.subchunks) size }
         requires fits { FitsSlot self.now.interval.size slot }
-        requires part { IsServed part.now.in_subchunk.now self.now.subchunks.shape.now }
+        requires from { (k : ℕ) → k < elements_in_rows rows.now → from_at rows.now k < count_of self.now.subchunks.shape.now }
+        requires sub_fits { count_of self.now.subchunks.shape.now < 2 ^ 64 }
         requires element { target_element_size target.old ≡ length self.now.subchunks.fill_value.now }
-        requires served { IsServed part.now.in_target.now (target_shape target.old) }
+        requires rows { AreRowsWithin rows.now (count_of (target_shape target.old)) }
         ensures read { IsRead (H.state handle.old) (H.state handle.new) }
         ensures put { let bytes = interval_part self.now.interval (H.state handle.old).contents in
-            IfOk result (λ put. IsTrue put → IsPartPut (IsTrue (H.state handle.old).transparent) (inner_meaning I.meaning self.now.subchunks).cells self.now.subchunks.fill_value.now bytes slot
-            (count_of part.now.in_subchunk.now.shape) (number_in part.now.in_subchunk.now self.now.subchunks.shape.now) part.now.in_target.now target.old target.new) }
+            IfOk result (λ put. IsTrue put → (position : Subset) → AreRowsOf rows.now position (target_shape target.old)
+            → IsPartPut (IsTrue (H.state handle.old).transparent) (inner_meaning I.meaning self.now.subchunks).cells self.now.subchunks.fill_value.now bytes slot
+            (elements_in_rows rows.now) (from_at rows.now) position target.old target.new) }
         ensures kept { IfOk result (λ put. (¬ (IsTrue put)) → target.new ≡ target.old) }
         ensures left { OnErr result (target.new ≡ target.old) }
         ensures fault { IfErr result (IsCounted (H.state handle.old) (H.state handle.new)) }
@@ -68,7 +65,7 @@ impl<I: ArrayToBytesCodecTraits> StoredShard<'_, I> {
     {
         match slot {
             Slot::Absent => {
-                target.fill_part(part.in_target, self.subchunks.fill_value.as_ne_bytes());
+                target.fill_rows(rows, self.subchunks.fill_value.as_ne_bytes());
                 Ok(true)
             }
             Slot::InRange {
@@ -80,8 +77,7 @@ impl<I: ArrayToBytesCodecTraits> StoredShard<'_, I> {
                 let Some(elements) = read_range(handle, &mut room, alloc, range)? else {
                     return Ok(false);
                 };
-                let sub = self.subchunks.shape.as_slice();
-                target.copy_subset_part(part.in_target, elements, part.in_subchunk, sub);
+                target.copy_rows(rows, elements);
                 Ok(true)
             }
             _ => Ok(false),
@@ -89,7 +85,7 @@ impl<I: ArrayToBytesCodecTraits> StoredShard<'_, I> {
     }
 
     // Copies the cells of a subset to a target, whose subset has the subset's shape, where the inner codec stores each subchunk as so
-    // many bytes that are its elements. False where it does not, or where `put_part` puts nothing. Whatever it answers, some elements
+    // many bytes that are its elements. False where it does not, or where `put_rows` puts nothing. Whatever it answers, some elements
     // of the target's subset may have changed, and no other. Refused as `Fault`, where the handle failed, or `OutOfMemory`.
     fn put_subset<H: BytesPartialDecoderTraits>(
         &self,
@@ -121,21 +117,93 @@ impl<I: ArrayToBytesCodecTraits> StoredShard<'_, I> {
         else {
             return Ok(false);
         };
+        let met = SubsetInGrid {
+            subset,
+            shape,
+            sub,
+            grid,
+        };
         let touched = subset.touched_subchunks(alloc, shape, sub)?;
+        let mut rows = PairedRows::new(alloc);
         for j in 0..touched.len() {
             let number = touched[j];
-            let overlap = subchunk_overlap(alloc, number, subset, grid, shape, sub)?;
-            let position = placed_part(alloc, target.subset(), &overlap.in_subset)?;
+            met.overlap_rows(number, target, &mut rows)?;
             let slot = self.index.slot(number as usize);
-            let part = PlacedPart {
-                in_subchunk: &overlap.in_subchunk,
-                in_target: &position,
-            };
-            if !self.put_part(alloc, handle, slot, size, &part, target)? {
+            if !self.put_rows(alloc, handle, slot, size, &rows, target)? {
                 return Ok(false);
             }
         }
         Ok(true)
+    }
+
+    // Copies the cells of a subset over the bytes of as many elements, in row-major order of the subset, as `put_subset` does. Whatever it
+    // answers, these may have changed.
+    fn put_all<H: BytesPartialDecoderTraits>(
+        &self,
+        alloc: Global,
+        handle: &mut H,
+        subset: &ArraySubset,
+        bytes: &mut [u8],
+    ) -> Result<bool, CodecError>
+        requires inside { IsTrue (H.state handle.old).transparent → HasInterval self.now.interval (H.state handle.old).contents }
+        requires lies { LiesIn subset.now self.now.shape.now }
+        requires fixed { size_of self.now.subchunks.data_type.now ≡ Fixed (length self.now.subchunks.fill_value.now) }
+        requires count { count_of subset.now.shape < 2 ^ 64 }
+        requires whole { length bytes.old ≡ count_of subset.now.shape * length self.now.subchunks.fill_value.now }
+        ensures read { IsRead (H.state handle.old) (H.state handle.new) }
+        ensures cells { let s = self.now.subchunks in let inner = inner_meaning I.meaning s in let object = interval_part self.now.interval (H.state handle.old).contents in
+            IfOk result (λ put. IsTrue put → IsTrue (H.state handle.old).transparent
+            → map (indexed_cell inner.cells self.now.shape.now s.shape.now s.fill_value.now object self.now.index.now.numbers.items) (numbers_in subset.now self.now.shape.now)
+            ≡ map Some (pieces (length s.fill_value.now) (count_of subset.now.shape) bytes.new)) }
+        ensures fault { IfErr result (IsCounted (H.state handle.old) (H.state handle.new)) }
+        ensures refused { IfErr result (RefusedBy (ObjectRefusals (H.state handle.old) (H.state handle.new) done)) }
+    {
+        let element = self.subchunks.fill_value.as_ne_bytes();
+        let axes = subset.shape();
+        let grid = calculate_chunks_per_shard(alloc, self.shape, self.subchunks.shape)?;
+        let whole = whole_subset(alloc, axes)?;
+        let mut target = FixedTarget::over(bytes, element.len(), axes, &whole);
+        let put = self.put_subset(alloc, handle, subset, &grid, &mut target)?;
+        Ok(put)
+    }
+
+    // The bytes of the cells of a subset, of which there are so many, copied from the slices of the touched subchunks. `None` where the
+    // inner codec does not store each that is present as its elements are in memory. Refused as `Fault`, where the handle failed, or
+    // `OutOfMemory`.
+    pub(crate) fn plain_subset<H: BytesPartialDecoderTraits>(
+        &self,
+        alloc: Global,
+        handle: &mut H,
+        subset: &ArraySubset,
+        count: u64,
+    ) -> Result<Option<Vec<u8>>, CodecError>
+        requires inside { IsTrue (H.state handle.old).transparent → HasInterval self.now.interval (H.state handle.old).contents }
+        requires lies { LiesIn subset.now self.now.shape.now }
+        requires fixed { size_of self.now.subchunks.data_type.now ≡ Fixed (length self.now.subchunks.fill_value.now) }
+        requires count { count ≡ count_of subset.now.shape }
+        requires whole { count * length self.now.subchunks.fill_value.now < 2 ^ 64 }
+        ensures read { IsRead (H.state handle.old) (H.state handle.new) }
+        ensures counted { IfOk result (λ found. IfSome found (λ bytes. length bytes.items ≡ count * length self.now.subchunks.fill_value.now)) }
+        ensures cells { let s = self.now.subchunks in let inner = inner_meaning I.meaning s in let bytes = interval_part self.now.interval (H.state handle.old).contents in
+            IfOk result (λ found. IfSome found (λ read. IsTrue (H.state handle.old).transparent
+            → map (indexed_cell inner.cells self.now.shape.now s.shape.now s.fill_value.now bytes self.now.index.now.numbers.items) (numbers_in subset.now self.now.shape.now)
+            ≡ map Some (pieces (length s.fill_value.now) count read.items))) }
+        ensures fault { IfErr result (IsCounted (H.state handle.old) (H.state handle.new)) }
+        ensures refused { IfErr result (RefusedBy (ObjectRefusals (H.state handle.old) (H.state handle.new) done)) }
+    {
+        let inner = &self.subchunks;
+        let size = inner
+            .codec
+            .plain_size(inner.shape, inner.data_type, inner.fill_value);
+        if size.is_none() {
+            return Ok(None);
+        }
+        let element = inner.fill_value.as_ne_bytes();
+        let mut bytes = Vec::from_elem(alloc, 0, count as usize * element.len())?;
+        if !self.put_all(alloc, handle, subset, &mut bytes)? {
+            return Ok(None);
+        }
+        Ok(Some(bytes))
     }
 
     /// Reads the cells that an indexer requests into a target: where they are a subset of the shape of the target's subset, and the

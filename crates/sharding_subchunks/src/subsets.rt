@@ -131,6 +131,9 @@ impl<I: ArrayToBytesCodecTraits> StoredShard<'_, I> {
             IfErr result (RefusedBy (ObjectRefusals (H.state handle.old) (H.state handle.new) (
             ReadByRefusals inner self.now.shape.now s.shape.now s.fill_value.now bytes self.now.index.now.numbers.items (numbers_in subset.now self.now.shape.now)))) }
     {
+        if let Some(bytes) = self.plain_subset(alloc, handle, subset, count)? {
+            return Ok(bytes);
+        }
         let fill = self.subchunks.fill_value.as_ne_bytes();
         let axes = subset.shape();
         let (shape, sub) = (self.shape, self.subchunks.shape);

@@ -1,7 +1,8 @@
-use Rattle.std.proofs.Common.{◌≡◌, ◌∙◌, ◌<◌, IsTrue, get_or, length, ap, sym, subst, rules, arith}
+use Rattle.std.proofs.Common.{◌≡◌, ◌∙◌, ◌<◌, IsTrue, get_or, length, ap, sym, subst, refl, rules, arith}
 use Rattle.std.proofs.lemmas.List.{get_or_read}
 use Rattle.parts_errors.specs.Order.{done}
-use Rattle.parts_row_major.specs.Subsets.{Subset, LiesIn}
+use Rattle.parts_row_major.specs.Numbering.{count_of}
+use Rattle.parts_row_major.specs.Subsets.{Subset}
 use Rattle.parts_arrays.specs.Targets.{target_element_size, target_subset}
 use Rattle.parts_arrays.specs.declared.target.FixedTarget.{FixedTarget}
 use Rattle.storage_handles.specs.Objects.{interval_part}
@@ -11,10 +12,10 @@ use Rattle.codec_traits.proofs.OverwriteLemmas.{untouched}
 use Rattle.codec_traits.proofs.ReadLemmas.{length-interval_part}
 use Rattle.sharding_format.specs.Index.{slot_at}
 use Rattle.sharding_gather.specs.steps.Placings.{shifted_subset}
-use Rattle.sharding_gather.proofs.PlacingLemmas.{placed-lies_in}
+use Rattle.parts_strided_copy.specs.Paired.{elements_in_rows, AreRowsOf}
 use Rattle.sharding_gather.proofs.ReadGroupLemmas.{read_then}
 use Rattle.sharding_subchunks.specs.steps.Inner.{inner_meaning}
-use Rattle.sharding_subchunks.proofs.SubsetPutLemmas.{subset_put_written, subset_put_more, subset_put_all}
+use Rattle.sharding_subchunks.proofs.SubsetPutLemmas.{part_put_at, subset_put_written, subset_put_more, subset_put_all}
 use Rattle.sharding_subchunks.proofs.PlainLemmas.{refused_after}
 use Rattle.sharding_subchunks.proofs.stored_shard.StoredShard.put_subset.Goals as goal
 
@@ -24,52 +25,40 @@ returns-in_default-clause-written g c = untouched c.args.target.now
 pub returns-in_err-touched-clause-written : goal.returns-in_err-touched-clause-written
 returns-in_err-touched-clause-written g c = untouched c.args.target.now
 
-pub subchunk_overlap-requires-clause-touches : goal.subchunk_overlap-requires-clause-touches
-subchunk_overlap-requires-clause-touches g c =
+pub overlap_rows-requires-clause-touches : goal.overlap_rows-requires-clause-touches
+overlap_rows-requires-clause-touches g c =
     let touched = c.in_ok-touched.touched.items in
     let lt : c.loop-j.j < length touched = omega arith in
     let number : c.index-number.result.now ≡ get_or touched c.loop-j.j 0 = get_or_read touched _ _ lt c.index-number.ensures 0 in
     rw number (c.in_ok-touched.ensures.touched.touched c.loop-j.j lt)
 
-pub returns-in_err-overlap-clause-written : goal.returns-in_err-overlap-clause-written
-returns-in_err-overlap-clause-written g c =
+pub returns-in_err-overlap_rows-clause-written : goal.returns-in_err-overlap_rows-clause-written
+returns-in_err-overlap_rows-clause-written g c =
     let sized : target_element_size c.args.target.now ≡ length c.args.self.now.subchunks.fill_value.now = search rules in
     subset_put_written sized c.requires.same c.loop-j.invariant.so_far
 
-pub returns-in_err-position-clause-written : goal.returns-in_err-position-clause-written
-returns-in_err-position-clause-written g c =
-    let sized : target_element_size c.args.target.now ≡ length c.args.self.now.subchunks.fill_value.now = search rules in
-    subset_put_written sized c.requires.same c.loop-j.invariant.so_far
+pub overlap_rows-requires-clause-same : goal.overlap_rows-requires-clause-same
+overlap_rows-requires-clause-same g c = ap (λ (w : Subset). w.shape) c.loop-j.invariant.so_far.position ∙ c.requires.same
 
-pub put_part-requires-clause-served : goal.put_part-requires-clause-served
-put_part-requires-clause-served g c =
-    let first = c.args.target.now in
-    let inv = c.loop-j.invariant.so_far in
-    let overlap = c.in_ok-overlap.overlap in
-    let position : c.in_ok-position.position ≡ shifted_subset (target_subset first) overlap.in_subset = c.in_ok-position.ensures.placed ∙ ap (λ (w : Subset). shifted_subset w overlap.in_subset) (c.subset-in-loop-j.ensures ∙ inv.position) in
-    let served = first.is_target.served in
-    let inner : LiesIn overlap.in_subset (target_subset first).shape = subst (LiesIn overlap.in_subset) (sym c.requires.same) c.in_ok-overlap.ensures.meets.subset_inside in
-    rw (position, inv.axes) (placed-lies_in (target_subset first) overlap.in_subset first.shape.now inner served.0, served.1)
-
-pub returns-in_err-put_part-clause-written : goal.returns-in_err-put_part-clause-written
-returns-in_err-put_part-clause-written g c =
+pub returns-in_err-put_rows-clause-written : goal.returns-in_err-put_rows-clause-written
+returns-in_err-put_rows-clause-written g c =
     let first = c.args.target.now in
     let sized : target_element_size first ≡ length c.args.self.now.subchunks.fill_value.now = search rules in
-    let kept : c.put_part.new.target ≡ c.loop-j.target = search rules in
+    let kept : c.put_rows.new.target ≡ c.loop-j.target = search rules in
     subst (λ (t : FixedTarget). IsOverwritten first t) (sym kept) (subset_put_written sized c.requires.same c.loop-j.invariant.so_far)
 
-pub returns-in_err-put_part-clause-refused : goal.returns-in_err-put_part-clause-refused
-returns-in_err-put_part-clause-refused g c =
+pub returns-in_err-put_rows-clause-refused : goal.returns-in_err-put_rows-clause-refused
+returns-in_err-put_rows-clause-refused g c =
     let h = g.H.BytesPartialDecoderTraits in
-    let e = c.in_err-put_part.field-0.0 in
-    passed_on _ e _ c.from_residual-in_err-put_part.ensures.1
-    (refused_after (h.state c.args.handle.now) (h.state c.loop-j.handle) (h.state c.put_part.new.handle) done e c.loop-j.invariant.read c.in_err-put_part.ensures.refused)
+    let e = c.in_err-put_rows.field-0.0 in
+    passed_on _ e _ c.from_residual-in_err-put_rows.ensures.1
+    (refused_after (h.state c.args.handle.now) (h.state c.loop-j.handle) (h.state c.put_rows.new.handle) done e c.loop-j.invariant.read c.in_err-put_rows.ensures.refused)
 
 pub returns-then-not-branch-clause-written : goal.returns-then-not-branch-clause-written
 returns-then-not-branch-clause-written g c =
     let first = c.args.target.now in
     let sized : target_element_size first ≡ length c.args.self.now.subchunks.fill_value.now = search rules in
-    let kept : c.put_part.new.target ≡ c.loop-j.target = search rules in
+    let kept : c.put_rows.new.target ≡ c.loop-j.target = search rules in
     subst (λ (t : FixedTarget). IsOverwritten first t) (sym kept) (subset_put_written sized c.requires.same c.loop-j.invariant.so_far)
 
 pub loop-j-preserved : goal.loop-j-preserved
@@ -84,20 +73,21 @@ loop-j-preserved g c =
     let touched = c.in_ok-touched.touched.items in
     let j = c.loop-j.j in
     let inv = c.loop-j.invariant in
-    let overlap = c.in_ok-overlap.overlap in
     let lt : j < length touched = omega arith in
     let number : c.index-number.result.now ≡ get_or touched j 0 = get_or_read touched _ _ lt c.index-number.ensures 0 in
     let slot : c.slot-slot.result ≡ slot_at a.self.now.interval.size index (get_or touched j 0) = (rw c.args.self.now.len at c.slot-slot.ensures.slot) ∙ ap (slot_at a.self.now.interval.size index) number in
-    let meets = rw number at c.in_ok-overlap.ensures.meets in
-    let position : c.in_ok-position.position ≡ shifted_subset (target_subset first) overlap.in_subset = c.in_ok-position.ensures.placed ∙ ap (λ (w : Subset). shifted_subset w overlap.in_subset) (c.subset-in-loop-j.ensures ∙ inv.so_far.position) in
+    let met = rw (number, inv.so_far.position, inv.so_far.axes) at c.in_ok-overlap_rows.ensures in
+    let position = shifted_subset (target_subset first) met.in_subset in
     let sized : target_element_size first ≡ length s.fill_value.now = search rules in
-    let true_is : IsTrue c.in_ok-put_part.field-0 = search rules in
-    let put = rw (inv.read.transparent_same, inv.read.contents_same, slot) at (c.in_ok-put_part.ensures.put true_is) in
+    let true_is : IsTrue c.in_ok-put_rows.field-0 = search rules in
+    let part = rw (inv.read.transparent_same, inv.read.contents_same, slot) at (c.in_ok-put_rows.ensures.put true_is position (subst (AreRowsOf c.overlap_rows.new.rows position) (sym inv.so_far.axes) met.into)) in
+    let counted : elements_in_rows c.overlap_rows.new.rows ≡ count_of met.in_subchunk.shape = met.into.counted ∙ sym (ap count_of met.meets.same_shape) in
+    let put = part_put_at counted met.from part in
     record {
-      read = read_then state (h.state c.loop-j.handle) (h.state c.put_part.new.handle) inv.read c.in_ok-put_part.ensures.read;
+      read = read_then state (h.state c.loop-j.handle) (h.state c.put_rows.new.handle) inv.read c.in_ok-put_rows.ensures.read;
       so_far = subset_put_more (IsTrue state.transparent) inner.cells a.self.now.shape.now s.shape.now s.fill_value.now (interval_part a.self.now.interval state.contents) index a.self.now.interval.size a.subset.now touched first
-          c.args.self.now.divides c.requires.lies c.in_ok-touched.ensures.touched sized c.requires.same j lt (c.in_ok-touched.ensures.below j 0 lt) overlap.in_subchunk overlap.in_subset c.in_ok-position.position meets
-          c.loop-j.target c.put_part.new.target (rw c.subset.ensures at c.shape-lengths.ensures.well_formed) first.is_target.served.0 position put inv.so_far;
+          c.args.self.now.divides c.requires.lies c.in_ok-touched.ensures.touched sized c.requires.same j lt (c.in_ok-touched.ensures.below j 0 lt) met.in_subchunk met.in_subset position met.meets
+          c.loop-j.target c.put_rows.new.target (rw c.subset.ensures at c.shape-lengths.ensures.well_formed) first.is_target.served.0 refl put inv.so_far;
     }
 
 pub returns-clause-written : goal.returns-clause-written
