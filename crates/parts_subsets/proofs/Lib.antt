@@ -11,3 +11,4 @@ pub mod LocateLaws
 pub mod FollowLaws
 pub mod CoordinateLaws
 pub mod SelectionLemmas
+pub mod OneTouched

@@ -23,3 +23,7 @@ pub record IsTouchedSubset (subset : Subset) (sub : List ℕ) (touched : Subset)
   pub ends : (k : ℕ) → k < length subset.start → 0 < slice_index subset.shape k
       → slice_index touched.start k + slice_index touched.shape k
       ≡ (slice_index subset.start k + (slice_index subset.shape k - 1)) / slice_index sub k + 1
+
+-- a range has a first and a last number, and both lie in one part
+abbrev pub IsOneAlong : (first len part : ℕ) → Type 0
+IsOneAlong first len part = (0 < len) × ((first + (len - 1)) / part ≡ first / part)

@@ -1,6 +1,7 @@
 // The cells of a subset of a shard whose inner codec stores elements as they are in memory, copied from each slice to where they lie in
 // a target.
 ghost use Rattle.std.specs.Prelude.{◌≡◌, ◌*◌, ◌^◌, ◌<◌, ℕ, Some, IsTrue, IfOk, IfErr, IfSome, OnErr, map, length};
+ghost use Rattle.std.specs.List.{All};
 ghost use Rattle.parts_errors.specs.Order.{done, RefusedBy};
 ghost use Rattle.parts_row_major.specs.Numbering.{count_of};
 ghost use Rattle.parts_row_major.specs.Pieces.{pieces};
@@ -8,6 +9,8 @@ ghost use Rattle.parts_row_major.specs.Subsets.{Subset, LiesIn, numbers_in};
 ghost use Rattle.parts_strided_copy.specs.Paired.{elements_in_rows, from_at, AreRowsWithin, AreRowsOf};
 ghost use Rattle.parts_subsets.specs.Grid.{grid_of};
 ghost use Rattle.parts_subsets.specs.Selections.{IsSelectionOf};
+ghost use Rattle.parts_subsets.specs.Touched.{AreTouched};
+ghost use Rattle.sharding_gather.specs.steps.OverlapRows.{IsInShard};
 ghost use Rattle.parts_arrays.specs.Types.{size_of};
 ghost use Rattle.parts_arrays.specs.declared.data_type.DataTypeSize.TheVariants.{Fixed};
 ghost use Rattle.parts_arrays.specs.Targets.{target_element_size, target_shape, target_subset};
@@ -84,9 +87,50 @@ impl<I: ArrayToBytesCodecTraits> StoredShard<'_, I> {
         }
     }
 
-    // Copies the cells of a subset to a target, whose subset has the subset's shape, where the inner codec stores each subchunk as so
-    // many bytes that are its elements. False where it does not, or where `put_rows` puts nothing. Whatever it answers, some elements
-    // of the target's subset may have changed, and no other. Refused as `Fault`, where the handle failed, or `OutOfMemory`.
+    // Copies the cells that a subset has of these subchunks, which are those that it touches, to a target, whose subset has the subset's
+    // shape, where the inner codec stores each subchunk as so many bytes that are its elements. False where `put_rows` puts nothing.
+    // Whatever it answers, some elements of the target's subset may have changed, and no other. Refused as `Fault`, where the handle
+    // failed, or `OutOfMemory`.
+    fn put_touched<H: BytesPartialDecoderTraits>(
+        &self,
+        alloc: Global,
+        handle: &mut H,
+        size: u64,
+        met: &SubsetInGrid,
+        touched: &[u64],
+        target: &mut FixedTarget,
+    ) -> Result<bool, CodecError>
+        requires inside { IsTrue (H.state handle.old).transparent → HasInterval self.now.interval (H.state handle.old).contents }
+        requires plain { IsPlain (spec_of_subchunks self.now.subchunks) (inner_meaning I.meaning self.now.subchunks) size }
+        requires met { IsInShard self.now.shape.now self.now.subchunks.shape.now met.now }
+        requires lies { LiesIn met.now.subset.now self.now.shape.now }
+        requires touched { AreTouched self.now.shape.now self.now.subchunks.shape.now met.now.subset.now touched.now }
+        requires below { All (λ k. k < count_of (grid_of self.now.shape.now self.now.subchunks.shape.now)) touched.now }
+        requires kind { size_of self.now.subchunks.data_type.now ≡ Fixed (target_element_size target.old) }
+        requires same { (target_subset target.old).shape ≡ met.now.subset.now.shape }
+        ensures read { IsRead (H.state handle.old) (H.state handle.new) }
+        ensures written { IsOverwritten target.old target.new }
+        ensures put { let s = self.now.subchunks in let inner = inner_meaning I.meaning s in let bytes = interval_part self.now.interval (H.state handle.old).contents in
+            IfOk result (λ put. IsTrue put → IsTrue (H.state handle.old).transparent → IsDecodedInto target.old target.new
+            (map (indexed_cell inner.cells self.now.shape.now s.shape.now s.fill_value.now bytes self.now.index.now.numbers.items) (numbers_in met.now.subset.now self.now.shape.now))) }
+        ensures fault { IfErr result (IsCounted (H.state handle.old) (H.state handle.new)) }
+        ensures refused { IfErr result (RefusedBy (ObjectRefusals (H.state handle.old) (H.state handle.new) done)) }
+    {
+        let _lengths = target.subset().shape();
+        let mut rows = PairedRows::new(alloc);
+        for j in 0..touched.len() {
+            let number = touched[j];
+            met.overlap_rows(number, target, &mut rows)?;
+            let slot = self.index.slot(number as usize);
+            if !self.put_rows(alloc, handle, slot, size, &rows, target)? {
+                return Ok(false);
+            }
+        }
+        Ok(true)
+    }
+
+    // Copies the cells of a subset to a target, as `put_touched` does of the subchunks that it touches. False also where the inner codec
+    // does not store elements as they are in memory.
     fn put_subset<H: BytesPartialDecoderTraits>(
         &self,
         alloc: Global,
@@ -110,7 +154,6 @@ impl<I: ArrayToBytesCodecTraits> StoredShard<'_, I> {
     {
         let inner = &self.subchunks;
         let (shape, sub) = (self.shape, inner.shape);
-        let _lengths = target.subset().shape();
         let Some(size) = inner
             .codec
             .plain_size(sub, inner.data_type, inner.fill_value)
@@ -123,17 +166,11 @@ impl<I: ArrayToBytesCodecTraits> StoredShard<'_, I> {
             sub,
             grid,
         };
-        let touched = subset.touched_subchunks(alloc, shape, sub)?;
-        let mut rows = PairedRows::new(alloc);
-        for j in 0..touched.len() {
-            let number = touched[j];
-            met.overlap_rows(number, target, &mut rows)?;
-            let slot = self.index.slot(number as usize);
-            if !self.put_rows(alloc, handle, slot, size, &rows, target)? {
-                return Ok(false);
-            }
+        if let Some(number) = subset.only_subchunk(shape, sub, grid) {
+            return self.put_touched(alloc, handle, size, &met, &[number], target);
         }
-        Ok(true)
+        let touched = subset.touched_subchunks(alloc, shape, sub)?;
+        self.put_touched(alloc, handle, size, &met, &touched, target)
     }
 
     // Copies the cells of a subset over the bytes of as many elements, in row-major order of the subset, as `put_subset` does. Whatever it

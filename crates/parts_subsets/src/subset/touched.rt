@@ -1,9 +1,9 @@
 // The subchunks that a subset touches.
-ghost use Rattle.std.specs.Prelude.{◌≡◌, ◌+◌, ◌-◌, ◌/◌, ◌^◌, ◌<◌, IfOk, All, length};
-ghost use Rattle.parts_row_major.specs.Numbering.{AllPositive, count_of};
+ghost use Rattle.std.specs.Prelude.{◌≡◌, ◌+◌, ◌-◌, ◌/◌, ◌^◌, ◌<◌, ℕ, [], ◌∷◌, IsTrue, IfOk, IfSome, All, length, slice_index_or};
+ghost use Rattle.parts_row_major.specs.Numbering.{AllPositive, IsInside, count_of, number_of};
 ghost use Rattle.parts_row_major.specs.Subsets.{IsSubset, LiesIn};
 ghost use Rattle.parts_subsets.specs.Grid.{Divides, grid_of};
-ghost use Rattle.parts_subsets.specs.Touched.{AreTouched, IsTouchedSubset};
+ghost use Rattle.parts_subsets.specs.Touched.{AreTouched, IsOneAlong, IsTouchedSubset};
 
 use super::{ArraySubset, points_in};
 use crate::axes::Axes;
@@ -103,7 +103,63 @@ fn touched_numbers(
     Ok(numbers)
 }
 
+// Whether a subset has points, all of which lie in one subchunk along each axis.
+fn is_in_one(start: &[u64], len: &[u64], sub: &[u64]) -> bool
+    requires well_formed { IsSubset start.now len.now }
+    requires sub { AllPositive sub.now }
+    requires axes { length start.now ≡ length sub.now }
+    ensures { IsTrue result → (k : ℕ) → k < length start.now → IsOneAlong (slice_index_or start.now k 0) (slice_index_or len.now k 0) (slice_index_or sub.now k 0) }
+{
+    for axis in 0..start.len() {
+        if touched_along(start[axis], len[axis], sub[axis]) != 1 {
+            return false;
+        }
+    }
+    true
+}
+
+// The row-major number in the grid of the subchunk that a point lies in.
+fn number_in_grid(point: &[u64], sub: &[u64], grid: &[u64]) -> u64
+    requires sub { AllPositive sub.now }
+    requires axes { length point.now ≡ length sub.now }
+    requires inside { IsInside (grid_of point.now sub.now) grid.now }
+    requires fits { count_of grid.now < 2 ^ 64 }
+    ensures { result ≡ number_of (grid_of point.now sub.now) grid.now }
+{
+    let mut stride = 1;
+    let mut number = 0;
+    for axis in (0..grid.len()).rev() {
+        number += point[axis] / sub[axis] * stride;
+        stride *= grid[axis];
+    }
+    number
+}
+
 impl ArraySubset {
+    /// The row-major number in the grid of the one subchunk in which all points of the subset lie; `None` where they lie in more, or
+    /// there are none. Takes no memory.
+    pub fn only_subchunk(
+        &self,
+        shape: &ChunkShape,
+        sub: &ChunkShape,
+        grid: &ChunkShape,
+    ) -> Option<u64>
+        requires inside { LiesIn self.now shape.now }
+        requires divides { Divides sub.now shape.now }
+        requires fits { count_of shape.now < 2 ^ 64 }
+        requires grid { grid.now ≡ grid_of shape.now sub.now }
+        ensures touched { IfSome result (λ number. AreTouched shape.now sub.now self.now (number ∷ [])) }
+        ensures below { IfSome result (λ number. number < count_of (grid_of shape.now sub.now)) }
+    {
+        let (_axes, parts) = (shape.as_slice(), sub.as_slice());
+        let start = self.start();
+        let len = self.shape();
+        if !is_in_one(start, len, parts) {
+            return None;
+        }
+        Some(number_in_grid(start, parts, grid.as_slice()))
+    }
+
     /// The row-major numbers in the grid of the subchunks in which points of the subset lie, ascending; none for an empty
     /// subset. Refused only as out of memory.
     pub fn touched_subchunks(

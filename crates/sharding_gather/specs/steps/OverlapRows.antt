@@ -2,10 +2,11 @@
 use Rattle.std.specs.Prelude.{◌≡◌, ◌<◌, ◌+◌, ◌-◌, ℕ, List, length}
 use Rattle.parts_row_major.specs.Numbering.{count_of, zip_with}
 use Rattle.parts_row_major.specs.Subsets.{Subset, IsSubset, IsServed, number_in}
-use Rattle.parts_subsets.specs.Grid.{grid_subset}
+use Rattle.parts_subsets.specs.Grid.{grid_of, grid_subset}
 use Rattle.parts_subsets.specs.Overlaps.{overlap_of, relative_subset}
 use Rattle.parts_strided_copy.specs.Paired.{elements_in_rows, from_at, AreRowsWithin, AreRowsOf}
 use Rattle.parts_strided_copy.specs.declared.paired.PairedRows.{PairedRows}
+use Rattle.sharding_gather.specs.declared.overlap_rows.SubsetInGrid.{SubsetInGrid}
 use Rattle.sharding_gather.specs.SubchunkOverlaps.{IsSubchunkOverlap}
 use Rattle.sharding_gather.specs.steps.Placings.{shifted_subset}
 
@@ -33,6 +34,12 @@ pub record CanShare (start len grid sub origin around : List ℕ) (k : ℕ) : Ty
   pub some : 0 < count_of (shared_subset start len grid sub k).shape
   pub in_subchunk : IsServed (shared_in_subchunk start len grid sub k) sub
   pub in_array : IsServed (shared_in_array start len grid sub origin k) around
+
+-- a subset in the grid of the subchunks of a shard's shape
+pub record IsInShard (shape sub : List ℕ) (met : SubsetInGrid) : Type 0 where
+  pub shape_is : met.shape.now ≡ shape
+  pub sub_is : met.sub.now ≡ sub
+  pub grid_is : met.grid.now ≡ grid_of shape sub
 
 -- the rows of the overlap of a subset and subchunk k, where the subset is read into a subset of an array
 pub record AreOverlapRows (shape sub : List ℕ) (subset : Subset) (k : ℕ) (within : Subset) (around : List ℕ) (rows : PairedRows) : Type 0 where
