@@ -228,33 +228,6 @@ impl<'a> FixedTarget<'a> {
         );
     }
 
-    /// Writes the elements at the points of a subset of bytes, which are an array of a shape with elements of the target's size, at the
-    /// points of a subset of the target's array, both in row-major order. Takes no memory.
-    pub fn copy_subset_part(
-        &mut self,
-        position: &ArraySubset,
-        elements: &[u8],
-        subset: &ArraySubset,
-        shape: &[u64],
-    )
-        requires served { IsServed position.now (target_shape self.old) }
-        requires whole { length elements.now ≡ count_of shape.now * target_element_size self.old }
-        requires from { IsServed subset.now shape.now }
-        requires counted { count_of subset.now.shape ≡ count_of position.now.shape }
-        ensures { let size = target_element_size self.old in
-            IsPartWritten self.old self.new position.now (λ k. piece size elements.now (number_in subset.now shape.now k)) }
-    {
-        copy_subset(
-            self.bytes,
-            self.element_size,
-            position,
-            self.shape,
-            elements,
-            subset,
-            shape,
-        );
-    }
-
     /// Writes one element at each point of a subset of the target's array. Takes no memory.
     pub fn fill_part(&mut self, position: &ArraySubset, element: &[u8])
         requires served { IsServed position.now (target_shape self.old) }

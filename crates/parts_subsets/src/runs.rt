@@ -1,5 +1,6 @@
 // Runs of neighbouring elements in a subset.
-ghost use Rattle.std.specs.Prelude.{◌≡◌, ℕ, ◌+◌, ◌^◌, ◌<◌, ◌≤◌, List, All, [], IfOk, IfErr, OnOk};
+ghost use Rattle.std.specs.Prelude.{◌≡◌, ℕ, ◌+◌, ◌^◌, ◌<◌, ◌≤◌, ◌++◌, List, All, [], IfOk, IfErr, OnOk};
+ghost use Rattle.std.specs.List.{range_with_len};
 ghost use Rattle.parts_errors.specs.Order.{done};
 ghost use Rattle.parts_row_major.specs.Numbering.{count_of};
 ghost use Rattle.parts_row_major.specs.Subsets.{IsSubset, IsServed, numbers_in};
@@ -41,6 +42,17 @@ impl ArraySubset {
     }
 }
 
+// Puts as many numbers that follow from a first on behind those that are there. Refused only as out of memory.
+fn push_run(numbers: &mut Vec<u64>, first: u64, len: u64) -> Result<(), AllocError>
+    requires { first + len < 2 ^ 64 }
+    ensures { OnOk result (numbers.new.items ≡ numbers.old.items ++ range_with_len first len) }
+{
+    for i in 0..len {
+        numbers.push(first + i)?;
+    }
+    Ok(())
+}
+
 /// The row-major numbers in a shape of the points of a subset, run by run. `count` is how many there are. Refused only as
 /// out of memory.
 pub fn subset_numbers(
@@ -54,7 +66,7 @@ pub fn subset_numbers(
 {
     let mut numbers = Vec::with_capacity(alloc, count as usize)?;
     for (first, len) in subset.runs_in(shape) {
-        numbers.extend(first..first + len)?;
+        push_run(&mut numbers, first, len)?;
     }
     Ok(numbers)
 }

@@ -19,7 +19,7 @@ pub use grouping::{Grouping, Positions, Standing, grouped};
 pub use laying::room_for;
 pub use overlap::{SubchunkOverlap, subchunk_overlap};
 pub use overlap_rows::SubsetInGrid;
-pub use placing::{placed_part, placed_subset, whole_subset};
+pub use placing::{placed_subsets, whole_subset};
 pub use requested::{check_requested, put_together};
 pub use sorted::{RequestedCell, list_positions, located, put_cells, run_length, sorted_cells};
 pub use subchunk_rows::{SubchunkRows, first_subchunk};

@@ -52,8 +52,8 @@ impl<I: ArrayToBytesCodecTraits> StoredShard<'_, I> {
         requires inside { IsTrue (H.state handle.old).transparent → HasInterval self.now.interval (H.state handle.old).contents }
         requires plain { IsPlain (spec_of_subchunks self.now.subchunks) (inner_meaning I.meaning self.now.subchunks) size }
         requires fits { FitsSlot self.now.interval.size slot }
-        requires from { (k : ℕ) → k < elements_in_rows rows.now → from_at rows.now k < count_of self.now.subchunks.shape.now }
-        requires sub_fits { count_of self.now.subchunks.shape.now < 2 ^ 64 }
+        requires from { (count_of self.now.subchunks.shape.now < 2 ^ 64)
+            × ((k : ℕ) → k < elements_in_rows rows.now → from_at rows.now k < count_of self.now.subchunks.shape.now) }
         requires element { target_element_size target.old ≡ length self.now.subchunks.fill_value.now }
         requires rows { AreRowsWithin rows.now (count_of (target_shape target.old)) }
         ensures read { IsRead (H.state handle.old) (H.state handle.new) }
@@ -87,10 +87,9 @@ impl<I: ArrayToBytesCodecTraits> StoredShard<'_, I> {
         }
     }
 
-    // Copies the cells that a subset has of these subchunks, which are those that it touches, to a target, whose subset has the subset's
-    // shape, where the inner codec stores each subchunk as so many bytes that are its elements. False where `put_rows` puts nothing.
-    // Whatever it answers, some elements of the target's subset may have changed, and no other. Refused as `Fault`, where the handle
-    // failed, or `OutOfMemory`.
+    // Copies the cells of a subset to a target, whose subset has the subset's shape, from these subchunks, which are those that it touches.
+    // False where `put_rows` puts nothing. Whatever it answers, some elements of the target's subset may have changed, and no other.
+    // Refused as `Fault`, where the handle failed, or `OutOfMemory`.
     fn put_touched<H: BytesPartialDecoderTraits>(
         &self,
         alloc: Global,
@@ -103,7 +102,6 @@ impl<I: ArrayToBytesCodecTraits> StoredShard<'_, I> {
         requires inside { IsTrue (H.state handle.old).transparent → HasInterval self.now.interval (H.state handle.old).contents }
         requires plain { IsPlain (spec_of_subchunks self.now.subchunks) (inner_meaning I.meaning self.now.subchunks) size }
         requires met { IsInShard self.now.shape.now self.now.subchunks.shape.now met.now }
-        requires lies { LiesIn met.now.subset.now self.now.shape.now }
         requires touched { AreTouched self.now.shape.now self.now.subchunks.shape.now met.now.subset.now touched.now }
         requires below { All (λ k. k < count_of (grid_of self.now.shape.now self.now.subchunks.shape.now)) touched.now }
         requires kind { size_of self.now.subchunks.data_type.now ≡ Fixed (target_element_size target.old) }
@@ -173,8 +171,7 @@ impl<I: ArrayToBytesCodecTraits> StoredShard<'_, I> {
         self.put_touched(alloc, handle, size, &met, &touched, target)
     }
 
-    // Copies the cells of a subset over the bytes of as many elements, in row-major order of the subset, as `put_subset` does. Whatever it
-    // answers, these may have changed.
+    // The same over the bytes of as many elements, which may have changed whatever it answers.
     fn put_all<H: BytesPartialDecoderTraits>(
         &self,
         alloc: Global,
@@ -204,9 +201,8 @@ impl<I: ArrayToBytesCodecTraits> StoredShard<'_, I> {
         Ok(put)
     }
 
-    // The bytes of the cells of a subset, of which there are so many, copied from the slices of the touched subchunks. `None` where the
-    // inner codec does not store each that is present as its elements are in memory. Refused as `Fault`, where the handle failed, or
-    // `OutOfMemory`.
+    // The bytes of the cells of a subset, of which the count is told. `None` where `put_subset` is false. Refused as `Fault`, where the
+    // handle failed, or `OutOfMemory`.
     pub(crate) fn plain_subset<H: BytesPartialDecoderTraits>(
         &self,
         alloc: Global,

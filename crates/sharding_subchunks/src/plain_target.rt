@@ -1,28 +1,25 @@
 // A whole shard whose inner codec stores elements as they are in memory, copied slice by slice to where each lies in a target.
-ghost use Rattle.std.specs.Prelude.{◌≡◌, ◌+◌, ◌*◌, ◌/◌, ◌^◌, ◌<◌, ℕ, Some, IsTrue, IfOk, IfErr, OnErr, map, length, slice_index_or};
+ghost use Rattle.std.specs.Prelude.{◌≡◌, ◌/◌, ◌<◌, IsTrue, IfOk, IfErr, OnErr, map, length};
 ghost use Rattle.std.specs.List.{range_with_len};
 ghost use Rattle.parts_row_major.specs.Numbering.{count_of};
 ghost use Rattle.parts_row_major.specs.Subsets.{IsServed};
-ghost use Rattle.parts_subsets.specs.Grid.{Divides, grid_of, grid_subset};
-ghost use Rattle.parts_arrays.specs.Targets.{target_element_size, target_shape, target_subset};
+ghost use Rattle.parts_arrays.specs.Targets.{target_element_size, target_shape};
 ghost use Rattle.parts_errors.specs.declared.error.CodecError.TheVariants.{OutOfMemory};
 ghost use Rattle.codec_traits.specs.Encodings.{IsPlain};
 ghost use Rattle.codec_traits.specs.Reads.{IsDecodedInto};
-ghost use Rattle.sharding_format.specs.Index.{slot_at};
 ghost use Rattle.sharding_format.specs.Cells.{indexed_cell};
-ghost use Rattle.sharding_format.specs.steps.Decoding.{FitsSlot};
-ghost use Rattle.sharding_gather.specs.steps.Placings.{shifted_subset, no_subset};
+ghost use Rattle.sharding_format.specs.steps.Decoding.{FitsSlot, IsOfSize};
 ghost use Rattle.sharding_subchunks.specs.steps.Inner.{spec_of_subchunks, inner_meaning};
-ghost use Rattle.sharding_subchunks.specs.steps.Writes.{IsOfSize, IsSlotPut};
+ghost use Rattle.sharding_subchunks.specs.steps.Writes.{IsSlotPut};
 
 use crate::held_shard::HeldShard;
 use crate::subchunks::Subchunks;
 use codec_traits::ArrayToBytesCodecTraits;
 use parts_arrays::FixedTarget;
 use parts_errors::CodecError;
-use parts_subsets::{ArraySubset, ChunkShape};
-use sharding_format::{ShardIndex, Slot, calculate_chunks_per_shard};
-use sharding_gather::placed_subset;
+use parts_subsets::ArraySubset;
+use sharding_format::{Slot, calculate_chunks_per_shard};
+use sharding_gather::placed_subsets;
 use std::alloc::Global;
 
 // Whether a subset has as many coordinates along each axis as a shape.
@@ -30,58 +27,6 @@ pub(crate) fn same_axes(lengths: &[u64], shape: &[u64]) -> bool
     ensures { IsTrue result → lengths.now ≡ shape.now }
 {
     lengths == shape
-}
-
-// Whether a subchunk is absent, or its slice has so many bytes.
-fn is_plain(slot: Slot, size: u64) -> bool
-    ensures { IsTrue result → IsOfSize size slot }
-{
-    match slot {
-        Slot::Absent => true,
-        Slot::InRange {
-            offset: _,
-            size: len,
-        } => len == size,
-        Slot::Bad => false,
-    }
-}
-
-// Whether each subchunk is absent, or its slice has so many bytes.
-fn are_plain(index: &ShardIndex, size: u64) -> bool
-    ensures { IsTrue result → (k : ℕ) → k < length index.now.numbers.items / 2 → IsOfSize size (slot_at index.now.len index.now.numbers.items k) }
-{
-    for k in 0..index.subchunks() {
-        if !is_plain(index.slot(k), size) {
-            return false;
-        }
-    }
-    true
-}
-
-// The subset of each subchunk of a shape, which is that of a subset of another array, in this array. Refused only as out of memory.
-fn placed_subsets(
-    alloc: Global,
-    count: usize,
-    shape: &ChunkShape,
-    grid: &ChunkShape,
-    sub: &ChunkShape,
-    within: &ArraySubset,
-) -> Result<Vec<ArraySubset>, CodecError>
-    requires count { count ≡ count_of grid.now }
-    requires fits { count_of shape.now < 2 ^ 64 }
-    requires divides { Divides sub.now shape.now }
-    requires grid { grid.now ≡ grid_of shape.now sub.now }
-    requires same { within.now.shape ≡ shape.now }
-    ensures counted { IfOk result (λ subsets. length subsets.items ≡ count) }
-    ensures each { IfOk result (λ subsets. (k : ℕ) → k < count → slice_index_or subsets.items k no_subset ≡ shifted_subset within.now (grid_subset grid.now sub.now k)) }
-    ensures refused { IfErr result (λ e. e ≡ OutOfMemory) }
-{
-    let mut subsets = Vec::with_capacity(alloc, count)?;
-    for k in 0..count {
-        let placed = placed_subset(alloc, k as u64, shape, grid, sub, within)?;
-        subsets.push(placed)?;
-    }
-    Ok(subsets)
 }
 
 impl<I: ArrayToBytesCodecTraits> Subchunks<'_, I> {
@@ -115,8 +60,8 @@ impl<I: ArrayToBytesCodecTraits> Subchunks<'_, I> {
 }
 
 impl<I: ArrayToBytesCodecTraits> HeldShard<'_, '_, I> {
-    /// Copies a whole shard into a target, where the inner codec stores each subchunk as so many bytes that are its elements, the
-    /// target's subset has the shard's shape, and each subchunk is absent or has a slice of so many bytes. False where it is not
+    /// Copies a whole shard into a target, where the inner codec stores each subchunk as as many bytes that are its elements, the
+    /// target's subset has the shard's shape, and each subchunk is absent or has a slice of as many bytes. False where it is not
     /// so; the target is then as it was. Refused only as out of memory, which leaves the target.
     pub fn put_plain(
         &self,
@@ -134,7 +79,7 @@ impl<I: ArrayToBytesCodecTraits> HeldShard<'_, '_, I> {
         ensures refused { IfErr result (λ e. e ≡ OutOfMemory) }
     {
         let (index, shape, sub) = (self.index, self.shape, self.subchunks.shape);
-        if !same_axes(target.subset().shape(), shape.as_slice()) || !are_plain(index, size) {
+        if !same_axes(target.subset().shape(), shape.as_slice()) || !index.has_slices_of(size) {
             return Ok(false);
         }
         let grid = calculate_chunks_per_shard(alloc, shape, sub)?;

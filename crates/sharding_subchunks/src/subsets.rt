@@ -1,6 +1,5 @@
 // The cells of a subset of a shard, whose elements have one size: read subchunk by subchunk, each where the subset meets it.
-ghost use Rattle.std.specs.Prelude.{◌≡◌, ◌+◌, ◌*◌, ◌^◌, ◌<◌, ℕ, Some, IsTrue, IfOk, IfErr, OnOk, map, length, slice_index};
-ghost use Rattle.std.specs.List.{All};
+ghost use Rattle.std.specs.Prelude.{◌≡◌, ◌+◌, ◌*◌, ◌^◌, ◌<◌, Some, IsTrue, IfOk, IfErr, OnOk, map, length};
 ghost use Rattle.parts_errors.specs.Order.{RefusedBy};
 ghost use Rattle.parts_row_major.specs.Numbering.{count_of};
 ghost use Rattle.parts_row_major.specs.Subsets.{IsTarget, LiesIn, number_in, numbers_in};
@@ -14,7 +13,6 @@ ghost use Rattle.sharding_format.specs.Index.{slot_at};
 ghost use Rattle.sharding_format.specs.Cells.{indexed_cell};
 ghost use Rattle.sharding_format.specs.ReadRefusals.{AnswerRefusals, RefusesPositions};
 ghost use Rattle.sharding_format.specs.steps.Reading.{ReadByRefusals};
-ghost use Rattle.sharding_format.specs.declared.slot.Slot.TheVariants.{Absent};
 ghost use Rattle.sharding_subchunks.specs.steps.Inner.{inner_meaning};
 ghost use Rattle.sharding_subchunks.specs.Reads.{HasElementsOf, IsReadInto};
 
@@ -23,24 +21,11 @@ use codec_traits::{ArrayToBytesCodecTraits, StoredArray};
 use parts_arrays::{ArrayBytes, FixedTarget};
 use parts_errors::CodecError;
 use parts_subsets::ArraySubset;
-use sharding_format::{ShardIndex, Slot, calculate_chunks_per_shard, of_stored};
+use sharding_format::{Slot, calculate_chunks_per_shard, of_stored};
 use sharding_gather::{SubchunkOverlap, room_for, subchunk_overlap};
 use std::alloc::Global;
 use std::borrow::CowSlice;
 use storage_handles::{BytesPartialDecoderTraits, Interval};
-
-// Whether one of these subchunks is absent.
-fn any_absent(index: &ShardIndex, subchunks: &[u64]) -> bool
-    requires { All (λ k. 2 * k + 1 < length index.now.numbers.items) subchunks.now }
-    ensures { (j : ℕ) → j < length subchunks.now → slot_at index.now.len index.now.numbers.items (slice_index subchunks.now j) ≡ Absent → IsTrue result }
-{
-    for j in 0..subchunks.len() {
-        if index.slot(subchunks[j] as usize) == Slot::Absent {
-            return true;
-        }
-    }
-    false
-}
 
 impl<I: ArrayToBytesCodecTraits> StoredShard<'_, I> {
     // Reads the cells that a subset and the subchunk with a number both have to where they lie in the subset, whose elements have
@@ -139,7 +124,7 @@ impl<I: ArrayToBytesCodecTraits> StoredShard<'_, I> {
         let (shape, sub) = (self.shape, self.subchunks.shape);
         let touched = subset.touched_subchunks(alloc, shape, sub)?;
         let grid = calculate_chunks_per_shard(alloc, shape, sub)?;
-        let filled = any_absent(self.index, &touched);
+        let filled = self.index.any_absent_of(&touched);
         let mut bytes = room_for(alloc, filled, count as usize, fill)?;
         for j in 0..touched.len() {
             let number = touched[j];

@@ -1,5 +1,5 @@
 // A whole shard whose elements have one size, decoded subchunk by subchunk to where each lies in one piece of memory.
-ghost use Rattle.std.specs.Prelude.{◌≡◌, ◌+◌, ◌*◌, ◌/◌, ◌^◌, ◌<◌, ℕ, Some, IsTrue, IfOk, IfErr, IfSome, OnOk, map, length};
+ghost use Rattle.std.specs.Prelude.{◌≡◌, ◌*◌, ◌/◌, ◌^◌, ◌<◌, Some, IfOk, IfErr, IfSome, OnOk, map, length};
 ghost use Rattle.std.specs.List.{range_with_len};
 ghost use Rattle.parts_errors.specs.Order.{done, RefusedBy};
 ghost use Rattle.parts_row_major.specs.Numbering.{count_of};
@@ -7,11 +7,9 @@ ghost use Rattle.parts_row_major.specs.Pieces.{piece, pieces};
 ghost use Rattle.parts_subsets.specs.Grid.{grid_of, cell_number};
 ghost use Rattle.parts_arrays.specs.Types.{size_of};
 ghost use Rattle.parts_arrays.specs.declared.data_type.DataTypeSize.TheVariants.{Fixed};
-ghost use Rattle.sharding_format.specs.Index.{slot_at};
 ghost use Rattle.sharding_format.specs.Cells.{indexed_cell};
 ghost use Rattle.sharding_format.specs.DecodeRefusals.{RefusesSubchunk, SubchunkRefusals};
 ghost use Rattle.sharding_format.specs.steps.Decoding.{FitsSlot};
-ghost use Rattle.sharding_format.specs.declared.slot.Slot.TheVariants.{Absent};
 ghost use Rattle.sharding_subchunks.specs.Reads.{HasElementsOf};
 ghost use Rattle.sharding_subchunks.specs.steps.Inner.{spec_of_subchunks, inner_meaning};
 ghost use Rattle.sharding_subchunks.specs.steps.PlainSubchunks.{ArePlainSubchunks};
@@ -23,22 +21,10 @@ use codec_traits::ArrayToBytesCodecTraits;
 use parts_arrays::{ArrayBytes, FixedTarget};
 use parts_errors::CodecError;
 use parts_subsets::ChunkShape;
-use sharding_format::{ShardIndex, Slot, calculate_chunks_per_shard, of_stored, subchunk_subset};
+use sharding_format::{Slot, calculate_chunks_per_shard, of_stored, subchunk_subset};
 use sharding_gather::{first_subchunk, room_for};
 use std::alloc::Global;
 use std::borrow::CowSlice;
-
-// Whether some subchunk is absent.
-fn any_absent(index: &ShardIndex) -> bool
-    ensures { (k : ℕ) → k < length index.now.numbers.items / 2 → slot_at index.now.len index.now.numbers.items k ≡ Absent → IsTrue result }
-{
-    for k in 0..index.subchunks() {
-        if index.slot(k) == Slot::Absent {
-            return true;
-        }
-    }
-    false
-}
 
 impl<I: ArrayToBytesCodecTraits> HeldShard<'_, '_, I> {
     // Decodes the subchunk that a slot names to the cells of its subset, in the shard's elements, which have these bytes; nothing where
@@ -141,7 +127,7 @@ impl<I: ArrayToBytesCodecTraits> HeldShard<'_, '_, I> {
         let (index, sub) = (self.index, self.subchunks.shape);
         let fill = self.subchunks.fill_value.as_ne_bytes();
         let grid = calculate_chunks_per_shard(alloc, self.shape, sub)?;
-        let mut whole = room_for(alloc, any_absent(index), self.cells as usize, fill)?;
+        let mut whole = room_for(alloc, index.any_absent(), self.cells as usize, fill)?;
         let first = first_subchunk(alloc, self.shape, sub, &grid)?;
         let plain = self.subchunks.plain_in(self.shape, &grid, &first);
         for k in 0..index.subchunks() {

@@ -60,3 +60,9 @@ bytes_in fill positions (Some a) = sum_by length a.elements
 -- how many bytes the elements of all decoded subchunks have together
 abbrev pub bytes_gathered : List ℕ → ℕ → List (Option Array) → ℕ
 bytes_gathered fill positions chunks = sum_by (bytes_in fill positions) chunks
+
+-- a slot of a shard whose slices all have one length: absent, or in range of as many
+abbrev pub IsOfSize : ℕ → Slot → Type 0
+IsOfSize size Absent = Unit {0}
+IsOfSize size (InRange offset len) = len ≡ size
+IsOfSize size Bad = ⊥

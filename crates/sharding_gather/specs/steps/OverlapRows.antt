@@ -1,7 +1,7 @@
 -- Where a subset meets a subchunk, by rows in the array that the subset is read into and in the subchunk.
 use Rattle.std.specs.Prelude.{◌≡◌, ◌<◌, ◌+◌, ◌-◌, ℕ, List, length}
 use Rattle.parts_row_major.specs.Numbering.{count_of, zip_with}
-use Rattle.parts_row_major.specs.Subsets.{Subset, IsSubset, IsServed, number_in}
+use Rattle.parts_row_major.specs.Subsets.{Subset, IsSubset, IsServed, LiesIn, number_in}
 use Rattle.parts_subsets.specs.Grid.{grid_of, grid_subset}
 use Rattle.parts_subsets.specs.Overlaps.{overlap_of, relative_subset}
 use Rattle.parts_strided_copy.specs.Paired.{elements_in_rows, from_at, AreRowsWithin, AreRowsOf}
@@ -10,8 +10,8 @@ use Rattle.sharding_gather.specs.declared.overlap_rows.SubsetInGrid.{SubsetInGri
 use Rattle.sharding_gather.specs.SubchunkOverlaps.{IsSubchunkOverlap}
 use Rattle.sharding_gather.specs.steps.Placings.{shifted_subset}
 
--- the cells that a subset and a subchunk of a grid both have, as they lie in the shape, in the subchunk, and in an array in which the subset
--- stands at an origin
+-- the cells that a subset and a subchunk of a grid both have, as they lie in the shape, in the subchunk, and in an array in which
+-- the subset stands at an origin
 abbrev pub shared_subset : (start len grid sub : List ℕ) → ℕ → Subset
 shared_subset start len grid sub k = overlap_of (record { start = start; shape = len }) (grid_subset grid sub k)
 
@@ -23,7 +23,7 @@ shared_in_array start len grid sub origin k =
     let both = shared_subset start len grid sub k in
     record { start = zip_with ◌+◌ origin (zip_with ◌-◌ both.start start); shape = both.shape }
 
--- a subset, the grid, a subchunk of it that the subset meets, and an array in which the subset stands at an origin: both have the cells
+-- a subset, the grid, a subchunk of it that the subset meets, and an array in which the subset stands at an origin
 pub record CanShare (start len grid sub origin around : List ℕ) (k : ℕ) : Type 0 where
   pub well_formed : IsSubset start len
   pub below : k < count_of grid
@@ -40,9 +40,11 @@ pub record IsInShard (shape sub : List ℕ) (met : SubsetInGrid) : Type 0 where
   pub shape_is : met.shape.now ≡ shape
   pub sub_is : met.sub.now ≡ sub
   pub grid_is : met.grid.now ≡ grid_of shape sub
+  pub inside : LiesIn met.subset.now shape
 
 -- the rows of the overlap of a subset and subchunk k, where the subset is read into a subset of an array
-pub record AreOverlapRows (shape sub : List ℕ) (subset : Subset) (k : ℕ) (within : Subset) (around : List ℕ) (rows : PairedRows) : Type 0 where
+pub record AreOverlapRows
+    (shape sub : List ℕ) (subset : Subset) (k : ℕ) (within : Subset) (around : List ℕ) (rows : PairedRows) : Type 0 where
   pub in_subchunk : Subset
   pub in_subset : Subset
   pub meets : IsSubchunkOverlap shape sub subset k in_subchunk in_subset

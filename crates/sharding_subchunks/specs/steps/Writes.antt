@@ -7,7 +7,7 @@ use Rattle.parts_arrays.specs.Targets.{IsPartWritten}
 use Rattle.sharding_format.specs.Cells.{cell_in}
 use Rattle.sharding_format.specs.DecodeRefusals.{HasArray}
 use Rattle.sharding_format.specs.declared.slot.Slot.{Slot}
-use Rattle.sharding_format.specs.declared.slot.Slot.TheVariants.{Absent, InRange, Bad}
+use Rattle.sharding_format.specs.declared.slot.Slot.TheVariants.{Absent}
 
 -- the cells of the subchunk that a slot names stand where `position` says, in row-major order; where it is absent they do if fill values
 -- stood there before. All other elements are as before
@@ -17,12 +17,6 @@ pub record IsSlotWritten (inner_cells : CellsOf) (fill b : Bytes) (slot : Slot) 
   pub inside : (p : ℕ) → p < positions → (slot ≡ Absent → old (position p) ≡ fill)
       → cell_in inner_cells fill b slot p ≡ Some (new (position p))
   pub outside : (i : ℕ) → ((p : ℕ) → p < positions → position p ≢ i) → new i ≡ old i
-
--- a slot of a shard whose slices all have so many bytes: absent, or in range of as many
-abbrev pub IsOfSize : ℕ → Slot → Type 0
-IsOfSize size Absent = Unit {0}
-IsOfSize size (InRange offset len) = len ≡ size
-IsOfSize size Bad = ⊥
 
 -- the cells of the subchunk that a slot names, which are all there, overwrote a subset of a target's array in row-major order
 pub record IsSlotPut (inner_cells : CellsOf) (fill b : Bytes) (slot : Slot) (positions : ℕ) (position : Subset)

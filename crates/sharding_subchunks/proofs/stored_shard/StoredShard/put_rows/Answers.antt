@@ -23,7 +23,7 @@ returns-in-Some-clause-put g c = λ put position are.
       element = λ r. piece n c.in-Some.elements.now (from_at a.rows.now r);
       cells = λ t r lt. rw (c.in-InRange.is, same)
           (slice_read a.self.now.interval n c.in-InRange.offset a.size (from_at a.rows.now r) (count_of sub) state.contents c.in-Some.elements.now inner.cells (c.requires.inside t)
-          (omega (arith, fits, same)) read.requested (c.requires.from r lt) c.requires.plain.cells (read.told t));
+          (omega (arith, fits, same)) read.requested (c.requires.from.1 r lt) c.requires.plain.cells (read.told t));
       written = subst (λ n. IsPartWritten a.target.now c.copy_rows.new.self position (λ r. piece n c.in-Some.elements.now (from_at a.rows.now r))) c.requires.element (c.copy_rows.ensures position are);
     }
 
@@ -32,4 +32,4 @@ copy_rows-requires-clause-from g c = λ k lt.
     let s = c.args.self.now.subchunks in
     let n = length s.fill_value.now in
     let whole : length c.in-Some.elements.now ≡ count_of s.shape.now * n = search rules in
-    rw c.requires.element (omega (arith, row_fits (from_at c.args.rows.now k) n (count_of s.shape.now) n (c.requires.from k lt) (omega arith), whole))
+    rw c.requires.element (omega (arith, row_fits (from_at c.args.rows.now k) n (count_of s.shape.now) n (c.requires.from.1 k lt) (omega arith), whole))

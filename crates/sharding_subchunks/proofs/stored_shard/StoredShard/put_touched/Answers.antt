@@ -75,7 +75,7 @@ loop-j-preserved g c =
     record {
       read = read_then state (h.state c.loop-j.handle) (h.state c.put_rows.new.handle) inv.read c.in_ok-put_rows.ensures.read;
       so_far = subset_put_more (IsTrue state.transparent) inner.cells a.self.now.shape.now s.shape.now s.fill_value.now (interval_part a.self.now.interval state.contents) index a.self.now.interval.size a.met.now.subset.now touched first
-          c.args.self.now.divides c.requires.lies c.requires.touched sized c.requires.same j lt (c.requires.below j 0 lt) met.in_subchunk met.in_subset position met.meets
+          c.args.self.now.divides c.requires.met.inside c.requires.touched sized c.requires.same j lt (c.requires.below j 0 lt) met.in_subchunk met.in_subset position met.meets
           c.loop-j.target c.put_rows.new.target (rw c.subset.ensures at c.shape-lengths.ensures.well_formed) first.is_target.served.0 refl put inv.so_far;
     }
 
@@ -92,5 +92,5 @@ returns-clause-put g c = λ put t.
     let state = g.H.BytesPartialDecoderTraits.state a.handle.now in
     let sized : target_element_size a.target.now ≡ length s.fill_value.now = search rules in
     subset_put_all (IsTrue state.transparent) inner.cells a.self.now.shape.now s.shape.now s.fill_value.now (interval_part a.self.now.interval state.contents) a.self.now.index.now.numbers.items a.self.now.interval.size a.met.now.subset.now
-    c.args.touched.now a.target.now c.args.self.now.divides c.requires.lies c.requires.touched sized c.requires.same c.loop-j.j c.loop-j.target (omega arith)
+    c.args.touched.now a.target.now c.args.self.now.divides c.requires.met.inside c.requires.touched sized c.requires.same c.loop-j.j c.loop-j.target (omega arith)
     (sym (length-interval_part a.self.now.interval state.contents (c.requires.inside t))) t c.loop-j.invariant.so_far

@@ -1,7 +1,7 @@
 use Rattle.std.proofs.Common.{◌≡◌, ◌<◌, ℕ, length, get_or}
 use Rattle.parts_subsets.specs.Grid.{grid_subset}
 use Rattle.sharding_gather.specs.steps.Placings.{shifted_subset, no_subset}
-use Rattle.sharding_subchunks.proofs.plain_target.placed_subsets.Given as goal
+use Rattle.sharding_gather.proofs.placing.placed_subsets.Given as goal
 
 abbrev pub invariant-loop-k : goal.invariant-loop-k
 invariant-loop-k l = record {
