@@ -213,11 +213,9 @@ def test_write(program, name, path, expected):
 def update(program, name, path, expected, whole):
     """A subset of the array, whose elements are these, written over by chance: the other elements stay."""
     shape, size, dice = expected["shape"], len(whole) // max(len(expected["cells"]), 1), random.Random(name)
-    starts = [dice.randrange(length) if length else 0 for length in shape]
-    ends = [dice.randrange(start, length) + 1 if length else 0 for start, length in zip(starts, shape)]
+    starts, ends, subset = by_chance(shape, dice)
     places, cells = numbers(shape, starts, ends), [whole[place * size : (place + 1) * size] for place in range(len(expected["cells"]))]
     new = [cells[-1 - place] for place in places]
-    subset = ",".join(f"{start}..{end}" for start, end in zip(starts, ends))
     write(program, name, path, f"{path}.raw", [subset] if shape else [], b"".join(new))
     for place, cell in zip(places, new):
         cells[place] = cell
@@ -261,6 +259,22 @@ def test_compact(program, name, path, shards):
         compare(name, f"{key} compacted", hashlib.sha256(new).hexdigest(), wanted)
 
 
+def by_chance(shape, dice):
+    """A subset of a shape: where it starts, where it ends, and how it is written."""
+    starts = [dice.randrange(length) if length else 0 for length in shape]
+    ends = [dice.randrange(start, length) + 1 if length else 0 for start, length in zip(starts, shape)]
+    return starts, ends, ",".join(f"{start}..{end}" for start, end in zip(starts, ends))
+
+
+def test_subsets(program, name, path, expected, whole):
+    """Eight subsets by chance, of an array whose elements have these bytes."""
+    shape, size, dice = expected["shape"], len(whole) // max(len(expected["cells"]), 1), random.Random(f"{name}, read")
+    for _ in range(8 if shape else 0):
+        starts, ends, subset = by_chance(shape, dice)
+        wanted = b"".join(whole[place * size : (place + 1) * size] for place in numbers(shape, starts, ends))
+        compare(name, f"read of {subset}", run(program, "read", path, subset, "--raw"), (0, wanted, ""))
+
+
 def boxes(expected):
     """The subchunks of an array, as subsets, each with its cells."""
     shape, part = expected["shape"], expected["subchunk_shape"]
@@ -300,6 +314,7 @@ def test_read(program, name, path, expected, is_read):
     elif not expected["damaged"]:
         compare(name, "status of read", (ran[0], ran[2]), (0, ""))
         compare(name, "bytes read", hashlib.sha256(ran[1]).hexdigest(), expected["raw_sha256"])
+        test_subsets(program, name, path, expected, ran[1])
     else:
         compare(name, "status of read", (ran[0], ran[1]), (1, b""))
         for subset, cells in boxes(expected):
