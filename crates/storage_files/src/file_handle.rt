@@ -8,10 +8,10 @@ mod writes;
 
 use crate::count::Count;
 use crate::interval::interval_of;
-use crate::system::{end_of, open_if_there, read_at};
+use crate::system::{end_of, open_if_there};
 use parts_errors::CodecError;
 use std::alloc::{AllocError, Global};
-use std::io;
+use std::io::{self, Read, Seek, SeekFrom};
 use std::marker::Model;
 use std::rt::Files;
 use storage_handles::{ByteRange, LendsSlice};
@@ -30,6 +30,9 @@ pub struct FileHandle<R: Files> {
     path: String,
     // the file, once it was found
     file: Option<R::File>,
+    // its length as it was told last, and where the next read of it begins, where that is known
+    told_length: Option<u64>,
+    place: Option<u64>,
     // what was read last
     room: Vec<u8>,
     faults: Count,
@@ -61,6 +64,8 @@ impl<R: Files> FileHandle<R> {
             files,
             path: String::from_str(alloc, path)?,
             file: None,
+            told_length: None,
+            place: None,
             room: Vec::new(alloc),
             faults: Count::new(),
             fault_count: 0,
@@ -111,26 +116,56 @@ impl<R: Files> FileHandle<R> {
     }
 
     // The file's length, or none where there is no file.
-    fn length(&mut self) -> io::Result<Option<u64>>
+    fn measured(&mut self) -> io::Result<Option<u64>>
         ensures { self.new ≡ self.old }
     {
         self.open()?;
-        match &mut self.file {
-            Some(file) => {
-                let length = end_of(file)?;
-                Ok(Some(length))
-            }
-            None => Ok(None),
-        }
+        self.place = None;
+        self.told_length = match &mut self.file {
+            Some(file) => Some(end_of(file)?),
+            None => None,
+        };
+        Ok(self.told_length)
     }
 
-    // Fills the room, which has its size, with the bytes from an offset on.
+    // Fills the room, which has its size, with the bytes from an offset on. The file is moved there, unless it stands there.
     fn fill(&mut self, offset: u64) -> io::Result<()>
         ensures { self.new ≡ self.old }
     {
-        match &mut self.file {
-            Some(file) => read_at(file, offset, self.room.as_mut_slice()),
-            None => Err(io::ErrorKind::NotFound.into()),
+        let Some(file) = &mut self.file else {
+            return Err(io::ErrorKind::NotFound.into());
+        };
+        let stands_there = self.place == Some(offset);
+        self.place = None;
+        if !stands_there {
+            file.seek(SeekFrom::Start(offset))?;
+        }
+        file.read_exact(self.room.as_mut_slice())?;
+        self.place = offset.checked_add(self.room.len() as u64);
+        Ok(())
+    }
+
+    // Reads a range that begins at an offset and has a size, where the file held it when its length was told last; says whether it was
+    // read. The length is not asked once more: where the file is shorter now, the range is not read.
+    fn fetch_within(&mut self, range: ByteRange) -> Result<bool, CodecError>
+        ensures read { IsRead (untold self.old) (untold self.new) }
+        ensures requested { IfOk result (λ there. IsTrue there → IsRequestedSize range self.new.cached) }
+        ensures refused { IfErr result (IsCounted (untold self.old) (untold self.new)) }
+    {
+        let (Some(length), ByteRange::FromStart(_, Some(_))) = (self.told_length, range) else {
+            return Ok(false);
+        };
+        let Ok(interval) = interval_of(range, length) else {
+            return Ok(false);
+        };
+        self.room.resize(interval.size as usize, 0)?;
+        match self.fill(interval.offset) {
+            Ok(()) => Ok(true),
+            Err(error) if error.kind() == io::ErrorKind::UnexpectedEof => Ok(false),
+            Err(error) => {
+                self.noted::<()>(Err(error))?;
+                Ok(false)
+            }
         }
     }
 
@@ -140,7 +175,10 @@ impl<R: Files> FileHandle<R> {
         ensures requested { IfOk result (λ there. IsTrue there → IsRequestedSize range self.new.cached) }
         ensures refused { IfErr result (IsCounted (untold self.old) (untold self.new)) }
     {
-        let length = self.length();
+        if self.fetch_within(range)? {
+            return Ok(true);
+        }
+        let length = self.measured();
         let Some(length) = self.noted(length)? else {
             return Ok(false);
         };
@@ -161,7 +199,7 @@ impl<R: Files> LendsSlice for FileHandle<R> {
     }
 
     fn measure(&mut self) -> Result<Option<u64>, CodecError> {
-        let length = self.length();
+        let length = self.measured();
         self.noted(length)
     }
 

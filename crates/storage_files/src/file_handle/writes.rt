@@ -20,12 +20,14 @@ impl<R: Files> BytesPartialEncoderTraits for FileHandle<R> {
 
     fn replace(&mut self, alloc: Global, bytes: &[u8]) -> Result<(), CodecError> {
         self.file = None;
+        self.told_length = None;
         let replaced = replace_file(alloc, &self.files, self.path.as_str(), bytes);
         self.noted(replaced)
     }
 
     fn erase(&mut self) -> Result<(), CodecError> {
         self.file = None;
+        self.told_length = None;
         let removed = remove_if_there(&self.files, self.path.as_str());
         self.noted(removed)
     }
