@@ -1,7 +1,7 @@
 -- A chunk whose elements are read, changed in a subset, and encoded.
-use Rattle.std.proofs.Common.{◌≡◌, ℕ, zero, suc, ◌+◌, ◌<◌, List, [], ◌∷◌, Option, Some, None, length, get_or, replicate, refl, sym, subst, ap, ◌∙◌, arith}
+use Rattle.std.proofs.Common.{◌≡◌, ℕ, ◌<◌, List, Option, Some, None, length, get_or, replicate, sym, subst, ap, ◌∙◌, arith}
 use Rattle.parts_errors.specs.Words.{Bytes, CellsOf, Elements}
-use Rattle.parts_row_major.specs.Numbering.{count_of, number_of, point_of, zip_with}
+use Rattle.parts_row_major.specs.Numbering.{count_of}
 use Rattle.parts_row_major.specs.Pieces.{piece, pieces, IsUpdated}
 use Rattle.parts_row_major.specs.Subsets.{Subset, LiesIn, number_in}
 use Rattle.parts_row_major.proofs.PieceLaws.{length-pieces, number_in_below, piece_of-pieces}

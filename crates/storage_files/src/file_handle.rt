@@ -21,7 +21,8 @@ use storage_handles::{ByteRange, LendsSlice};
 /// a folder, a FIFO, a device, a link to nothing, also on the way.
 ///
 /// Read is what is asked for, and nothing else. The file is opened by the first call that reads, and stays open until it is
-/// replaced or erased here: so what another process puts in its place meanwhile is not seen. `partial_encode_many` writes
+/// replaced or erased here: so what another process puts in its place meanwhile is not seen. A range is measured against the
+/// file's length as it was told last, and once more where it passes that or the file ends before. `partial_encode_many` writes
 /// in place, and makes the folders that are missing. `replace` makes a `Replacement`: whoever reads, and whoever looks after a
 /// crash, finds the old object or the new one. It is refused while another one stands there.
 #[derive(Drop)]
