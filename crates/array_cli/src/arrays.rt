@@ -17,6 +17,9 @@ use std::borrow::CowSlice;
 use std::rt::Files;
 use storage_files::FileHandle;
 
+// How many bytes of a file are read at once at most, where its slices are small.
+const READ_AHEAD: usize = 65_536;
+
 /// A shard of an array: the key of its chunk, and the chunk's coordinates in the chunk grid.
 #[derive(Debug, Clone, Copy)]
 pub struct Shard<'s> {
@@ -219,6 +222,13 @@ impl<'a, R: Files + AllocGlobal, C> Array<'a, R, C> {
     pub fn file(&self, key: &str) -> Result<ShardFile<'a, R>, Stop> {
         let path = self.path_of(key)?;
         Ok(FileHandle::new(self.alloc(), self.rt, &path)?)
+    }
+
+    /// The file of the shard with this key, of which all slices are to be read: small ones that follow one another are read at once.
+    pub fn whole_file(&self, key: &str) -> Result<ShardFile<'a, R>, Stop> {
+        let mut file = self.file(key)?;
+        file.read_ahead(self.alloc(), READ_AHEAD);
+        Ok(file)
     }
 
     /// Why a shard is refused. What no shard is the cause of stops the command: what the system said, and memory.

@@ -190,7 +190,11 @@ fn check_shard<'a, R: Files + AllocGlobal, C: ShardCodec<ShardFile<'a, R>>, W: W
     checked: &mut Checked,
     told: &mut Told<'_, '_, W, M>,
 ) -> Result<(), Stop> {
-    let mut file = array.file(shard.key)?;
+    let mut file = if checked.is_index_alone {
+        array.file(shard.key)?
+    } else {
+        array.whole_file(shard.key)?
+    };
     match file.exists() {
         Ok(true) => check_file(array, shard, file, checked, told),
         Ok(false) => Ok(()),

@@ -136,13 +136,26 @@ fn read_placed<'a, 'e, R: Files + AllocGlobal, C, S: OpenShard<ShardFile<'a, R>>
     Err((error, place))
 }
 
+// The file of the shard in which a part of a subset lies.
+fn file_of<'a, R: Files + AllocGlobal, C>(
+    array: &Array<'a, R, C>,
+    part: &ShardPart,
+    shard: &Shard<'_>,
+) -> Result<ShardFile<'a, R>, Stop> {
+    if part.in_shard.shape() == array.metadata.shard.as_slice() {
+        array.whole_file(shard.key)
+    } else {
+        array.file(shard.key)
+    }
+}
+
 // Reads a part of a subset, which lies in a shard.
 fn read_shard<'a, 'e, R: Files + AllocGlobal, C: ShardCodec<ShardFile<'a, R>>>(
     array: &Array<'a, R, C>,
     part: &ShardPart,
     shard: &Shard<'_>,
 ) -> Result<ArrayBytes<'e>, Stop> {
-    let mut opened = array.opened(shard, array.file(shard.key)?)?;
+    let mut opened = array.opened(shard, file_of(array, part, shard)?)?;
     let read = read_placed(array, part, &mut opened);
     let file = opened.close();
     match read {

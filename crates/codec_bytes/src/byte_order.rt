@@ -1,5 +1,5 @@
 // The byte order of stored elements, and of those in memory.
-ghost use Rattle.std.specs.Prelude.{◌≡◌, ◌++◌, ◌<◌, ◌^◌, [], IfOk, IfErr, OnOk, OnErr, length, map, reverse, slice_index_or};
+ghost use Rattle.std.specs.Prelude.{◌≡◌, ◌++◌, ◌<◌, ◌^◌, [], IfOk, IfErr, OnOk, OnErr, length, map, reverse, slice_index_or, true};
 ghost use Rattle.std.specs.List.{All, concat};
 ghost use Rattle.std.specs.Cow.{cow_slice_items};
 ghost use Rattle.parts_errors.specs.declared.error.CodecError.TheVariants.{OutOfMemory};
@@ -130,6 +130,26 @@ pub(crate) fn array_of_bytes<'a>(
     }
 }
 
+// Elements of one size with the bytes of each reversed, where they lie.
+fn turned(
+    alloc: Global,
+    array: ArrayBytes<'static>,
+    size: usize,
+) -> Result<ArrayBytes<'static>, CodecError>
+    requires kind { array.kind ≡ Fixed size }
+    requires whole { IsWhole size (concat array.elements) }
+    ensures turned { IfOk result (λ turned. turned ≡ fixed_array size (concat (map (swapped true) (fixed_array size (concat array.entry.elements)).elements))) }
+    ensures refused { IfErr result (λ e. e ≡ OutOfMemory) }
+{
+    let bytes = array.into_fixed()?;
+    let mut elements = bytes.into_owned(alloc)?;
+    reverse_elements(&mut elements, size);
+    match ArrayBytes::new_flen(CowSlice::Owned(elements), size) {
+        Some(array) => Ok(array),
+        None => unreachable!(),
+    }
+}
+
 // The requested ones of stored elements, as they are in memory: only these are reversed.
 pub(crate) fn requested_in_memory<N: Indexer>(
     alloc: Global,
@@ -156,11 +176,8 @@ pub(crate) fn requested_in_memory<N: Indexer>(
     let stored = array_of_bytes(alloc, bytes, element.size, false)?;
     let requested = requested_elements(alloc, &stored, indexer, count, shape, data_type)?;
     if element.reversed {
-        let elements = copied(alloc, requested.bytes(), element.size, true)?;
-        return match ArrayBytes::new_flen(CowSlice::Owned(elements), element.size) {
-            Some(array) => Ok(array),
-            None => unreachable!(),
-        };
+        let turned = turned(alloc, requested, element.size)?;
+        return Ok(turned);
     }
     Ok(requested)
 }

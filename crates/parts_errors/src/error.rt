@@ -3,61 +3,45 @@ ghost use Rattle.std.specs.Prelude.{◌≡◌};
 ghost use Rattle.parts_errors.specs.Errors.{error_number, error_name};
 
 use std::alloc::{AllocError, AllocFailed};
-use thiserror::Error;
+use std::error::Error;
+use std::fmt;
 
 /// Why a call was refused. The numbers are those that `shard_tool` prints.
-#[derive(Debug, Clone, Copy, PartialEq, Eq, Error)]
+#[derive(Debug, Clone, Copy, PartialEq, Eq)]
 pub enum CodecError {
     /// 1: a growth was refused.
-    #[error("OutOfMemory")]
     OutOfMemory,
     /// 2: a count passes `u64::MAX`, a size passes `usize::MAX`, or an object would reach it.
-    #[error("TooLarge")]
     TooLarge,
     /// 3: numbers of axes differ.
-    #[error("IncompatibleDimensionality")]
     IncompatibleDimensionality,
     /// 4: a coordinate, a subset's end, a range or an interval lies outside.
-    #[error("OutOfBounds")]
     OutOfBounds,
     /// 5: another number of elements than asked.
-    #[error("InvalidNumberOfElements")]
     InvalidNumberOfElements,
     /// 6: the shape is not divided evenly into subchunks.
-    #[error("InvalidSubchunkShape")]
     InvalidSubchunkShape,
     /// 7: an object is shorter than its index.
-    #[error("ShardTooShort")]
     ShardTooShort,
     /// 8: the index codec's output is not of fixed size.
-    #[error("VariableIndexSize")]
     VariableIndexSize,
     /// 9: a bad pair of the index, by its subchunk's number.
-    #[error("BadIndexEntry {number}")]
     BadIndexEntry { number: u64 },
     /// 10: a type that the codec does not serve.
-    #[error("UnsupportedDataType")]
     UnsupportedDataType,
     /// 11: the fill value does not fit the fixed type.
-    #[error("BadFillValue")]
     BadFillValue,
     /// 12: fixed for variable elements, variable for fixed, or another element size.
-    #[error("WrongElementKind")]
     WrongElementKind,
     /// 13: a write by another indexer than a subset.
-    #[error("UnsupportedIndexer")]
     UnsupportedIndexer,
     /// 14: an encoder refused the elements.
-    #[error("CannotEncode")]
     CannotEncode,
     /// 15: stored bytes that do not decode.
-    #[error("Damaged")]
     Damaged,
     /// 16: the handle failed.
-    #[error("Fault")]
     Fault,
     /// 17: a writing call failed before.
-    #[error("SessionFailed")]
     SessionFailed,
 }
 
@@ -112,6 +96,17 @@ impl CodecError {
         }
     }
 }
+
+impl fmt::Display for CodecError {
+    fn fmt<W: fmt::Write>(&self, f: &mut fmt::Formatter<W>) -> fmt::Result {
+        match self {
+            CodecError::BadIndexEntry { number } => write!(f, "BadIndexEntry {number}"),
+            _ => f.write_str(self.name()),
+        }
+    }
+}
+
+impl Error for CodecError {}
 
 impl From<AllocError> for CodecError {
     ghost use Rattle.std.specs.Prelude.{◌≡◌};

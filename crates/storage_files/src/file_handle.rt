@@ -8,19 +8,20 @@ mod writes;
 
 use crate::count::Count;
 use crate::interval::interval_of;
+use crate::read_ahead::ReadAhead;
 use crate::system::{end_of, open_if_there};
 use parts_errors::CodecError;
 use std::alloc::{AllocError, Global};
 use std::io::{self, Read, Seek, SeekFrom};
 use std::marker::Model;
 use std::rt::Files;
-use storage_handles::{ByteRange, LendsSlice};
+use storage_handles::{ByteRange, Interval, LendsSlice};
 
 /// An object that is a regular file of the system, maybe through links; where nothing of that name is there, there is no
 /// object. It never is transparent, and each error of input or output is a `Fault`, as is anything else that stands there:
 /// a folder, a FIFO, a device, a link to nothing, also on the way.
 ///
-/// Read is what is asked for, and nothing else. The file is opened by the first call that reads, and stays open until it is
+/// Read is what is asked for, and nothing else unless `read_ahead` asks for more. The file is opened by the first call that reads, and stays open until it is
 /// replaced or erased here: so what another process puts in its place meanwhile is not seen. A range is measured against the
 /// file's length as it was told last, and once more where it passes that or the file ends before. `partial_encode_many` writes
 /// in place, and makes the folders that are missing. `replace` makes a `Replacement`: whoever reads, and whoever looks after a
@@ -36,6 +37,7 @@ pub struct FileHandle<R: Files> {
     place: Option<u64>,
     // what was read last
     room: Vec<u8>,
+    ahead: ReadAhead,
     faults: Count,
     // as `u64::MAX` where it would pass that
     fault_count: u64,
@@ -68,10 +70,20 @@ impl<R: Files> FileHandle<R> {
             told_length: None,
             place: None,
             room: Vec::new(alloc),
+            ahead: ReadAhead::of_size(alloc, 0),
             faults: Count::new(),
             fault_count: 0,
             error: None,
         })
+    }
+
+    /// From now on, where a range of at most an eighth of `size` bytes is requested, `size` bytes from there on are read, as far as
+    /// the file has them, and what lies among them is not read again. Whoever requests all ranges of a file in their order makes fewer
+    /// calls of the system so; what another process writes meanwhile may not be seen. 0 where nothing is to be read ahead.
+    pub fn read_ahead(&mut self, alloc: Global, size: usize)
+        ensures { self.new ≡ self.old }
+    {
+        self.ahead = ReadAhead::of_size(alloc, size);
     }
 
     /// How often a call of the system failed, or `u64::MAX` where that is more.
@@ -122,6 +134,7 @@ impl<R: Files> FileHandle<R> {
     {
         self.open()?;
         self.place = None;
+        self.ahead.forget();
         self.told_length = match &mut self.file {
             Some(file) => Some(end_of(file)?),
             None => None,
@@ -129,21 +142,69 @@ impl<R: Files> FileHandle<R> {
         Ok(self.told_length)
     }
 
-    // Fills the room, which has its size, with the bytes from an offset on. The file is moved there, unless it stands there.
-    fn fill(&mut self, offset: u64) -> io::Result<()>
+    // Makes room for the bytes of an interval of the file, which has a length, and for those that are read with them.
+    fn make_room(&mut self, interval: Interval, length: u64) -> Result<(), AllocError>
+        ensures cached { OnOk result (self.new.cached ≡ interval.size) }
+        ensures faults { self.new.faults ≡ self.old.faults }
+    {
+        let size = interval.size as usize;
+        self.room.resize(size, 0)?;
+        if self.ahead.is_worth(size) {
+            self.ahead
+                .make_room(length.saturating_sub(interval.offset))?;
+        }
+        Ok(())
+    }
+
+    // Moves the file to an offset, unless it stands there. Where it stands then is not known until it was read.
+    fn move_to(&mut self, offset: u64) -> io::Result<()>
+        ensures { self.new ≡ self.old }
+    {
+        let stands_there = self.place == Some(offset);
+        self.place = None;
+        match &mut self.file {
+            None => Err(io::ErrorKind::NotFound.into()),
+            Some(_) if stands_there => Ok(()),
+            Some(file) => {
+                file.seek(SeekFrom::Start(offset))?;
+                Ok(())
+            }
+        }
+    }
+
+    // Reads the bytes from an offset on, where the file stands, into the room, which has its size; or, where that is small, more of
+    // them, as many as the file has and are read ahead. Gives how many.
+    fn read_there(&mut self, offset: u64) -> io::Result<usize>
         ensures { self.new ≡ self.old }
     {
         let Some(file) = &mut self.file else {
             return Err(io::ErrorKind::NotFound.into());
         };
-        let stands_there = self.place == Some(offset);
-        self.place = None;
-        if !stands_there {
-            file.seek(SeekFrom::Start(offset))?;
+        if self.ahead.is_worth(self.room.len()) {
+            let left = self.told_length.unwrap_or(0).saturating_sub(offset);
+            return self.ahead.read(file, offset, left);
         }
         file.read_exact(self.room.as_mut_slice())?;
-        self.place = offset.checked_add(self.room.len() as u64);
-        Ok(())
+        Ok(self.room.len())
+    }
+
+    // Fills the room, which has its size, with the bytes from an offset on.
+    fn fill(&mut self, offset: u64) -> io::Result<()>
+        ensures { self.new ≡ self.old }
+    {
+        if self.ahead.copy(offset, self.room.as_mut_slice()) {
+            return Ok(());
+        }
+        self.move_to(offset)?;
+        let count = self.read_there(offset)?;
+        self.place = offset.checked_add(count as u64);
+        if !self.ahead.is_worth(self.room.len())
+            || self.ahead.copy(offset, self.room.as_mut_slice())
+        {
+            Ok(())
+        } else {
+            Err(io::ErrorKind::UnexpectedEof.into())
+        }
     }
 
     // Reads a range that begins at an offset and has a size, where the file held it when its length was told last; says whether it was
@@ -159,7 +220,7 @@ impl<R: Files> FileHandle<R> {
         let Ok(interval) = interval_of(range, length) else {
             return Ok(false);
         };
-        self.room.resize(interval.size as usize, 0)?;
+        self.make_room(interval, length)?;
         match self.fill(interval.offset) {
             Ok(()) => Ok(true),
             Err(error) if error.kind() == io::ErrorKind::UnexpectedEof => Ok(false),
@@ -184,7 +245,7 @@ impl<R: Files> FileHandle<R> {
             return Ok(false);
         };
         let interval = interval_of(range, length)?;
-        self.room.resize(interval.size as usize, 0)?;
+        self.make_room(interval, length)?;
         let filled = self.fill(interval.offset);
         self.noted(filled)?;
         Ok(true)

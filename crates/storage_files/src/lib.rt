@@ -6,6 +6,7 @@ mod entries;
 mod file_handle;
 mod file_range;
 mod interval;
+mod read_ahead;
 mod replacement;
 mod system;
 

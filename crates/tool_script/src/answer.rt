@@ -2,7 +2,7 @@
 use zarr_parts::ArrayBytes;
 
 /// What a command answers.
-#[derive(Debug, Drop)]
+#[derive(Drop)]
 pub enum Answer<'a> {
     /// It was done.
     Done,
@@ -21,7 +21,7 @@ pub enum Answer<'a> {
 }
 
 /// What became of a command.
-#[derive(Debug, Clone, Copy, PartialEq, Eq)]
+#[derive(Clone, Copy)]
 pub enum Outcome {
     /// It was answered.
     Answered,

@@ -11,7 +11,7 @@ use zarr_parts::{ArrayBytes, ArraySubset, ChunkShape, Coordinates, FillValue};
 use zarrs_sharding::{ShardingIndexLocation, SubchunkWriteOrder};
 
 /// What a shard is to be: the words of the command `shard`.
-#[derive(Debug, Drop)]
+#[derive(Drop)]
 pub struct Settings {
     pub shape: ChunkShape,
     pub subchunk_shape: ChunkShape,
@@ -21,7 +21,7 @@ pub struct Settings {
 }
 
 /// What is done with a shard: with its object, or with its codec.
-#[derive(Debug, Drop)]
+#[derive(Drop)]
 pub enum Work {
     /// Encodes elements; the encoding is the object then.
     Encode(ArrayBytes<'static>),
@@ -44,7 +44,7 @@ pub enum Work {
 }
 
 /// What is told of the object of a shard.
-#[derive(Debug, Clone, Copy)]
+#[derive(Clone, Copy)]
 pub enum Look {
     /// The numbers of its index.
     Index,
@@ -55,7 +55,7 @@ pub enum Look {
 }
 
 /// A command of a script.
-#[derive(Debug, Drop)]
+#[derive(Drop)]
 pub enum Command<'a> {
     /// Takes another codec for other arrays; there is no object then.
     Shard(Settings),

@@ -14,7 +14,7 @@ use zarr_parts::CodecError;
 use zarrs_sharding::{ShardingCodec, ShardingCodecConfiguration, SubchunkWriteOrder};
 
 /// Why a configuration is refused.
-#[derive(Debug, PartialEq, Eq, Drop)]
+#[derive(Drop)]
 pub enum ConfigureError {
     /// As metadata: the text is no JSON, or configures no such codec.
     Create(PluginCreateError),

@@ -6,7 +6,7 @@ ghost use Rattle.tool_script.specs.Elements.{number_type, type_of, width_of, IsS
 use zarr_parts::DataType;
 
 /// A type of whole numbers without sign.
-#[derive(Debug, Clone, Copy, PartialEq, Eq)]
+#[derive(Clone, Copy)]
 pub enum NumberType {
     UInt8,
     UInt16,
@@ -16,7 +16,7 @@ pub enum NumberType {
 
 /// A type of elements that a script can name: whole numbers without sign, or bytes, of which each element has a length of its
 /// own.
-#[derive(Debug, Clone, Copy, PartialEq, Eq)]
+#[derive(Clone, Copy)]
 pub enum ElementType {
     Number(NumberType),
     Bytes,

@@ -6,7 +6,7 @@ ghost use Rattle.tool_script.specs.Text.{pieces_left, text_left};
 
 /// The pieces of a text between one separator, first to last. A text without it is one piece, also where it
 /// is empty.
-#[derive(Debug, Drop)]
+#[derive(Drop)]
 pub struct Pieces<'a> {
     rest: Option<&'a [u8]>,
     separator: u8,

@@ -1,7 +1,7 @@
 // Why a line is no command's.
 
 /// A mistake in a line.
-#[derive(Debug, Clone, Copy, PartialEq, Eq)]
+#[derive(Clone, Copy)]
 pub enum Mistake {
     /// A word ends where no word begins: two spaces in a row, or one at an end of the line.
     SpaceTooMany,
@@ -42,7 +42,7 @@ pub enum Mistake {
 }
 
 /// Why a line is no command's: a mistake, and the text of the line that shows it; none where the mistake alone says enough.
-#[derive(Debug, Clone, Copy)]
+#[derive(Clone, Copy)]
 pub struct Reason<'a> {
     pub mistake: Mistake,
     pub text: &'a [u8],

@@ -5,7 +5,7 @@ use std::alloc::{AllocError, AllocFailed};
 use std::io;
 
 /// Why a script ends before its input does.
-#[derive(Debug, Clone, Copy)]
+#[derive(Clone, Copy)]
 pub enum Stop<'a> {
     /// A line that is no command's, and why.
     Malformed(Reason<'a>),

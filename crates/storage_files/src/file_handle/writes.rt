@@ -14,6 +14,7 @@ impl<R: Files> BytesPartialEncoderTraits for FileHandle<R> {
         pieces: &[(u64, &[u8])],
     ) -> Result<(), CodecError> {
         let furthest = furthest_end(pieces)?;
+        self.ahead.forget();
         let written = write_in_place(&self.files, self.path.as_str(), pieces, furthest);
         self.noted(written)
     }
@@ -21,6 +22,7 @@ impl<R: Files> BytesPartialEncoderTraits for FileHandle<R> {
     fn replace(&mut self, alloc: Global, bytes: &[u8]) -> Result<(), CodecError> {
         self.file = None;
         self.told_length = None;
+        self.ahead.forget();
         let replaced = replace_file(alloc, &self.files, self.path.as_str(), bytes);
         self.noted(replaced)
     }
@@ -28,6 +30,7 @@ impl<R: Files> BytesPartialEncoderTraits for FileHandle<R> {
     fn erase(&mut self) -> Result<(), CodecError> {
         self.file = None;
         self.told_length = None;
+        self.ahead.forget();
         let removed = remove_if_there(&self.files, self.path.as_str());
         self.noted(removed)
     }
