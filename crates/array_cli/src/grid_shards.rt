@@ -1,4 +1,7 @@
 // The shards of an array's grid, and subsets that are whole.
+ghost use Rattle.std.specs.Prelude.{◌≡◌, IfOk};
+ghost use Rattle.array_cli.specs.Padded.{at_start};
+
 use crate::arrays::{Array, Shard};
 use crate::stop::Stop;
 use array_grid::{ShardGrid, SubsetCells};
@@ -9,7 +12,9 @@ use std::alloc::{AllocError, Global};
 use std::rt::Files;
 
 /// The subset of an array of a shape that is all of it.
-pub fn whole_of(alloc: Global, shape: &[u64]) -> Result<ArraySubset, AllocError> {
+pub fn whole_of(alloc: Global, shape: &[u64]) -> Result<ArraySubset, AllocError>
+    ensures { IfOk result (λ whole. whole ≡ at_start shape.now) }
+{
     ArraySubset::new_with_shape(alloc, Vec::from_slice(alloc, shape)?)
 }
 

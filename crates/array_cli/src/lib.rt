@@ -3,10 +3,12 @@
 #![tactic(auto)]
 
 mod arrays;
+mod chunk_encoding;
 mod codec_use;
 mod compaction_plans;
 mod folder;
 mod grid_shards;
+mod padded;
 mod progress;
 mod refusal;
 mod shard_codec;
@@ -18,15 +20,17 @@ mod system;
 mod whole_chunks;
 
 pub use arrays::{Array, Shard, described, metadata_of, turned};
+pub use chunk_encoding::{encode_chunk, encode_padded};
 pub use codec_use::{CodecUse, with_codec};
 pub use compaction_plans::Planned;
 pub use folder::{shard_of, write_folder, write_folder_lines};
 pub use grid_shards::{
     GridShard, chunk_of_fill_values, elements_of, shard_of_grid, shards_of, whole_of,
 };
+pub use padded::padded_chunk;
 pub use progress::Progress;
 pub use refusal::{Place, Refusal, put_refusal};
-pub use shard_codec::{OpenShard, ShardCodec, ShardEncoder, ShardFile, encode_chunk};
+pub use shard_codec::{OpenShard, ShardCodec, ShardEncoder, ShardFile};
 pub use shard_indexes::DecodeIndexes;
 pub use shared_array::{SharedArray, open_shared};
 pub use stop::{Ending, Stop, written};

@@ -1,10 +1,9 @@
 // The codec of an array's shards, by what commands do with it: the traits have these calls, so that commands need none of its laws.
-ghost use Rattle.std.specs.Prelude.{◌≡◌, ◌*◌, IfOk, MatchOption, length};
-ghost use Rattle.std.specs.List.{All};
-ghost use Rattle.parts_arrays.specs.ArraySpec.{array_spec};
+ghost use Rattle.std.specs.Prelude.{◌≡◌, ◌*◌, IfOk, length};
 ghost use Rattle.parts_row_major.specs.Numbering.{count_of};
 ghost use Rattle.parts_subsets.specs.Grid.{grid_of};
 
+use crate::chunk_encoding::encode_chunk;
 use crate::compaction_plans::{Planned, plan_of};
 use crate::shard_indexes::{DecodeIndexes, ShardIndexes};
 use array_metadata::ArrayMetadata;
@@ -228,34 +227,6 @@ pub(crate) fn whole_index<I, X: ArrayToBytesCodecTraits, H: BytesPartialDecoderT
         size: len,
     };
     codec.read_index(alloc, object, whole, shape, &CodecOptions::default())
-}
-
-/// The bytes of a chunk that has these elements, in row-major order, or `None` where each of them is the fill value: then it has no file
-/// (Zarr V3 core, "Chunk keys"). Refused as the codec's `encode` refuses.
-pub fn encode_chunk<C: ArrayToBytesCodecTraits>(
-    alloc: Global,
-    codec: &C,
-    elements: &ArrayBytes,
-    metadata: &ArrayMetadata,
-) -> Result<Option<Vec<u8>>, CodecError>
-    ensures { let m = C.meaning codec.now (array_spec metadata.now.shard metadata.now.data_type metadata.now.fill_value) in
-        IfOk result (λ chunk. MatchOption chunk (All (λ element. element ≡ metadata.now.fill_value) elements.now.elements)
-        (λ bytes. m.written elements.now.elements bytes.items)) }
-{
-    if elements.is_fill_value(&metadata.fill_value) {
-        return Ok(None);
-    }
-    let (shard, data_type) = (&metadata.shard, &metadata.data_type);
-    let options = CodecOptions::default();
-    let bytes = codec.encode(
-        alloc,
-        elements,
-        shard,
-        data_type,
-        &metadata.fill_value,
-        &options,
-    )?;
-    Ok(Some(bytes))
 }
 
 impl<

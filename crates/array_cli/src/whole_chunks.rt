@@ -1,9 +1,8 @@
 // Chunks that are no shards, by what commands do with shards: such a chunk is one subchunk, whose bytes are those of the file.
+use crate::chunk_encoding::encode_chunk;
 use crate::compaction_plans::Planned;
 use crate::grid_shards::whole_of;
-use crate::shard_codec::{
-    OpenShard, ShardCodec, ShardEncoder, check_served, encode_chunk, test_decoding,
-};
+use crate::shard_codec::{OpenShard, ShardCodec, ShardEncoder, check_served, test_decoding};
 use crate::shard_indexes::DecodeIndexes;
 use array_metadata::ArrayMetadata;
 use codec_traits::{ArrayToBytesCodecTraits, StoredArray};

@@ -1,7 +1,6 @@
 // The chunks of a new array, by the elements at their start; behind the array's end they have fill values.
-use crate::new_folder::encoded;
-use array_cli::{chunk_of_fill_values, turned, whole_of};
-use array_grid::{SubsetCells, VaryingCells};
+use array_cli::{encode_chunk, encode_padded, turned, whole_of};
+use array_grid::VaryingCells;
 use array_metadata::ArrayMetadata;
 use parts_arrays::ArrayBytes;
 use parts_errors::CodecError;
@@ -10,58 +9,18 @@ use std::alloc::{AllocError, Global};
 use std::borrow::CowSlice;
 use std::rt::Files;
 
-// Puts elements, which have a shape, at the start of a chunk.
-fn put_at_start(
-    alloc: Global,
-    shape: &[u64],
-    elements: &[u8],
-    new: &ArrayMetadata,
-    cells: &mut SubsetCells,
-) -> Result<(), CodecError> {
-    let part = whole_of(alloc, shape)?;
-    let size = new.fill_value.as_ne_bytes().len();
-    match ArrayBytes::new_flen(CowSlice::Borrowed(elements), size) {
-        Some(elements) => cells.put(&part, &elements),
-        None => Err(CodecError::WrongElementKind),
-    }
-}
-
 // The bytes of a chunk, at whose start elements stand that have a shape; `None` where it has no file.
-fn encoded_padded<R: Files + AllocGlobal>(
-    rt: &R,
-    shape: &[u64],
-    elements: &[u8],
-    new: &ArrayMetadata,
-) -> Result<Option<Vec<u8>>, CodecError> {
-    let mut cells = chunk_of_fill_values(rt.alloc(), new)?;
-    put_at_start(rt.alloc(), shape, elements, new, &mut cells)?;
-    encoded(rt, &cells.array(), new)
-}
-
-// The bytes of a chunk whose elements these are; `None` where it has no file.
-fn encoded_whole<R: Files + AllocGlobal>(
-    rt: &R,
-    elements: &[u8],
-    new: &ArrayMetadata,
-) -> Result<Option<Vec<u8>>, CodecError> {
-    let size = new.fill_value.as_ne_bytes().len();
-    match ArrayBytes::new_flen(CowSlice::Borrowed(elements), size) {
-        Some(elements) => encoded(rt, &elements, new),
-        None => Err(CodecError::WrongElementKind),
-    }
-}
-
-// The bytes of a chunk, at whose start elements stand that have a shape: these alone where they are all of it, so that they are not copied.
 fn encoded_stored<R: Files + AllocGlobal>(
     rt: &R,
     shape: &[u64],
     elements: &[u8],
     new: &ArrayMetadata,
 ) -> Result<Option<Vec<u8>>, CodecError> {
-    if shape == new.shard.as_slice() {
-        return encoded_whole(rt, elements, new);
+    let size = new.fill_value.as_ne_bytes().len();
+    match ArrayBytes::new_flen(CowSlice::Borrowed(elements), size) {
+        Some(elements) => encode_padded(rt.alloc(), &new.codec, shape, &elements, new),
+        None => Err(CodecError::WrongElementKind),
     }
-    encoded_padded(rt, shape, elements, new)
 }
 
 /// The bytes of a chunk of a new array, at whose start elements of one size stand that have a shape, least significant byte first; `None`
@@ -133,7 +92,7 @@ pub fn encoded_varying<R: Files + AllocGlobal>(
     let fill = new.fill_value.as_ne_bytes();
     let (bytes, offsets) = laid_out(rt.alloc(), elements, &places, fill)?;
     match ArrayBytes::new_vlen(CowSlice::Owned(bytes), offsets) {
-        Some(elements) => encoded(rt, &elements, new),
+        Some(elements) => encode_chunk(rt.alloc(), &new.codec, &elements, new),
         None => Err(CodecError::WrongElementKind),
     }
 }

@@ -1,8 +1,6 @@
 // The folder of a new array, which stands beside its path until it is whole.
-use array_cli::{Array, CodecUse, ShardCodec, ShardEncoder, ShardFile, Stop, with_codec};
+use array_cli::{Array, CodecUse, ShardCodec, ShardFile, Stop, with_codec};
 use array_metadata::ArrayMetadata;
-use parts_arrays::ArrayBytes;
-use parts_errors::CodecError;
 use std::io::ErrorKind;
 use std::rt::Files;
 use std::{fs, io};
@@ -90,37 +88,4 @@ pub fn test_served<R: Files + AllocGlobal>(
     metadata: &ArrayMetadata,
 ) -> Result<(), Stop> {
     with_codec(metadata, NewArrayTest { rt, path, metadata })
-}
-
-// The elements of a shard that is to be encoded.
-#[derive(Drop)]
-struct Unencoded<'t, 'e, R> {
-    rt: &'t R,
-    elements: &'t ArrayBytes<'e>,
-    metadata: &'t ArrayMetadata,
-}
-
-impl<'t, R: Files + AllocGlobal> CodecUse<ShardFile<'t, R>> for Unencoded<'t, '_, R> {
-    type Answer = Result<Option<Vec<u8>>, CodecError>;
-
-    fn with<C: ShardCodec<ShardFile<'t, R>>>(
-        self,
-        codec: C,
-    ) -> Result<Option<Vec<u8>>, CodecError> {
-        codec.encode(self.rt.alloc(), self.elements, self.metadata)
-    }
-}
-
-/// The bytes of a shard of a new array that has these elements, by the codec that its metadata names, as `encode_chunk` says.
-pub fn encoded<R: Files + AllocGlobal>(
-    rt: &R,
-    elements: &ArrayBytes,
-    metadata: &ArrayMetadata,
-) -> Result<Option<Vec<u8>>, CodecError> {
-    let unencoded = Unencoded {
-        rt,
-        elements,
-        metadata,
-    };
-    with_codec(metadata, unencoded)
 }
