@@ -20,13 +20,41 @@ fn shape_of<R: Abort>(rt: &R, alloc: Global, axes: &[u64]) -> ChunkShape {
         .expect(rt, "does not fit")
 }
 
-fn codec_of<R: Abort>(rt: &R, alloc: Global) -> Codec {
-    ShardingCodec::new(
-        shape_of(rt, alloc, &[1, 2]),
-        BytesCodec::little(),
-        BytesCodec::little(),
-        ShardingIndexLocation::End,
-    )
+// What an array is made of.
+#[derive(Drop)]
+struct Scene {
+    codec: Codec,
+    chunk: ChunkShape,
+    fill_value: FillValue,
+}
+
+fn scene_of<R: Abort>(rt: &R, alloc: Global) -> Scene {
+    let (subchunk, little) = (shape_of(rt, alloc, &[1, 2]), BytesCodec::little());
+    Scene {
+        codec: ShardingCodec::new(subchunk, little, little, ShardingIndexLocation::End),
+        chunk: shape_of(rt, alloc, &[2, 2]),
+        fill_value: FillValue::from_number(alloc, 9u8).expect(rt, "refused"),
+    }
+}
+
+impl Scene {
+    // The array, of which no chunk is there.
+    fn array(&self, alloc: Global) -> Array<'_, MemoryStore, Codec> {
+        Array {
+            store: MemoryStore::new(alloc),
+            codec: &self.codec,
+            format: ArrayFormat {
+                shape: &[3, 4],
+                chunk: &self.chunk,
+                data_type: &DataType::UInt8,
+                fill_value: &self.fill_value,
+                keys: ChunkKeys {
+                    encoding: KeyEncoding::Default,
+                    slashes: true,
+                },
+            },
+        }
+    }
 }
 
 // Writes the elements of a chunk.
@@ -69,20 +97,6 @@ fn read_back<R: Abort>(
     assert_eq!(rt; room.bytes(), want);
 }
 
-// What the metadata says of the array.
-fn format_of<'a>(chunk: &'a ChunkShape, fill_value: &'a FillValue) -> ArrayFormat<'a> {
-    ArrayFormat {
-        shape: &[3, 4],
-        chunk,
-        data_type: &DataType::UInt8,
-        fill_value,
-        keys: ChunkKeys {
-            encoding: KeyEncoding::Default,
-            slashes: true,
-        },
-    }
-}
-
 // Writes the chunks at (0, 0) and (1, 1).
 fn write_two<R: Abort>(rt: &R, alloc: Global, array: &mut Array<'_, MemoryStore, Codec>) {
     write(rt, alloc, array, &[0, 0], &[1, 2, 3, 4]);
@@ -92,14 +106,8 @@ fn write_two<R: Abort>(rt: &R, alloc: Global, array: &mut Array<'_, MemoryStore,
 #[test]
 fn a_subset_is_read_from_each_chunk_that_it_meets(rt: HostRuntime) {
     let alloc = rt.alloc();
-    let codec = codec_of(&rt, alloc);
-    let chunk = shape_of(&rt, alloc, &[2, 2]);
-    let fill_value = FillValue::new([9u8].as_slice().to_vec(alloc).expect(&rt, "refused"));
-    let mut array = Array {
-        store: MemoryStore::new(alloc),
-        codec: &codec,
-        format: format_of(&chunk, &fill_value),
-    };
+    let scene = scene_of(&rt, alloc);
+    let mut array = scene.array(alloc);
     write_two(&rt, alloc, &mut array);
     let subset = middle(&rt, alloc);
     read_back(&rt, alloc, &array, &subset, &[4, 9, 9, 5]);
@@ -112,14 +120,8 @@ fn a_subset_is_read_from_each_chunk_that_it_meets(rt: HostRuntime) {
 #[test]
 fn a_subset_is_written_into_each_chunk_that_it_meets(rt: HostRuntime) {
     let alloc = rt.alloc();
-    let codec = codec_of(&rt, alloc);
-    let chunk = shape_of(&rt, alloc, &[2, 2]);
-    let fill_value = FillValue::new([9u8].as_slice().to_vec(alloc).expect(&rt, "refused"));
-    let mut array = Array {
-        store: MemoryStore::new(alloc),
-        codec: &codec,
-        format: format_of(&chunk, &fill_value),
-    };
+    let scene = scene_of(&rt, alloc);
+    let mut array = scene.array(alloc);
     write_two(&rt, alloc, &mut array);
     let new = [10u8, 11, 12, 13];
     let elements = ArrayBytes::new_flen(CowSlice::Borrowed(&new), 1).expect(&rt, "one byte each");
@@ -134,14 +136,8 @@ fn a_subset_is_written_into_each_chunk_that_it_meets(rt: HostRuntime) {
 #[test]
 fn a_refused_write_lists_the_chunks_before(rt: HostRuntime) {
     let alloc = rt.alloc();
-    let codec = codec_of(&rt, alloc);
-    let chunk = shape_of(&rt, alloc, &[2, 2]);
-    let fill_value = FillValue::new([9u8].as_slice().to_vec(alloc).expect(&rt, "refused"));
-    let mut array = Array {
-        store: MemoryStore::new(alloc),
-        codec: &codec,
-        format: format_of(&chunk, &fill_value),
-    };
+    let scene = scene_of(&rt, alloc);
+    let mut array = scene.array(alloc);
     write_two(&rt, alloc, &mut array);
     let damaged = [0u8].as_slice().to_vec(alloc).expect(&rt, "refused");
     array
@@ -175,14 +171,8 @@ const COMPACT: &[u8] = &[
 #[test]
 fn a_chunk_is_compacted_where_it_is_there_and_not_compact(rt: HostRuntime) {
     let alloc = rt.alloc();
-    let codec = codec_of(&rt, alloc);
-    let chunk = shape_of(&rt, alloc, &[2, 2]);
-    let fill_value = FillValue::new([9u8].as_slice().to_vec(alloc).expect(&rt, "refused"));
-    let mut array = Array {
-        store: MemoryStore::new(alloc),
-        codec: &codec,
-        format: format_of(&chunk, &fill_value),
-    };
+    let scene = scene_of(&rt, alloc);
+    let mut array = scene.array(alloc);
     let loose = LOOSE.to_vec(alloc).expect(&rt, "refused");
     array
         .store
