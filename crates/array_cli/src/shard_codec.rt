@@ -8,7 +8,7 @@ use crate::compaction_plans::{Planned, plan_of};
 use crate::shard_indexes::{DecodeIndexes, ShardIndexes};
 use array_metadata::ArrayMetadata;
 use codec_traits::ArrayToBytesCodecTraits;
-use parts_arrays::ArrayBytes;
+use parts_arrays::{ArrayBytes, FixedTarget};
 use parts_errors::{CodecError, CodecOptions};
 use parts_subsets::{ArraySubset, ChunkShape};
 use sharding_codec::{ShardingCodec, ShardingPartialDecoder};
@@ -30,6 +30,16 @@ pub trait OpenShard<F> {
         metadata: &ArrayMetadata,
         subset: &ArraySubset,
     ) -> Result<ArrayBytes<'e>, CodecError>;
+
+    /// Reads the elements of a subset, of an array with this metadata whose elements have one size, into a target, in row-major order of
+    /// both. Where that is refused, the target's subset may have any elements.
+    fn read_subset_into(
+        &mut self,
+        alloc: Global,
+        metadata: &ArrayMetadata,
+        subset: &ArraySubset,
+        target: &mut FixedTarget,
+    ) -> Result<(), CodecError>;
 
     /// Where the bytes of a subchunk stand; `None` where it is absent. Reads nothing.
     fn byte_range(&self, subchunk: &[u64]) -> Result<Option<ByteRange>, CodecError>;
@@ -243,6 +253,18 @@ impl<
     ) -> Result<ArrayBytes<'e>, CodecError> {
         self.decoder
             .partial_decode(alloc, subset, &CodecOptions::default())
+    }
+
+    fn read_subset_into(
+        &mut self,
+        alloc: Global,
+        _metadata: &ArrayMetadata,
+        subset: &ArraySubset,
+        target: &mut FixedTarget,
+    ) -> Result<(), CodecError> {
+        let options = CodecOptions::default();
+        self.decoder
+            .partial_decode_into_fresh(alloc, subset, target, &options)
     }
 
     fn byte_range(&self, subchunk: &[u64]) -> Result<Option<ByteRange>, CodecError> {

@@ -205,6 +205,16 @@ impl<C: ArrayToBytesCodecTraits, H: BytesPartialDecoderTraits> OpenShard<H>
         }
     }
 
+    fn read_subset_into(
+        &mut self,
+        alloc: Global,
+        metadata: &ArrayMetadata,
+        subset: &ArraySubset,
+        target: &mut FixedTarget,
+    ) -> Result<(), CodecError> {
+        read_into(alloc, self, metadata, subset, target)
+    }
+
     fn byte_range(&self, _subchunk: &[u64]) -> Result<Option<ByteRange>, CodecError> {
         match self.length {
             Some(length) => Ok(Some(ByteRange::FromStart(0, Some(length)))),

@@ -1,12 +1,13 @@
 // Elements that are written as they are read, band by band.
 use crate::command_line::Form;
-use crate::shared_read::{element_size, read_shared};
+use crate::shared_read::{element_size, read_shared, read_sized};
 use array_cli::{Ending, Progress, SharedArray, SharedSystem, Stop, written};
 use array_fields::ElementType;
 use array_grid::{
     Bands, SubsetElements, TextRows, VaryingCells, begin_json, end_json, is_text, write_json_cell,
     write_json_cells,
 };
+use parts_arrays::DataTypeSize;
 use parts_errors::CodecError;
 use parts_row_major::unravel_index;
 use parts_subsets::ArraySubset;
@@ -119,6 +120,27 @@ fn test_sized<R: SharedSystem>(
     Ok(())
 }
 
+// Hands on the elements of a band, which have one size, as the codecs gave them.
+fn put_sized<R: SharedSystem, S: Sink>(
+    array: &SharedArray<'_, R>,
+    band: &ArraySubset,
+    bytes: &[u8],
+    ending: Ending,
+    sink: &mut S,
+) -> Result<(), Stop> {
+    let elements = array.least_first(bytes)?;
+    if sink.shows_text() {
+        test_sized(array, band, &elements)?;
+    }
+    sink.put(&elements, ending)
+}
+
+// Whether one thread reads the elements of an array where they are to lie: they have one size, and none is filled.
+fn is_read_in_place<R: SharedSystem>(array: &SharedArray<'_, R>, reading: Reading) -> bool {
+    let is_sized = array.metadata.data_type.size() != DataTypeSize::Variable;
+    reading.jobs <= 1 && !reading.fills && is_sized
+}
+
 // Reads the elements of a band, and hands them on, of a command that ends so as far as it has come; says how it ends then.
 fn read_band<R: SharedSystem, S: Sink, M: Write>(
     array: &SharedArray<'_, R>,
@@ -133,19 +155,33 @@ fn read_band<R: SharedSystem, S: Sink, M: Write>(
     let ending = if ended == Ending::Done { before } else { ended };
     progress.clear();
     match &cells {
-        SubsetElements::Sized(cells) => {
-            let elements = array.least_first(cells.bytes())?;
-            if sink.shows_text() {
-                test_sized(array, band, &elements)?;
-            }
-            sink.put(&elements, ending)?;
-        }
+        SubsetElements::Sized(cells) => put_sized(array, band, cells.bytes(), ending, sink)?,
         SubsetElements::Varying(cells) => {
             test_varying(array, band, cells)?;
             sink.put_varying(cells, ending)?;
         }
     }
     Ok(ending)
+}
+
+// Reads the elements of each band into the same room, where they lie as they are handed on.
+fn read_bands_in_place<R: SharedSystem, S: Sink, M: Write>(
+    array: &SharedArray<'_, R>,
+    bands: &Bands,
+    sink: &mut S,
+    progress: &mut Progress<'_, M>,
+) -> Result<(), Stop> {
+    let mut room = Vec::new(array.alloc());
+    for number in 0..bands.len() {
+        progress.begin_part(number, bands.len());
+        let Some(band) = bands.band(array.alloc(), number)? else {
+            return Err(CodecError::OutOfBounds.into());
+        };
+        read_sized(array, &band, &mut room, progress)?;
+        progress.clear();
+        put_sized(array, &band, &room, Ending::Done, sink)?;
+    }
+    Ok(())
 }
 
 /// Reads the elements of a subset, with fill values for what is refused if `fills`, and hands them on, in row-major order: those of a band at a time, so that memory is that of a band.
@@ -161,6 +197,10 @@ pub fn read_bands<R: SharedSystem, S: Sink, M: Write>(
     let size = element_size(array.metadata);
     test_size(subset, size)?;
     let bands = Bands::new(subset, &array.metadata.shard, size);
+    if is_read_in_place(array, reading) {
+        read_bands_in_place(array, &bands, sink, progress)?;
+        return Ok(Ending::Done);
+    }
     let mut ending = Ending::Done;
     for number in 0..bands.len() {
         progress.begin_part(number, bands.len());

@@ -7,7 +7,9 @@ use array_grid::{
     ShardGrid, ShardPart, ShardParts, ShardWork, SubsetElements, piece_length, run_in_parallel,
 };
 use array_metadata::ArrayMetadata;
-use array_reading::{PartRead, held_cells, put_shard_part, read_array, read_numbered};
+use array_reading::{
+    PartRead, held_cells, put_shard_part, read_array, read_into_room, read_numbered,
+};
 use parts_arrays::{ArrayBytes, DataTypeSize};
 use parts_errors::CodecError;
 use parts_subsets::ArraySubset;
@@ -46,6 +48,47 @@ impl<'s, R: Files + AllocGlobal, M: Write> CodecUse<ShardFile<'s, R>> for WholeR
         let array = Array::open(array.rt, array.path, array.metadata, codec)?;
         read_array(&array, requested, fills, progress)
     }
+}
+
+// A subset that one thread reads into room for its elements, which have one size.
+#[derive(Drop)]
+struct SizedRead<'s, 'm, R, M> {
+    array: &'s SharedArray<'s, R>,
+    requested: &'s ArraySubset,
+    room: &'s mut Vec<u8>,
+    progress: &'s mut Progress<'m, M>,
+}
+
+impl<'s, R: Files + AllocGlobal, M: Write> CodecUse<ShardFile<'s, R>> for SizedRead<'s, '_, R, M> {
+    type Answer = Result<(), Stop>;
+
+    fn with<C: ShardCodec<ShardFile<'s, R>>>(self, codec: C) -> Result<(), Stop> {
+        let SizedRead {
+            array,
+            requested,
+            room,
+            progress,
+        } = self;
+        let array = Array::open(array.rt, array.path, array.metadata, codec)?;
+        read_into_room(&array, requested, room, progress)
+    }
+}
+
+/// Reads the elements of a subset, which have one size, by one thread into room that becomes as many bytes as they have. Refused as
+/// `read_array` refuses.
+pub fn read_sized<R: SharedSystem, M: Write>(
+    array: &SharedArray<'_, R>,
+    requested: &ArraySubset,
+    room: &mut Vec<u8>,
+    progress: &mut Progress<'_, M>,
+) -> Result<(), Stop> {
+    let sized = SizedRead {
+        array,
+        requested,
+        room,
+        progress,
+    };
+    with_codec(array.metadata, sized)
 }
 
 // The parts of a subset, from one on, in pieces of as many parts.

@@ -9,7 +9,7 @@ use array_cli::{
 use array_folder::Counted;
 use array_grid::{ShardWork, SubsetElements, piece_length, piece_of, run_in_parallel};
 use array_metadata::ArrayMetadata;
-use array_reading::{chunks_of, read_into, read_silently};
+use array_reading::{chunks_of, read_into_room, read_silently};
 use parts_arrays::DataTypeSize;
 use parts_errors::CodecError;
 use parts_subsets::ArraySubset;
@@ -51,18 +51,16 @@ impl Written {
     }
 }
 
-// The bytes of the chunk of a new array whose elements lie in a subset of the old one, have a size, and are read into room for them.
+// The bytes of the chunk of a new array whose elements lie in a subset of the old one, have one size, and are read into room for them.
 fn encoded_in_room<'a, R: Files + AllocGlobal, C: ShardCodec<ShardFile<'a, R>>>(
     old: &Array<'a, R, C>,
     requested: &ArraySubset,
-    size: usize,
     new: &ArrayMetadata,
     room: &mut Vec<u8>,
 ) -> Result<Option<Vec<u8>>, Stop> {
-    let count = requested.num_elements().ok_or(Stop::TooLarge)?;
-    let length = count.checked_mul(size as u64).ok_or(Stop::TooLarge)?;
-    room.resize(length as usize, 0)?;
-    read_into(old, requested, room.as_mut_slice())?;
+    let mut silent: Vec<u8> = Vec::new(old.alloc());
+    let mut progress = Progress::new(&mut silent, false);
+    read_into_room(old, requested, room, &mut progress)?;
     let elements = old.least_first(room.as_slice())?;
     Ok(encoded_sized(old.rt, requested.shape(), &elements, new)?)
 }
@@ -74,8 +72,8 @@ fn encoded_subset<'a, R: Files + AllocGlobal, C: ShardCodec<ShardFile<'a, R>>>(
     new: &ArrayMetadata,
     room: &mut Vec<u8>,
 ) -> Result<Option<Vec<u8>>, Stop> {
-    if let DataTypeSize::Fixed(size) = new.data_type.size() {
-        return encoded_in_room(old, requested, size, new, room);
+    if let DataTypeSize::Fixed(_) = new.data_type.size() {
+        return encoded_in_room(old, requested, new, room);
     }
     match read_silently(old, requested)? {
         SubsetElements::Varying(found) => {

@@ -1,14 +1,15 @@
 // The chunks of a grid that have elements in the files of an array.
-use crate::read::{PartRead, read_array, read_numbered};
+use crate::read::{read_array, read_part_into};
 use array_cli::{Array, Progress, ShardCodec, ShardFile, Stop, shards_of};
 use array_folder::ChunkFile;
-use array_grid::{ShardGrid, ShardParts, SubsetElements};
+use array_grid::{ShardGrid, ShardPart, ShardParts, SubsetElements};
 use array_metadata::ArrayMetadata;
 use parts_arrays::FixedTarget;
 use parts_errors::CodecError;
 use parts_row_major::unravel_index;
 use parts_subsets::{ArraySubset, ChunkShape};
 use std::alloc::{AllocError, Global};
+use std::io::Write;
 use std::rt::Files;
 
 // The chunks along an axis, of a size, that have elements of one of another size: the first one, and how many there are.
@@ -97,48 +98,64 @@ pub fn read_silently<'a, R: Files + AllocGlobal, C: ShardCodec<ShardFile<'a, R>>
     Ok(elements)
 }
 
-// Puts a part that was read where it lies in a subset of a shape, whose elements have a size and these bytes.
-fn put_part(
-    read: &PartRead<'_>,
-    size: usize,
+// Reads a part of a subset of a shape to where it lies in the subset, whose elements have these bytes.
+fn put_part<'a, R: Files + AllocGlobal, C: ShardCodec<ShardFile<'a, R>>>(
+    array: &Array<'a, R, C>,
+    grid: &ShardGrid,
+    part: &ShardPart,
     shape: &[u64],
     bytes: &mut [u8],
-) -> Result<(), CodecError> {
-    let Some(found) = &read.found else {
-        return Err(CodecError::OutOfBounds);
-    };
-    match FixedTarget::new(bytes, size, shape, &read.part.in_subset) {
-        Some(mut target) => target.copy_from(found),
-        None => Err(CodecError::OutOfBounds),
+) -> Result<(), Stop> {
+    let size = array.metadata.fill_value.as_ne_bytes().len();
+    match FixedTarget::new(bytes, size, shape, &part.in_subset) {
+        Some(mut target) => read_part_into(array, grid, part, &mut target),
+        None => Err(CodecError::OutOfBounds.into()),
     }
 }
 
 // Reads the parts of a subset of a shape, and puts each where it lies.
-fn put_parts<'a, R: Files + AllocGlobal, C: ShardCodec<ShardFile<'a, R>>>(
+fn put_parts<'a, R: Files + AllocGlobal, C: ShardCodec<ShardFile<'a, R>>, M: Write>(
     array: &Array<'a, R, C>,
     grid: &ShardGrid,
     parts: &ShardParts,
     shape: &[u64],
     bytes: &mut [u8],
+    progress: &mut Progress<'_, M>,
 ) -> Result<(), Stop> {
-    let size = array.metadata.fill_value.as_ne_bytes().len();
     for number in 0..parts.len() {
-        let Some(read) = read_numbered(array, grid, parts, number, false)? else {
+        progress.step(number, parts.len());
+        let Some(part) = parts.part(array.alloc(), number)? else {
             return Err(CodecError::OutOfBounds.into());
         };
-        put_part(&read, size, shape, bytes)?;
+        put_part(array, grid, &part, shape, bytes)?;
     }
     Ok(())
 }
 
-/// Reads the elements of a subset, which have one size, into as many bytes as they have: each of these is written, unless a part of the
-/// subset is refused.
-pub fn read_into<'a, R: Files + AllocGlobal, C: ShardCodec<ShardFile<'a, R>>>(
+// Reads the elements of a subset, which have one size, into as many bytes as they have: each of these is written, unless a part of the
+// subset is refused.
+fn read_into<'a, R: Files + AllocGlobal, C: ShardCodec<ShardFile<'a, R>>, M: Write>(
     array: &Array<'a, R, C>,
     requested: &ArraySubset,
     bytes: &mut [u8],
+    progress: &mut Progress<'_, M>,
 ) -> Result<(), Stop> {
     let grid = shards_of(array)?;
     let parts = grid.parts(array.alloc(), requested)?;
-    put_parts(array, &grid, &parts, requested.shape(), bytes)
+    put_parts(array, &grid, &parts, requested.shape(), bytes, progress)
+}
+
+/// As `read_into`, into room that becomes as many bytes as the elements have, in its memory as far as that reaches. Refused as `Stop::TooLarge`
+/// where no number can say how many these are.
+pub fn read_into_room<'a, R: Files + AllocGlobal, C: ShardCodec<ShardFile<'a, R>>, M: Write>(
+    array: &Array<'a, R, C>,
+    requested: &ArraySubset,
+    room: &mut Vec<u8>,
+    progress: &mut Progress<'_, M>,
+) -> Result<(), Stop> {
+    let size = array.metadata.fill_value.as_ne_bytes().len() as u64;
+    let count = requested.num_elements().ok_or(Stop::TooLarge)?;
+    let length = count.checked_mul(size).ok_or(Stop::TooLarge)?;
+    room.resize(length as usize, 0)?;
+    read_into(array, requested, room.as_mut_slice(), progress)
 }

@@ -10,5 +10,5 @@ mod read;
 mod sound;
 
 pub use checking::check;
-pub use chunks::{chunks_of, read_into, read_silently};
+pub use chunks::{chunks_of, read_into_room, read_silently};
 pub use read::{PartRead, held_cells, put_shard_part, read_array, read_numbered};

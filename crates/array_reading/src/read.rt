@@ -5,7 +5,7 @@ use array_cli::{
     shard_of_grid, shards_of,
 };
 use array_grid::{ShardGrid, ShardPart, ShardParts, SubsetElements, shared_elements};
-use parts_arrays::ArrayBytes;
+use parts_arrays::{ArrayBytes, FixedTarget};
 use parts_errors::CodecError;
 use parts_row_major::unravel_index;
 use parts_subsets::ArraySubset;
@@ -119,21 +119,26 @@ fn place_of<'a, R: Files + AllocGlobal, C, S: OpenShard<ShardFile<'a, R>>>(
     Ok(Place::Shard)
 }
 
-// Reads the part of a subset that lies in a shard, which is open, or says how and where that is refused.
-fn read_placed<'a, 'e, R: Files + AllocGlobal, C, S: OpenShard<ShardFile<'a, R>>>(
+// Closes a shard of which a part of a subset was read. Why the command stops, with its place, where that was refused.
+fn closed<'a, T, R: Files + AllocGlobal, C, S: OpenShard<ShardFile<'a, R>>>(
     array: &Array<'a, R, C>,
     part: &ShardPart,
-    opened: &mut S,
-) -> Result<ArrayBytes<'e>, (CodecError, Place)> {
-    let error = match opened.read_subset(array.alloc(), array.metadata, &part.in_shard) {
-        Ok(found) => return Ok(found),
+    shard: &Shard<'_>,
+    mut opened: S,
+    read: Result<T, CodecError>,
+) -> Result<T, Stop> {
+    let error = match read {
+        Ok(found) => {
+            let _ = opened.close();
+            return Ok(found);
+        }
         Err(error) => error,
     };
-    let place = match place_of(array, part, opened, error) {
+    let place = match place_of(array, part, &mut opened, error) {
         Ok(place) => place,
         Err(_) => Place::reading(&error),
     };
-    Err((error, place))
+    Err(array.stop(shard, &opened.close(), error, place))
 }
 
 // The file of the shard in which a part of a subset lies.
@@ -156,12 +161,31 @@ fn read_shard<'a, 'e, R: Files + AllocGlobal, C: ShardCodec<ShardFile<'a, R>>>(
     shard: &Shard<'_>,
 ) -> Result<ArrayBytes<'e>, Stop> {
     let mut opened = array.opened(shard, file_of(array, part, shard)?)?;
-    let read = read_placed(array, part, &mut opened);
-    let file = opened.close();
-    match read {
-        Ok(found) => Ok(found),
-        Err((error, place)) => Err(array.stop(shard, &file, error, place)),
-    }
+    let read = opened.read_subset(array.alloc(), array.metadata, &part.in_shard);
+    closed(array, part, shard, opened, read)
+}
+
+// Reads a part of a subset, which lies in a shard, into a target.
+fn read_shard_into<'a, R: Files + AllocGlobal, C: ShardCodec<ShardFile<'a, R>>>(
+    array: &Array<'a, R, C>,
+    part: &ShardPart,
+    shard: &Shard<'_>,
+    target: &mut FixedTarget,
+) -> Result<(), Stop> {
+    let mut opened = array.opened(shard, file_of(array, part, shard)?)?;
+    let read = opened.read_subset_into(array.alloc(), array.metadata, &part.in_shard, target);
+    closed(array, part, shard, opened, read)
+}
+
+/// Reads a part of a subset, whose elements have one size, into a target. Where that is refused, the target's subset may have any elements.
+pub fn read_part_into<'a, R: Files + AllocGlobal, C: ShardCodec<ShardFile<'a, R>>>(
+    array: &Array<'a, R, C>,
+    grid: &ShardGrid,
+    part: &ShardPart,
+    target: &mut FixedTarget,
+) -> Result<(), Stop> {
+    let shard = shard_of_grid(array, grid, part.shard)?;
+    read_shard_into(array, part, &shard.shard(), target)
 }
 
 // Reads a part of a subset, which lies in a shard; `None` where it is refused and is to be filled.

@@ -2,6 +2,7 @@
 #![tactic(auto)]
 
 mod cached;
+mod fresh;
 mod reads;
 mod requested;
 mod session;
@@ -10,6 +11,7 @@ mod shard;
 mod subchunks;
 mod writes;
 
+pub use fresh::read_indexer_into_fresh;
 pub use requested::{read_indexer, read_indexer_into};
 pub use session::OpenSession;
 pub use shard::OpenShard;

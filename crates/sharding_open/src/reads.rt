@@ -22,6 +22,30 @@ use sharding_subchunks::{StoredShard, Subchunks};
 use std::alloc::Global;
 use storage_handles::{BytesPartialDecoderTraits, Interval};
 
+// The shard that an object is, with its index.
+macro_rules! stored {
+    ($open:expr, $sharding:expr, $index:expr, $options:expr) => {
+        StoredShard {
+            subchunks: Subchunks {
+                codec: $sharding.inner,
+                shape: $sharding.subchunk_shape,
+                data_type: &$open.data_type,
+                fill_value: &$open.fill_value,
+                options: $options,
+            },
+            interval: Interval {
+                offset: 0,
+                size: $index.len,
+            },
+            index: $index,
+            shape: &$open.shape,
+            cells: $open.cells,
+        }
+    };
+}
+
+pub(crate) use stored;
+
 impl OpenShard {
     /// The cells that an indexer requests, in its order, by the cached index; the count is theirs. Without an object each is the fill
     /// value. Refused, in this order, as the lowest refused subchunk is in which cells are asked (`BadIndexEntry` with its
@@ -60,24 +84,7 @@ impl OpenShard {
             let fill = filled(alloc, &self.data_type, count, &self.fill_value)?;
             return Ok(fill);
         };
-        let whole = Interval {
-            offset: 0,
-            size: index.len,
-        };
-        let subchunks = Subchunks {
-            codec: sharding.inner,
-            shape: sharding.subchunk_shape,
-            data_type: &self.data_type,
-            fill_value: &self.fill_value,
-            options,
-        };
-        let shard = StoredShard {
-            subchunks,
-            interval: whole,
-            index,
-            shape: &self.shape,
-            cells: self.cells,
-        };
+        let shard = stored!(self, sharding, index, options);
         let array = shard.read_requested(alloc, handle, indexer, count)?;
         Ok(array)
     }

@@ -91,31 +91,37 @@ fn a_long_index_is_read(rt: HostRuntime) {
     same(&rt, said(&cells), Ok([6u8, 0, 8].as_slice()));
 }
 
-// Reads two of sixteen cells into a target.
+// Reads two of sixteen cells into a target, by either call.
 fn read_two<R: Abort>(
     rt: &R,
     alloc: Global,
     stored: &Sixteen,
+    is_fresh: bool,
     target: &mut FixedTarget,
 ) -> Result<(), CodecError> {
+    let options = CodecOptions::default();
     let requested = subset_of(rt, alloc, &[1..3, 0..1]);
     let handle = SliceHandle::new(&stored.shard);
     let mut decoder = decoder_of(rt, alloc, &stored.codec, handle, &[4, 4])?;
-    decoder.partial_decode_into(alloc, &requested, target, &CodecOptions::default())
+    if is_fresh {
+        return decoder.partial_decode_into_fresh(alloc, &requested, target, &options);
+    }
+    decoder.partial_decode_into(alloc, &requested, target, &options)
 }
 
 // Reads them into a subset of a target of 3 by 3.
 fn read_into<R: Abort>(
     rt: &R,
     alloc: Global,
-    stored: &Sixteen,
+    is_fresh: bool,
     bytes: &mut [u8],
     element_size: usize,
     rows: Range<u64>,
 ) -> Result<(), CodecError> {
+    let stored = sixteen_cells(rt, alloc);
     let cells = subset_of(rt, alloc, &[rows, 1..2]);
     match FixedTarget::new(bytes, element_size, &[3, 3], &cells) {
-        Some(mut target) => read_two(rt, alloc, stored, &mut target),
+        Some(mut target) => read_two(rt, alloc, &stored, is_fresh, &mut target),
         None => Err(CodecError::OutOfBounds),
     }
 }
@@ -124,13 +130,13 @@ fn read_into<R: Abort>(
 fn is_target<R: Abort>(
     rt: &R,
     alloc: Global,
+    is_fresh: bool,
     element_size: usize,
     rows: Range<u64>,
     want: &[u8],
 ) -> Result<(), CodecError> {
-    let stored = sixteen_cells(rt, alloc);
     let mut bytes = vec![in alloc; 77u8; want.len()].expect(rt, "refused");
-    let answer = read_into(rt, alloc, &stored, &mut bytes, element_size, rows);
+    let answer = read_into(rt, alloc, is_fresh, &mut bytes, element_size, rows);
     if bytes.as_slice() == want {
         answer
     } else {
@@ -149,8 +155,17 @@ fn cells_are_read_into_a_target(rt: HostRuntime) {
         (2, 1..3, wrong, &[77; 18]),
     ];
     for (element_size, rows, answer, want) in rows {
-        let found = is_target(&rt, rt.alloc(), element_size, rows, want);
-        same(&rt, found, answer);
+        for is_fresh in [false, true] {
+            let found = is_target(
+                &rt,
+                rt.alloc(),
+                is_fresh,
+                element_size,
+                rows.start..rows.end,
+                want,
+            );
+            same(&rt, found, answer);
+        }
     }
 }
 
