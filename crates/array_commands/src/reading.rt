@@ -141,15 +141,23 @@ fn is_read_in_place<R: SharedSystem>(array: &SharedArray<'_, R>, reading: Readin
     reading.jobs <= 1 && !reading.fills && is_sized
 }
 
-// Reads the elements of a band, and hands them on, of a command that ends so as far as it has come; says how it ends then.
+// Reads the elements of a band, by one thread into room for them, and hands them on, of a command that ends so as far as it has come; says
+// how it ends then.
 fn read_band<R: SharedSystem, S: Sink, M: Write>(
     array: &SharedArray<'_, R>,
     band: &ArraySubset,
     reading: Reading,
     before: Ending,
+    room: &mut Vec<u8>,
     sink: &mut S,
     progress: &mut Progress<'_, M>,
 ) -> Result<Ending, Stop> {
+    if is_read_in_place(array, reading) {
+        read_sized(array, band, room, progress)?;
+        progress.clear();
+        put_sized(array, band, room, before, sink)?;
+        return Ok(before);
+    }
     let Reading { fills, jobs } = reading;
     let (cells, ended) = read_shared(array, band, fills, jobs, progress)?;
     let ending = if ended == Ending::Done { before } else { ended };
@@ -162,26 +170,6 @@ fn read_band<R: SharedSystem, S: Sink, M: Write>(
         }
     }
     Ok(ending)
-}
-
-// Reads the elements of each band into the same room, where they lie as they are handed on.
-fn read_bands_in_place<R: SharedSystem, S: Sink, M: Write>(
-    array: &SharedArray<'_, R>,
-    bands: &Bands,
-    sink: &mut S,
-    progress: &mut Progress<'_, M>,
-) -> Result<(), Stop> {
-    let mut room = Vec::new(array.alloc());
-    for number in 0..bands.len() {
-        progress.begin_part(number, bands.len());
-        let Some(band) = bands.band(array.alloc(), number)? else {
-            return Err(CodecError::OutOfBounds.into());
-        };
-        read_sized(array, &band, &mut room, progress)?;
-        progress.clear();
-        put_sized(array, &band, &room, Ending::Done, sink)?;
-    }
-    Ok(())
 }
 
 /// Reads the elements of a subset, with fill values for what is refused if `fills`, and hands them on, in row-major order: those of a band at a time, so that memory is that of a band.
@@ -197,17 +185,14 @@ pub fn read_bands<R: SharedSystem, S: Sink, M: Write>(
     let size = element_size(array.metadata);
     test_size(subset, size)?;
     let bands = Bands::new(subset, &array.metadata.shard, size);
-    if is_read_in_place(array, reading) {
-        read_bands_in_place(array, &bands, sink, progress)?;
-        return Ok(Ending::Done);
-    }
+    let mut room = Vec::new(array.alloc());
     let mut ending = Ending::Done;
     for number in 0..bands.len() {
         progress.begin_part(number, bands.len());
         let Some(band) = bands.band(array.alloc(), number)? else {
             return Err(CodecError::OutOfBounds.into());
         };
-        ending = read_band(array, &band, reading, ending, sink, progress)?;
+        ending = read_band(array, &band, reading, ending, &mut room, sink, progress)?;
     }
     Ok(ending)
 }
