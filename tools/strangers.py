@@ -191,23 +191,26 @@ def cells(program, path):
 
 
 def killed(program, top):
-    """A compaction that is killed leaves each shard as it was or compacted, and at most one new file, which is named."""
+    """A compaction that is killed leaves each shard as it was or compacted, and at most one new file for each thread, which is named."""
     dice, path, size = random.Random(1), f"{top}/killed", 32768
     array(path, [32 * size], [size], [size // 2])
     shards = [[dice.randbytes(size // 2), dice.randbytes(size // 2)] for _ in range(32)]
     whole = b"".join(part for parts in shards for part in parts)
-    for time in range(1, 11):
+    for time in range(1, 15):
+        jobs = 1 + time % 4
         for number, parts in enumerate(shards):
             shard(f"{path}/{number}", parts, 500)
         with contextlib.suppress(subprocess.TimeoutExpired):
-            subprocess.run([program, "compact", path], stdout=subprocess.DEVNULL, timeout=time * dice.random() / 100)
+            subprocess.run([program, "compact", path, "-j", str(jobs)], stdout=subprocess.DEVNULL, timeout=time * dice.random() / 100)
         left = [name for name in os.listdir(path) if name.endswith(".replacing")]
-        if cells(program, path) != whole or len(left) > 1:
-            bad.append(f"a compaction that was killed: other cells, or more than one new file: {left}")
+        if cells(program, path) != whole or len(left) > jobs:
+            bad.append(f"a compaction by {jobs} threads that was killed: other cells, or too many new files: {left}")
         for name in left:
             for command in ("info", "check"):
                 expect([program, command, path], 0, f"{name}, ")
-            expect([program, "compact", path], 2, f"{path}/{name} stands there")
+        if left:
+            expect([program, "compact", path], 2, f"{path}/{left[0]} stands there")
+        for name in left:
             os.remove(f"{path}/{name}")
         expect([program, "compact", path], 0, "bytes saved in ")
         expect([program, "compact", path], 0, "0 bytes saved in 0 of 32 shards")
@@ -379,6 +382,33 @@ def banded(program, top):
     expect_small([program, "read", "--raw", path], 0, 64_000_000)
 
 
+def cut_along_rows(program, top):
+    """Bands that are cut along the last axis, at each index of the axes before it, have the elements, by one thread and by several."""
+    dice, path, length = random.Random(7), f"{top}/deep", 400_000
+    array(path, [2, 3, length], [1, 1, length], [1, 1, length // 4])
+    rows = [dice.randbytes(length) for _ in range(6)]
+    for number, row in enumerate(rows):
+        parts = [row[start : start + length // 4] for start in range(0, length, length // 4)]
+        shard(f"{path}/{number // 3}.{number % 3}.0", parts, 0)
+    for jobs in "14":
+        for first, last in ((0, length), (7, length - 1)):
+            words = [path, f":,:,{first}..{last}", "-j", jobs]
+            wanted = [row[first:last] for row in rows]
+            raw = subprocess.run([program, "read", "--raw", *words], capture_output=True, timeout=MOST, check=False).stdout
+            text = subprocess.run([program, "read", *words], capture_output=True, timeout=MOST, check=False).stdout
+            lines = [bytes(map(int, line.split())) for line in text.split(b"\n") if line]
+            if raw != b"".join(wanted) or lines != wanted:
+                bad.append(f"read {' '.join(words[1:])} of bands that are cut along rows: other elements")
+
+
+def alike(program, path):
+    """Commands that go over shards say the same by three threads as by one."""
+    for command in (["info"], ["info", "--json"], ["check"], ["map"], ["compact", "--dry-run"], ["compact", "--dry-run", "--json"]):
+        one, several = (subprocess.run([program, *command, path, "-j", jobs], capture_output=True, timeout=MOST, check=False) for jobs in "13")
+        if (one.returncode, one.stdout, one.stderr) != (several.returncode, several.stdout, several.stderr):
+            bad.append(f"{' '.join(command)} by three threads says another thing than by one")
+
+
 def joined(program, top):
     """The bands of that array have its elements, in each form the same by one thread and by several; a shard that is damaged in the last
     band stops the command behind the bands before it."""
@@ -402,13 +432,17 @@ def joined(program, top):
     if json.loads(large) != {"cells": list(whole[17 * row :]), "data_type": "uint8", "shape": [23, row]}:
         bad.append("read --json of several bands: other elements")
     expect([program, "read", path, "-j", "0"], 2, "0 is none of the words that can stand there")
+    alike(program, path)
     os.truncate(f"{path}/39.0", 10)
-    ran = subprocess.run([program, "read", "--raw", path], capture_output=True, timeout=MOST, check=False)
-    if ran.returncode != 1 or b"39.0: 7 ShardTooShort" not in ran.stderr or ran.stdout != whole[: 32 * row]:
-        bad.append(f"a read whose last band is refused: status {ran.returncode}, {len(ran.stdout)} bytes, {ran.stderr!r}")
+    for jobs in ("1", "3"):
+        ran = subprocess.run([program, "read", "--raw", path, "-j", jobs], capture_output=True, timeout=MOST, check=False)
+        if ran.returncode != 1 or b"39.0: 7 ShardTooShort" not in ran.stderr or ran.stdout != whole[: 38 * row]:
+            bad.append(f"a read -j {jobs} whose last band is refused: status {ran.returncode}, {len(ran.stdout)} bytes, {ran.stderr!r}")
     expect([program, "read", "--npy", f"{top}/banded.npy", path], 1, "39.0: 7 ShardTooShort")
     if os.path.exists(f"{top}/banded.npy.replacing") or os.path.getsize(f"{top}/banded.npy") < len(whole):
         bad.append("a refused read into a file left a new one, or took the old one")
+    os.truncate(f"{path}/5.0", 100)
+    alike(program, path)
     array(f"{top}/boundless", [2**62], [1], [1])
     expect([program, "read", f"{top}/boundless"], 2, "the box has more elements than this program can hold")
 
@@ -604,8 +638,8 @@ if __name__ == "__main__":
     with tempfile.TemporaryDirectory(prefix="strangers-") as folder:
         shutil.copyfile(built, f"{folder}/zarr_shard")
         os.chmod(f"{folder}/zarr_shard", 0o755)
-        # The last three take memory of their own, and a command is said to take as much as the process that starts it.
-        for case in (strangers, malformed, closed, closed_write, killed, resharded, written, told_at_once, large, banded, indexed, bombs, unsharded, owners, limits, damaged_gzip, compressed, joined):
+        # The last four take memory of their own, and a command is said to take as much as the process that starts it.
+        for case in (strangers, malformed, closed, closed_write, killed, resharded, written, told_at_once, large, banded, indexed, bombs, unsharded, owners, limits, damaged_gzip, compressed, joined, cut_along_rows):
             case(f"{folder}/zarr_shard", folder)
     print("\n".join(bad) or "each command ended as it must")
     sys.exit(bool(bad))

@@ -27,6 +27,16 @@ pub struct Shard<'s> {
     pub coordinates: &'s [u64],
 }
 
+impl<'s> Shard<'s> {
+    /// The shard in the file of a chunk.
+    pub fn in_file(file: &'s ChunkFile) -> Self {
+        Shard {
+            key: &file.key,
+            coordinates: &file.coordinates,
+        }
+    }
+}
+
 /// An array on disk, whose shards are of a codec.
 #[derive(Drop)]
 pub struct Array<'a, R, C> {

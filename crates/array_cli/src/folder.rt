@@ -15,10 +15,7 @@ pub fn shard_of<'s, R: Files + AllocGlobal, C>(
 ) -> Result<Shard<'s>, Stop> {
     for file in files.chunks.iter() {
         if file.key.as_str() == key {
-            return Ok(Shard {
-                key: &file.key,
-                coordinates: &file.coordinates,
-            });
+            return Ok(Shard::in_file(file));
         }
     }
     Err(Stop::NoShard(escaped(array.alloc(), key)?))

@@ -153,6 +153,14 @@ impl Stop {
         }
     }
 
+    /// Why a command stops whose lines go to memory: where they are not taken, that ran out.
+    pub fn in_memory(self) -> Stop {
+        match self {
+            Stop::Output(_) => Stop::OutOfMemory,
+            stop => stop,
+        }
+    }
+
     /// The status for the program to end with: 1 where a shard is refused or a subchunk is absent, else 2.
     pub fn status(&self) -> u8
         ensures bound { result ≤ 2 }

@@ -66,20 +66,6 @@ fn run_read<R: SharedSystem, W: Write, M: Write>(
     }
 }
 
-// Draws an array, or the shard that has a key.
-fn run_map<'a, R: Files + AllocGlobal, C: ShardCodec<ShardFile<'a, R>>, W: Write, M: Write>(
-    array: &Array<'a, R, C>,
-    key: Option<&str>,
-    svg: Option<&str>,
-    out: &mut W,
-    progress: &mut Progress<'_, M>,
-) -> Result<Ending, Stop> {
-    match key {
-        Some(key) => map_shard(array, key, svg, out, progress),
-        None => map_array(array, svg, out, progress),
-    }
-}
-
 // Which shards a command goes over, and how it tells of them. Refused as `Stop::NoPart` where a word names no part.
 fn listing_of(alloc: Global, scope: Scope<'_>) -> Result<Listing, Stop> {
     let is_json = scope.is_json;
@@ -115,21 +101,11 @@ fn run_work<
     out: &mut W,
     progress: &mut Progress<'_, M>,
 ) -> Result<Ending, Stop> {
-    let alloc = array.alloc();
     match work {
-        Work::Info { scope } => info_of_array(array, &listing_of(alloc, scope)?, out, progress),
         Work::InfoOfShard { key, is_json } => info_of_shard(array, key, is_json, out),
-        Work::Map { key, svg } => run_map(array, key, svg, out, progress),
+        Work::MapOfShard { key, svg } => map_shard(array, key, svg, out, progress),
         Work::Extract { key, number } => extract(array, key, number, out),
         Work::Write { requested, file } => write_subset(array, requested, file, out, progress),
-        Work::Compact {
-            is_dry,
-            output,
-            scope,
-        } => {
-            let way = way_of(is_dry, output);
-            compact(array, way, &listing_of(alloc, scope)?, out, progress)
-        }
     }
 }
 
@@ -180,12 +156,25 @@ fn run_shared<R: SharedSystem, W: Write, M: Write>(
     out: &mut W,
     progress: &mut Progress<'_, M>,
 ) -> Result<Ending, Stop> {
+    let alloc = array.alloc();
     match work {
+        SharedWork::Info { scope } => {
+            info_of_array(array, &listing_of(alloc, scope)?, jobs, out, progress)
+        }
+        SharedWork::Map { svg } => map_array(array, svg, jobs, out, progress),
+        SharedWork::Compact {
+            is_dry,
+            output,
+            scope,
+        } => {
+            let way = way_of(is_dry, output);
+            compact(array, way, &listing_of(alloc, scope)?, jobs, out, progress)
+        }
         SharedWork::Check {
             is_index_alone,
             scope,
         } => {
-            let listing = listing_of(array.alloc(), scope)?;
+            let listing = listing_of(alloc, scope)?;
             check(array, is_index_alone, &listing, jobs, out, progress)
         }
         SharedWork::Read {

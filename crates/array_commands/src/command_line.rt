@@ -34,9 +34,6 @@ pub struct Scope<'a> {
 /// What one thread does with an array.
 #[derive(Clone, Copy)]
 pub enum Work<'a> {
-    Info {
-        scope: Scope<'a>,
-    },
     InfoOfShard {
         key: &'a str,
         is_json: bool,
@@ -45,24 +42,30 @@ pub enum Work<'a> {
         key: &'a str,
         number: &'a str,
     },
-    Map {
-        key: Option<&'a str>,
+    MapOfShard {
+        key: &'a str,
         svg: Option<&'a str>,
     },
     Write {
         requested: Option<&'a str>,
         file: ElementsFile<'a>,
     },
-    Compact {
-        is_dry: bool,
-        output: Option<&'a str>,
-        scope: Scope<'a>,
-    },
 }
 
 /// What several threads do with an array.
 #[derive(Clone, Copy)]
 pub enum SharedWork<'a> {
+    Info {
+        scope: Scope<'a>,
+    },
+    Map {
+        svg: Option<&'a str>,
+    },
+    Compact {
+        is_dry: bool,
+        output: Option<&'a str>,
+        scope: Scope<'a>,
+    },
     Check {
         is_index_alone: bool,
         scope: Scope<'a>,
@@ -136,7 +139,8 @@ fn info_command<'a>(alloc: Global) -> Result<Command<'a>, AllocError> {
         .arg(path_argument(alloc))?
         .arg(key_argument(alloc))?
         .arg(lines_flag(alloc))?
-        .arg(part_option(alloc).conflicts_with("KEY")?)
+        .arg(part_option(alloc).conflicts_with("KEY")?)?
+        .arg(jobs_option(alloc).conflicts_with("KEY")?)
 }
 
 fn index_flag<'a>(alloc: Global) -> Arg<'a> {
@@ -177,7 +181,8 @@ fn map_command<'a>(alloc: Global) -> Result<Command<'a>, AllocError> {
         )
         .arg(path_argument(alloc))?
         .arg(key_argument(alloc))?
-        .arg(svg_option(alloc))
+        .arg(svg_option(alloc))?
+        .arg(jobs_option(alloc).conflicts_with("KEY")?)
 }
 
 fn number_argument<'a>(alloc: Global) -> Arg<'a> {
@@ -280,7 +285,8 @@ fn compact_command<'a>(alloc: Global) -> Result<Command<'a>, AllocError> {
         .arg(dry_flag(alloc))?
         .arg(output_option(alloc)?)?
         .arg(lines_flag(alloc))?
-        .arg(part_option(alloc))
+        .arg(part_option(alloc))?
+        .arg(jobs_option(alloc))
 }
 
 fn list_command<'a>(alloc: Global) -> Result<Command<'a>, AllocError> {
@@ -357,15 +363,12 @@ fn scope_of<'a>(matches: &ArgMatches<'a>) -> Scope<'a> {
     }
 }
 
-// What the command `info` does.
-fn telling<'a>(matches: &ArgMatches<'a>) -> Work<'a> {
-    let scope = scope_of(matches);
-    match matches.get_str("KEY") {
-        Some(key) => Work::InfoOfShard {
-            key,
-            is_json: scope.is_json,
-        },
-        None => Work::Info { scope },
+// What the command `compact` does.
+fn compacting<'a>(matches: &ArgMatches<'a>) -> SharedWork<'a> {
+    SharedWork::Compact {
+        is_dry: matches.get_flag("dry-run"),
+        output: matches.get_str("output"),
+        scope: scope_of(matches),
     }
 }
 
@@ -383,52 +386,57 @@ fn reading<'a>(matches: &ArgMatches<'a>) -> SharedWork<'a> {
 }
 
 // What the command of a name does that several threads do.
-fn shared_work_of<'a>(name: &str, matches: &ArgMatches<'a>) -> Option<SharedWork<'a>> {
+fn shared_work_of<'a>(name: &str, matches: &ArgMatches<'a>) -> SharedWork<'a> {
     match name {
-        "check" => Some(SharedWork::Check {
+        "check" => SharedWork::Check {
             is_index_alone: matches.get_flag("index"),
             scope: scope_of(matches),
-        }),
-        "read" => Some(reading(matches)),
-        "reshard" => Some(SharedWork::Reshard {
+        },
+        "read" => reading(matches),
+        "reshard" => SharedWork::Reshard {
             path: matches.get_str("DST").unwrap_or(""),
             words: layout_words(matches),
+        },
+        "compact" => compacting(matches),
+        "map" => SharedWork::Map {
+            svg: matches.get_str("svg"),
+        },
+        _ => SharedWork::Info {
+            scope: scope_of(matches),
+        },
+    }
+}
+
+// What the command of a name does that one thread does, if it does: what goes over no shards, or over one that has a key.
+fn lone_work_of<'a>(name: &str, matches: &ArgMatches<'a>) -> Option<Work<'a>> {
+    match (name, matches.get_str("KEY")) {
+        ("extract", key) => Some(Work::Extract {
+            key: key.unwrap_or(""),
+            number: matches.get_str("NUMBER").unwrap_or(""),
+        }),
+        ("write", _) => Some(Work::Write {
+            requested: matches.get_str("BOX"),
+            file: elements_file(matches),
+        }),
+        ("map", Some(key)) => Some(Work::MapOfShard {
+            key,
+            svg: matches.get_str("svg"),
+        }),
+        ("info", Some(key)) => Some(Work::InfoOfShard {
+            key,
+            is_json: matches.get_flag("json"),
         }),
         _ => None,
     }
 }
 
-// What the command of a name does that one thread does.
-fn lone_work_of<'a>(name: &str, matches: &ArgMatches<'a>) -> Work<'a> {
-    match name {
-        "extract" => Work::Extract {
-            key: matches.get_str("KEY").unwrap_or(""),
-            number: matches.get_str("NUMBER").unwrap_or(""),
-        },
-        "map" => Work::Map {
-            key: matches.get_str("KEY"),
-            svg: matches.get_str("svg"),
-        },
-        "write" => Work::Write {
-            requested: matches.get_str("BOX"),
-            file: elements_file(matches),
-        },
-        "compact" => Work::Compact {
-            is_dry: matches.get_flag("dry-run"),
-            output: matches.get_str("output"),
-            scope: scope_of(matches),
-        },
-        _ => telling(matches),
-    }
-}
-
 /// What the command of a name does.
 pub fn work_of<'a>(name: &str, matches: &ArgMatches<'a>) -> ArrayWork<'a> {
-    match shared_work_of(name, matches) {
-        Some(work) => ArrayWork::Shared {
-            work,
+    match lone_work_of(name, matches) {
+        Some(work) => ArrayWork::Alone(work),
+        None => ArrayWork::Shared {
+            work: shared_work_of(name, matches),
             jobs: matches.get_str("jobs"),
         },
-        None => ArrayWork::Alone(lone_work_of(name, matches)),
     }
 }

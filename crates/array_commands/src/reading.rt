@@ -1,12 +1,13 @@
 // Elements that are written as they are read, band by band.
 use crate::command_line::Form;
-use crate::shared_read::{element_size, read_shared, read_sized};
+use crate::shared_read::{BandRead, read_side_by_side, read_whole};
 use array_cli::{Ending, Progress, SharedArray, SharedSystem, Stop, written};
 use array_fields::ElementType;
 use array_grid::{
     Bands, SubsetElements, TextRows, VaryingCells, begin_json, end_json, is_text, write_json_cell,
     write_json_cells,
 };
+use array_metadata::ArrayMetadata;
 use parts_arrays::DataTypeSize;
 use parts_errors::CodecError;
 use parts_row_major::unravel_index;
@@ -17,6 +18,16 @@ use std::io::Write;
 
 // The most bytes of elements that are read.
 const MOST_BYTES: u64 = 1 << 40;
+
+// How many bytes a band has at least and at most, unless a row of subchunks has more, and how many bands a subset is cut into between.
+const SHORTEST_BAND: u64 = 1024 * 1024;
+
+const LONGEST_BAND: u64 = 12 * 1024 * 1024;
+
+const BANDS: u64 = 16;
+
+// How many bytes the bands have together that are read at a time, unless one has more.
+const BYTES_AT_ONCE: u64 = 48 * 1024 * 1024;
 
 /// How elements are read.
 #[derive(Clone, Copy)]
@@ -40,17 +51,16 @@ pub trait Sink {
     fn shows_text(&self) -> bool;
 }
 
-// Tests that the elements of a subset, of a size, are no more than are read.
-fn test_size(subset: &ArraySubset, size: u64) -> Result<(), Stop> {
+// How many bytes the elements of a subset have, each of a size; at most 2^64 - 1.
+fn bytes_of(subset: &ArraySubset, size: u64) -> u64 {
+    if subset.shape().iter().any(|count| *count == 0) {
+        return 0;
+    }
     let mut bytes = size;
     for count in subset.shape() {
         bytes = bytes.saturating_mul(*count);
     }
-    let is_empty = subset.shape().iter().any(|count| *count == 0);
-    if bytes > MOST_BYTES && !is_empty {
-        return Err(Stop::TooLarge);
-    }
-    Ok(())
+    bytes
 }
 
 // The coordinates of the element of a subset with a number, as a subset names them.
@@ -135,46 +145,132 @@ fn put_sized<R: SharedSystem, S: Sink>(
     sink.put(&elements, ending)
 }
 
-// Whether one thread reads the elements of an array where they are to lie: they have one size, and none is filled.
-fn is_read_in_place<R: SharedSystem>(array: &SharedArray<'_, R>, reading: Reading) -> bool {
-    let is_sized = array.metadata.data_type.size() != DataTypeSize::Variable;
-    reading.jobs <= 1 && !reading.fills && is_sized
+// How many bytes an element has; where that varies, by how many memory is shared out.
+fn element_size(metadata: &ArrayMetadata) -> u64 {
+    match metadata.data_type.size() {
+        DataTypeSize::Fixed(size) => size as u64,
+        DataTypeSize::Variable => 16,
+    }
 }
 
-// Reads the elements of a band, by one thread into room for them, and hands them on, of a command that ends so as far as it has come; says
-// how it ends then.
-fn read_band<R: SharedSystem, S: Sink, M: Write>(
+// How many bytes a band has at most of a subset whose elements have together `bytes`, unless a row of subchunks has more. That is the same for any
+// number of threads, and so is what is refused.
+fn longest_band(bytes: u64) -> u64 {
+    (bytes / BANDS).clamp(SHORTEST_BAND, LONGEST_BAND)
+}
+
+// Room for the bands that threads read at a time: for one each, as far as all together have no more bytes than are held.
+fn room_of_bands(
+    alloc: Global,
+    bands: &Bands<'_>,
+    size: u64,
+    jobs: usize,
+) -> Result<Vec<BandRead>, Stop> {
+    let most = BYTES_AT_ONCE / bands.most_bytes(size).max(1);
+    let count = most.min(jobs as u64).min(bands.len()).max(1);
+    let mut reads = Vec::new(alloc);
+    for _ in 0..count {
+        let read = BandRead {
+            band: None,
+            bytes: Vec::new(alloc),
+            stop: None,
+        };
+        reads.push(read)?;
+    }
+    Ok(reads)
+}
+
+// Hands on the bands that threads have read, as far as none is refused.
+fn put_bands<R: SharedSystem, S: Sink>(
     array: &SharedArray<'_, R>,
-    band: &ArraySubset,
-    reading: Reading,
-    before: Ending,
-    room: &mut Vec<u8>,
+    reads: &mut [BandRead],
+    sink: &mut S,
+) -> Result<(), Stop> {
+    for read in reads {
+        if let Some(stop) = read.stop.take() {
+            return Err(stop);
+        }
+        if let Some(band) = &read.band {
+            put_sized(array, band, &read.bytes, Ending::Done, sink)?;
+        }
+    }
+    Ok(())
+}
+
+// Reads the elements of a subset, which have one size, some bands at a time, each by a thread of its own to where it is handed on from.
+fn read_sized<R: SharedSystem, S: Sink, M: Write>(
+    array: &SharedArray<'_, R>,
+    subset: &ArraySubset,
+    jobs: usize,
     sink: &mut S,
     progress: &mut Progress<'_, M>,
 ) -> Result<Ending, Stop> {
-    if is_read_in_place(array, reading) {
-        read_sized(array, band, room, progress)?;
+    let ArrayMetadata {
+        shard,
+        subchunk,
+        ..
+    } = array.metadata;
+    let size = element_size(array.metadata);
+    let longest = longest_band(bytes_of(subset, size));
+    let bands = Bands::new(subset, shard, subchunk, size, longest);
+    let mut reads = room_of_bands(array.alloc(), &bands, size, jobs)?;
+    let at_once = (reads.len() as u64).max(1);
+    for number in 0..bands.len().div_ceil(at_once) {
+        let first = number.saturating_mul(at_once);
+        progress.step(first, bands.len());
+        read_side_by_side(array, &bands, first, &mut reads);
         progress.clear();
-        put_sized(array, band, room, before, sink)?;
-        return Ok(before);
+        put_bands(array, &mut reads, sink)?;
     }
-    let Reading { fills, jobs } = reading;
-    let (cells, ended) = read_shared(array, band, fills, jobs, progress)?;
-    let ending = if ended == Ending::Done { before } else { ended };
-    progress.clear();
-    match &cells {
-        SubsetElements::Sized(cells) => put_sized(array, band, cells.bytes(), ending, sink)?,
+    Ok(Ending::Done)
+}
+
+// Hands on the elements of a band, of a command that ends so as far as it has come.
+fn put_elements<R: SharedSystem, S: Sink>(
+    array: &SharedArray<'_, R>,
+    band: &ArraySubset,
+    elements: &SubsetElements,
+    ending: Ending,
+    sink: &mut S,
+) -> Result<(), Stop> {
+    match elements {
+        SubsetElements::Sized(cells) => put_sized(array, band, cells.bytes(), ending, sink),
         SubsetElements::Varying(cells) => {
             test_varying(array, band, cells)?;
-            sink.put_varying(cells, ending)?;
+            sink.put_varying(cells, ending)
         }
+    }
+}
+
+// Reads the elements of a subset by one thread, those of a row of shards at a time, with fill values for what is refused if `fills`.
+fn read_rows<R: SharedSystem, S: Sink, M: Write>(
+    array: &SharedArray<'_, R>,
+    subset: &ArraySubset,
+    fills: bool,
+    sink: &mut S,
+    progress: &mut Progress<'_, M>,
+) -> Result<Ending, Stop> {
+    let (shard, size) = (&array.metadata.shard, element_size(array.metadata));
+    let bands = Bands::new(subset, shard, shard, size, LONGEST_BAND);
+    let mut ending = Ending::Done;
+    for number in 0..bands.len() {
+        progress.begin_part(number, bands.len());
+        let Some(band) = bands.band(array.alloc(), number)? else {
+            return Err(CodecError::OutOfBounds.into());
+        };
+        let (elements, ended) = read_whole(array, &band, fills, progress)?;
+        if ended != Ending::Done {
+            ending = ended;
+        }
+        progress.clear();
+        put_elements(array, &band, &elements, ending, sink)?;
     }
     Ok(ending)
 }
 
-/// Reads the elements of a subset, with fill values for what is refused if `fills`, and hands them on, in row-major order: those of a band at a time, so that memory is that of a band.
-/// Refused as `Stop::TooLarge` where they have more than 2^40 bytes, and as `read_array` refuses, and as `test_text` where a text that is shown is none; then the
-/// bands before are handed on.
+/// Reads the elements of a subset, with fill values for what is refused if `fills`, and hands them on, in row-major order: those of some bands
+/// at a time, so that memory is that of these. Refused as `Stop::TooLarge` where they have more than 2^40 bytes, and as `read_array` refuses
+/// the first band that is refused, and as `test_text` where a text that is shown is none; then the bands before are handed on.
 pub fn read_bands<R: SharedSystem, S: Sink, M: Write>(
     array: &SharedArray<'_, R>,
     subset: &ArraySubset,
@@ -182,19 +278,15 @@ pub fn read_bands<R: SharedSystem, S: Sink, M: Write>(
     sink: &mut S,
     progress: &mut Progress<'_, M>,
 ) -> Result<Ending, Stop> {
-    let size = element_size(array.metadata);
-    test_size(subset, size)?;
-    let bands = Bands::new(subset, &array.metadata.shard, size);
-    let mut room = Vec::new(array.alloc());
-    let mut ending = Ending::Done;
-    for number in 0..bands.len() {
-        progress.begin_part(number, bands.len());
-        let Some(band) = bands.band(array.alloc(), number)? else {
-            return Err(CodecError::OutOfBounds.into());
-        };
-        ending = read_band(array, &band, reading, ending, &mut room, sink, progress)?;
+    if bytes_of(subset, element_size(array.metadata)) > MOST_BYTES {
+        return Err(Stop::TooLarge);
     }
-    Ok(ending)
+    let Reading { fills, jobs } = reading;
+    if fills || array.metadata.data_type.size() == DataTypeSize::Variable {
+        read_rows(array, subset, fills, sink, progress)
+    } else {
+        read_sized(array, subset, jobs, sink, progress)
+    }
 }
 
 // Elements that are written to an answer in a form.

@@ -58,9 +58,7 @@ fn encoded_in_room<'a, R: Files + AllocGlobal, C: ShardCodec<ShardFile<'a, R>>>(
     new: &ArrayMetadata,
     room: &mut Vec<u8>,
 ) -> Result<Option<Vec<u8>>, Stop> {
-    let mut silent: Vec<u8> = Vec::new(old.alloc());
-    let mut progress = Progress::new(&mut silent, false);
-    read_into_room(old, requested, room, &mut progress)?;
+    read_into_room(old, requested, room)?;
     let elements = old.least_first(room.as_slice())?;
     Ok(encoded_sized(old.rt, requested.shape(), &elements, new)?)
 }

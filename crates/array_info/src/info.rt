@@ -1,12 +1,13 @@
 // What an array on disk holds, and its shards.
 use crate::index_info::{index_info, index_range};
+use crate::info_pieces::{KnownShards, known_shards};
 use crate::json;
 use array_cli::{
-    Array, DecodeIndexes, Ending, Place, Progress, Refusal, Shard, ShardCodec, ShardFile, Stop,
-    write_folder, write_folder_lines, written,
+    Array, DecodeIndexes, Ending, Place, Progress, Refusal, Shard, ShardCodec, ShardFile,
+    SharedArray, SharedSystem, Stop, write_folder, write_folder_lines, written,
 };
 use array_folder::{ChunkFile, ChunkFiles, Counted, FolderFiles, IndexInfo, Listing, info_of};
-use array_grid::{ChunkKeys, KeyEncoding, ListPart, write_cell_line, write_numbers};
+use array_grid::{ChunkKeys, KeyEncoding, write_cell_line, write_numbers};
 use array_metadata::{ArrayCodec, ArrayMetadata};
 use parts_errors::CodecError;
 use std::alloc::{AllocError, Global};
@@ -21,14 +22,6 @@ pub struct ShardInfo {
     pub length: u64,
     /// What its index says, or why it is refused.
     pub index: Result<IndexInfo, Refusal>,
-}
-
-/// The shards that a part of an array has.
-#[derive(Drop)]
-pub struct KnownShards {
-    pub files: ChunkFiles,
-    /// What is known of each file's shard; nothing where the file is gone.
-    pub shards: Vec<Option<ShardInfo>>,
 }
 
 /// What is known of all shards.
@@ -131,10 +124,7 @@ fn read_info<'a, R: Files + AllocGlobal, C: ShardCodec<ShardFile<'a, R>>>(
     chunk: &ChunkFile,
     files: &mut FolderFiles<'_, R>,
 ) -> Result<Option<ShardInfo>, Stop> {
-    let shard = Shard {
-        key: &chunk.key,
-        coordinates: &chunk.coordinates,
-    };
+    let shard = Shard::in_file(chunk);
     let size = indexes.size();
     if size > LONGEST_AT_ONCE {
         read_in_pieces(array, &shard, size)
@@ -143,32 +133,18 @@ fn read_info<'a, R: Files + AllocGlobal, C: ShardCodec<ShardFile<'a, R>>>(
     }
 }
 
-// Adds what is known of the shards in these files; nothing of one whose file is gone.
-fn add_shards<'a, R: Files + AllocGlobal, C: ShardCodec<ShardFile<'a, R>>, M: Write>(
+/// What is known of the shards in these files; nothing of one whose file is gone. Of each only the index is read. Refused, in this order, as
+/// `Stop::Codec` where the index has no fixed size, and as `Stop::System` where the folder or a file is not read.
+pub fn read_infos<'a, R: Files + AllocGlobal, C: ShardCodec<ShardFile<'a, R>>>(
     array: &Array<'a, R, C>,
-    indexes: &C::Indexes,
     chunks: &[ChunkFile],
-    files: &mut FolderFiles<'_, R>,
-    shards: &mut Vec<Option<ShardInfo>>,
-    progress: &mut Progress<'_, M>,
-) -> Result<(), Stop> {
-    for (number, chunk) in chunks.iter().enumerate() {
-        progress.step(number as u64, chunks.len() as u64);
-        shards.push(read_info(array, indexes, chunk, files)?)?;
-    }
-    Ok(())
-}
-
-// What is known of the shards in these files; nothing of one whose file is gone.
-fn listed<'a, R: Files + AllocGlobal, C: ShardCodec<ShardFile<'a, R>>, M: Write>(
-    array: &Array<'a, R, C>,
-    indexes: &C::Indexes,
-    chunks: &[ChunkFile],
-    progress: &mut Progress<'_, M>,
 ) -> Result<Vec<Option<ShardInfo>>, Stop> {
+    let indexes = array.codec.indexes(array.alloc(), &array.subchunks)?;
     let mut shards: Vec<Option<ShardInfo>> = Vec::with_capacity(array.alloc(), chunks.len())?;
     let mut files = FolderFiles::new(array.alloc(), array.rt, array.path)?;
-    add_shards(array, indexes, chunks, &mut files, &mut shards, progress)?;
+    for chunk in chunks {
+        shards.push(read_info(array, &indexes, chunk, &mut files)?)?;
+    }
     Ok(shards)
 }
 
@@ -413,19 +389,6 @@ fn write_info_lines<R: Files + AllocGlobal, C, W: Write>(
     json::write_sums(out, sums)
 }
 
-/// The shards that a part of an array has, and what is known of each; nothing of one whose file is gone. Of each only the index is read.
-/// Refused as `info_of_array` is.
-pub fn known_shards<'a, R: Files + AllocGlobal, C: ShardCodec<ShardFile<'a, R>>, M: Write>(
-    array: &Array<'a, R, C>,
-    part: &ListPart,
-    progress: &mut Progress<'_, M>,
-) -> Result<KnownShards, Stop> {
-    let indexes = array.codec.indexes(array.alloc(), &array.subchunks)?;
-    let files = array.files_in(part)?;
-    let shards = listed(array, &indexes, &files.chunks, progress)?;
-    Ok(KnownShards { files, shards })
-}
-
 // Writes what the metadata says, and what is known of these shards.
 fn write_known<R: Files + AllocGlobal + Clock, C, W: Write>(
     out: &mut W,
@@ -442,22 +405,17 @@ fn write_known<R: Files + AllocGlobal + Clock, C, W: Write>(
     }
 }
 
-/// Writes what the metadata says, and what is known of the shards that are there. Of each only the index is read; a shard that is
-/// refused has a line that says why. Refused, in this order, as `Stop::Codec` where the index has no fixed size, as `Stop::System`
-/// where the folder or a file is not read, and as `Stop::Output` or `Stop::Closed` where the answer is not taken.
-pub fn info_of_array<
-    'a,
-    R: Files + AllocGlobal + Clock,
-    C: ShardCodec<ShardFile<'a, R>>,
-    W: Write,
-    M: Write,
->(
-    array: &Array<'a, R, C>,
+/// Writes what the metadata says, and what is known of the shards that are there, of which `jobs` threads read the index; a shard that is
+/// refused has a line that says why. Refused, in this order, as `known_shards` is, and as `Stop::Output` or `Stop::Closed` where the answer is
+/// not taken.
+pub fn info_of_array<R: SharedSystem, W: Write, M: Write>(
+    array: &SharedArray<'_, R>,
     listing: &Listing,
+    jobs: usize,
     out: &mut W,
     progress: &mut Progress<'_, M>,
 ) -> Result<Ending, Stop> {
-    let known = known_shards(array, &listing.part, progress)?;
+    let known = known_shards(array, &listing.part, jobs, progress)?;
     progress.clear();
     let sums = Sums::of(&known.shards);
     let ending = if sums.refused == 0 {

@@ -5,6 +5,7 @@
 mod extraction;
 mod index_info;
 mod info;
+mod info_pieces;
 mod json;
 mod list;
 mod map;

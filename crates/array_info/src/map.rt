@@ -1,8 +1,9 @@
 // A map of an array's shards, or of the subchunks of one shard.
-use crate::info::{ShardInfo, known_shards};
+use crate::info::ShardInfo;
+use crate::info_pieces::known_shards;
 use array_cli::{
-    Array, Ending, OpenShard, Place, Progress, Shard, ShardCodec, ShardFile, Stop, check_subchunk,
-    shard_of, written,
+    Array, Ending, OpenShard, Place, Progress, Shard, ShardCodec, ShardFile, SharedArray,
+    SharedSystem, Stop, check_subchunk, shard_of, written,
 };
 use array_fields::escaped;
 use array_folder::{
@@ -328,14 +329,15 @@ fn draw_array<R: Files + AllocGlobal, C, W: Write>(
 
 /// Draws which shards of an array are there, and which have an index that is refused, as text or as a picture in a file of the format
 /// SVG. Refused, in this order, as `Stop::TooManyPlaces` where there could be more than 65,536 shards, and as `info` is.
-pub fn map_array<'a, R: Files + AllocGlobal, C: ShardCodec<ShardFile<'a, R>>, W: Write, M: Write>(
-    array: &Array<'a, R, C>,
+pub fn map_array<R: SharedSystem, W: Write, M: Write>(
+    array: &SharedArray<'_, R>,
     svg: Option<&str>,
+    jobs: usize,
     out: &mut W,
     progress: &mut Progress<'_, M>,
 ) -> Result<Ending, Stop> {
     let places = places_of(array.grid.counts())?;
-    let known = known_shards(array, &ListPart::whole(), progress)?;
+    let known = known_shards(array, &ListPart::whole(), jobs, progress)?;
     progress.clear();
     let marks = marks_of(array, &known.files, &known.shards, places)?;
     draw_array(array, &marks, svg, out)

@@ -73,14 +73,6 @@ struct FilePieces<'s, R> {
     is_json: bool,
 }
 
-// Why a check stops whose lines go to memory: where they are not taken, that ran out.
-fn stop_in_memory(stop: Stop) -> Stop {
-    match stop {
-        Stop::Output(_) => Stop::OutOfMemory,
-        stop => stop,
-    }
-}
-
 impl<R: Files + AllocGlobal> ShardWork for FilePieces<'_, R> {
     type Answer = PieceChecked;
 
@@ -101,7 +93,7 @@ impl<R: Files + AllocGlobal> ShardWork for FilePieces<'_, R> {
         PieceChecked {
             checked,
             lines,
-            stop: ended.err().map(stop_in_memory),
+            stop: ended.err().map(Stop::in_memory),
         }
     }
 }

@@ -202,14 +202,6 @@ fn check_shard<'a, R: Files + AllocGlobal, C: ShardCodec<ShardFile<'a, R>>, W: W
     }
 }
 
-// The shard in a file.
-fn shard_in(file: &ChunkFile) -> Shard<'_> {
-    Shard {
-        key: &file.key,
-        coordinates: &file.coordinates,
-    }
-}
-
 /// Checks the shards in these files, one after the other.
 pub fn check_each_file<
     'a,
@@ -224,7 +216,7 @@ pub fn check_each_file<
     told: &mut Told<'_, '_, W, M>,
 ) -> Result<(), Stop> {
     for file in files {
-        check_shard(array, &shard_in(file), checked, told)?;
+        check_shard(array, &Shard::in_file(file), checked, told)?;
     }
     Ok(())
 }

@@ -9,7 +9,6 @@ use parts_errors::CodecError;
 use parts_row_major::unravel_index;
 use parts_subsets::{ArraySubset, ChunkShape};
 use std::alloc::{AllocError, Global};
-use std::io::Write;
 use std::rt::Files;
 
 // The chunks along an axis, of a size, that have elements of one of another size: the first one, and how many there are.
@@ -114,16 +113,14 @@ fn put_part<'a, R: Files + AllocGlobal, C: ShardCodec<ShardFile<'a, R>>>(
 }
 
 // Reads the parts of a subset of a shape, and puts each where it lies.
-fn put_parts<'a, R: Files + AllocGlobal, C: ShardCodec<ShardFile<'a, R>>, M: Write>(
+fn put_parts<'a, R: Files + AllocGlobal, C: ShardCodec<ShardFile<'a, R>>>(
     array: &Array<'a, R, C>,
     grid: &ShardGrid,
     parts: &ShardParts,
     shape: &[u64],
     bytes: &mut [u8],
-    progress: &mut Progress<'_, M>,
 ) -> Result<(), Stop> {
     for number in 0..parts.len() {
-        progress.step(number, parts.len());
         let Some(part) = parts.part(array.alloc(), number)? else {
             return Err(CodecError::OutOfBounds.into());
         };
@@ -134,28 +131,26 @@ fn put_parts<'a, R: Files + AllocGlobal, C: ShardCodec<ShardFile<'a, R>>, M: Wri
 
 // Reads the elements of a subset, which have one size, into as many bytes as they have: each of these is written, unless a part of the
 // subset is refused.
-fn read_into<'a, R: Files + AllocGlobal, C: ShardCodec<ShardFile<'a, R>>, M: Write>(
+fn read_into<'a, R: Files + AllocGlobal, C: ShardCodec<ShardFile<'a, R>>>(
     array: &Array<'a, R, C>,
     requested: &ArraySubset,
     bytes: &mut [u8],
-    progress: &mut Progress<'_, M>,
 ) -> Result<(), Stop> {
     let grid = shards_of(array)?;
     let parts = grid.parts(array.alloc(), requested)?;
-    put_parts(array, &grid, &parts, requested.shape(), bytes, progress)
+    put_parts(array, &grid, &parts, requested.shape(), bytes)
 }
 
 /// As `read_into`, into room that becomes as many bytes as the elements have, in its memory as far as that reaches. Refused as `Stop::TooLarge`
 /// where no number can say how many these are.
-pub fn read_into_room<'a, R: Files + AllocGlobal, C: ShardCodec<ShardFile<'a, R>>, M: Write>(
+pub fn read_into_room<'a, R: Files + AllocGlobal, C: ShardCodec<ShardFile<'a, R>>>(
     array: &Array<'a, R, C>,
     requested: &ArraySubset,
     room: &mut Vec<u8>,
-    progress: &mut Progress<'_, M>,
 ) -> Result<(), Stop> {
     let size = array.metadata.fill_value.as_ne_bytes().len() as u64;
     let count = requested.num_elements().ok_or(Stop::TooLarge)?;
     let length = count.checked_mul(size).ok_or(Stop::TooLarge)?;
     room.resize(length as usize, 0)?;
-    read_into(array, requested, room.as_mut_slice(), progress)
+    read_into(array, requested, room.as_mut_slice())
 }

@@ -11,4 +11,4 @@ mod sound;
 
 pub use checking::check;
 pub use chunks::{chunks_of, read_into_room, read_silently};
-pub use read::{PartRead, held_cells, put_shard_part, read_array, read_numbered};
+pub use read::read_array;

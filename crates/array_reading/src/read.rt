@@ -34,8 +34,8 @@ impl Answer {
     }
 }
 
-/// The cells of a subset as they are held, or fill values where none are.
-pub fn held_cells<R: Files + AllocGlobal, C>(
+// The cells of a subset as they are held, or fill values where none are.
+fn held_cells<R: Files + AllocGlobal, C>(
     array: &Array<'_, R, C>,
     requested: &ArraySubset,
     held: Option<SubsetElements>,
@@ -59,8 +59,8 @@ fn hold_cells<R: Files + AllocGlobal, C>(
     Ok(())
 }
 
-/// Puts the cells of a part into those of a subset, for which memory is asked with the first part.
-pub fn put_shard_part<R: Files + AllocGlobal, C>(
+// Puts the cells of a part into those of a subset, for which memory is asked with the first part.
+fn put_shard_part<R: Files + AllocGlobal, C>(
     array: &Array<'_, R, C>,
     requested: &ArraySubset,
     part: &ShardPart,
@@ -202,12 +202,12 @@ fn read_or_fill<'a, 'e, R: Files + AllocGlobal, C: ShardCodec<ShardFile<'a, R>>>
     }
 }
 
-/// A part of a subset, the shard in which it lies, and its elements; `None` where these are refused and are to be filled.
+// A part of a subset, the shard in which it lies, and its elements; `None` where these are refused and are to be filled.
 #[derive(Drop)]
-pub struct PartRead<'e> {
-    pub part: ShardPart,
+struct PartRead<'e> {
+    part: ShardPart,
     shard: GridShard,
-    pub found: Option<ArrayBytes<'e>>,
+    found: Option<ArrayBytes<'e>>,
 }
 
 // Reads a part of a subset.
@@ -222,8 +222,8 @@ fn read_part<'a, 'e, R: Files + AllocGlobal, C: ShardCodec<ShardFile<'a, R>>>(
     Ok(PartRead { part, shard, found })
 }
 
-/// Reads the part of a subset with this number, which is to be filled where it is refused, if `fills`; nothing past the last one.
-pub fn read_numbered<'a, 'e, R: Files + AllocGlobal, C: ShardCodec<ShardFile<'a, R>>>(
+// Reads the part of a subset with this number, which is to be filled where it is refused, if `fills`; nothing past the last one.
+fn read_numbered<'a, 'e, R: Files + AllocGlobal, C: ShardCodec<ShardFile<'a, R>>>(
     array: &Array<'a, R, C>,
     grid: &ShardGrid,
     parts: &ShardParts,

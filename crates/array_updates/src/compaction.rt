@@ -1,11 +1,12 @@
 // The compaction of an array's shards.
+use crate::compact_pieces::compact_all;
 use crate::rewriting::replace;
 use array_cli::{
-    Array, Ending, Place, Planned, Progress, Refusal, Shard, ShardCodec, ShardFile, Stop,
-    put_refusal, written,
+    Array, Ending, Place, Planned, Progress, Refusal, Shard, ShardCodec, ShardFile, SharedArray,
+    SharedSystem, Stop, put_refusal, written,
 };
 use array_fields::{JsonLine, escaped};
-use array_folder::{ChunkFiles, Listing, age_of, save};
+use array_folder::{ChunkFile, Listing, age_of, save};
 use array_grid::ListPart;
 use sharding_layout::CompactionPlan;
 use std::io::{ErrorKind, Write};
@@ -13,14 +14,14 @@ use std::rt::{Clock, Files};
 use std::{fs, io};
 use storage_files::path_beside;
 
-// How shards are compacted.
+/// How shards are compacted.
 #[derive(Clone, Copy)]
-struct Rule<'r> {
-    // whether no file is written
+pub struct Rule<'r> {
+    /// Whether no file is written.
     is_dry: bool,
-    // the folder to which shards are written; where it is `None` they are replaced
+    /// The folder to which shards are written; where it is `None` they are replaced.
     folder: Option<&'r str>,
-    // whether a line of JSON is written for each shard
+    /// Whether a line of JSON is written for each shard.
     is_json: bool,
 }
 
@@ -69,6 +70,14 @@ impl Gained {
         }
     }
 
+    /// What was gained beside it.
+    pub fn add_all(&mut self, other: &Gained) {
+        self.shards = self.shards.saturating_add(other.shards);
+        self.bytes = self.bytes.saturating_add(other.bytes);
+        self.is_refused |= other.is_refused;
+        self.is_undone |= other.is_undone;
+    }
+
     // One shard more, of which this became.
     fn add(&mut self, outcome: &Outcome) {
         match outcome {
@@ -82,8 +91,8 @@ impl Gained {
         }
     }
 
-    // How a command ends that gained this.
-    fn ending(&self) -> Ending {
+    /// How a command ends that gained this.
+    pub fn ending(&self) -> Ending {
         if self.is_undone {
             Ending::Undone
         } else if self.is_refused {
@@ -331,27 +340,17 @@ fn outcome_of<'a, R: Files + AllocGlobal, C: ShardCodec<ShardFile<'a, R>>, W: Wr
     }
 }
 
-// Compacts a shard, and writes a line where it is not compact.
-fn compact_one<
-    'a,
-    R: Files + AllocGlobal + Clock,
-    C: ShardCodec<ShardFile<'a, R>>,
-    W: Write,
-    M: Write,
->(
+/// Compacts the shard in a file, and writes a line where it is not compact.
+pub fn compact_one<'a, R: Files + AllocGlobal + Clock, C: ShardCodec<ShardFile<'a, R>>, W: Write>(
     array: &Array<'a, R, C>,
-    shard: &Shard<'_>,
+    file: &ChunkFile,
     rule: &Rule<'_>,
     out: &mut W,
     gained: &mut Gained,
-    progress: &mut Progress<'_, M>,
 ) -> Result<(), Stop> {
-    let outcome = outcome_of(array, shard, rule, out)?;
+    let outcome = outcome_of(array, &Shard::in_file(file), rule, out)?;
     gained.add(&outcome);
-    if rule.is_json || !matches!(outcome, Outcome::Compact) {
-        progress.clear();
-    }
-    let wrote = tell(array.rt, out, shard.key, &outcome, rule.is_json);
+    let wrote = tell(array.rt, out, &file.key, &outcome, rule.is_json);
     written(wrote, gained.ending())
 }
 
@@ -364,34 +363,6 @@ fn write_sum<W: Write>(out: &mut W, gained: &Gained, all: u64, is_json: bool) ->
         writeln!(out, "{bytes} bytes saved in {shards} of {all} shards")
     };
     written(wrote, gained.ending())
-}
-
-// Compacts the shards in these files, and writes a line for each that is not compact.
-fn compact_all<
-    'a,
-    R: Files + AllocGlobal + Clock,
-    C: ShardCodec<ShardFile<'a, R>>,
-    W: Write,
-    M: Write,
->(
-    array: &Array<'a, R, C>,
-    files: &ChunkFiles,
-    rule: &Rule<'_>,
-    out: &mut W,
-    progress: &mut Progress<'_, M>,
-) -> Result<Gained, Stop> {
-    let all = files.chunks.len() as u64;
-    let mut gained = Gained::nothing();
-    for (number, file) in files.chunks.iter().enumerate() {
-        progress.step(number as u64, all);
-        let shard = Shard {
-            key: &file.key,
-            coordinates: &file.coordinates,
-        };
-        compact_one(array, &shard, rule, out, &mut gained, progress)?;
-    }
-    progress.clear();
-    Ok(gained)
 }
 
 // Tests that a folder does not hold an array or a group yet.
@@ -421,38 +392,29 @@ fn copy_metadata<R: Files + AllocGlobal, C, W: Write>(
 }
 
 // Compacts each shard that a part has, as a rule says, and writes a line for each that is not compact and how many bytes were saved.
-fn compact_part<
-    'a,
-    R: Files + AllocGlobal + Clock,
-    C: ShardCodec<ShardFile<'a, R>>,
-    W: Write,
-    M: Write,
->(
-    array: &Array<'a, R, C>,
+fn compact_part<R: SharedSystem, W: Write, M: Write>(
+    array: &SharedArray<'_, R>,
     part: &ListPart,
     rule: &Rule<'_>,
+    jobs: usize,
     out: &mut W,
     progress: &mut Progress<'_, M>,
 ) -> Result<Gained, Stop> {
     let files = array.files_in(part)?;
-    let gained = compact_all(array, &files, rule, out, progress)?;
+    let gained = compact_all(array, &files.chunks, rule, jobs, out, progress)?;
+    progress.clear();
     write_sum(out, &gained, files.chunks.len() as u64, rule.is_json)?;
     Ok(gained)
 }
 
-/// Compacts each shard that a part has, and writes a line for each that is not compact and how many bytes were saved in all. As a copy,
-/// each shard is written to the folder of another array, also one that is compact or refused, and the metadata last, once every shard
-/// is there.
-pub fn compact<
-    'a,
-    R: Files + AllocGlobal + Clock,
-    C: ShardCodec<ShardFile<'a, R>>,
-    W: Write,
-    M: Write,
->(
-    array: &Array<'a, R, C>,
+/// Compacts each shard that a part has, by `jobs` threads, and writes a line for each that is not compact, in the order of the shards, and
+/// how many bytes were saved in all. As a copy, each shard is written to the folder of another array, also one that is compact or refused,
+/// and the metadata last, once every shard is there.
+pub fn compact<R: SharedSystem, W: Write, M: Write>(
+    array: &SharedArray<'_, R>,
     way: Way<'_>,
     listing: &Listing,
+    jobs: usize,
     out: &mut W,
     progress: &mut Progress<'_, M>,
 ) -> Result<Ending, Stop> {
@@ -464,7 +426,7 @@ pub fn compact<
         folder: way.folder(),
         is_json: listing.is_json,
     };
-    let gained = compact_part(array, &listing.part, &rule, out, progress)?;
+    let gained = compact_part(array, &listing.part, &rule, jobs, out, progress)?;
     // a copy that has not every shard becomes no array
     if let Way::Copy { folder } = way
         && !gained.is_undone

@@ -2,6 +2,7 @@
 // or in another folder.
 #![tactic(auto)]
 
+mod compact_pieces;
 mod compaction;
 mod elements;
 mod rewriting;

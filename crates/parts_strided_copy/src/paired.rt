@@ -1,9 +1,9 @@
 // Elements that lie in as many rows of two arrays, copied from one to the other.
-ghost use Rattle.std.specs.Prelude.{◌≡◌, ℕ, ◌+◌, ◌*◌, ◌^◌, ◌<◌, ◌≤◌, [], ◌∷◌, ◌++◌, OnOk, length};
+ghost use Rattle.std.specs.Prelude.{◌≡◌, ◌≢◌, ℕ, ◌+◌, ◌*◌, ◌^◌, ◌<◌, ◌≤◌, [], ◌∷◌, ◌++◌, OnOk, length};
 ghost use Rattle.parts_row_major.specs.Pieces.{piece, IsUpdated};
 ghost use Rattle.parts_strided_copy.specs.Paired.{rows_along, steps_to, steps_of, elements_in_rows, into_at, from_at, ArePairedRows, AreWidened};
 
-use crate::rows::{Rows, copy_rows, fill_rows};
+use crate::rows::{Rows, by_length, copy_rows_of, fill_rows};
 use std::alloc::{AllocError, Global};
 
 /// Rows along an axis: how many there are, and how far apart they begin in either array.
@@ -150,13 +150,21 @@ impl PairedRows {
         Ok(())
     }
 
-    /// Copies the elements from the one array to the other. Takes no memory.
-    pub fn copy(&self, output: &mut [u8], size: usize, update: &[u8])
+    // As `copy`, of rows whose length is known as `copy_rows_of` has it.
+    fn copy_sets<const N: usize, const M: usize>(
+        &self,
+        output: &mut [u8],
+        size: usize,
+        update: &[u8],
+    )
         requires are_rows { ArePairedRows self.now }
         requires some { 0 < size }
         requires inside { (k : ℕ) → k < elements_in_rows self.now → into_at self.now k * size + size ≤ length output.old }
         requires inside_update { (k : ℕ) → k < elements_in_rows self.now → from_at self.now k * size + size ≤ length update.now }
         requires apart { (i k : ℕ) → i < elements_in_rows self.now → k < elements_in_rows self.now → into_at self.now i ≡ into_at self.now k → i ≡ k }
+        requires known { N ≢ 0 → self.now.run * size ≡ N }
+        requires least { M ≤ self.now.run * size }
+        requires most { M ≢ 0 → self.now.run * size ≤ 2 * M }
         ensures { IsUpdated (elements_in_rows self.now) (into_at self.now) (piece size output.old) (λ k. piece size update.now (from_at self.now k)) (piece size output.new) }
     {
         let first = self.first;
@@ -171,8 +179,21 @@ impl PairedRows {
                 stride: first.from as usize,
             };
             let (rows, run) = (first.rows as usize, self.run as usize);
-            copy_rows(output, size, to, update, taken, rows, run);
+            copy_rows_of::<N, M>(output, size, to, update, taken, rows, run);
         }
+    }
+
+    /// Copies the elements from the one array to the other. Takes no memory.
+    pub fn copy(&self, output: &mut [u8], size: usize, update: &[u8])
+        requires are_rows { ArePairedRows self.now }
+        requires some { 0 < size }
+        requires inside { (k : ℕ) → k < elements_in_rows self.now → into_at self.now k * size + size ≤ length output.old }
+        requires inside_update { (k : ℕ) → k < elements_in_rows self.now → from_at self.now k * size + size ≤ length update.now }
+        requires apart { (i k : ℕ) → i < elements_in_rows self.now → k < elements_in_rows self.now → into_at self.now i ≡ into_at self.now k → i ≡ k }
+        ensures { IsUpdated (elements_in_rows self.now) (into_at self.now) (piece size output.old) (λ k. piece size update.now (from_at self.now k)) (piece size output.new) }
+    {
+        let bytes = self.run as usize * size;
+        by_length!(bytes, self.copy_sets, (output, size, update))
     }
 
     /// Writes one element over each of those in the one array. Takes no memory.

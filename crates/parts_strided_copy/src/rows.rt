@@ -21,7 +21,7 @@ pub(crate) struct Rows {
 // Copies so many rows of so many elements over others. The first number, where it isn't 0, is how many bytes a row has; the
 // second, where it isn't 0, one that these are no fewer than, and at most twice as many.
 #[inline(always)]
-fn copy_rows_of<const N: usize, const M: usize>(
+pub(crate) fn copy_rows_of<const N: usize, const M: usize>(
     output: &mut [u8],
     size: usize,
     to: Rows,
@@ -46,6 +46,30 @@ fn copy_rows_of<const N: usize, const M: usize>(
     }
 }
 
+// A call that knows how many bytes a row has, as `copy_rows_of` does.
+macro_rules! by_length {
+    ($bytes:expr, $($call:ident).+, ($($argument:expr),*)) => {
+        match $bytes {
+            1 => $($call).+::<1, 0>($($argument),*),
+            2 => $($call).+::<2, 0>($($argument),*),
+            4 => $($call).+::<4, 0>($($argument),*),
+            8 => $($call).+::<8, 0>($($argument),*),
+            16 => $($call).+::<16, 0>($($argument),*),
+            32 => $($call).+::<32, 0>($($argument),*),
+            64 => $($call).+::<64, 0>($($argument),*),
+            3 => $($call).+::<0, 2>($($argument),*),
+            5..=7 => $($call).+::<0, 4>($($argument),*),
+            9..=15 => $($call).+::<0, 8>($($argument),*),
+            17..=31 => $($call).+::<0, 16>($($argument),*),
+            33..=63 => $($call).+::<0, 32>($($argument),*),
+            65..=128 => $($call).+::<0, 64>($($argument),*),
+            _ => $($call).+::<0, 0>($($argument),*),
+        }
+    };
+}
+
+pub(crate) use by_length;
+
 // Copies so many rows of so many elements over others: short rows with a length that stands here, or with two copies of such a
 // length from either end, which takes no call.
 pub(crate) fn copy_rows(
@@ -64,22 +88,11 @@ pub(crate) fn copy_rows(
     ensures { IsUpdated (rows * run) (row_position to.first to.stride run) (piece size output.old) (λ j. piece size update.now (row_position from.first from.stride run j)) (piece size output.new) }
 {
     let bytes = run.saturating_mul(size);
-    match bytes {
-        1 => copy_rows_of::<1, 0>(output, size, to, update, from, rows, run),
-        2 => copy_rows_of::<2, 0>(output, size, to, update, from, rows, run),
-        4 => copy_rows_of::<4, 0>(output, size, to, update, from, rows, run),
-        8 => copy_rows_of::<8, 0>(output, size, to, update, from, rows, run),
-        16 => copy_rows_of::<16, 0>(output, size, to, update, from, rows, run),
-        32 => copy_rows_of::<32, 0>(output, size, to, update, from, rows, run),
-        64 => copy_rows_of::<64, 0>(output, size, to, update, from, rows, run),
-        3 => copy_rows_of::<0, 2>(output, size, to, update, from, rows, run),
-        5..=7 => copy_rows_of::<0, 4>(output, size, to, update, from, rows, run),
-        9..=15 => copy_rows_of::<0, 8>(output, size, to, update, from, rows, run),
-        17..=31 => copy_rows_of::<0, 16>(output, size, to, update, from, rows, run),
-        33..=63 => copy_rows_of::<0, 32>(output, size, to, update, from, rows, run),
-        65..=128 => copy_rows_of::<0, 64>(output, size, to, update, from, rows, run),
-        _ => copy_rows_of::<0, 0>(output, size, to, update, from, rows, run),
-    }
+    by_length!(
+        bytes,
+        copy_rows_of,
+        (output, size, to, update, from, rows, run)
+    )
 }
 
 // Writes one element over each of so many rows of so many.

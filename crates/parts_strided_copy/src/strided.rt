@@ -1,10 +1,11 @@
 // The elements of a subset of an array, copied row by row.
-ghost use Rattle.std.specs.Prelude.{◌≡◌, ℕ, ◌+◌, ◌*◌, ◌<◌, ◌≤◌, length};
+ghost use Rattle.std.specs.Prelude.{◌≡◌, ◌≢◌, ℕ, ◌+◌, ◌*◌, ◌<◌, ◌≤◌, length};
 ghost use Rattle.parts_row_major.specs.Numbering.{count_of};
 ghost use Rattle.parts_row_major.specs.Subsets.{number_in, IsServed};
 ghost use Rattle.parts_row_major.specs.Pieces.{piece, IsUpdated};
+ghost use Rattle.parts_row_major.specs.Runs.{AreSubsetRows};
 
-use crate::rows::{Rows, copy_rows};
+use crate::rows::{Rows, by_length, copy_rows, copy_rows_of};
 use parts_subsets::{ArraySubset, SubsetRows, first_number};
 use std::marker::Model;
 
@@ -53,14 +54,24 @@ impl<'a> StridedSubset<'a> {
 }
 
 impl StridedSubset<'_> {
-    // As `scatter`, set by set.
-    fn scatter_sets(&self, output: &mut [u8], size: usize, moved: usize, update: &[u8])
+    // As `scatter`, set by set, of rows whose length is known as `copy_rows_of` has it.
+    fn scatter_sets<const N: usize, const M: usize>(
+        &self,
+        set: SubsetRows,
+        output: &mut [u8],
+        size: usize,
+        moved: usize,
+        update: &[u8],
+    )
+        requires rows { AreSubsetRows self.now.subset self.now.around set.run set.rows set.stride set.sets }
         requires some { 0 < size }
         requires inside { (k : ℕ) → k < count_of self.now.subset.shape → (moved + number_in self.now.subset self.now.around k) * size + size ≤ length output.old }
         requires whole { length update.now ≡ count_of self.now.subset.shape * size }
+        requires known { N ≢ 0 → set.run * size ≡ N }
+        requires least { M ≤ set.run * size }
+        requires most { M ≢ 0 → set.run * size ≤ 2 * M }
         ensures { IsUpdated (count_of self.now.subset.shape) (λ k. moved + number_in self.now.subset self.now.around k) (piece size output.old) (piece size update.now) (piece size output.new) }
     {
-        let set = self.rows;
         let each = set.rows * set.run;
         let mut starts = self.subset.set_starts(self.shape, each, set.sets);
         for q in 0..set.sets {
@@ -74,7 +85,7 @@ impl StridedSubset<'_> {
                 stride: set.run as usize,
             };
             let (rows, run) = (set.rows as usize, set.run as usize);
-            copy_rows(output, size, to, update, from, rows, run);
+            copy_rows_of::<N, M>(output, size, to, update, from, rows, run);
         }
     }
 
@@ -88,7 +99,8 @@ impl StridedSubset<'_> {
     {
         let set = self.rows;
         if set.sets != 1 {
-            self.scatter_sets(output, size, moved, update);
+            let bytes = (set.run as usize).saturating_mul(size);
+            by_length!(bytes, self.scatter_sets, (set, output, size, moved, update));
             return;
         }
         let to = Rows {
@@ -110,14 +122,24 @@ impl StridedSubset<'_> {
         );
     }
 
-    // As `gather`, set by set.
-    fn gather_sets(&self, part: &mut [u8], bytes: &[u8], size: usize, moved: usize)
+    // As `gather`, set by set, of rows whose length is known as `copy_rows_of` has it.
+    fn gather_sets<const N: usize, const M: usize>(
+        &self,
+        set: SubsetRows,
+        part: &mut [u8],
+        bytes: &[u8],
+        size: usize,
+        moved: usize,
+    )
+        requires rows { AreSubsetRows self.now.subset self.now.around set.run set.rows set.stride set.sets }
         requires some { 0 < size }
         requires inside { (k : ℕ) → k < count_of self.now.subset.shape → (moved + number_in self.now.subset self.now.around k) * size + size ≤ length bytes.now }
         requires whole { length part.old ≡ count_of self.now.subset.shape * size }
+        requires known { N ≢ 0 → set.run * size ≡ N }
+        requires least { M ≤ set.run * size }
+        requires most { M ≢ 0 → set.run * size ≤ 2 * M }
         ensures { (k : ℕ) → k < count_of self.now.subset.shape → piece size part.new k ≡ piece size bytes.now (moved + number_in self.now.subset self.now.around k) }
     {
-        let set = self.rows;
         let each = set.rows * set.run;
         let mut starts = self.subset.set_starts(self.shape, each, set.sets);
         for q in 0..set.sets {
@@ -131,7 +153,7 @@ impl StridedSubset<'_> {
                 stride: set.stride as usize,
             };
             let (rows, run) = (set.rows as usize, set.run as usize);
-            copy_rows(part, size, to, bytes, from, rows, run);
+            copy_rows_of::<N, M>(part, size, to, bytes, from, rows, run);
         }
     }
 
@@ -145,7 +167,8 @@ impl StridedSubset<'_> {
     {
         let set = self.rows;
         if set.sets != 1 {
-            self.gather_sets(part, bytes, size, moved);
+            let row = (set.run as usize).saturating_mul(size);
+            by_length!(row, self.gather_sets, (set, part, bytes, size, moved));
             return;
         }
         let to = Rows {

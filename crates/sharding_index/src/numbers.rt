@@ -25,15 +25,25 @@ fn numbers_of_bytes(alloc: Global, bytes: &[u8]) -> Result<Vec<u64>, AllocError>
         .collect(alloc)
 }
 
+// Writes the numbers that pieces of eight bytes are over others.
+fn read_numbers(numbers: &mut [u64], pieces: &[[u8; 8]])
+    requires { length numbers.old ≡ length pieces.now }
+    ensures { numbers.new ≡ map number_of_element pieces.now }
+{
+    for k in 0..pieces.len() {
+        numbers[k] = u64::from_le_bytes(pieces[k]);
+    }
+}
+
 // Puts the numbers that bytes are, of eight bytes each, behind others.
 pub(crate) fn append_numbers(numbers: &mut Vec<u64>, bytes: &[u8]) -> Result<(), AllocError>
     ensures { OnOk result (numbers.new.items
         ≡ numbers.old.items ++ map number_of_element (first_chunks 8 (length bytes.now / 8) bytes.now)) }
 {
-    let (chunks, _) = bytes.as_chunks::<8>();
-    for chunk in chunks {
-        numbers.push(u64::from_le_bytes(*chunk))?;
-    }
+    let (pieces, _) = bytes.as_chunks::<8>();
+    let before = numbers.len();
+    numbers.resize(before + pieces.len(), 0)?;
+    read_numbers(&mut numbers[before..], pieces);
     Ok(())
 }
 

@@ -1,4 +1,4 @@
-use Rattle.std.proofs.Common.{◌≡◌, ◌+◌, ◌*◌, arith}
+use Rattle.std.proofs.Common.{◌≡◌, arith}
 use Rattle.parts_subsets.proofs.RowSetLaws.{rows_more}
 use Rattle.parts_strided_copy.proofs.RowParts.{row_ends}
 use Rattle.parts_strided_copy.proofs.rows.fill_rows.Goals as goal

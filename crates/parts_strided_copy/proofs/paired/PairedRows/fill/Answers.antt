@@ -1,10 +1,9 @@
 use Rattle.std.proofs.Common.{◌≡◌, ◌∙◌, ℕ, ◌+◌, ◌*◌, ◌^◌, ◌<◌, ◌≤◌, ap, sym, length, arith}
 use Rattle.std.proofs.lemmas.Nat.{row_fits}
-use Rattle.parts_row_major.specs.Pieces.{piece}
 use Rattle.parts_row_major.specs.Runs.{row_position}
 use Rattle.parts_row_major.proofs.NumberingLaws.{both_positive}
 use Rattle.parts_subsets.proofs.RowSetLaws.{updated_part}
-use Rattle.parts_strided_copy.specs.Paired.{rows_along, steps_of, elements_in_rows, into_at, from_at, steps_to}
+use Rattle.parts_strided_copy.specs.Paired.{rows_along, steps_of, elements_in_rows, into_at, steps_to}
 use Rattle.parts_strided_copy.specs.declared.paired.RowStep.{RowStep}
 use Rattle.parts_strided_copy.proofs.RowParts.{row_ends}
 use Rattle.parts_strided_copy.proofs.PairedLemmas.{set_along, set_below, set_row_ends}

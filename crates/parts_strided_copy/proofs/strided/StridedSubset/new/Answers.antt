@@ -1,4 +1,4 @@
-use Rattle.std.proofs.Common.{◌≡◌, ◌∙◌, ◌*◌, ◌<◌, arith}
+use Rattle.std.proofs.Common.{◌∙◌, ◌*◌, arith}
 use Rattle.parts_row_major.proofs.NumberingLaws.{positive_product}
 use Rattle.parts_strided_copy.proofs.strided.StridedSubset.new.Goals as goal
 use Rattle.parts_strided_copy.proofs.strided.StridedSubset.new.Goals.{then-rows-eq0, else-rows-eq0}
