@@ -1,7 +1,7 @@
 # make run                   a first look, without proofs: after a minute zarr_shard on example arrays, then shard_tool on a script
 # make install PREFIX=DIR    proves zarr_shard and shard_tool, and installs them in DIR/bin
 # make library PREFIX=DIR    proves the library for C, and installs header, archives and its module for Python in DIR
-# make test                  the merge gate: lint, every proof, the must-fail edits, the tests, the programs, tools/scripts.py, tools/arrays.py, tools/texts.py, make refuse, tools/strangers.py, tools/library.py, and tools/packed.py
+# make test                  the merge gate: lint, every proof, the must-fail edits, the tests, the programs, tools/scripts.py, tools/commands.py, tools/arrays.py, tools/texts.py, make refuse, tools/strangers.py, tools/library.py, and tools/packed.py
 # make check CRATE=NAME      proves one crate, over what earlier checks kept; ONLY=path::of::a_function proves that one alone
 # make lint                  the rules that no compiler checks, in seconds
 # make reference             writes docs/REFERENCE.md from the sources

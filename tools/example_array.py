@@ -1,7 +1,7 @@
 #!/usr/bin/env python3
 """Writes the arrays `examples/heights` and `examples/damaged`, from the Zarr V3 specification and its codec `sharding_indexed`.
 
-    python3 tools/example_array.py           writes both, and their copies among the test data of crates/test_tools
+    python3 tools/example_array.py           writes both, and their copies in tests/commands
     python3 tools/example_array.py --check   compares them with what it would write; status 1 where a file differs
 
 The element at [row, column] is 100 * row + column, but for a block of fill values (0). The first shard is what a writer
@@ -14,7 +14,7 @@ import struct
 import sys
 
 TOP = os.path.dirname(os.path.dirname(os.path.abspath(__file__)))
-PLACES = ["examples", "crates/test_tools/data/examples"]
+PLACES = ["examples", "tests/commands/examples"]
 
 SHAPE, SHARD, SUBCHUNK = (8, 12), (8, 6), (4, 3)
 ABSENT = 2**64 - 1

@@ -174,15 +174,15 @@ def check_imports():
 
 
 def check_session():
-    """README.md shows what crates/test_tools wants the same commands to print."""
+    """README.md shows what tests/commands wants the same commands to print."""
     wanted = {}
-    for part in read(f"{TOP}/crates/test_tools/stdout").split("> zarr_shard ")[1:]:
+    for part in read(f"{TOP}/tests/commands/ANSWERS").split("> zarr_shard ")[1:]:
         command, _, answer = part.partition("\n")
         wanted[command] = re.sub(r"(?m)^status [01]\n", "", answer)
     for command, answer in commands():
         words, dropped = words_of(command)
-        if shown(wanted.get(" ".join(words), "not a command of crates/test_tools\n"), dropped) != answer:
-            say("README.md", 1, f"shows another answer than crates/test_tools/stdout: {command} (make readme)")
+        if shown(wanted.get(" ".join(words), "not a command of tests/commands\n"), dropped) != answer:
+            say("README.md", 1, f"shows another answer than tests/commands/ANSWERS: {command} (make readme)")
 
 
 def counted():

@@ -14,7 +14,7 @@ import time
 
 TOP = os.path.dirname(os.path.dirname(os.path.abspath(__file__)))
 PROGRAMS = ["shard_tool", "zarr_shard"]
-AFTER_PROOFS = ["tools/scripts.py", "tools/arrays.py", "tools/texts.py", "crates/test_out_of_memory/refuse_each.sh", "tools/strangers.py", "tools/library.py", "tools/packed.py"]
+AFTER_PROOFS = ["tools/scripts.py", "tools/commands.py", "tools/arrays.py", "tools/texts.py", "crates/test_out_of_memory/refuse_each.sh", "tools/strangers.py", "tools/library.py", "tools/packed.py"]
 BEGAN = time.time()
 
 
