@@ -17,6 +17,7 @@ import sys
 import tempfile
 
 import library_decodes
+import library_rows
 import library_writes
 
 TOP = os.path.dirname(os.path.dirname(os.path.abspath(__file__)))
@@ -237,16 +238,17 @@ def test():
         import zarr_sharding
 
         helpers = (points, product, crc32c)
-        stored = list(library_writes.stored_cases(f"{TOP}/crates/test_tools/data", empty_case, helpers))
+        stored = list(library_writes.stored_cases(f"{TOP}/tests/commands", empty_case, helpers))
         cases = [Case(seed, *it) for seed, it in enumerate(CASES)] + stored
         reads = sum(try_case(zarr_sharding, folder, case) for case in cases)
         plain = [case for case in cases if case.decode is bytes]
         changes = sum(library_writes.try_writes(zarr_sharding, folder, case, helpers, words_of_case(case)) for case in plain)
         met = try_chunks(zarr_sharding)
         refused = try_refusals(zarr_sharding) + library_writes.try_encodings(zarr_sharding) + library_writes.try_hostile(zarr_sharding, TOP)
+        rows = library_rows.try_rows(zarr_sharding)
         decoded = library_decodes.try_decodes(zarr_sharding, TOP)
         run(f"{folder}/fuzz", "1", "20000", stdout=subprocess.DEVNULL)
-    print(f"the C library: {reads} subsets read, {met} met by chunks of arrays, and {changes} objects changed from C and from Python, {refused} refusals, {decoded} decodings, 20000 rounds by chance")
+    print(f"the C library: {reads} subsets read, {met} met by chunks of arrays, and {changes} objects changed from C and from Python, {refused} refusals, {rows} worked rows, {decoded} decodings, 20000 rounds by chance")
     return 0
 
 

@@ -228,7 +228,8 @@ def try_writes(zarr_sharding, folder, case, helpers, words):
 def hostile_objects(top):
     """The objects of crates/test_helpers, with what is owed to whoever reads, opens and compacts them."""
     with open(f"{top}/crates/test_helpers/src/hostile_objects.rt", encoding="utf-8") as file:
-        text = file.read().split("const HOSTILE_OBJECTS")[1].split("pub fn hostile_table")[0]
+        whole = file.read()
+    text = whole.split("const HOSTILE_OBJECTS")[1].split("pub fn hostile_table")[0]
 
     def numbers(words):
         known = {"ABSENT": ABSENT}
@@ -238,9 +239,17 @@ def hostile_objects(top):
         found = re.search(r"slices: &\[(.*?)\],\s*index: \[(.*?)\]", words, re.S)
         return bytes(numbers(found[1])), numbers(found[2])
 
+    def answer(words):
+        said = re.match(r"\s*(?:Ok\(&\[(.*?)\]\)|Err\((?:CodecError::)?(\w+)\))", words)
+        return REFUSALS[said[2]] if said[2] else bytes(numbers(said[1]))
+
+    def halves(words):
+        return [answer(it) for it in re.findall(r"Ok\(&\[.*?\]\)|Err\(.*?\)", words)]
+
+    second_bad = halves(re.search(r"const SECOND_BAD: .*? = \[(.*)\];", whole)[1])
     for block in text.split("HostileObject {")[2:]:
         name, at_start = re.search(r'name: "(.*?)"', block)[1], "at_start: true" in block
-        elements = re.search(r"elements: (Ok\(&\[(.*?)\]\)|Err\((?:CodecError::)?(\w+)\))", block)
+        both = re.search(r"halves: (SECOND_BAD|\[(.*)\]),\n", block)
         unopened = re.search(r"unopened: (?:None|Some\((\w+)\))", block)[1]
         compacted = block.split("compacted:")[1]
         refused = re.match(r" Err\((\w+)\)", compacted)
@@ -248,7 +257,9 @@ def hostile_objects(top):
             "name": name,
             "at_start": at_start,
             "object": stored(block),
-            "elements": REFUSALS[elements[3]] if elements[3] else bytes(numbers(elements[2])),
+            "elements": answer(block.split(" elements:")[1]),
+            "halves": halves(both[2]) if both[2] else second_bad,
+            "listed": answer(block.split(" listed:")[1]),
             "unopened": REFUSALS.get(unopened),
             "compacted": REFUSALS[refused[1]] if refused else None if "Ok(None)" in compacted else stored(compacted),
         }
@@ -266,10 +277,24 @@ def try_hostile(zarr_sharding, top):
         layout = zarr_sharding.Layout((4,), (2,), 1, at_start=it["at_start"])
         index = layout.index(fetcher(data)(*layout.index_range(len(data))))
 
-        def read():
-            answer = bytearray(4)
-            layout.read(fetcher(data), len(data), (0,), (4,), answer, bytes, b"\0")
+        def decoded(stored):
+            if len(stored) != 2:
+                raise zarr_sharding.Refused(15)
+            return stored
+
+        def read(start=0, count=4):
+            answer = bytearray(count)
+            layout.read(fetcher(data), len(data), (start,), (count,), answer, bytes, b"\0")
             return bytes(answer)
+
+        def first():
+            return read(0, 2)
+
+        def second():
+            return read(2, 2)
+
+        def listed():
+            return layout.read_points(fetcher(data), len(data), [(3,), (0,), (3,)], decoded, b"\0")
 
         def opened():
             layout.write_plan(len(data), index, (0,), (1,), [2])
@@ -282,7 +307,8 @@ def try_hostile(zarr_sharding, top):
         wanted = it["compacted"]
         if isinstance(wanted, tuple) and isinstance(wanted[0], bytes):
             wanted = object_of(it["at_start"], *wanted)
-        for call, owed in ((read, it["elements"]), (opened, it["unopened"]), (compacted, wanted)):
+        reads = ((read, it["elements"]), (first, it["halves"][0]), (second, it["halves"][1]), (listed, it["listed"]))
+        for call, owed in (*reads, (opened, it["unopened"]), (compacted, wanted)):
             try:
                 answer = call()
             except zarr_sharding.Refused as refused:

@@ -23,8 +23,6 @@ mod opening;
 #[cfg(test)]
 mod reopened;
 #[cfg(test)]
-mod round_trips;
-#[cfg(test)]
 mod sessions;
 #[cfg(test)]
 mod shards;

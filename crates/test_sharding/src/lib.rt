@@ -18,19 +18,13 @@ mod grids;
 #[cfg(test)]
 mod laws;
 #[cfg(test)]
-mod lengths;
-#[cfg(test)]
 mod nested;
 #[cfg(test)]
 mod options;
 #[cfg(test)]
 mod planned;
 #[cfg(test)]
-mod planned_hostile;
-#[cfg(test)]
 mod planned_reads;
-#[cfg(test)]
-mod planned_rows;
 #[cfg(test)]
 mod plans;
 #[cfg(test)]

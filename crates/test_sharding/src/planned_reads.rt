@@ -1,7 +1,7 @@
 // Reads of subsets by chance, as plans and puts in an order by chance, against `partial_decode`.
 use crate::chances::Chance;
 use crate::compared::same_at;
-use crate::planned::{Layout, Object, layout_of, location_of};
+use crate::planned::{Layout, Object};
 use crate::shards::{encoded, plain, read, shape_of, subset_of};
 use codec_checksums::Crc32cCodec;
 use std::alloc::Global;
@@ -68,10 +68,6 @@ impl Case {
         elements_by_chance(rt, alloc, count, chance)
     }
 
-    fn layout<R: Abort>(&self, rt: &R, alloc: Global) -> Layout {
-        layout_of(rt, alloc, self.location, 1, self.shape, self.sub)
-    }
-
     // Whether a subset by chance has the elements that a decoder reads.
     fn agrees<C: ArrayToBytesCodecTraits, X: ArrayToBytesCodecTraits, R: Abort>(
         &self,
@@ -82,7 +78,7 @@ impl Case {
         chance: &mut Chance,
     ) -> bool {
         let subset = subset_by_chance(rt, alloc, self.shape, chance);
-        let layout = self.layout(rt, alloc);
+        let layout = Layout::new(rt, alloc, self.shape, self.sub);
         let found = layout.read(rt, alloc, object, &subset, chance);
         let handle = SliceHandle::new(object.bytes);
         let wanted = read(rt, alloc, codec, handle, self.shape, &subset);
@@ -125,6 +121,7 @@ fn checked<R: Abort>(rt: &R, alloc: Global, case: &Case) -> ShardingCodec<BytesC
     ShardingCodec::new(sub, little, index_codec, case.location)
 }
 
+// The seed, whether the index is at the start, and the shapes.
 const CASES: &[(u64, bool, &[u64], &[u64], &[u64])] = &[
     (1, false, &[12], &[3], &[4]),
     (2, true, &[6, 8], &[2, 4], &[3, 2]),
@@ -137,14 +134,19 @@ const CASES: &[(u64, bool, &[u64], &[u64], &[u64])] = &[
 #[test]
 fn plans_and_puts_are_a_partial_decoding(rt: HostRuntime) {
     for (seed, at_start, shape, sub, grid) in CASES {
+        let location = if *at_start {
+            ShardingIndexLocation::Start
+        } else {
+            ShardingIndexLocation::End
+        };
         let case = Case {
             seed: *seed,
-            location: location_of(*at_start),
+            location,
             shape,
             sub,
             grid,
         };
-        let codec = plain(&rt, rt.alloc(), sub, case.location);
+        let codec = plain(&rt, rt.alloc(), sub, location);
         let agreed = case.agreeing(&rt, rt.alloc(), &codec);
         let codec = checked(&rt, rt.alloc(), &case);
         let checked = case.agreeing(&rt, rt.alloc(), &codec);
