@@ -1,11 +1,11 @@
 // A command line that is run.
 ghost use Rattle.std.specs.Prelude.{◌≤◌, IfOk};
 
-use crate::command_line::{ArrayWork, Form, Scope, SharedWork, Target, Work, program, work_of};
+use crate::command_line::{ArrayWork, Form, Scope, SharedWork, Target, Work, array_words, work_of};
 use crate::differences::compare;
 use crate::npy::save_subset;
 use crate::reading::{Reading, print_subset};
-use crate::writing_line::array_words;
+use crate::usages::program;
 use array_cli::{
     Array, CodecUse, Ending, Progress, ShardCodec, ShardFile, SharedArray, SharedSystem, Stop,
     metadata_of, open_shared, with_codec,
@@ -14,7 +14,8 @@ use array_creation::{create, reshard};
 use array_fields::escaped;
 use array_folder::Listing;
 use array_grid::{ListPart, subset_of, threads_of};
-use array_info::{extract, info_of_array, info_of_shard, list_nodes, map_array, map_shard};
+use array_info::{extract, info_of_array, info_of_shard, list_nodes};
+use array_map::{map_array, map_shard};
 use array_metadata::ArrayMetadata;
 use array_reading::check;
 use array_updates::{Way, compact, write_subset};

@@ -1,4 +1,4 @@
-// The commands over an array on disk whose chunks are shards: its elements, and how two arrays differ. What it holds, array_info says; what
+// The commands over an array on disk whose chunks are shards: its elements, and how two arrays differ. What it holds, array_info says, and array_map draws; what
 // reading it gives, array_reading; what is created, array_creation, and what is written anew, array_updates.
 #![tactic(auto)]
 
@@ -8,6 +8,6 @@ mod differences;
 mod npy;
 mod reading;
 mod shared_read;
-mod writing_line;
+mod usages;
 
 pub use command::run_command;

@@ -1,6 +1,4 @@
 // A map of an array's shards, or of the subchunks of one shard.
-use crate::info::ShardInfo;
-use crate::info_pieces::known_shards;
 use array_cli::{
     Array, Ending, OpenShard, Place, Progress, Shard, ShardCodec, ShardFile, SharedArray,
     SharedSystem, Stop, check_subchunk, shard_of, written,
@@ -11,6 +9,7 @@ use array_folder::{
     write_array_picture, write_shard_map, write_shard_picture,
 };
 use array_grid::ListPart;
+use array_info::{ShardInfo, known_shards};
 use parts_errors::CodecError;
 use parts_row_major::{ravel_indices, unravel_index};
 use parts_subsets::ChunkShape;
