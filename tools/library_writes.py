@@ -247,7 +247,7 @@ def hostile_objects(top):
         return [answer(it) for it in re.findall(r"Ok\(&\[.*?\]\)|Err\(.*?\)", words)]
 
     second_bad = halves(re.search(r"const SECOND_BAD: .*? = \[(.*)\];", whole)[1])
-    for block in text.split("HostileObject {")[2:]:
+    for block in text.split("HostileObject {")[1:]:
         name, at_start = re.search(r'name: "(.*?)"', block)[1], "at_start: true" in block
         both = re.search(r"halves: (SECOND_BAD|\[(.*)\]),\n", block)
         unopened = re.search(r"unopened: (?:None|Some\((\w+)\))", block)[1]
