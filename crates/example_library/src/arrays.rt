@@ -1,5 +1,6 @@
 // Arrays in folders: two are made, one without shards and one with, and a subset of the first is written into the second.
 
+use array_folder::ChunkFiles;
 use array_grid::SubsetCells;
 use array_store::{Array, FileStore, create_metadata, open_metadata};
 use std::alloc::{AllocError, Global};
@@ -77,15 +78,19 @@ fn print(rt: &HostRuntime, folder: &str, subset: &ArraySubset) -> anyhow::Result
     Ok(())
 }
 
+fn print_keys(rt: &HostRuntime, files: &ChunkFiles) -> anyhow::Result<()> {
+    for chunk in &files.chunks {
+        println!(rt; "{}", chunk.key)?;
+    }
+    Ok(())
+}
+
 // Prints the key of each chunk of the array in a folder that has a file.
 fn list(rt: &HostRuntime, folder: &str) -> anyhow::Result<()> {
     let alloc = rt.alloc();
     let store = FileStore::new(alloc, rt, folder)?;
     let metadata = open_metadata(alloc, &store)?;
-    for chunk in Array::of(store, &metadata).chunks(alloc)?.chunks {
-        println!(rt; "{}", chunk.key)?;
-    }
-    Ok(())
+    print_keys(rt, &Array::of(store, &metadata).chunks(alloc)?)
 }
 
 fn subset(alloc: Global, rows: Range<u64>, columns: Range<u64>) -> Result<ArraySubset, CodecError> {
@@ -96,19 +101,35 @@ fn all_numbers(alloc: Global) -> Result<Vec<u16>, AllocError> {
     (0..24u16).collect(alloc)
 }
 
-// Prints rows of the second array, once a subset of the first was written into it.
+// Makes the first array, of the numbers 0 to 23.
+fn make_plain(rt: &HostRuntime) -> anyhow::Result<()> {
+    let whole = subset(rt.alloc(), 0..4, 0..6)?;
+    make(rt, "plain", PLAIN, &whole, &all_numbers(rt.alloc())?)
+}
+
+// Makes the second one, of two numbers and fill values.
+fn make_sharded(rt: &HostRuntime) -> anyhow::Result<()> {
+    let corner = subset(rt.alloc(), 0..1, 0..2)?;
+    make(rt, "sharded", SHARDED, &corner, &[100, 101])
+}
+
+// Writes a subset of the first array into the second.
+fn copy_middle(rt: &HostRuntime) -> anyhow::Result<()> {
+    let middle = subset(rt.alloc(), 1..3, 2..5)?;
+    copy_subset(rt, "plain", "sharded", &middle)
+}
+
+// Prints rows of the second array.
+fn print_rows(rt: &HostRuntime) -> anyhow::Result<()> {
+    let rows = subset(rt.alloc(), 0..3, 0..6)?;
+    print(rt, "sharded", &rows)
+}
+
+// Prints rows of the second array, once a subset of the first was written into it, and the keys of its chunks.
 pub fn print_copy(rt: &HostRuntime) -> anyhow::Result<()> {
-    let alloc = rt.alloc();
-    let whole = subset(alloc, 0..4, 0..6)?;
-    make(rt, "plain", PLAIN, &whole, &all_numbers(alloc)?)?;
-    make(
-        rt,
-        "sharded",
-        SHARDED,
-        &subset(alloc, 0..1, 0..2)?,
-        &[100, 101],
-    )?;
-    copy_subset(rt, "plain", "sharded", &subset(alloc, 1..3, 2..5)?)?;
-    print(rt, "sharded", &subset(alloc, 0..3, 0..6)?)?;
+    make_plain(rt)?;
+    make_sharded(rt)?;
+    copy_middle(rt)?;
+    print_rows(rt)?;
     list(rt, "sharded")
 }

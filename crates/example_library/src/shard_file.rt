@@ -41,21 +41,38 @@ fn all_numbers(alloc: Global) -> Result<Vec<u16>, AllocError> {
     (0..64u16).collect(alloc)
 }
 
+// Writes all elements of the shard.
+fn store_all(rt: &HostRuntime, shards: &Shards) -> Result<(), CodecError> {
+    let numbers = all_numbers(rt.alloc())?;
+    store(rt, shards, [0..8, 0..8], &numbers)
+}
+
+// Prints whether the shard had dead bytes, which it has no longer.
+fn compact(rt: &HostRuntime, shards: &Shards) -> anyhow::Result<()> {
+    let mut file = file(rt)?;
+    let compacted = shards.compact(rt.alloc(), &mut file)?;
+    println!(rt; "compacted: {compacted}")?;
+    Ok(())
+}
+
 // Erases the shard.
 fn erase(rt: &HostRuntime, shards: &Shards) -> Result<(), CodecError> {
     opened(rt, shards)?.erase()
 }
 
+fn run(rt: &HostRuntime, shards: &Shards) -> anyhow::Result<()> {
+    store_all(rt, shards)?;
+    show(rt, shards, [1..3, 3..6])?;
+    store(rt, shards, [0..1, 0..2], &[100, 101])?;
+    show(rt, shards, [0..1, 0..5])?;
+    compact(rt, shards)?;
+    show(rt, shards, [0..1, 0..5])?;
+    erase(rt, shards)?;
+    show(rt, shards, [7..8, 6..8])
+}
+
 // Prints what becomes of the shard.
 pub fn print_steps(rt: &HostRuntime) -> anyhow::Result<()> {
     let shards = Shards::new(rt.alloc())?;
-    store(rt, &shards, [0..8, 0..8], &all_numbers(rt.alloc())?)?;
-    show(rt, &shards, [1..3, 3..6])?;
-    store(rt, &shards, [0..1, 0..2], &[100, 101])?;
-    show(rt, &shards, [0..1, 0..5])?;
-    let compacted = shards.compact(rt.alloc(), &mut file(rt)?)?;
-    println!(rt; "compacted: {compacted}")?;
-    show(rt, &shards, [0..1, 0..5])?;
-    erase(rt, &shards)?;
-    show(rt, &shards, [7..8, 6..8])
+    run(rt, &shards)
 }
