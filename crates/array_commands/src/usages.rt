@@ -3,7 +3,7 @@ use clap::{Arg, ArgAction, Command};
 use std::alloc::{AllocError, Global};
 
 // An argument, what its help says, and the arguments beside which it may not stand. `<PATH>` must be there and `[KEY]` may be; `--json` is a
-// flag, and `--part <K/N>` takes a value. One that must be there need not, where another stands there beside which it may not.
+// flag, `--part <K/N>` takes a value, and `-j --jobs <N>` has a letter too. One that must be there need not, where another stands there beside which it may not.
 type Argument = (&'static str, &'static str, &'static [&'static str]);
 
 // A command: its name, what it does, what stands behind its help, and its arguments.

@@ -4,10 +4,12 @@ ghost use Rattle.parts_arrays.specs.ArraySpec.{array_spec};
 ghost use Rattle.parts_arrays.specs.declared.data_type.DataType.TheVariants.{UInt8};
 
 use crate::compared::same_at;
-use crate::orders::Answer::{Cells, Compacted, Refused};
-use crate::orders::Order::{Compact, Read, ReadCells};
-use crate::orders::{Answer, Order, commands_of, run, say};
-use crate::shards::{Call, Ended, Shards, alone, called, how_it_ended, object_of, shards_at};
+use crate::orders::Answer::{Cells, Compacted, Done, Refused};
+use crate::orders::Order::{Compact, Read, ReadCells, Reopen};
+use crate::orders::{Answer, Order, commands_of, run, say, shape_of};
+use crate::shards::{
+    ABSENT, Call, Ended, Shards, alone, called, how_it_ended, object_of, shards_at,
+};
 use shard_sessions::{CommandRun, Naming, Reply};
 use std::alloc::Global;
 use std::marker::Brand;
@@ -15,7 +17,8 @@ use std::process::Abort;
 use std::sync::Wait;
 use test_helpers::{HostileObject, Wanted, hostile_table};
 use zarr_codecs::{ArrayToBytesCodecTraits, BytesCodec, FaultingHandle, MemoryHandle};
-use zarrs_sharding::ShardingIndexLocation;
+use zarr_parts::CodecError;
+use zarrs_sharding::{ShardingCodec, ShardingIndexLocation};
 
 // Four elements with the index where that of the object is to be.
 fn shards_for<R: Abort>(
@@ -128,5 +131,76 @@ fn they_are_run_over_or_given_back(rt: HostRuntime) {
         same_at(&rt, hostile.name, are_wanted(&end.replies, hostile), true);
         let left = left_compact(&rt, rt.alloc(), hostile);
         same_at(&rt, hostile.name, end.handle.into_inner(), Some(left));
+    }
+}
+
+// Eight elements in two shards of four.
+type Nested = Shards<ShardingCodec<BytesCodec, BytesCodec>, BytesCodec>;
+
+fn nested_for<R: Abort>(rt: &R, alloc: Global, hostile: &HostileObject) -> Nested {
+    let Shards { codec, fill, .. } = shards_for(rt, alloc, hostile);
+    let (sub, end) = (shape_of(rt, alloc, &[4]), ShardingIndexLocation::End);
+    Shards {
+        codec: ShardingCodec::new(sub, codec, BytesCodec::little(), end),
+        shape: shape_of(rt, alloc, &[8]),
+        fill,
+    }
+}
+
+// An object as the first subchunk of a shard, whose second is absent.
+fn put_into<R: Abort>(rt: &R, alloc: Global, hostile: &HostileObject) -> Vec<u8> {
+    let object = hostile.object(alloc).expect(rt, "refused");
+    let size = object.len() as u64;
+    object_of(rt, alloc, &object, &[0, size, ABSENT, ABSENT])
+}
+
+// An inner shard that is refused is damaged.
+fn damaged(wanted: Wanted) -> Option<CodecError> {
+    match wanted {
+        Ok(_) => None,
+        Err(_) => Some(CodecError::Damaged),
+    }
+}
+
+#[test]
+fn shards_that_have_them_are_recorded_or_given_back(rt: HostRuntime) {
+    for hostile in hostile_table().iter() {
+        let shards = nested_for(&rt, rt.alloc(), hostile);
+        let object = put_into(&rt, rt.alloc(), hostile);
+        let end = recorded_over::<_, _, Brand, _>(&rt, rt.alloc(), &shards, object);
+        let error = damaged(hostile.elements);
+        let events = if error.is_some() { 0 } else { 2 };
+        same_at(&rt, hostile.name, (end.error, end.events), (error, events));
+    }
+}
+
+fn ran_nested<R: Abort>(
+    rt: &R,
+    alloc: Global,
+    hostile: &HostileObject,
+) -> CommandRun<MemoryHandle> {
+    let shards = nested_for(rt, alloc, hostile);
+    let object = put_into(rt, alloc, hostile);
+    let commands = commands_of(rt, alloc, &[Read(0, 2), Read(2, 4), Reopen]);
+    run(rt, alloc, &shards.codec, 8, Some(object), &commands)
+}
+
+// What a read of a subchunk of an inner shard is to reply.
+fn inner_reply_of(wanted: Wanted) -> Answer {
+    match wanted {
+        Ok(elements) => Cells(elements),
+        Err(_) => Refused(CodecError::Damaged),
+    }
+}
+
+#[test]
+fn shards_that_have_them_are_run_over(rt: HostRuntime) {
+    for hostile in hostile_table().iter() {
+        let end = ran_nested(&rt, rt.alloc(), hostile);
+        let [first, second] = hostile.halves;
+        let answers = [inner_reply_of(first), inner_reply_of(second), Done];
+        same_at(&rt, hostile.name, say(&end.replies, &answers), true);
+        let object = put_into(&rt, rt.alloc(), hostile);
+        same_at(&rt, hostile.name, end.handle.into_inner(), Some(object));
     }
 }

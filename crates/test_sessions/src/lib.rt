@@ -23,6 +23,8 @@ mod opening;
 #[cfg(test)]
 mod reopened;
 #[cfg(test)]
+mod round_trips;
+#[cfg(test)]
 mod sessions;
 #[cfg(test)]
 mod shards;

@@ -1,10 +1,11 @@
-// What a session tells, also after an erasure.
+// What a session tells, reads and erases.
 use crate::compared::same;
-use crate::shards::{Session, Shards, seven};
+use crate::shards::{Answer, Session, Shards, read, said, seven, subset_of};
 use std::alloc::Global;
+use std::ops::Range;
 use std::process::Abort;
 use zarr_codecs::MemoryHandle;
-use zarr_parts::DataType;
+use zarr_parts::{CodecError, DataType};
 use zarrs_sharding::ShardingIndexLocation;
 
 // What a session of an object tells: whether it is there, how many bytes are held of it, and whether a write failed.
@@ -48,4 +49,41 @@ fn a_session_reads_and_writes_in_part(rt: HostRuntime) {
     same(&rt, *session.data_type(), DataType::UInt8);
     same(&rt, session.supports_partial_decode(), true);
     same(&rt, session.supports_partial_encode(), true);
+}
+
+// The cells of a range, after so many erasures.
+fn read_erased<R: Abort>(
+    rt: &R,
+    alloc: Global,
+    session: &mut Session<'_, MemoryHandle>,
+    erasures: u64,
+    range: &Range<u64>,
+) -> Answer {
+    for _ in 0..erasures {
+        session.erase().expect(rt, "an erasure");
+    }
+    let requested = subset_of(rt, alloc, range.start..range.end);
+    read(alloc, session, &requested)
+}
+
+// Without an object each cell is the fill value, also after an erasure; cells outside are refused in both cases.
+#[test]
+fn cells_are_read_before_and_after_an_erasure(rt: HostRuntime) {
+    let alloc = rt.alloc();
+    let shards = Shards::new(&rt, alloc, ShardingIndexLocation::End);
+    const ROWS: &[(bool, u64, Range<u64>, Result<&[u8], CodecError>)] = &[
+        (true, 0, 0..4, Ok(&[0, 7, 0, 0])),
+        (true, 0, 1..1, Ok(&[])),
+        (true, 1, 0..4, Ok(&[0, 0, 0, 0])),
+        (true, 2, 1..3, Ok(&[0, 0])),
+        (false, 0, 0..4, Ok(&[0, 0, 0, 0])),
+        (true, 0, 3..5, Err(CodecError::OutOfBounds)),
+        (true, 1, 3..5, Err(CodecError::OutOfBounds)),
+        (false, 0, 5..5, Err(CodecError::OutOfBounds)),
+    ];
+    for (stored, erasures, range, want) in ROWS {
+        let mut session = opened(&rt, alloc, &shards, *stored);
+        let cells = read_erased(&rt, alloc, &mut session, *erasures, range);
+        same(&rt, said(&cells), *want);
+    }
 }

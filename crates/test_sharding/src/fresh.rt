@@ -1,12 +1,12 @@
 // Subsets of shards whose subchunks are shards, read by a decoder, and into a target that nobody looks at where it is refused.
-use crate::compared::same_at;
+use crate::compared::{same, same_at};
 use crate::shards::{Cells, Plain, around, cells_of, encoded, plain, read_back, said, subset_of};
 use std::alloc::Global;
 use std::ops::Range;
 use std::process::Abort;
 use zarr_codecs::{
-    ArrayToBytesCodecTraits, BytesCodec, BytesPartialDecoderTraits, Interval, SliceHandle,
-    StoredArray,
+    ArrayToBytesCodecTraits, BytesCodec, BytesPartialDecoderTraits, FaultingHandle, Interval,
+    SliceHandle, StoredArray,
 };
 use zarr_parts::{ArraySubset, CodecError, CodecOptions, DataType, FixedTarget};
 use zarrs_sharding::{ShardingCodec, ShardingIndexLocation};
@@ -153,4 +153,46 @@ fn a_subset_is_read_into_a_fresh_target(rt: HostRuntime) {
         let bytes = middle_in(&rt, rt.alloc(), count, axes, place);
         same_at(&rt, axes, said(&bytes), want);
     }
+}
+
+// The same by a handle of which a call fails: how often one did, and what was read.
+fn middle_by<R: Abort>(
+    rt: &R,
+    alloc: Global,
+    fails_at: u64,
+    bytes: &mut [u8],
+) -> (u64, Result<(), CodecError>) {
+    let object = object_of(rt, alloc);
+    let size = object.len();
+    let place = subset_of(rt, alloc, &[0..2, 0..2]);
+    let mut handle = FaultingHandle::new(Some(object), fails_at);
+    let read = read_into(rt, alloc, &mut handle, size, &[2, 2], &place, bytes);
+    (handle.faults(), read)
+}
+
+// How often a call of such a handle fails. Damaged where a read is accepted beside a fault or with other cells, or refused in another way.
+fn faults_of<R: Abort>(rt: &R, alloc: Global, fails_at: u64) -> Result<u64, CodecError> {
+    let mut bytes = [9u8; 4];
+    let (faults, read) = middle_by(rt, alloc, fails_at, &mut bytes);
+    let is_right = match read {
+        Ok(()) => faults == 0 && bytes == [6, 7, 10, 0],
+        Err(error) => faults == 1 && error == CodecError::Fault,
+    };
+    if !is_right {
+        return Err(CodecError::Damaged);
+    }
+    Ok(faults)
+}
+
+// Whichever call of the handle fails, the read is refused, until none is left to fail.
+#[test]
+fn each_fault_refuses_a_read(rt: HostRuntime) {
+    for fails_at in 0..5u64 {
+        same_at(&rt, fails_at, faults_of(&rt, rt.alloc(), fails_at), Ok(1));
+    }
+    for fails_at in 5..20u64 {
+        let answer = faults_of(&rt, rt.alloc(), fails_at);
+        same_at(&rt, fails_at, answer.is_ok(), true);
+    }
+    same(&rt, faults_of(&rt, rt.alloc(), 20), Ok(0));
 }

@@ -18,6 +18,8 @@ mod grids;
 #[cfg(test)]
 mod laws;
 #[cfg(test)]
+mod lengths;
+#[cfg(test)]
 mod nested;
 #[cfg(test)]
 mod options;

@@ -1,8 +1,8 @@
 // Shards whose subchunks are shards.
 use crate::compared::{same, same_at};
 use crate::shards::{
-    ABSENT, Cells, Plain, around, array_of, cells_of, decoded, is_encoded_as, plain, read_subset,
-    said, shard_of,
+    ABSENT, Cells, Plain, around, array_of, cells_of, decoded, encoded, is_decoded_to,
+    is_encoded_as, plain, read_back, read_subset, said, shard_of,
 };
 use std::alloc::Global;
 use std::ops::Range;
@@ -103,6 +103,19 @@ fn is_encoded_at<R: Abort>(
     )
 }
 
+// Whether the encoding of 1, 0, 0, 0 is that object, of 65 bytes.
+fn is_encoded_so<R: Abort>(rt: &R, alloc: Global) -> bool {
+    let object = object_of(rt, alloc, 1, 33);
+    let cells = [1, 0, 0, 0];
+    object.len() == 65 && is_encoded_at(rt, alloc, ShardingIndexLocation::End, &cells, &object)
+}
+
+// An inner shard of the fill value alone is not stored.
+#[test]
+fn nested_shards_are_encoded(rt: HostRuntime) {
+    same(&rt, is_encoded_so(&rt, rt.alloc()), true);
+}
+
 // A shard of these slices and their index.
 fn shard_at<R: Abort>(
     rt: &R,
@@ -197,4 +210,67 @@ fn inner_shards_stand_after_one_another(rt: HostRuntime) {
         let is_after = is_put_after(&rt, rt.alloc(), location, cells, &want);
         same(&rt, is_after, true);
     }
+}
+
+// Where an array is refused, the bytes stay.
+#[test]
+fn a_refused_shard_is_not_put_after_bytes(rt: HostRuntime) {
+    let mut bytes = [5, 6].to_vec(rt.alloc()).expect(&rt, "refused");
+    let start = ShardingIndexLocation::Start;
+    let answer = put_after(&rt, rt.alloc(), start, &[1, 0, 2], &mut bytes);
+    same(&rt, answer, Err(CodecError::InvalidNumberOfElements));
+    same(&rt, bytes.as_slice(), [5u8, 6].as_slice());
+}
+
+// The codec of eight cells in shards in shards in a shard.
+fn thrice<R: Abort>(
+    rt: &R,
+    alloc: Global,
+) -> ShardingCodec<ShardingCodec<Plain, BytesCodec>, BytesCodec> {
+    let innermost = plain(rt, alloc, &[1], ShardingIndexLocation::Start);
+    let inner = around(rt, alloc, &[2], innermost, ShardingIndexLocation::End);
+    around(rt, alloc, &[4], inner, ShardingIndexLocation::End)
+}
+
+const EIGHT: [u8; 8] = [1, 2, 0, 4, 0, 0, 7, 8];
+
+// Whether the cells are decoded from their shard.
+fn are_decoded<C: ArrayToBytesCodecTraits, R: Abort>(rt: &R, alloc: Global, codec: &C) -> bool {
+    let shard = encoded(rt, alloc, codec, &[8], &EIGHT);
+    is_decoded_to(rt, alloc, codec, &[8], &shard, &EIGHT)
+}
+
+// Whether a part of them is read as these cells.
+fn is_read_as<I: ArrayToBytesCodecTraits, X: ArrayToBytesCodecTraits, R: Abort>(
+    rt: &R,
+    alloc: Global,
+    codec: &ShardingCodec<I, X>,
+    cells: Range<u64>,
+    want: &[u8],
+) -> bool {
+    read_back(rt, alloc, codec, &[8], &EIGHT, &[cells])
+        .expect(rt, "refused")
+        .as_slice()
+        == want
+}
+
+// Whether all of them are decoded and read back, and those of a part.
+fn are_read_back<I: ArrayToBytesCodecTraits, X: ArrayToBytesCodecTraits, R: Abort>(
+    rt: &R,
+    alloc: Global,
+    codec: &ShardingCodec<I, X>,
+) -> bool {
+    are_decoded(rt, alloc, codec)
+        && is_read_as(rt, alloc, codec, 0..8, &EIGHT)
+        && is_read_as(rt, alloc, codec, 3..7, &[4, 0, 0, 7])
+}
+
+fn thrice_read_back<R: Abort>(rt: &R, alloc: Global) -> bool {
+    are_read_back(rt, alloc, &thrice(rt, alloc))
+}
+
+// What is stored three shards deep is decoded and read.
+#[test]
+fn three_nested_shards_are_read_back(rt: HostRuntime) {
+    same(&rt, thrice_read_back(&rt, rt.alloc()), true);
 }

@@ -1,6 +1,6 @@
-// Objects that are read in part. What a script can say stands in tests/scripts.
+// Objects that are read in part.
 use crate::compared::same_at;
-use crate::hostile::shards::{Case, Decoder, case_of, over, subset_of};
+use crate::hostile::shards::{Case, Decoder, case_of, listed, over, said, subset_of};
 use std::alloc::Global;
 use std::ops::Range;
 use std::process::Abort;
@@ -10,6 +10,28 @@ use zarr_parts::{CodecError, CodecOptions, FixedTarget};
 
 // The elements of each subchunk.
 const HALVES: [Range<u64>; 2] = [0..2, 2..4];
+
+#[test]
+fn subsets_are_read(rt: HostRuntime) {
+    for hostile in hostile_table().iter() {
+        let case = case_of(&rt, rt.alloc(), hostile);
+        for (range, want) in HALVES.iter().zip(hostile.halves.iter()) {
+            let found = case.read(&rt, rt.alloc(), range);
+            same_at(&rt, (hostile.name, range.start), said(&found), *want);
+        }
+    }
+}
+
+#[test]
+fn listed_elements_are_read(rt: HostRuntime) {
+    let alloc = rt.alloc();
+    let requested = listed(&rt, alloc);
+    for hostile in hostile_table().iter() {
+        let case = case_of(&rt, alloc, hostile);
+        let found = case.shards.read(alloc, &case.object, &requested);
+        same_at(&rt, hostile.name, said(&found), hostile.listed);
+    }
+}
 
 // A decoder of an object.
 fn opened<'a, R: Abort>(rt: &R, alloc: Global, case: &'a Case) -> Decoder<'a, BytesCodec> {

@@ -1,4 +1,4 @@
-// Objects that nobody wrote as a shard, as the bytes of inner shards.
+// Objects that nobody wrote as a shard, as the bytes of inner shards: in one shard, and in three.
 use crate::compared::same_at;
 use crate::hostile::shards::{
     Answer, Plain, Shards, around, location_of, said, shards_of, subset_of,
@@ -9,7 +9,12 @@ use std::thread::Threads;
 use test_helpers::{ABSENT, HostileObject, Wanted, hostile_table, object_of};
 use zarr_codecs::{ArrayToBytesCodecTraits, BytesCodec};
 use zarr_parts::CodecError;
+use zarrs_sharding::ShardingCodec;
 use zarrs_sharding::ShardingIndexLocation::End;
+
+type Twice = ShardingCodec<Plain, BytesCodec>;
+
+type Thrice = ShardingCodec<Twice, BytesCodec>;
 
 // The codec of an object that nobody wrote.
 fn innermost<R: Abort>(rt: &R, alloc: Global, at_start: bool) -> Plain {
@@ -22,11 +27,22 @@ fn in_one<R: Abort>(rt: &R, alloc: Global, at_start: bool) -> Shards<Plain> {
     shards_of(rt, alloc, 8, codec)
 }
 
-// An object as the first subchunk of a shard, whose second is absent.
-fn put_in_one<R: Abort>(rt: &R, alloc: Global, hostile: &HostileObject) -> Vec<u8> {
-    let object = hostile.object(alloc).expect(rt, "memory");
-    let index = [0, object.len() as u64, ABSENT, ABSENT];
-    object_of(alloc, false, &object, &index).expect(rt, "memory")
+// Thirty-two elements in two shards of two shards of two shards.
+fn in_three<R: Abort>(rt: &R, alloc: Global, at_start: bool) -> Shards<Thrice> {
+    let twice = around(rt, alloc, 4, innermost(rt, alloc, at_start), End);
+    let thrice = around(rt, alloc, 8, twice, End);
+    let codec = around(rt, alloc, 16, thrice, End);
+    shards_of(rt, alloc, 32, codec)
+}
+
+// An object as the first subchunk of a shard, whose second is absent; and that as one of another, n times.
+fn put_deep<R: Abort>(rt: &R, alloc: Global, hostile: &HostileObject, n: u8) -> Vec<u8> {
+    let mut object = hostile.object(alloc).expect(rt, "memory");
+    for _ in 0..n {
+        let index = [0, object.len() as u64, ABSENT, ABSENT];
+        object = object_of(alloc, false, &object, &index).expect(rt, "memory");
+    }
+    object
 }
 
 // An inner shard that is refused is damaged.
@@ -123,7 +139,17 @@ fn one_shard_has_them(rt: HostRuntime) {
     let alloc = rt.alloc();
     for hostile in hostile_table().iter() {
         let shards = in_one(&rt, alloc, hostile.at_start);
-        let object = put_in_one(&rt, alloc, hostile);
+        let object = put_deep(&rt, alloc, hostile, 1);
+        is_answered(&rt, alloc, hostile, &shards, &object);
+    }
+}
+
+#[test]
+fn shards_in_shards_have_them(rt: HostRuntime) {
+    let alloc = rt.alloc();
+    for hostile in hostile_table().iter() {
+        let shards = in_three(&rt, alloc, hostile.at_start);
+        let object = put_deep(&rt, alloc, hostile, 3);
         is_answered(&rt, alloc, hostile, &shards, &object);
     }
 }

@@ -1,9 +1,9 @@
-// Arrays that are encoded anew by another codec. What a script can say stands in tests/scripts.
-use crate::compared::same;
-use crate::hostile::shards::{Plain, in_squares, said, shape_of, squares};
+// Arrays that are encoded anew by another codec.
+use crate::compared::{same, same_at};
+use crate::hostile::shards::{Case, Plain, around, case_of, in_squares, said, shape_of, squares};
 use std::alloc::Global;
 use std::process::Abort;
-use test_helpers::object_of;
+use test_helpers::{HostileObject, hostile_table, object_of};
 use zarr_codecs::BytesCodec;
 use zarr_parts::{ChunkShape, CodecError, DataType, FillValue};
 use zarrs_sharding::ShardingIndexLocation::End;
@@ -13,6 +13,44 @@ use zarrs_sharding::{
 };
 
 type Resharded = Result<Vec<u8>, CodecError>;
+
+// An object as a shard with this number of elements in a subchunk.
+fn resharded_to<R: Abort>(rt: &R, alloc: Global, case: &Case, sub: u64) -> Resharded {
+    let to = around(rt, alloc, sub, BytesCodec::little(), End);
+    let from = &case.shards;
+    reshard(
+        alloc,
+        &from.codec,
+        &to,
+        &case.object,
+        &from.shape,
+        &DataType::UInt8,
+        &from.fill,
+    )
+}
+
+// The elements as the one subchunk of a shard, or their refusal.
+fn one_subchunk<R: Abort>(rt: &R, alloc: Global, hostile: &HostileObject) -> Resharded {
+    match hostile.elements {
+        Ok(elements) => Ok(object_of(alloc, false, elements, &[0, 4]).expect(rt, "memory")),
+        Err(error) => Err(error),
+    }
+}
+
+// Bytes that the old codec refuses are refused as it refuses to decode them, after the tests of the new codec.
+#[test]
+fn they_are_resharded(rt: HostRuntime) {
+    let alloc = rt.alloc();
+    for hostile in hostile_table().iter() {
+        let case = case_of(&rt, alloc, hostile);
+        let found = resharded_to(&rt, alloc, &case, 4);
+        let want = one_subchunk(&rt, alloc, hostile);
+        same_at(&rt, hostile.name, found, want);
+        let unserved = resharded_to(&rt, alloc, &case, 3).err();
+        let refusal = Some(CodecError::InvalidSubchunkShape);
+        same_at(&rt, hostile.name, unserved, refusal);
+    }
+}
 
 // The codecs of 4 by 4 elements in four squares, and in two halves of two columns each; and what they are asked to serve.
 #[derive(Drop)]
@@ -58,6 +96,17 @@ fn squares_become_halves(rt: HostRuntime) {
     let squares = in_squares(&rt, alloc);
     let found = halved(&rt, alloc, &both, &squares);
     same(&rt, found, Ok(in_halves(&rt, alloc)));
+}
+
+#[test]
+fn halves_become_squares(rt: HostRuntime) {
+    let alloc = rt.alloc();
+    let both = codecs(&rt, alloc);
+    let Both { shape, fill, .. } = &both;
+    let (from, to, bytes) = (&both.halves, &both.squares, &DataType::UInt8);
+    let halves = in_halves(&rt, alloc);
+    let found = reshard(alloc, from, to, &halves, shape, bytes, fill);
+    same(&rt, found, Ok(in_squares(&rt, alloc)));
 }
 
 #[test]

@@ -4,11 +4,11 @@ use std::alloc::Global;
 use std::ops::Range;
 use std::process::Abort;
 use std::thread::Threads;
-use test_helpers::{HostileObject, Wanted, object_of};
+use test_helpers::{ABSENT, HostileObject, Wanted, object_of};
 use zarr_codecs::{ArrayToBytesCodecTraits, BytesCodec, MemoryHandle, SliceHandle};
 use zarr_parts::{
-    ArrayBytes, ArraySubset, ChunkShape, CodecError, CodecOptions, DataType, FillValue,
-    FixedTarget, Indexer,
+    ArrayBytes, ArraySubset, ChunkShape, CodecError, CodecOptions, Coordinates, DataType,
+    FillValue, FixedTarget, Indexer,
 };
 use zarrs_sharding::{
     NoGate, ShardState, ShardingCodec, ShardingIndexLocation, ShardingPartialDecoder,
@@ -82,6 +82,12 @@ pub(crate) fn plain<R: Abort>(
     shards_of(rt, alloc, 4, codec)
 }
 
+// The object of 0, 7, 0, 0.
+pub(crate) fn seven<R: Abort>(rt: &R, alloc: Global) -> Vec<u8> {
+    let object = object_of(alloc, false, &[0, 7], &[0, 2, ABSENT, ABSENT]);
+    object.expect(rt, "memory")
+}
+
 // The codec of 4 by 4 elements in squares, whose index is before them.
 pub(crate) fn squares<R: Abort>(rt: &R, alloc: Global) -> Plain {
     let (little, sub) = (BytesCodec::little(), shape_of(rt, alloc, &[2, 2]));
@@ -122,10 +128,35 @@ impl Case {
         let mut target = FixedTarget::new(bytes, 1, &[4], &all).expect(rt, "a target");
         self.shards.decoded_into(alloc, &self.object, &mut target)
     }
+
+    pub(crate) fn index<R: Abort>(&self, rt: &R, alloc: Global) -> Result<Vec<u64>, CodecError> {
+        let grid = shape_of(rt, alloc, &[2]);
+        let options = CodecOptions::default();
+        self.shards
+            .codec
+            .decode_index(alloc, &self.object, &grid, &options)
+    }
+
+    // The elements of a range that a decoder reads.
+    pub(crate) fn read<R: Abort>(
+        &self,
+        rt: &R,
+        alloc: Global,
+        range: &Range<u64>,
+    ) -> Answer<'static> {
+        let requested = subset_of(rt, alloc, range);
+        self.shards.read(alloc, &self.object, &requested)
+    }
 }
 
 pub(crate) fn subset_of<R: Abort>(rt: &R, alloc: Global, range: &Range<u64>) -> ArraySubset {
     ArraySubset::from_ranges(alloc, &[range.start..range.end]).expect(rt, "a subset")
+}
+
+// The elements 3, 0 and 3.
+pub(crate) fn listed<R: Abort>(rt: &R, alloc: Global) -> Coordinates {
+    let numbers = [3, 0, 3].to_vec(alloc).expect(rt, "memory");
+    Coordinates::new(1, 3, numbers).expect(rt, "coordinates")
 }
 
 // What an answer says, for a comparison: the elements, each of which has one size, or the refusal.
@@ -171,6 +202,22 @@ impl<I: ArrayToBytesCodecTraits + Drop> Shards<I> {
             &DataType::UInt8,
             &self.fill,
             target,
+            &options,
+        )
+    }
+
+    pub(crate) fn compacted(
+        &self,
+        alloc: Global,
+        object: &[u8],
+    ) -> Result<Option<Vec<u8>>, CodecError> {
+        let options = CodecOptions::default();
+        self.codec.compact(
+            alloc,
+            object,
+            &self.shape,
+            &DataType::UInt8,
+            &self.fill,
             &options,
         )
     }
