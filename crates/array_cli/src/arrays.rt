@@ -14,7 +14,6 @@ use parts_subsets::ChunkShape;
 use sharding_format::SubchunkWriteOrder;
 use std::alloc::{AllocError, Global};
 use std::borrow::CowSlice;
-use std::rt::Files;
 use storage_files::FileHandle;
 
 // How many bytes of a file are read at once at most, where its slices are small.
@@ -39,8 +38,8 @@ impl<'s> Shard<'s> {
 
 /// An array on disk, whose shards are of a codec.
 #[derive(Drop)]
-pub struct Array<'a, R, C> {
-    pub rt: &'a R,
+pub struct Array<'a, C> {
+    pub rt: &'a HostRuntime,
     pub path: &'a str,
     pub metadata: &'a ArrayMetadata,
     /// The codec that the metadata names.
@@ -113,7 +112,7 @@ pub fn described(
 }
 
 // Tests how long the document of a folder is.
-fn test_document<R: Files + AllocGlobal>(rt: &R, path: &str, document: &str) -> Result<(), Stop> {
+fn test_document(rt: &HostRuntime, path: &str, document: &str) -> Result<(), Stop> {
     let length = document_length(rt, path, document)?;
     match MetadataError::test_length(length) {
         Ok(()) => Ok(()),
@@ -122,14 +121,14 @@ fn test_document<R: Files + AllocGlobal>(rt: &R, path: &str, document: &str) -> 
 }
 
 // The text of the `zarr.json` in a folder.
-fn text_of<R: Files + AllocGlobal>(rt: &R, path: &str) -> Result<String, Stop> {
+fn text_of(rt: &HostRuntime, path: &str) -> Result<String, Stop> {
     let document = format!(in rt.alloc(); "{path}/zarr.json")?;
     test_document(rt, path, &document)?;
     Ok(read_document(rt, &document, LONGEST_TEXT)?)
 }
 
 /// The metadata of the array whose folder has this path. How long the text is, is tested before it is read.
-pub fn metadata_of<R: Files + AllocGlobal>(rt: &R, path: &str) -> Result<ArrayMetadata, Stop> {
+pub fn metadata_of(rt: &HostRuntime, path: &str) -> Result<ArrayMetadata, Stop> {
     let text = text_of(rt, path)?;
     described(rt.alloc(), path, &text, SubchunkWriteOrder::C)
 }
@@ -153,7 +152,7 @@ fn chunks_in(
     Ok(kept)
 }
 
-impl<'a, R: Files + AllocGlobal, C> Array<'a, R, C> {
+impl<'a, C> Array<'a, C> {
     /// The allocator.
     pub fn alloc(&self) -> Global {
         self.rt.alloc()
@@ -229,13 +228,13 @@ impl<'a, R: Files + AllocGlobal, C> Array<'a, R, C> {
     }
 
     /// The file of the shard with this key.
-    pub fn file(&self, key: &str) -> Result<ShardFile<'a, R>, Stop> {
+    pub fn file(&self, key: &str) -> Result<ShardFile<'a>, Stop> {
         let path = self.path_of(key)?;
         Ok(FileHandle::new(self.alloc(), self.rt, &path)?)
     }
 
     /// The file of the shard with this key, of which all slices are to be read: small ones that follow one another are read at once.
-    pub fn whole_file(&self, key: &str) -> Result<ShardFile<'a, R>, Stop> {
+    pub fn whole_file(&self, key: &str) -> Result<ShardFile<'a>, Stop> {
         let mut file = self.file(key)?;
         file.read_ahead(self.alloc(), READ_AHEAD);
         Ok(file)
@@ -245,7 +244,7 @@ impl<'a, R: Files + AllocGlobal, C> Array<'a, R, C> {
     pub fn refusal(
         &self,
         shard: &Shard<'_>,
-        file: &ShardFile<'a, R>,
+        file: &ShardFile<'a>,
         error: CodecError,
         position: Place,
     ) -> Result<Refusal, Stop> {
@@ -260,7 +259,7 @@ impl<'a, R: Files + AllocGlobal, C> Array<'a, R, C> {
     pub fn stop(
         &self,
         shard: &Shard<'_>,
-        file: &ShardFile<'a, R>,
+        file: &ShardFile<'a>,
         error: CodecError,
         position: Place,
     ) -> Stop {
@@ -288,10 +287,10 @@ impl<'a, R: Files + AllocGlobal, C> Array<'a, R, C> {
     }
 }
 
-impl<'a, R: Files + AllocGlobal, C: ShardCodec<ShardFile<'a, R>>> Array<'a, R, C> {
+impl<'a, C: ShardCodec<ShardFile<'a>>> Array<'a, C> {
     /// Opens the array whose folder has this path, with its metadata and the codec that this names.
     pub fn open(
-        rt: &'a R,
+        rt: &'a HostRuntime,
         path: &'a str,
         metadata: &'a ArrayMetadata,
         codec: C,
@@ -313,7 +312,7 @@ impl<'a, R: Files + AllocGlobal, C: ShardCodec<ShardFile<'a, R>>> Array<'a, R, C
     pub fn open_shard(
         &self,
         shard: &Shard<'_>,
-        file: ShardFile<'a, R>,
+        file: ShardFile<'a>,
     ) -> Result<Result<C::Open, Refusal>, Stop> {
         match self.codec.open(self.alloc(), file, self.metadata) {
             Ok(opened) => Ok(Ok(opened)),
@@ -325,7 +324,7 @@ impl<'a, R: Files + AllocGlobal, C: ShardCodec<ShardFile<'a, R>>> Array<'a, R, C
     }
 
     /// The shard that a file holds, opened. A refusal of it stops the command.
-    pub fn opened(&self, shard: &Shard<'_>, file: ShardFile<'a, R>) -> Result<C::Open, Stop> {
+    pub fn opened(&self, shard: &Shard<'_>, file: ShardFile<'a>) -> Result<C::Open, Stop> {
         match self.open_shard(shard, file)? {
             Ok(opened) => Ok(opened),
             Err(refusal) => Err(Stop::Refused(refusal)),
@@ -335,7 +334,7 @@ impl<'a, R: Files + AllocGlobal, C: ShardCodec<ShardFile<'a, R>>> Array<'a, R, C
     /// What a compaction does to the shard in a file. Only its index is read.
     pub fn plan_compaction(
         &self,
-        file: &mut ShardFile<'a, R>,
+        file: &mut ShardFile<'a>,
         is_dry: bool,
     ) -> Result<Planned, CodecError> {
         self.codec

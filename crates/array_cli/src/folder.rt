@@ -1,15 +1,15 @@
 // What stands in an array's folder: the shard that has a key, and what is no shard.
 use crate::arrays::{Array, Shard};
+use crate::output::Output;
 use crate::stop::Stop;
 use array_fields::{JsonLine, escaped};
 use array_folder::{ChunkFiles, age_of};
 use std::io;
 use std::io::Write;
-use std::rt::{Clock, Files};
 
 /// The shard of an array that has a key, among the files of its chunks. Refused as `Stop::NoShard` where none has it.
-pub fn shard_of<'s, R: Files + AllocGlobal, C>(
-    array: &Array<'_, R, C>,
+pub fn shard_of<'s, C>(
+    array: &Array<'_, C>,
     files: &'s ChunkFiles,
     key: &str,
 ) -> Result<Shard<'s>, Stop> {
@@ -22,11 +22,7 @@ pub fn shard_of<'s, R: Files + AllocGlobal, C>(
 }
 
 // Writes a line for the new file with a key, which stands beside a shard.
-fn write_replacing<R: Files + AllocGlobal + Clock, C, W: Write>(
-    array: &Array<'_, R, C>,
-    out: &mut W,
-    key: &str,
-) -> io::Result<()> {
+fn write_replacing<C>(array: &Array<'_, C>, out: &mut Output, key: &str) -> io::Result<()> {
     let age = age_of(array.rt, &array.path_of(key)?);
     writeln!(
         out,
@@ -36,9 +32,9 @@ fn write_replacing<R: Files + AllocGlobal + Clock, C, W: Write>(
 
 /// Writes what stands in an array's folder besides its shards: a line for each new file that stands beside a shard, and how
 /// many other files there are. Refused as the writer refuses.
-pub fn write_folder<R: Files + AllocGlobal + Clock, C, W: Write>(
-    array: &Array<'_, R, C>,
-    out: &mut W,
+pub fn write_folder<C>(
+    array: &Array<'_, C>,
+    out: &mut Output,
     files: &ChunkFiles,
 ) -> io::Result<()> {
     for key in files.replacing.iter() {
@@ -52,14 +48,14 @@ pub fn write_folder<R: Files + AllocGlobal + Clock, C, W: Write>(
 }
 
 // Writes a line of the kind `new_file`.
-fn write_new_file<W: Write>(out: &mut W, key: &str) -> io::Result<()> {
+fn write_new_file(out: &mut Output, key: &str) -> io::Result<()> {
     let mut line = JsonLine::new(out, "new_file")?;
     line.text("key", key)?;
     line.end()
 }
 
 /// Writes a line of the kind `new_file` for each new file beside a shard, and one of the kind `other_files` where others stand there.
-pub fn write_folder_lines<W: Write>(out: &mut W, files: &ChunkFiles) -> io::Result<()> {
+pub fn write_folder_lines(out: &mut Output, files: &ChunkFiles) -> io::Result<()> {
     for key in files.replacing.iter() {
         write_new_file(out, key)?;
     }

@@ -9,7 +9,6 @@ use array_metadata::ArrayMetadata;
 use parts_errors::CodecError;
 use parts_subsets::{ArraySubset, ChunkShape};
 use std::alloc::{AllocError, Global};
-use std::rt::Files;
 
 /// The subset of an array of a shape that is all of it.
 pub fn whole_of(alloc: Global, shape: &[u64]) -> Result<ArraySubset, AllocError>
@@ -65,8 +64,8 @@ impl GridShard {
 }
 
 /// The shard of a grid with this number. Refused as `OutOfBounds` where it has none.
-pub fn shard_of_grid<R: Files + AllocGlobal, C>(
-    array: &Array<'_, R, C>,
+pub fn shard_of_grid<C>(
+    array: &Array<'_, C>,
     grid: &ShardGrid,
     number: u64,
 ) -> Result<GridShard, Stop> {
@@ -78,7 +77,7 @@ pub fn shard_of_grid<R: Files + AllocGlobal, C>(
 }
 
 /// The shards of an array whose elements have numbers. Refused as `Stop::TooManyElements` where they have not.
-pub fn shards_of<R: Files + AllocGlobal, C>(array: &Array<'_, R, C>) -> Result<ShardGrid, Stop> {
+pub fn shards_of<C>(array: &Array<'_, C>) -> Result<ShardGrid, Stop> {
     match ShardGrid::new(array.alloc(), &array.metadata.shape, &array.metadata.shard) {
         Ok(grid) => Ok(grid),
         Err(CodecError::TooLarge) => Err(Stop::TooManyElements),

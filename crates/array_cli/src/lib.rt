@@ -8,6 +8,7 @@ mod codec_use;
 mod compaction_plans;
 mod folder;
 mod grid_shards;
+mod output;
 mod padded;
 mod progress;
 mod refusal;
@@ -16,8 +17,8 @@ mod shard_indexes;
 mod shared_array;
 mod stop;
 mod subchunks;
-mod system;
 mod whole_chunks;
+mod workers;
 
 pub use arrays::{Array, Shard, described, metadata_of, turned};
 pub use chunk_encoding::{encode_chunk, encode_padded};
@@ -27,6 +28,7 @@ pub use folder::{shard_of, write_folder, write_folder_lines};
 pub use grid_shards::{
     GridShard, chunk_of_fill_values, elements_of, shard_of_grid, shards_of, whole_of,
 };
+pub use output::Output;
 pub use padded::padded_chunk;
 pub use progress::Progress;
 pub use refusal::{Place, Refusal, put_refusal};
@@ -35,4 +37,4 @@ pub use shard_indexes::DecodeIndexes;
 pub use shared_array::{SharedArray, open_shared};
 pub use stop::{Ending, Stop, written};
 pub use subchunks::check_subchunk;
-pub use system::SharedSystem;
+pub use workers::Workers;

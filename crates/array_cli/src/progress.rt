@@ -2,13 +2,14 @@
 ghost use Rattle.std.specs.Prelude.{◌≢◌};
 
 use std::fmt::Display;
-use std::io::Write;
+use std::io::{Stderr, Write};
 
 /// Shows how far a command is: a percentage that stands alone on its line, and over which the next one is written. What is
 /// not taken is dropped.
 #[derive(Drop)]
-pub struct Progress<'a, M> {
-    messages: &'a mut M,
+pub struct Progress {
+    // none where nothing is written
+    messages: Option<Stderr>,
     // whether anything is shown at all
     shows: bool,
     // the percentage that stands there
@@ -25,12 +26,23 @@ fn percentage(done: u64, of: u64) -> u64
     done.saturating_mul(100) / of
 }
 
-impl<'a, M: Write> Progress<'a, M> {
-    /// Nothing is shown yet, and nothing ever is where `shows` is false.
-    pub fn new(messages: &'a mut M, shows: bool) -> Self {
+impl Progress {
+    /// Nothing is shown yet, and no percentage ever is where `shows` is false.
+    pub fn new(rt: &HostRuntime, shows: bool) -> Self {
         Progress {
-            messages,
+            messages: Some(rt.stderr()),
             shows,
+            shown: None,
+            part: 0,
+            parts: 1,
+        }
+    }
+
+    /// Nothing is ever written.
+    pub fn silent() -> Self {
+        Progress {
+            messages: None,
+            shows: false,
             shown: None,
             part: 0,
             parts: 1,
@@ -55,21 +67,27 @@ impl<'a, M: Write> Progress<'a, M> {
     // Shows a percentage, where another one or none stands there.
     fn show(&mut self, percent: u64) {
         if self.shown != Some(percent) {
-            let _ = write!(self.messages, "\r{percent:3} %");
             self.shown = Some(percent);
+            if let Some(messages) = &mut self.messages {
+                let _ = write!(messages, "\r{percent:3} %");
+            }
         }
     }
 
     /// Writes a line on what is filled, under a key and with a reason.
     pub fn tell_filled<D: Display>(&mut self, key: &str, reason: &D) {
         self.clear();
-        let _ = writeln!(self.messages, "{key}: filled: {reason}");
+        if let Some(messages) = &mut self.messages {
+            let _ = writeln!(messages, "{key}: filled: {reason}");
+        }
     }
 
     /// Blanks the percentage that stands there.
     pub fn clear(&mut self) {
-        if self.shown.take().is_some() {
-            let _ = self.messages.write_all(b"\r     \r");
+        if self.shown.take().is_some()
+            && let Some(messages) = &mut self.messages
+        {
+            let _ = messages.write_all(b"\r     \r");
         }
     }
 }

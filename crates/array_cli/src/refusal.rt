@@ -1,5 +1,6 @@
 // Why a shard is refused, and where.
 use crate::arrays::Shard;
+use crate::output::Output;
 use array_fields::JsonLine;
 use array_metadata::ArrayMetadata;
 use parts_errors::CodecError;
@@ -206,7 +207,7 @@ impl fmt::Display for Reason<'_> {
 
 /// Puts why something is refused, and where, into a line: `number`, `name`, `subchunk` where it is one, with how many others are
 /// refused so, and the `sentence` that stands in a line of text, which has no character that JSON knows otherwise.
-pub fn put_refusal<W: Write>(line: &mut JsonLine<'_, W>, refusal: &Refusal) -> io::Result<()> {
+pub fn put_refusal(line: &mut JsonLine<'_, Output>, refusal: &Refusal) -> io::Result<()> {
     line.number("number", refusal.error.number() as u64)?;
     line.text("name", refusal.error.name())?;
     if let Place::Subchunk(number) = refusal.position {

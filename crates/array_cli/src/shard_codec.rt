@@ -14,12 +14,11 @@ use parts_subsets::{ArraySubset, ChunkShape};
 use sharding_codec::{ShardingCodec, ShardingPartialDecoder};
 use sharding_format::{ShardIndex, ShardingIndexLocation, calculate_chunks_per_shard, of_stored};
 use std::alloc::Global;
-use std::rt::Files;
 use storage_files::FileHandle;
 use storage_handles::{ByteRange, BytesPartialDecoderTraits, Interval};
 
 /// The file of a shard.
-pub type ShardFile<'a, R> = FileHandle<&'a R>;
+pub type ShardFile<'a> = FileHandle<&'a HostRuntime>;
 
 /// A shard that is opened to be read. A subchunk is named by its coordinates among those of the shard.
 pub trait OpenShard<F> {

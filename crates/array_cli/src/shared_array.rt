@@ -4,23 +4,22 @@ use crate::codec_use::{CodecUse, with_codec};
 use crate::shard_codec::{ShardCodec, ShardFile};
 use crate::stop::Stop;
 use array_metadata::ArrayMetadata;
-use std::rt::Files;
 
 /// An array that threads share: each opens it anew with the codec that the metadata names, by `with_codec`.
-pub type SharedArray<'a, R> = Array<'a, R, ()>;
+pub type SharedArray<'a> = Array<'a, ()>;
 
 // The array that has a path, and its metadata.
 #[derive(Drop)]
-struct Opening<'a, R> {
-    rt: &'a R,
+struct Opening<'a> {
+    rt: &'a HostRuntime,
     path: &'a str,
     metadata: &'a ArrayMetadata,
 }
 
-impl<'a, R: Files + AllocGlobal> CodecUse<ShardFile<'a, R>> for Opening<'a, R> {
-    type Answer = Result<SharedArray<'a, R>, Stop>;
+impl<'a> CodecUse<ShardFile<'a>> for Opening<'a> {
+    type Answer = Result<SharedArray<'a>, Stop>;
 
-    fn with<C: ShardCodec<ShardFile<'a, R>>>(self, codec: C) -> Result<SharedArray<'a, R>, Stop> {
+    fn with<C: ShardCodec<ShardFile<'a>>>(self, codec: C) -> Result<SharedArray<'a>, Stop> {
         let Array {
             rt,
             path,
@@ -41,11 +40,11 @@ impl<'a, R: Files + AllocGlobal> CodecUse<ShardFile<'a, R>> for Opening<'a, R> {
 }
 
 /// Opens the array whose folder has this path, with its metadata, for threads. Refused as `Array::open` refuses.
-pub fn open_shared<'a, R: Files + AllocGlobal>(
-    rt: &'a R,
+pub fn open_shared<'a>(
+    rt: &'a HostRuntime,
     path: &'a str,
     metadata: &'a ArrayMetadata,
-) -> Result<SharedArray<'a, R>, Stop> {
+) -> Result<SharedArray<'a>, Stop> {
     let opening = Opening { rt, path, metadata };
     with_codec(metadata, opening)
 }

@@ -3,11 +3,10 @@ use crate::arrays::Array;
 use crate::shard_codec::{OpenShard, ShardFile};
 use parts_errors::CodecError;
 use parts_row_major::unravel_index;
-use std::rt::Files;
 
 /// Reads a subchunk of a shard, or looks it up in the index alone, and says whether it is present.
-pub fn check_subchunk<'a, R: Files + AllocGlobal, C, S: OpenShard<ShardFile<'a, R>>>(
-    array: &Array<'a, R, C>,
+pub fn check_subchunk<'a, C, S: OpenShard<ShardFile<'a>>>(
+    array: &Array<'a, C>,
     is_index_alone: bool,
     opened: &mut S,
     number: u64,

@@ -7,7 +7,7 @@ use crate::npy::save_subset;
 use crate::reading::{Reading, print_subset};
 use crate::usages::program;
 use array_cli::{
-    Array, CodecUse, Ending, Progress, ShardCodec, ShardFile, SharedArray, SharedSystem, Stop,
+    Array, CodecUse, Ending, Output, Progress, ShardCodec, ShardFile, SharedArray, Stop, Workers,
     metadata_of, open_shared, with_codec,
 };
 use array_creation::{create, reshard};
@@ -21,27 +21,26 @@ use array_reading::check;
 use array_updates::{Way, compact, write_subset};
 use clap::ArgMatches;
 use std::alloc::Global;
-use std::convert::AsStr;
 use std::io;
-use std::io::{BufWriter, Write};
-use std::rt::{Clock, Files};
+use std::io::Write;
+use std::thread::Threads;
 
 // By how many threads a command works at most.
 const MOST_THREADS: usize = 256;
 
 // By how many threads a command works, by a word. Refused as `Stop::BadWord` where that is no number above 0.
-fn jobs_of<R: SharedSystem>(rt: &R, word: Option<&str>) -> Result<usize, Stop> {
+fn jobs_of<T: Threads>(alloc: Global, threads: &T, word: Option<&str>) -> Result<usize, Stop> {
     let Some(word) = word else {
-        return Ok(threads_of(rt).min(MOST_THREADS));
+        return Ok(threads_of(threads).min(MOST_THREADS));
     };
     match word.parse::<usize>() {
         Ok(jobs) if jobs > 0 => Ok(jobs.min(MOST_THREADS)),
-        _ => Err(Stop::BadWord(escaped(rt.alloc(), word)?)),
+        _ => Err(Stop::BadWord(escaped(alloc, word)?)),
     }
 }
 
 // Tests that the elements of an array are read, and written in a form: bytes alone do not say where one begins that has a length of its own.
-fn test_form<R: SharedSystem>(array: &SharedArray<'_, R>, form: Form) -> Result<(), Stop> {
+fn test_form(array: &SharedArray<'_>, form: Form) -> Result<(), Stop> {
     match form {
         Form::Raw => array.test_sized(),
         Form::Text | Form::Json => array.test_read(),
@@ -49,13 +48,13 @@ fn test_form<R: SharedSystem>(array: &SharedArray<'_, R>, form: Form) -> Result<
 }
 
 // Reads the subset that a word names, and writes its elements.
-fn run_read<R: SharedSystem, W: Write, M: Write>(
-    array: &SharedArray<'_, R>,
+fn run_read<T: Threads + Sync>(
+    array: &SharedArray<'_>,
     requested: Option<&str>,
     target: Target<'_>,
-    reading: Reading,
-    out: &mut W,
-    progress: &mut Progress<'_, M>,
+    reading: &Reading<'_, T>,
+    out: &mut Output,
+    progress: &mut Progress,
 ) -> Result<Ending, Stop> {
     match target {
         Target::NumPy(path) => save_subset(array, requested, path, reading, out, progress),
@@ -90,17 +89,11 @@ fn way_of(is_dry: bool, output: Option<&str>) -> Way<'_> {
 }
 
 // Does a work of one thread, and writes its answer.
-fn run_work<
-    'a,
-    R: Files + AllocGlobal + Clock,
-    C: ShardCodec<ShardFile<'a, R>>,
-    W: Write,
-    M: Write,
->(
-    array: &Array<'a, R, C>,
+fn run_work<'a, C: ShardCodec<ShardFile<'a>>>(
+    array: &Array<'a, C>,
     work: Work<'_>,
-    out: &mut W,
-    progress: &mut Progress<'_, M>,
+    out: &mut Output,
+    progress: &mut Progress,
 ) -> Result<Ending, Stop> {
     match work {
         Work::InfoOfShard { key, is_json } => info_of_shard(array, key, is_json, out),
@@ -122,20 +115,19 @@ fn status_of(ran: Result<Ending, Stop>) -> Result<u8, Stop>
 
 // A work of one thread on an array whose metadata is read.
 #[derive(Drop)]
-struct LoneWork<'w, 'p, R, W, M> {
-    rt: &'w R,
+struct LoneWork<'w> {
+    rt: &'w HostRuntime,
     path: &'w str,
     metadata: &'w ArrayMetadata,
     work: Work<'w>,
-    out: &'w mut W,
-    progress: &'w mut Progress<'p, M>,
+    out: &'w mut Output,
+    progress: &'w mut Progress,
 }
 
-impl<'w, R: Files + AllocGlobal + Clock, W: Write, M: Write> CodecUse<ShardFile<'w, R>>
-    for LoneWork<'w, '_, R, W, M> {
+impl<'w> CodecUse<ShardFile<'w>> for LoneWork<'w> {
     type Answer = Result<Ending, Stop>;
 
-    fn with<C: ShardCodec<ShardFile<'w, R>>>(self, codec: C) -> Result<Ending, Stop> {
+    fn with<C: ShardCodec<ShardFile<'w>>>(self, codec: C) -> Result<Ending, Stop> {
         let LoneWork {
             rt,
             path,
@@ -150,54 +142,61 @@ impl<'w, R: Files + AllocGlobal + Clock, W: Write, M: Write> CodecUse<ShardFile<
 }
 
 // Does a work of several threads, and writes its answer.
-fn run_shared<R: SharedSystem, W: Write, M: Write>(
-    array: &SharedArray<'_, R>,
+fn run_shared<T: Threads + Sync>(
+    array: &SharedArray<'_>,
     work: SharedWork<'_>,
-    jobs: usize,
-    out: &mut W,
-    progress: &mut Progress<'_, M>,
+    workers: &Workers<'_, T>,
+    out: &mut Output,
+    progress: &mut Progress,
 ) -> Result<Ending, Stop> {
     let alloc = array.alloc();
     match work {
         SharedWork::Info { scope } => {
-            info_of_array(array, &listing_of(alloc, scope)?, jobs, out, progress)
+            info_of_array(array, &listing_of(alloc, scope)?, workers, out, progress)
         }
-        SharedWork::Map { svg } => map_array(array, svg, jobs, out, progress),
+        SharedWork::Map { svg } => map_array(array, svg, workers, out, progress),
         SharedWork::Compact {
             is_dry,
             output,
             scope,
         } => {
             let way = way_of(is_dry, output);
-            compact(array, way, &listing_of(alloc, scope)?, jobs, out, progress)
+            compact(
+                array,
+                way,
+                &listing_of(alloc, scope)?,
+                workers,
+                out,
+                progress,
+            )
         }
         SharedWork::Check {
             is_index_alone,
             scope,
         } => {
             let listing = listing_of(alloc, scope)?;
-            check(array, is_index_alone, &listing, jobs, out, progress)
+            check(array, is_index_alone, &listing, workers, out, progress)
         }
         SharedWork::Read {
             requested,
             target,
             fills,
         } => {
-            let reading = Reading { fills, jobs };
-            run_read(array, requested, target, reading, out, progress)
+            let reading = Reading { fills, workers };
+            run_read(array, requested, target, &reading, out, progress)
         }
-        SharedWork::Reshard { path, words } => reshard(array, path, &words, jobs, out, progress),
+        SharedWork::Reshard { path, words } => reshard(array, path, &words, workers, out, progress),
     }
 }
 
 // Does a work of one thread on an array that has this metadata.
-fn run_alone<R: SharedSystem, W: Write, M: Write>(
-    rt: &R,
+fn run_alone(
+    rt: &HostRuntime,
     path: &str,
     metadata: &ArrayMetadata,
     work: Work<'_>,
-    out: &mut W,
-    progress: &mut Progress<'_, M>,
+    out: &mut Output,
+    progress: &mut Progress,
 ) -> Result<Ending, Stop> {
     let work = LoneWork {
         rt,
@@ -211,60 +210,61 @@ fn run_alone<R: SharedSystem, W: Write, M: Write>(
 }
 
 // Does a work on an array that has this metadata.
-fn run_described<R: SharedSystem, W: Write, M: Write>(
-    rt: &R,
+fn run_described<T: Threads + Sync>(
+    rt: &HostRuntime,
+    threads: &T,
     path: &str,
     metadata: &ArrayMetadata,
     work: ArrayWork<'_>,
-    out: &mut W,
-    progress: &mut Progress<'_, M>,
+    out: &mut Output,
+    progress: &mut Progress,
 ) -> Result<Ending, Stop> {
     match work {
         ArrayWork::Shared { work, jobs } => {
             let array = open_shared(rt, path, metadata)?;
-            let jobs = jobs_of(rt, jobs)?;
-            run_shared(&array, work, jobs, out, progress)
+            let jobs = jobs_of(rt.alloc(), threads, jobs)?;
+            run_shared(&array, work, &Workers { threads, jobs }, out, progress)
         }
         ArrayWork::Alone(work) => run_alone(rt, path, metadata, work, out, progress),
     }
 }
 
 // Reads the metadata of an array, and does a work.
-fn run_array<R: SharedSystem, W: Write, M: Write>(
-    rt: &R,
+fn run_array<T: Threads + Sync>(
+    rt: &HostRuntime,
+    threads: &T,
     path: &str,
     work: ArrayWork<'_>,
-    out: &mut W,
-    progress: &mut Progress<'_, M>,
+    out: &mut Output,
+    progress: &mut Progress,
 ) -> Result<Ending, Stop> {
     match metadata_of(rt, path) {
-        Ok(metadata) => run_described(rt, path, &metadata, work, out, progress),
+        Ok(metadata) => run_described(rt, threads, path, &metadata, work, out, progress),
         Err(stop) => Err(stop),
     }
 }
 
 // A comparison of two arrays whose metadata is read.
 #[derive(Drop)]
-struct Comparison<'w, 'p, R, W, M> {
-    rt: &'w R,
+struct Comparison<'w> {
+    rt: &'w HostRuntime,
     paths: (&'w str, &'w str),
     metadata: (&'w ArrayMetadata, &'w ArrayMetadata),
-    out: &'w mut W,
-    progress: &'w mut Progress<'p, M>,
+    out: &'w mut Output,
+    progress: &'w mut Progress,
 }
 
 // The same, of which the codec of the first array is known.
 #[derive(Drop)]
-struct HalfComparison<'w, 'p, C, R, W, M> {
-    comparison: Comparison<'w, 'p, R, W, M>,
+struct HalfComparison<'w, C> {
+    comparison: Comparison<'w>,
     codec: C,
 }
 
-impl<'w, R: Files + AllocGlobal, W: Write, M: Write> CodecUse<ShardFile<'w, R>>
-    for Comparison<'w, '_, R, W, M> {
+impl<'w> CodecUse<ShardFile<'w>> for Comparison<'w> {
     type Answer = Result<Ending, Stop>;
 
-    fn with<C: ShardCodec<ShardFile<'w, R>>>(self, codec: C) -> Result<Ending, Stop> {
+    fn with<C: ShardCodec<ShardFile<'w>>>(self, codec: C) -> Result<Ending, Stop> {
         let metadata = self.metadata.1;
         let comparison = HalfComparison {
             comparison: self,
@@ -274,12 +274,10 @@ impl<'w, R: Files + AllocGlobal, W: Write, M: Write> CodecUse<ShardFile<'w, R>>
     }
 }
 
-impl<'w, C: ShardCodec<ShardFile<'w, R>>, R: Files + AllocGlobal, W: Write, M: Write> CodecUse<
-    ShardFile<'w, R>,
-> for HalfComparison<'w, '_, C, R, W, M> {
+impl<'w, C: ShardCodec<ShardFile<'w>>> CodecUse<ShardFile<'w>> for HalfComparison<'w, C> {
     type Answer = Result<Ending, Stop>;
 
-    fn with<D: ShardCodec<ShardFile<'w, R>>>(self, codec: D) -> Result<Ending, Stop> {
+    fn with<D: ShardCodec<ShardFile<'w>>>(self, codec: D) -> Result<Ending, Stop> {
         let Comparison {
             rt,
             paths,
@@ -294,12 +292,12 @@ impl<'w, C: ShardCodec<ShardFile<'w, R>>, R: Files + AllocGlobal, W: Write, M: W
 }
 
 // Compares the arrays at two paths, which have this metadata.
-fn compare_described<R: Files + AllocGlobal, W: Write, M: Write>(
-    rt: &R,
+fn compare_described(
+    rt: &HostRuntime,
     paths: (&str, &str),
     metadata: (&ArrayMetadata, &ArrayMetadata),
-    out: &mut W,
-    progress: &mut Progress<'_, M>,
+    out: &mut Output,
+    progress: &mut Progress,
 ) -> Result<Ending, Stop> {
     let comparison = Comparison {
         rt,
@@ -312,12 +310,12 @@ fn compare_described<R: Files + AllocGlobal, W: Write, M: Write>(
 }
 
 // Compares the arrays at two paths, of which the first has this metadata.
-fn compare_with<R: Files + AllocGlobal, W: Write, M: Write>(
-    rt: &R,
+fn compare_with(
+    rt: &HostRuntime,
     paths: (&str, &str),
     one: &ArrayMetadata,
-    out: &mut W,
-    progress: &mut Progress<'_, M>,
+    out: &mut Output,
+    progress: &mut Progress,
 ) -> Result<Ending, Stop> {
     match metadata_of(rt, paths.1) {
         Ok(other) => compare_described(rt, paths, (one, &other), out, progress),
@@ -326,11 +324,11 @@ fn compare_with<R: Files + AllocGlobal, W: Write, M: Write>(
 }
 
 // Compares the arrays at two paths.
-fn run_compare<R: Files + AllocGlobal, W: Write, M: Write>(
-    rt: &R,
+fn run_compare(
+    rt: &HostRuntime,
     paths: (&str, &str),
-    out: &mut W,
-    progress: &mut Progress<'_, M>,
+    out: &mut Output,
+    progress: &mut Progress,
 ) -> Result<Ending, Stop> {
     match metadata_of(rt, paths.0) {
         Ok(one) => compare_with(rt, paths, &one, out, progress),
@@ -339,11 +337,11 @@ fn run_compare<R: Files + AllocGlobal, W: Write, M: Write>(
 }
 
 // Does what the words of a command line say.
-fn run_matches<R: SharedSystem, W: Write, M: Write>(
-    rt: &R,
+fn run_matches<T: Threads + Sync>(
+    rt: &HostRuntime,
+    threads: &T,
     matches: &ArgMatches<'_>,
-    out: &mut W,
-    messages: &mut M,
+    out: &mut Output,
     shows_progress: bool,
 ) -> Result<u8, Stop>
     ensures { IfOk result (λ status. status ≤ 2) }
@@ -358,20 +356,22 @@ fn run_matches<R: SharedSystem, W: Write, M: Write>(
     if name == "create" {
         return status_of(create(rt, path, &array_words(found)));
     }
-    let mut progress = Progress::new(messages, shows_progress);
+    let mut progress = Progress::new(rt, shows_progress);
     let ran = if name == "compare" {
         let other = found.get_str("OTHER").unwrap_or("");
         run_compare(rt, (path, other), out, &mut progress)
     } else {
-        run_array(rt, path, work_of(name, found), out, &mut progress)
+        run_array(rt, threads, path, work_of(name, found), out, &mut progress)
     };
     progress.clear();
     status_of(ran)
 }
 
 // Writes what is wrong with a command line, of which a word may be the name of a stranger's file.
-fn tell_wrong<M: Write>(alloc: Global, error: &clap::Error, messages: &mut M) -> Result<(), Stop> {
+fn tell_wrong(rt: &HostRuntime, error: &clap::Error) -> Result<(), Stop> {
+    let alloc = rt.alloc();
     let text = format!(in alloc; "{error}")?;
+    let mut messages = rt.stderr();
     for line in text.lines() {
         let line = escaped(alloc, line)?;
         let _ = writeln!(messages, "{line}");
@@ -380,16 +380,11 @@ fn tell_wrong<M: Write>(alloc: Global, error: &clap::Error, messages: &mut M) ->
 }
 
 // Writes the help that a command line asks for, or what is wrong with it.
-fn tell<W: Write, M: Write>(
-    alloc: Global,
-    error: &clap::Error,
-    out: &mut W,
-    messages: &mut M,
-) -> Result<u8, Stop>
+fn tell(rt: &HostRuntime, error: &clap::Error, out: &mut Output) -> Result<u8, Stop>
     ensures { IfOk result (λ status. status ≤ 2) }
 {
     if error.use_stderr() {
-        tell_wrong(alloc, error, messages)?;
+        tell_wrong(rt, error)?;
         return Ok(2);
     }
     write!(out, "{error}")?;
@@ -397,57 +392,55 @@ fn tell<W: Write, M: Write>(
 }
 
 // Reads the words of a command line, and does what they say.
-fn run_words<R: SharedSystem, S: AsStr, W: Write, M: Write>(
-    rt: &R,
-    words: &[S],
-    out: &mut W,
-    messages: &mut M,
+fn run_words<T: Threads + Sync>(
+    rt: &HostRuntime,
+    threads: &T,
+    words: &[String],
+    out: &mut Output,
     shows_progress: bool,
 ) -> Result<u8, Stop>
     ensures { IfOk result (λ status. status ≤ 2) }
 {
     match program(rt.alloc())?.try_get_matches_from(words) {
-        Ok(matches) => run_matches(rt, &matches, out, messages, shows_progress),
-        Err(error) => tell(rt.alloc(), &error, out, messages),
+        Ok(matches) => run_matches(rt, threads, &matches, out, shows_progress),
+        Err(error) => tell(rt, &error, out),
     }
 }
 
 // Runs a command line, and sees that its answer is written.
-fn run_buffered<R: SharedSystem, S: AsStr, W: Write + Drop, M: Write>(
-    rt: &R,
-    words: &[S],
-    writer: W,
-    messages: &mut M,
+fn run_buffered<T: Threads + Sync>(
+    rt: &HostRuntime,
+    threads: &T,
+    words: &[String],
     shows_progress: bool,
 ) -> Result<u8, Stop>
     ensures { IfOk result (λ status. status ≤ 2) }
 {
-    let mut out = BufWriter::new(rt.alloc(), writer)?;
-    let ran = run_words(rt, words, &mut out, messages, shows_progress);
+    let mut out = Output::standard(rt)?;
+    let ran = run_words(rt, threads, words, &mut out, shows_progress);
     match out.flush() {
         Err(error) if error.kind() != io::ErrorKind::BrokenPipe => Err(Stop::Output(error)),
         _ => ran,
     }
 }
 
-/// Runs a command line, whose first word is the program's name: writes the answer, or one sentence to the messages, and
-/// returns the status for the program to end with. 0 where it was done; 1 where a shard is refused; 2 where it, or a part of
-/// it, could not be done, and then nothing is written but what `list`, `check` and `compact` had said before, and a line on the
+/// Runs a command line, whose first word is the program's name: writes the answer to the standard output, or one sentence to the
+/// standard error, and returns the status for the program to end with. 0 where it was done; 1 where a shard is refused; 2 where it, or a
+/// part of it, could not be done, and then nothing is written but what `list`, `check` and `compact` had said before, and a line on the
 /// owner of a new file. A message that is not taken is dropped, and an answer that nobody reads. Where `shows_progress` is
-/// true, the messages show how far the command is while it runs, and it is blanked before an answer or a sentence is written.
-pub fn run_command<R: SharedSystem, S: AsStr, W: Write + Drop, M: Write + Drop>(
-    rt: &R,
-    words: &[S],
-    writer: W,
-    mut messages: M,
+/// true, the standard error shows how far the command is while it runs, and it is blanked before an answer or a sentence is written.
+pub fn run_command<T: Threads + Sync>(
+    rt: &HostRuntime,
+    threads: &T,
+    words: &[String],
     shows_progress: bool,
 ) -> u8
     ensures { result ≤ 2 }
 {
-    match run_buffered(rt, words, writer, &mut messages, shows_progress) {
+    match run_buffered(rt, threads, words, shows_progress) {
         Ok(status) => status,
         Err(stop) => {
-            let _ = writeln!(messages, "zarr_shard: {stop}");
+            let _ = writeln!(rt.stderr(), "zarr_shard: {stop}");
             stop.status()
         }
     }

@@ -1,5 +1,7 @@
 // Two arrays, compared element by element.
-use array_cli::{Array, Ending, Progress, ShardCodec, ShardFile, Stop, elements_of, written};
+use array_cli::{
+    Array, Ending, Output, Progress, ShardCodec, ShardFile, Stop, elements_of, written,
+};
 use array_fields::ElementType;
 use array_grid::{SubsetCells, SubsetElements, VaryingCells, write_cell_line, write_numbers};
 use array_metadata::ArrayMetadata;
@@ -10,7 +12,6 @@ use parts_subsets::ArraySubset;
 use std::alloc::Global;
 use std::io;
 use std::io::Write;
-use std::rt::Files;
 
 // What was found of two arrays.
 #[derive(Drop)]
@@ -90,9 +91,9 @@ impl Differences {
 }
 
 // Adds the elements of a subset of two arrays that differ, where they have these.
-fn add_cells<R: Files + AllocGlobal, C, D>(
-    one: &Array<'_, R, C>,
-    other: &Array<'_, R, D>,
+fn add_cells<C, D>(
+    one: &Array<'_, C>,
+    other: &Array<'_, D>,
     subset: &ArraySubset,
     cells: (&SubsetCells, &SubsetCells),
     found: &mut Differences,
@@ -104,14 +105,9 @@ fn add_cells<R: Files + AllocGlobal, C, D>(
 }
 
 // Adds the elements of a subset of two arrays that differ.
-fn add_subset<
-    'a,
-    R: Files + AllocGlobal,
-    C: ShardCodec<ShardFile<'a, R>>,
-    D: ShardCodec<ShardFile<'a, R>>,
->(
-    one: &Array<'a, R, C>,
-    other: &Array<'a, R, D>,
+fn add_subset<'a, C: ShardCodec<ShardFile<'a>>, D: ShardCodec<ShardFile<'a>>>(
+    one: &Array<'a, C>,
+    other: &Array<'a, D>,
     subset: &ArraySubset,
     found: &mut Differences,
 ) -> Result<(), Stop> {
@@ -127,14 +123,9 @@ fn add_subset<
 }
 
 // Adds what differs in the chunk at these coordinates of the first array's grid.
-fn add_chunk<
-    'a,
-    R: Files + AllocGlobal,
-    C: ShardCodec<ShardFile<'a, R>>,
-    D: ShardCodec<ShardFile<'a, R>>,
->(
-    one: &Array<'a, R, C>,
-    other: &Array<'a, R, D>,
+fn add_chunk<'a, C: ShardCodec<ShardFile<'a>>, D: ShardCodec<ShardFile<'a>>>(
+    one: &Array<'a, C>,
+    other: &Array<'a, D>,
     coordinates: &[u64],
     found: &mut Differences,
 ) -> Result<(), Stop> {
@@ -147,10 +138,7 @@ fn add_chunk<
 
 // The chunks of the first array's grid in which elements may differ: those that either has elements of, or all where they have other
 // fill values.
-fn chunks_of_both<R: Files + AllocGlobal, C, D>(
-    one: &Array<'_, R, C>,
-    other: &Array<'_, R, D>,
-) -> Result<Vec<Vec<u64>>, Stop> {
+fn chunks_of_both<C, D>(one: &Array<'_, C>, other: &Array<'_, D>) -> Result<Vec<Vec<u64>>, Stop> {
     let chunk = &one.metadata.shard;
     if one.metadata.fill_value != other.metadata.fill_value {
         return all_chunks(one.alloc(), one.grid.counts());
@@ -180,16 +168,10 @@ fn all_chunks(alloc: Global, counts: &[u64]) -> Result<Vec<Vec<u64>>, Stop> {
 }
 
 // The differences of two arrays of a shape and a type.
-fn found_in<
-    'a,
-    R: Files + AllocGlobal,
-    C: ShardCodec<ShardFile<'a, R>>,
-    D: ShardCodec<ShardFile<'a, R>>,
-    M: Write,
->(
-    one: &Array<'a, R, C>,
-    other: &Array<'a, R, D>,
-    progress: &mut Progress<'_, M>,
+fn found_in<'a, C: ShardCodec<ShardFile<'a>>, D: ShardCodec<ShardFile<'a>>>(
+    one: &Array<'a, C>,
+    other: &Array<'a, D>,
+    progress: &mut Progress,
 ) -> Result<Differences, Stop> {
     let chunks = chunks_of_both(one, other)?;
     let mut found = Differences {
@@ -204,8 +186,8 @@ fn found_in<
 }
 
 // Writes how many elements differ, and the first of them.
-fn write_differences<W: Write>(
-    out: &mut W,
+fn write_differences(
+    out: &mut Output,
     element_type: ElementType,
     found: &Differences,
 ) -> io::Result<()> {
@@ -222,11 +204,7 @@ fn write_differences<W: Write>(
 }
 
 // Writes how many elements differ, and says how the command ends.
-fn tell<W: Write>(
-    out: &mut W,
-    element_type: ElementType,
-    found: &Differences,
-) -> Result<Ending, Stop> {
+fn tell(out: &mut Output, element_type: ElementType, found: &Differences) -> Result<Ending, Stop> {
     let ending = match found.count {
         0 => Ending::Done,
         _ => Ending::Different,
@@ -249,18 +227,11 @@ fn differing_metadata(one: &ArrayMetadata, other: &ArrayMetadata) -> Option<&'st
 /// Compares two arrays element by element, and writes how many elements differ, and of the first one its coordinates and what it is in
 /// either array. Where shapes or data types differ, it says so instead. Only the chunks that one of the arrays has are read, unless their
 /// fill values differ.
-pub fn compare<
-    'a,
-    R: Files + AllocGlobal,
-    C: ShardCodec<ShardFile<'a, R>>,
-    D: ShardCodec<ShardFile<'a, R>>,
-    W: Write,
-    M: Write,
->(
-    one: &Array<'a, R, C>,
-    other: &Array<'a, R, D>,
-    out: &mut W,
-    progress: &mut Progress<'_, M>,
+pub fn compare<'a, C: ShardCodec<ShardFile<'a>>, D: ShardCodec<ShardFile<'a>>>(
+    one: &Array<'a, C>,
+    other: &Array<'a, D>,
+    out: &mut Output,
+    progress: &mut Progress,
 ) -> Result<Ending, Stop> {
     one.test_read()?;
     other.test_read()?;

@@ -1,6 +1,6 @@
 // A subset of an array as a file of NumPy's format.
 use crate::reading::{Reading, Sink, read_bands};
-use array_cli::{Ending, Progress, SharedArray, SharedSystem, Stop};
+use array_cli::{Ending, Output, Progress, SharedArray, Stop};
 use array_folder::{begin_new, npy_beside};
 use array_grid::{Requested, VaryingCells, subset_of};
 use array_updates::header_of;
@@ -8,18 +8,18 @@ use parts_errors::CodecError;
 use std::alloc::Global;
 use std::io;
 use std::io::Write;
-use std::rt::Files;
+use std::thread::Threads;
 use storage_files::Replacement;
 
 // A new file of a path, into which elements are written.
 #[derive(Drop)]
-struct NewFile<'n, R: Files> {
+struct NewFile<'n> {
     alloc: Global,
-    file: Replacement<R>,
+    file: Replacement<&'n HostRuntime>,
     path: &'n str,
 }
 
-impl<R: Files> NewFile<'_, R> {
+impl NewFile<'_> {
     // Writes bytes behind those that are there.
     fn write(&mut self, bytes: &[u8]) -> Result<(), Stop> {
         match self.file.write(bytes) {
@@ -29,7 +29,7 @@ impl<R: Files> NewFile<'_, R> {
     }
 }
 
-impl<R: Files> Sink for NewFile<'_, R> {
+impl Sink for NewFile<'_> {
     fn put(&mut self, bytes: &[u8], _ending: Ending) -> Result<(), Stop> {
         self.write(bytes)
     }
@@ -44,10 +44,7 @@ impl<R: Files> Sink for NewFile<'_, R> {
 }
 
 // Puts a new file in its place once all is written, or leaves nothing of it.
-fn end_file<R: Files + Drop>(
-    new: NewFile<'_, R>,
-    wrote: Result<Ending, Stop>,
-) -> Result<Ending, Stop> {
+fn end_file(new: NewFile<'_>, wrote: Result<Ending, Stop>) -> Result<Ending, Stop> {
     let NewFile { alloc, file, path } = new;
     if wrote.is_err() {
         file.abandon();
@@ -61,26 +58,26 @@ fn end_file<R: Files + Drop>(
 }
 
 // Reads what is requested, and writes it into a new file behind a header.
-fn fill<'a, R: SharedSystem, M: Write>(
-    array: &SharedArray<'a, R>,
+fn fill<T: Threads + Sync>(
+    array: &SharedArray<'_>,
     requested: &Requested,
-    reading: Reading,
+    reading: &Reading<'_, T>,
     header: &[u8],
-    new: &mut NewFile<'_, &'a R>,
-    progress: &mut Progress<'_, M>,
+    new: &mut NewFile<'_>,
+    progress: &mut Progress,
 ) -> Result<Ending, Stop> {
     new.write(header)?;
     read_bands(array, &requested.subset, reading, new, progress)
 }
 
 // Reads what is requested into a new file of a path, which stands beside it until it is whole.
-fn save_requested<R: SharedSystem, W: Write, M: Write>(
-    array: &SharedArray<'_, R>,
+fn save_requested<T: Threads + Sync>(
+    array: &SharedArray<'_>,
     requested: &Requested,
     (path, beside): (&str, &str),
-    reading: Reading,
-    out: &mut W,
-    progress: &mut Progress<'_, M>,
+    reading: &Reading<'_, T>,
+    out: &mut Output,
+    progress: &mut Progress,
 ) -> Result<Ending, Stop> {
     let header = header_of(array, requested, path)?;
     let file = begin_new(array.rt, path, beside, out)?;
@@ -93,13 +90,13 @@ fn save_requested<R: SharedSystem, W: Write, M: Write>(
 
 /// Reads a subset, and makes a file of NumPy's format of it, which has no axis that is named by one coordinate. A file of that
 /// name is replaced once the new one is whole. Where the path is refused nothing is read.
-pub fn save_subset<R: SharedSystem, W: Write, M: Write>(
-    array: &SharedArray<'_, R>,
+pub fn save_subset<T: Threads + Sync>(
+    array: &SharedArray<'_>,
     requested: Option<&str>,
     path: &str,
-    reading: Reading,
-    out: &mut W,
-    progress: &mut Progress<'_, M>,
+    reading: &Reading<'_, T>,
+    out: &mut Output,
+    progress: &mut Progress,
 ) -> Result<Ending, Stop> {
     array.test_sized()?;
     let requested = subset_of(array.alloc(), requested, &array.metadata.shape)?;

@@ -1,7 +1,7 @@
 // Elements that are written as they are read, band by band.
 use crate::command_line::Form;
 use crate::shared_read::{BandRead, read_side_by_side, read_whole};
-use array_cli::{Ending, Progress, SharedArray, SharedSystem, Stop, written};
+use array_cli::{Ending, Output, Progress, SharedArray, Stop, Workers, written};
 use array_fields::ElementType;
 use array_grid::{
     Bands, SubsetElements, TextRows, VaryingCells, begin_json, end_json, is_text, write_json_cell,
@@ -15,6 +15,7 @@ use parts_subsets::ArraySubset;
 use std::alloc::Global;
 use std::io;
 use std::io::Write;
+use std::thread::Threads;
 
 // The most bytes of elements that are read.
 const MOST_BYTES: u64 = 1 << 40;
@@ -30,12 +31,12 @@ const BANDS: u64 = 16;
 const BYTES_AT_ONCE: u64 = 48 * 1024 * 1024;
 
 /// How elements are read.
-#[derive(Clone, Copy)]
-pub struct Reading {
+#[derive(Drop)]
+pub struct Reading<'t, T> {
     /// Whether what is refused has fill values.
     pub fills: bool,
-    /// By how many threads.
-    pub jobs: usize,
+    /// By which threads.
+    pub workers: &'t Workers<'t, T>,
 }
 
 /// Where the elements of a subset go.
@@ -76,13 +77,13 @@ fn coordinates_of(alloc: Global, subset: &ArraySubset, number: u64) -> Result<St
 }
 
 // Whether the elements of an array are texts.
-fn are_texts<R: SharedSystem>(array: &SharedArray<'_, R>) -> bool {
+fn are_texts(array: &SharedArray<'_>) -> bool {
     array.metadata.element_type.encoding().is_some()
 }
 
 // Tests that an element of a band, with a number, is the text that its type says it is. Refused as `Stop::NoUtf8` and `Stop::NoUtf32`.
-fn test_text<R: SharedSystem>(
-    array: &SharedArray<'_, R>,
+fn test_text(
+    array: &SharedArray<'_>,
     band: &ArraySubset,
     number: usize,
     element: &[u8],
@@ -100,8 +101,8 @@ fn test_text<R: SharedSystem>(
 
 // Tests the elements of a band that have lengths of their own, where they are texts. Refused as `test_text` refuses the first one that is
 // none.
-fn test_varying<R: SharedSystem>(
-    array: &SharedArray<'_, R>,
+fn test_varying(
+    array: &SharedArray<'_>,
     band: &ArraySubset,
     cells: &VaryingCells,
 ) -> Result<(), Stop> {
@@ -115,11 +116,7 @@ fn test_varying<R: SharedSystem>(
 }
 
 // Tests the elements of a band that have one size, where they are texts. Refused as `test_text` refuses the first one that is none.
-fn test_sized<R: SharedSystem>(
-    array: &SharedArray<'_, R>,
-    band: &ArraySubset,
-    elements: &[u8],
-) -> Result<(), Stop> {
+fn test_sized(array: &SharedArray<'_>, band: &ArraySubset, elements: &[u8]) -> Result<(), Stop> {
     if !are_texts(array) {
         return Ok(());
     }
@@ -131,8 +128,8 @@ fn test_sized<R: SharedSystem>(
 }
 
 // Hands on the elements of a band, which have one size, as the codecs gave them.
-fn put_sized<R: SharedSystem, S: Sink>(
-    array: &SharedArray<'_, R>,
+fn put_sized<S: Sink>(
+    array: &SharedArray<'_>,
     band: &ArraySubset,
     bytes: &[u8],
     ending: Ending,
@@ -181,8 +178,8 @@ fn room_of_bands(
 }
 
 // Hands on the bands that threads have read, as far as none is refused.
-fn put_bands<R: SharedSystem, S: Sink>(
-    array: &SharedArray<'_, R>,
+fn put_bands<S: Sink>(
+    array: &SharedArray<'_>,
     reads: &mut [BandRead],
     sink: &mut S,
 ) -> Result<(), Stop> {
@@ -198,12 +195,12 @@ fn put_bands<R: SharedSystem, S: Sink>(
 }
 
 // Reads the elements of a subset, which have one size, some bands at a time, each by a thread of its own to where it is handed on from.
-fn read_sized<R: SharedSystem, S: Sink, M: Write>(
-    array: &SharedArray<'_, R>,
+fn read_sized<S: Sink, T: Threads + Sync>(
+    array: &SharedArray<'_>,
     subset: &ArraySubset,
-    jobs: usize,
+    workers: &Workers<'_, T>,
     sink: &mut S,
-    progress: &mut Progress<'_, M>,
+    progress: &mut Progress,
 ) -> Result<Ending, Stop> {
     let ArrayMetadata {
         shard,
@@ -213,12 +210,12 @@ fn read_sized<R: SharedSystem, S: Sink, M: Write>(
     let size = element_size(array.metadata);
     let longest = longest_band(bytes_of(subset, size));
     let bands = Bands::new(subset, shard, subchunk, size, longest);
-    let mut reads = room_of_bands(array.alloc(), &bands, size, jobs)?;
+    let mut reads = room_of_bands(array.alloc(), &bands, size, workers.jobs)?;
     let at_once = (reads.len() as u64).max(1);
     for number in 0..bands.len().div_ceil(at_once) {
         let first = number.saturating_mul(at_once);
         progress.step(first, bands.len());
-        read_side_by_side(array, &bands, first, &mut reads);
+        read_side_by_side(array, workers, &bands, first, &mut reads);
         progress.clear();
         put_bands(array, &mut reads, sink)?;
     }
@@ -226,8 +223,8 @@ fn read_sized<R: SharedSystem, S: Sink, M: Write>(
 }
 
 // Hands on the elements of a band, of a command that ends so as far as it has come.
-fn put_elements<R: SharedSystem, S: Sink>(
-    array: &SharedArray<'_, R>,
+fn put_elements<S: Sink>(
+    array: &SharedArray<'_>,
     band: &ArraySubset,
     elements: &SubsetElements,
     ending: Ending,
@@ -243,12 +240,12 @@ fn put_elements<R: SharedSystem, S: Sink>(
 }
 
 // Reads the elements of a subset by one thread, those of a row of shards at a time, with fill values for what is refused if `fills`.
-fn read_rows<R: SharedSystem, S: Sink, M: Write>(
-    array: &SharedArray<'_, R>,
+fn read_rows<S: Sink>(
+    array: &SharedArray<'_>,
     subset: &ArraySubset,
     fills: bool,
     sink: &mut S,
-    progress: &mut Progress<'_, M>,
+    progress: &mut Progress,
 ) -> Result<Ending, Stop> {
     let (shard, size) = (&array.metadata.shard, element_size(array.metadata));
     let bands = Bands::new(subset, shard, shard, size, LONGEST_BAND);
@@ -271,28 +268,27 @@ fn read_rows<R: SharedSystem, S: Sink, M: Write>(
 /// Reads the elements of a subset, with fill values for what is refused if `fills`, and hands them on, in row-major order: those of some bands
 /// at a time, so that memory is that of these. Refused as `Stop::TooLarge` where they have more than 2^40 bytes, and as `read_array` refuses
 /// the first band that is refused, and as `test_text` where a text that is shown is none; then the bands before are handed on.
-pub fn read_bands<R: SharedSystem, S: Sink, M: Write>(
-    array: &SharedArray<'_, R>,
+pub fn read_bands<S: Sink, T: Threads + Sync>(
+    array: &SharedArray<'_>,
     subset: &ArraySubset,
-    reading: Reading,
+    reading: &Reading<'_, T>,
     sink: &mut S,
-    progress: &mut Progress<'_, M>,
+    progress: &mut Progress,
 ) -> Result<Ending, Stop> {
     if bytes_of(subset, element_size(array.metadata)) > MOST_BYTES {
         return Err(Stop::TooLarge);
     }
-    let Reading { fills, jobs } = reading;
-    if fills || array.metadata.data_type.size() == DataTypeSize::Variable {
-        read_rows(array, subset, fills, sink, progress)
+    if reading.fills || array.metadata.data_type.size() == DataTypeSize::Variable {
+        read_rows(array, subset, reading.fills, sink, progress)
     } else {
-        read_sized(array, subset, jobs, sink, progress)
+        read_sized(array, subset, reading.workers, sink, progress)
     }
 }
 
 // Elements that are written to an answer in a form.
 #[derive(Drop)]
-struct Printed<'o, W> {
-    out: &'o mut W,
+struct Printed<'o> {
+    out: &'o mut Output,
     form: Form,
     element_type: ElementType,
     rows: TextRows,
@@ -300,7 +296,7 @@ struct Printed<'o, W> {
     is_first: bool,
 }
 
-impl<W: Write> Printed<'_, W> {
+impl Printed<'_> {
     // Writes the next elements.
     fn write(&mut self, bytes: &[u8]) -> io::Result<()> {
         match self.form {
@@ -316,7 +312,7 @@ impl<W: Write> Printed<'_, W> {
     }
 }
 
-impl<W: Write> Printed<'_, W> {
+impl Printed<'_> {
     // Writes the next element, which has a length of its own.
     fn write_varying(&mut self, element: &[u8]) -> io::Result<()> {
         match self.form {
@@ -344,7 +340,7 @@ impl<W: Write> Printed<'_, W> {
     }
 }
 
-impl<W: Write> Sink for Printed<'_, W> {
+impl Sink for Printed<'_> {
     fn put(&mut self, bytes: &[u8], ending: Ending) -> Result<(), Stop> {
         let wrote = self.write(bytes);
         self.is_first = false;
@@ -361,13 +357,13 @@ impl<W: Write> Sink for Printed<'_, W> {
 }
 
 /// Reads the elements of a subset, and writes them in a form to an answer.
-pub fn print_subset<R: SharedSystem, W: Write, M: Write>(
-    array: &SharedArray<'_, R>,
+pub fn print_subset<T: Threads + Sync>(
+    array: &SharedArray<'_>,
     subset: &ArraySubset,
     form: Form,
-    reading: Reading,
-    out: &mut W,
-    progress: &mut Progress<'_, M>,
+    reading: &Reading<'_, T>,
+    out: &mut Output,
+    progress: &mut Progress,
 ) -> Result<Ending, Stop> {
     let element_type = array.metadata.element_type;
     let mut printed = Printed {

@@ -1,28 +1,27 @@
 // The elements of a subset of an array that threads share.
 use array_cli::{
-    Array, CodecUse, Ending, Progress, ShardCodec, ShardFile, SharedArray, SharedSystem, Stop,
+    Array, CodecUse, Ending, Progress, ShardCodec, ShardFile, SharedArray, Stop, Workers,
     with_codec,
 };
 use array_grid::{Bands, SubsetElements};
 use array_reading::{read_array, read_into_room};
 use parts_subsets::ArraySubset;
-use std::io::Write;
-use std::rt::Files;
 use std::thread;
+use std::thread::Threads;
 
 // A subset that one thread reads.
 #[derive(Drop)]
-struct WholeRead<'s, 'm, R, M> {
-    array: &'s SharedArray<'s, R>,
+struct WholeRead<'s> {
+    array: &'s SharedArray<'s>,
     requested: &'s ArraySubset,
     fills: bool,
-    progress: &'s mut Progress<'m, M>,
+    progress: &'s mut Progress,
 }
 
-impl<'s, R: Files + AllocGlobal, M: Write> CodecUse<ShardFile<'s, R>> for WholeRead<'s, '_, R, M> {
+impl<'s> CodecUse<ShardFile<'s>> for WholeRead<'s> {
     type Answer = Result<(SubsetElements, Ending), Stop>;
 
-    fn with<C: ShardCodec<ShardFile<'s, R>>>(
+    fn with<C: ShardCodec<ShardFile<'s>>>(
         self,
         codec: C,
     ) -> Result<(SubsetElements, Ending), Stop> {
@@ -38,11 +37,11 @@ impl<'s, R: Files + AllocGlobal, M: Write> CodecUse<ShardFile<'s, R>> for WholeR
 }
 
 /// The elements of a subset as `read_array` gives them.
-pub fn read_whole<R: SharedSystem, M: Write>(
-    array: &SharedArray<'_, R>,
+pub fn read_whole(
+    array: &SharedArray<'_>,
     requested: &ArraySubset,
     fills: bool,
-    progress: &mut Progress<'_, M>,
+    progress: &mut Progress,
 ) -> Result<(SubsetElements, Ending), Stop> {
     let whole = WholeRead {
         array,
@@ -55,16 +54,16 @@ pub fn read_whole<R: SharedSystem, M: Write>(
 
 // A subset that one thread reads into room for its elements, which have one size.
 #[derive(Drop)]
-struct SizedRead<'s, R> {
-    array: &'s SharedArray<'s, R>,
+struct SizedRead<'s> {
+    array: &'s SharedArray<'s>,
     requested: &'s ArraySubset,
     room: &'s mut Vec<u8>,
 }
 
-impl<'s, R: Files + AllocGlobal> CodecUse<ShardFile<'s, R>> for SizedRead<'s, R> {
+impl<'s> CodecUse<ShardFile<'s>> for SizedRead<'s> {
     type Answer = Result<(), Stop>;
 
-    fn with<C: ShardCodec<ShardFile<'s, R>>>(self, codec: C) -> Result<(), Stop> {
+    fn with<C: ShardCodec<ShardFile<'s>>>(self, codec: C) -> Result<(), Stop> {
         let SizedRead {
             array,
             requested,
@@ -86,8 +85,8 @@ pub struct BandRead {
 }
 
 // Reads the band of a number to where the one before lies in memory.
-fn read_next<R: SharedSystem>(
-    array: &SharedArray<'_, R>,
+fn read_next(
+    array: &SharedArray<'_>,
     bands: &Bands<'_>,
     number: u64,
     read: &mut BandRead,
@@ -106,8 +105,9 @@ fn read_next<R: SharedSystem>(
 
 /// Reads bands of a subset from a number on, whose elements have one size, each by a thread of its own to where the one before lies in
 /// memory. A band that is refused has the refusal that `read_array` has.
-pub fn read_side_by_side<R: SharedSystem>(
-    array: &SharedArray<'_, R>,
+pub fn read_side_by_side<T: Threads + Sync>(
+    array: &SharedArray<'_>,
+    workers: &Workers<'_, T>,
     bands: &Bands<'_>,
     first: u64,
     reads: &mut [BandRead],
@@ -117,5 +117,5 @@ pub fn read_side_by_side<R: SharedSystem>(
         read.stop = read_next(array, bands, number, read).err();
     };
     let threads = reads.len().max(1);
-    thread::for_each_mut(array.rt, reads, threads, &read)
+    thread::for_each_mut(workers.threads, reads, threads, &read)
 }

@@ -7,11 +7,10 @@ use parts_errors::CodecError;
 use parts_subsets::check_subset;
 use std::alloc::{AllocError, Global};
 use std::borrow::CowSlice;
-use std::rt::Files;
 
 // The bytes of a chunk, at whose start elements stand that have a shape; `None` where it has no file.
-fn encoded_stored<R: Files + AllocGlobal>(
-    rt: &R,
+fn encoded_stored(
+    rt: &HostRuntime,
     shape: &[u64],
     elements: &[u8],
     new: &ArrayMetadata,
@@ -25,8 +24,8 @@ fn encoded_stored<R: Files + AllocGlobal>(
 
 /// The bytes of a chunk of a new array, at whose start elements of one size stand that have a shape, least significant byte first; `None`
 /// where it has no file.
-pub fn encoded_sized<R: Files + AllocGlobal>(
-    rt: &R,
+pub fn encoded_sized(
+    rt: &HostRuntime,
     shape: &[u64],
     elements: &[u8],
     new: &ArrayMetadata,
@@ -82,8 +81,8 @@ fn laid_out(
 
 /// The bytes of a chunk of a new array, at whose start elements with lengths of their own stand that have a shape; `None` where it has no
 /// file.
-pub fn encoded_varying<R: Files + AllocGlobal>(
-    rt: &R,
+pub fn encoded_varying(
+    rt: &HostRuntime,
     shape: &[u64],
     elements: &VaryingCells,
     new: &ArrayMetadata,

@@ -10,7 +10,6 @@ use serde_json::Value;
 use sharding_format::SubchunkWriteOrder;
 use std::alloc::Global;
 use std::fs;
-use std::rt::Files;
 
 /// What a new array is, by the words of a command line.
 #[derive(Clone, Copy)]
@@ -111,8 +110,8 @@ fn laid_out(alloc: Global, path: &str, words: &ArrayWords<'_>) -> Result<String,
 }
 
 // Tests that the codecs serve an array with this document.
-fn test_document<R: Files + AllocGlobal>(
-    rt: &R,
+fn test_document(
+    rt: &HostRuntime,
     path: &str,
     document: &str,
     order: SubchunkWriteOrder,
@@ -122,11 +121,7 @@ fn test_document<R: Files + AllocGlobal>(
 }
 
 // The `zarr.json` of a new array. Refused as `Stop::BadWord`, as `Stop::Metadata`, and where the codecs do not serve it.
-fn document_of<R: Files + AllocGlobal>(
-    rt: &R,
-    path: &str,
-    words: &ArrayWords<'_>,
-) -> Result<String, Stop> {
+fn document_of(rt: &HostRuntime, path: &str, words: &ArrayWords<'_>) -> Result<String, Stop> {
     let order = order_of(rt.alloc(), words.layout.order)?;
     let document = laid_out(rt.alloc(), path, words)?;
     test_document(rt, path, &document, order)?;
@@ -137,11 +132,7 @@ fn document_of<R: Files + AllocGlobal>(
 /// beside itself, with `.partial` behind its name, and renamed once it is whole. Refused, in this order, as `Stop::BadWord` where a
 /// word is none of those that it may be, as `Stop::Metadata` and `Stop::Codec` where no array is so, and as `Stop::System` where the
 /// folder is there already or cannot be made; nothing is left then.
-pub fn create<R: Files + AllocGlobal>(
-    rt: &R,
-    path: &str,
-    words: &ArrayWords<'_>,
-) -> Result<Ending, Stop> {
+pub fn create(rt: &HostRuntime, path: &str, words: &ArrayWords<'_>) -> Result<Ending, Stop> {
     let document = document_of(rt, path, words)?;
     let beside = format!(in rt.alloc(); "{path}.partial")?;
     begin_folder(rt, path, &beside)?;

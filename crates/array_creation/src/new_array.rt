@@ -3,7 +3,7 @@ use crate::chunk_elements::{encoded_sized, encoded_varying};
 use crate::layout::{LayoutWords, new_document, order_of};
 use crate::new_folder::{begin_folder, end_folder, put, test_served};
 use array_cli::{
-    Array, CodecUse, Ending, Progress, ShardCodec, ShardFile, SharedArray, SharedSystem, Stop,
+    Array, CodecUse, Ending, Output, Progress, ShardCodec, ShardFile, SharedArray, Stop, Workers,
     described, elements_of, with_codec, written,
 };
 use array_folder::Counted;
@@ -16,7 +16,7 @@ use parts_subsets::ArraySubset;
 use sharding_format::SubchunkWriteOrder;
 use std::fs;
 use std::io::Write;
-use std::rt::Files;
+use std::thread::Threads;
 
 // How many chunks a thread makes at a time at most: their elements are read into the same room.
 const CHUNKS_OF_A_PIECE: usize = 4;
@@ -52,8 +52,8 @@ impl Written {
 }
 
 // The bytes of the chunk of a new array whose elements lie in a subset of the old one, have one size, and are read into room for them.
-fn encoded_in_room<'a, R: Files + AllocGlobal, C: ShardCodec<ShardFile<'a, R>>>(
-    old: &Array<'a, R, C>,
+fn encoded_in_room<'a, C: ShardCodec<ShardFile<'a>>>(
+    old: &Array<'a, C>,
     requested: &ArraySubset,
     new: &ArrayMetadata,
     room: &mut Vec<u8>,
@@ -64,8 +64,8 @@ fn encoded_in_room<'a, R: Files + AllocGlobal, C: ShardCodec<ShardFile<'a, R>>>(
 }
 
 // The bytes of the chunk of a new array whose elements lie in a subset of the old one; `None` where it has no file.
-fn encoded_subset<'a, R: Files + AllocGlobal, C: ShardCodec<ShardFile<'a, R>>>(
-    old: &Array<'a, R, C>,
+fn encoded_subset<'a, C: ShardCodec<ShardFile<'a>>>(
+    old: &Array<'a, C>,
     requested: &ArraySubset,
     new: &ArrayMetadata,
     room: &mut Vec<u8>,
@@ -82,8 +82,8 @@ fn encoded_subset<'a, R: Files + AllocGlobal, C: ShardCodec<ShardFile<'a, R>>>(
 }
 
 // The bytes of the chunk at these coordinates of a new array, with the elements that the old one has there; `None` where it has no file.
-fn new_chunk<'a, R: Files + AllocGlobal, C: ShardCodec<ShardFile<'a, R>>>(
-    old: &Array<'a, R, C>,
+fn new_chunk<'a, C: ShardCodec<ShardFile<'a>>>(
+    old: &Array<'a, C>,
     new: &NewArray<'_>,
     coordinates: &[u64],
     room: &mut Vec<u8>,
@@ -96,8 +96,8 @@ fn new_chunk<'a, R: Files + AllocGlobal, C: ShardCodec<ShardFile<'a, R>>>(
 }
 
 // Makes the chunk at these coordinates of a new array, and says how many bytes it has; `None` where it has no file.
-fn put_chunk<'a, R: Files + AllocGlobal, C: ShardCodec<ShardFile<'a, R>>>(
-    old: &Array<'a, R, C>,
+fn put_chunk<'a, C: ShardCodec<ShardFile<'a>>>(
+    old: &Array<'a, C>,
     new: &NewArray<'_>,
     coordinates: &[u64],
     room: &mut Vec<u8>,
@@ -111,8 +111,8 @@ fn put_chunk<'a, R: Files + AllocGlobal, C: ShardCodec<ShardFile<'a, R>>>(
 }
 
 // Makes chunks of a new array, one after the other, as far as none is refused.
-fn put_each<'a, R: Files + AllocGlobal, C: ShardCodec<ShardFile<'a, R>>>(
-    old: &Array<'a, R, C>,
+fn put_each<'a, C: ShardCodec<ShardFile<'a>>>(
+    old: &Array<'a, C>,
     new: &NewArray<'_>,
     chunks: &[Vec<u64>],
 ) -> Result<Written, Stop> {
@@ -128,16 +128,16 @@ fn put_each<'a, R: Files + AllocGlobal, C: ShardCodec<ShardFile<'a, R>>>(
 
 // Chunks of a new array, by their coordinates.
 #[derive(Drop)]
-struct NewChunks<'s, 'n, R> {
-    old: &'s SharedArray<'s, R>,
+struct NewChunks<'s, 'n> {
+    old: &'s SharedArray<'s>,
     new: &'s NewArray<'n>,
     chunks: &'s [Vec<u64>],
 }
 
-impl<'s, R: Files + AllocGlobal> CodecUse<ShardFile<'s, R>> for NewChunks<'s, '_, R> {
+impl<'s> CodecUse<ShardFile<'s>> for NewChunks<'s, '_> {
     type Answer = Result<Written, Stop>;
 
-    fn with<C: ShardCodec<ShardFile<'s, R>>>(self, codec: C) -> Result<Written, Stop> {
+    fn with<C: ShardCodec<ShardFile<'s>>>(self, codec: C) -> Result<Written, Stop> {
         let NewChunks { old, new, chunks } = self;
         let old = Array::open(old.rt, old.path, old.metadata, codec)?;
         put_each(&old, new, chunks)
@@ -146,14 +146,14 @@ impl<'s, R: Files + AllocGlobal> CodecUse<ShardFile<'s, R>> for NewChunks<'s, '_
 
 // Chunks of a new array, in pieces of as many chunks.
 #[derive(Drop)]
-struct ChunkPieces<'s, 'n, R> {
-    old: &'s SharedArray<'s, R>,
+struct ChunkPieces<'s, 'n> {
+    old: &'s SharedArray<'s>,
     new: &'s NewArray<'n>,
     chunks: &'s [Vec<u64>],
     in_piece: usize,
 }
 
-impl<R: Files + AllocGlobal> ShardWork for ChunkPieces<'_, '_, R> {
+impl ShardWork for ChunkPieces<'_, '_> {
     type Answer = Result<Written, Stop>;
 
     // no contract says what files give
@@ -167,29 +167,30 @@ impl<R: Files + AllocGlobal> ShardWork for ChunkPieces<'_, '_, R> {
 }
 
 // Makes pieces of chunks, each by a thread of its own, and adds what was made, as far as none is refused.
-fn put_pieces<R: SharedSystem>(
-    pieces: &ChunkPieces<'_, '_, R>,
+fn put_pieces<T: Threads + Sync>(
+    workers: &Workers<'_, T>,
+    pieces: &ChunkPieces<'_, '_>,
     sum: &mut Written,
 ) -> Result<(), Stop> {
     let old = pieces.old;
     let count = pieces.chunks.len().div_ceil(pieces.in_piece.max(1));
-    for made in run_in_parallel(old.rt, old.alloc(), count, pieces)? {
+    for made in run_in_parallel(workers.threads, old.alloc(), count, pieces)? {
         sum.add(made?);
     }
     Ok(())
 }
 
-// Makes the chunks of a new array that have these coordinates, by `jobs` threads that have a piece each at a time.
-fn put_all<'s, R: SharedSystem, M: Write>(
-    old: &'s SharedArray<'s, R>,
+// Makes the chunks of a new array that have these coordinates, by threads that have a piece each at a time.
+fn put_all<'s, T: Threads + Sync>(
+    old: &'s SharedArray<'s>,
     new: &'s NewArray<'_>,
     chunks: &'s [Vec<u64>],
-    jobs: usize,
-    progress: &mut Progress<'_, M>,
+    workers: &Workers<'_, T>,
+    progress: &mut Progress,
 ) -> Result<Written, Stop> {
     let mut sum = Written::nothing();
-    let in_piece = piece_length(chunks.len(), jobs, CHUNKS_OF_A_PIECE);
-    let at_once = in_piece.saturating_mul(jobs).max(1);
+    let in_piece = piece_length(chunks.len(), workers.jobs, CHUNKS_OF_A_PIECE);
+    let at_once = in_piece.saturating_mul(workers.jobs).max(1);
     for (number, some) in chunks.chunks(at_once).enumerate() {
         progress.step(number.saturating_mul(at_once) as u64, chunks.len() as u64);
         let pieces = ChunkPieces {
@@ -198,19 +199,19 @@ fn put_all<'s, R: SharedSystem, M: Write>(
             chunks: some,
             in_piece,
         };
-        put_pieces(&pieces, &mut sum)?;
+        put_pieces(workers, &pieces, &mut sum)?;
     }
     Ok(sum)
 }
 
 // Makes a new array in the folder `beside`, which is there, and puts it at its path.
-fn make_in<R: SharedSystem, M: Write>(
-    old: &SharedArray<'_, R>,
+fn make_in<T: Threads + Sync>(
+    old: &SharedArray<'_>,
     paths: (&str, &str),
     document: &str,
     new: &ArrayMetadata,
-    jobs: usize,
-    progress: &mut Progress<'_, M>,
+    workers: &Workers<'_, T>,
+    progress: &mut Progress,
 ) -> Result<Written, Stop> {
     let (path, beside) = paths;
     let chunks = chunks_of(old, &new.shard)?;
@@ -218,23 +219,23 @@ fn make_in<R: SharedSystem, M: Write>(
         folder: beside,
         metadata: new,
     };
-    let sum = put_all(&*old, &array, &chunks, jobs, progress)?;
+    let sum = put_all(&*old, &array, &chunks, workers, progress)?;
     end_folder(old.rt, path, beside, document)?;
     Ok(sum)
 }
 
 // Makes a new array in a folder beside its path, and puts it there; where that is refused, nothing is left of it.
-fn make<R: SharedSystem, M: Write>(
-    old: &SharedArray<'_, R>,
+fn make<T: Threads + Sync>(
+    old: &SharedArray<'_>,
     path: &str,
     document: &str,
     new: &ArrayMetadata,
-    jobs: usize,
-    progress: &mut Progress<'_, M>,
+    workers: &Workers<'_, T>,
+    progress: &mut Progress,
 ) -> Result<Written, Stop> {
     let beside = format!(in old.alloc(); "{path}.partial")?;
     begin_folder(old.rt, path, &beside)?;
-    let made = make_in(old, (path, &beside), document, new, jobs, progress);
+    let made = make_in(old, (path, &beside), document, new, workers, progress);
     if made.is_err() {
         let _ = fs::remove_dir_all(old.rt, &beside);
     }
@@ -242,21 +243,21 @@ fn make<R: SharedSystem, M: Write>(
 }
 
 // Makes a new array that has this document, where the codecs serve it.
-fn make_described<R: SharedSystem, M: Write>(
-    old: &SharedArray<'_, R>,
+fn make_described<T: Threads + Sync>(
+    old: &SharedArray<'_>,
     path: &str,
     document: &str,
     order: SubchunkWriteOrder,
-    jobs: usize,
-    progress: &mut Progress<'_, M>,
+    workers: &Workers<'_, T>,
+    progress: &mut Progress,
 ) -> Result<Written, Stop> {
     let new = described(old.alloc(), path, document, order)?;
     test_served(old.rt, path, &new)?;
-    make(old, path, document, &new, jobs, progress)
+    make(old, path, document, &new, workers, progress)
 }
 
 // Tells what was written.
-fn tell<W: Write>(wrote: &Written, out: &mut W) -> Result<Ending, Stop> {
+fn tell(wrote: &Written, out: &mut Output) -> Result<Ending, Stop> {
     let (shards, bytes) = (Counted(wrote.shards, "shard"), wrote.bytes);
     written(writeln!(out, "{shards}: {bytes} bytes"), Ending::Done)?;
     Ok(Ending::Done)
@@ -265,19 +266,19 @@ fn tell<W: Write>(wrote: &Written, out: &mut W) -> Result<Ending, Stop> {
 /// Makes a new array of the elements of an old one, laid out in another way, in a folder that is not there yet. It is written beside
 /// itself, with `.partial` behind its name, and renamed once it is whole; where anything is refused, nothing is left, and the refusal is
 /// that of the first new shard, in the order of their grid, that is refused. Each new shard is read from the old array as one subset, and
-/// made by one of `jobs` threads. Writes how many shards and bytes it has.
-pub fn reshard<R: SharedSystem, W: Write, M: Write>(
-    old: &SharedArray<'_, R>,
+/// made by one of the threads. Writes how many shards and bytes it has.
+pub fn reshard<T: Threads + Sync>(
+    old: &SharedArray<'_>,
     path: &str,
     words: &LayoutWords<'_>,
-    jobs: usize,
-    out: &mut W,
-    progress: &mut Progress<'_, M>,
+    workers: &Workers<'_, T>,
+    out: &mut Output,
+    progress: &mut Progress,
 ) -> Result<Ending, Stop> {
     old.test_read()?;
     let order = order_of(old.alloc(), words.order)?;
     let document = new_document(old.alloc(), words, &old.metadata.text, old.metadata)?;
-    let wrote = make_described(old, path, &document, order, jobs, progress)?;
+    let wrote = make_described(old, path, &document, order, workers, progress)?;
     progress.clear();
     tell(&wrote, out)
 }

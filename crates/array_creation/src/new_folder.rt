@@ -7,7 +7,7 @@ use std::{fs, io};
 use storage_files::Replacement;
 
 // Makes a file of bytes, with its folder.
-fn save<R: Files + AllocGlobal>(rt: &R, path: &str, bytes: &[u8]) -> io::Result<()> {
+fn save(rt: &HostRuntime, path: &str, bytes: &[u8]) -> io::Result<()> {
     let mut file = Replacement::begin(rt.alloc(), rt, path)?;
     match file.write(bytes) {
         Ok(()) => file.finish(),
@@ -19,12 +19,7 @@ fn save<R: Files + AllocGlobal>(rt: &R, path: &str, bytes: &[u8]) -> io::Result<
 }
 
 /// Makes a file of bytes under a key of a folder.
-pub fn put<R: Files + AllocGlobal>(
-    rt: &R,
-    folder: &str,
-    key: &str,
-    bytes: &[u8],
-) -> Result<(), Stop> {
+pub fn put(rt: &HostRuntime, folder: &str, key: &str, bytes: &[u8]) -> Result<(), Stop> {
     let path = format!(in rt.alloc(); "{folder}/{key}")?;
     match save(rt, &path, bytes) {
         Ok(()) => Ok(()),
@@ -33,7 +28,7 @@ pub fn put<R: Files + AllocGlobal>(
 }
 
 /// Begins the folder of a new array, which stands beside the one that it will be. Refused where either stands there.
-pub fn begin_folder<R: Files + AllocGlobal>(rt: &R, path: &str, beside: &str) -> Result<(), Stop> {
+pub fn begin_folder(rt: &HostRuntime, path: &str, beside: &str) -> Result<(), Stop> {
     let alloc = rt.alloc();
     if fs::symlink_metadata(rt, path).is_ok() {
         let error = io::Error::new(ErrorKind::AlreadyExists, "stands there already");
@@ -51,12 +46,7 @@ pub fn begin_folder<R: Files + AllocGlobal>(rt: &R, path: &str, beside: &str) ->
 }
 
 /// Puts the folder of a new array at its path, with its `zarr.json`, which is the last file.
-pub fn end_folder<R: Files + AllocGlobal>(
-    rt: &R,
-    path: &str,
-    beside: &str,
-    document: &str,
-) -> Result<(), Stop> {
+pub fn end_folder(rt: &HostRuntime, path: &str, beside: &str, document: &str) -> Result<(), Stop> {
     put(rt, beside, "zarr.json", document.as_bytes())?;
     match rt.rename(beside, path) {
         Ok(()) => Ok(()),
@@ -66,26 +56,22 @@ pub fn end_folder<R: Files + AllocGlobal>(
 
 // The test of a new array.
 #[derive(Drop)]
-struct NewArrayTest<'t, R> {
-    rt: &'t R,
+struct NewArrayTest<'t> {
+    rt: &'t HostRuntime,
     path: &'t str,
     metadata: &'t ArrayMetadata,
 }
 
-impl<'t, R: Files + AllocGlobal> CodecUse<ShardFile<'t, R>> for NewArrayTest<'t, R> {
+impl<'t> CodecUse<ShardFile<'t>> for NewArrayTest<'t> {
     type Answer = Result<(), Stop>;
 
-    fn with<C: ShardCodec<ShardFile<'t, R>>>(self, codec: C) -> Result<(), Stop> {
+    fn with<C: ShardCodec<ShardFile<'t>>>(self, codec: C) -> Result<(), Stop> {
         let array = Array::open(self.rt, self.path, self.metadata, codec)?;
         array.test_read()
     }
 }
 
 /// Tests that the codecs that metadata names serve a new array, and that its elements are read.
-pub fn test_served<R: Files + AllocGlobal>(
-    rt: &R,
-    path: &str,
-    metadata: &ArrayMetadata,
-) -> Result<(), Stop> {
+pub fn test_served(rt: &HostRuntime, path: &str, metadata: &ArrayMetadata) -> Result<(), Stop> {
     with_codec(metadata, NewArrayTest { rt, path, metadata })
 }

@@ -1,5 +1,4 @@
 // How many of something there are, and how old something is, in words.
-use std::rt::{Clock, Files};
 use std::time::{Duration, SystemTime};
 use std::{fmt, fs, io};
 
@@ -44,7 +43,7 @@ impl fmt::Display for Age {
 }
 
 // How long ago a file was last written.
-fn since_written<R: Files + Clock>(rt: &R, path: &str) -> io::Result<Duration> {
+fn since_written(rt: &HostRuntime, path: &str) -> io::Result<Duration> {
     let written = fs::metadata(rt, path)?.modified()?;
     match SystemTime::now(rt)?.duration_since(written) {
         Ok(age) => Ok(age),
@@ -53,6 +52,6 @@ fn since_written<R: Files + Clock>(rt: &R, path: &str) -> io::Result<Duration> {
 }
 
 /// How old the file at a path is.
-pub fn age_of<R: Files + Clock>(rt: &R, path: &str) -> Age {
+pub fn age_of(rt: &HostRuntime, path: &str) -> Age {
     Age(since_written(rt, path).ok())
 }

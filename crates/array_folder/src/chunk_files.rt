@@ -121,15 +121,15 @@ impl Walk<'_, '_> {
 }
 
 /// Opens a folder, to read its names.
-pub fn open_folder<R: Files + AllocGlobal>(rt: &R, path: &str) -> io::Result<R::Dir> {
+pub fn open_folder(rt: &HostRuntime, path: &str) -> io::Result<<HostRuntime as Files>::Dir> {
     check_folder(rt, path)?;
     let path = format!(in rt.alloc(); "{path}/")?;
     rt.open_dir(&path)
 }
 
 // Lists a folder below that of the array, which has this path.
-fn list_folder<R: Files + AllocGlobal>(
-    rt: &R,
+fn list_folder(
+    rt: &HostRuntime,
     path: &str,
     walk: &Walk<'_, '_>,
     room: &mut [u8],
@@ -159,8 +159,8 @@ fn sort_from(chunks: &mut [ChunkFile], place: usize) {
 }
 
 // Lists the folders of a level, which are sorted, and so are then the folders or files that they hold.
-fn list_level<R: Files + AllocGlobal>(
-    rt: &R,
+fn list_level(
+    rt: &HostRuntime,
     path: &str,
     level: &Level<'_>,
     is_first: bool,
@@ -187,8 +187,8 @@ fn list_level<R: Files + AllocGlobal>(
 
 /// Lists the folder of an array, which has this path and a `zarr.json`. Only folders whose names are parts of keys of chunks in
 /// the grid are read. Refused where one of these is something else than a folder, as a link to nothing, or cannot be read.
-pub fn list_chunks<R: Files + AllocGlobal>(
-    rt: &R,
+pub fn list_chunks(
+    rt: &HostRuntime,
     path: &str,
     keys: ChunkKeys,
     grid: &ChunkGrid,

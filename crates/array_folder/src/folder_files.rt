@@ -1,23 +1,22 @@
 // Files of an array's folder, of which one is read after the other.
 use std::alloc::{AllocError, Global};
 use std::io;
-use std::rt::Files;
 use storage_files::read_file_range;
 use storage_handles::ByteRange;
 
 /// The files of a folder, to be read one after the other. Path and bytes of a file stand in memory that the next one has again.
 #[derive(Drop)]
-pub struct FolderFiles<'a, R> {
-    files: &'a R,
+pub struct FolderFiles<'a> {
+    files: &'a HostRuntime,
     // what the path of each file begins with
     folder: String,
     path: String,
     room: Vec<u8>,
 }
 
-impl<'a, R: Files> FolderFiles<'a, R> {
+impl<'a> FolderFiles<'a> {
     /// The files of the folder that has this path.
-    pub fn new(alloc: Global, files: &'a R, folder: &str) -> Result<Self, AllocError> {
+    pub fn new(alloc: Global, files: &'a HostRuntime, folder: &str) -> Result<Self, AllocError> {
         Ok(FolderFiles {
             files,
             folder: format!(in alloc; "{folder}/")?,

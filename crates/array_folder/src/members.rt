@@ -4,7 +4,6 @@ use crate::document::named;
 use crate::folder_error::FolderError;
 use std::alloc::{AllocError, Global};
 use std::io::Read;
-use std::rt::Files;
 use std::{fs, io, str};
 use storage_files::file_length;
 
@@ -44,7 +43,7 @@ where
 }
 
 // Whether a folder stands at a path, and no link to one, that has an entry `zarr.json`.
-fn has_document<R: Files + AllocGlobal>(rt: &R, path: &str) -> Result<bool, AllocError> {
+fn has_document(rt: &HostRuntime, path: &str) -> Result<bool, AllocError> {
     match fs::symlink_metadata(rt, path) {
         Ok(found) if found.is_dir() => {}
         _ => return Ok(false),
@@ -55,10 +54,7 @@ fn has_document<R: Files + AllocGlobal>(rt: &R, path: &str) -> Result<bool, Allo
 
 /// The members of the group whose folder has this path, by name: the folders in it that have an entry `zarr.json`. A link to a folder is
 /// none, so that nobody goes in a circle.
-pub fn list_members<R: Files + AllocGlobal>(
-    rt: &R,
-    path: &str,
-) -> Result<Vec<String>, FolderError> {
+pub fn list_members(rt: &HostRuntime, path: &str) -> Result<Vec<String>, FolderError> {
     let alloc = rt.alloc();
     let folder = named(alloc, path, open_folder(rt, path))?;
     let names = named(alloc, path, names_in(alloc, folder))?;

@@ -4,15 +4,14 @@ use crate::npy::{npy_beside, write_npy};
 use array_fields::escaped;
 use std::io;
 use std::io::{ErrorKind, Write};
-use std::rt::Files;
 use storage_files::{Replacement, folder_of};
 
 /// The new file of a path, or `None` where one stands there already.
-pub fn begin<'a, R: Files + AllocGlobal>(
-    rt: &'a R,
+pub fn begin<'a>(
+    rt: &'a HostRuntime,
     path: &str,
     beside: &str,
-) -> Result<Option<Replacement<&'a R>>, FolderError> {
+) -> Result<Option<Replacement<&'a HostRuntime>>, FolderError> {
     match Replacement::begin(rt.alloc(), rt, path) {
         Ok(replacement) => Ok(Some(replacement)),
         Err(error) if error.kind() == ErrorKind::AlreadyExists => Ok(None),
@@ -21,10 +20,10 @@ pub fn begin<'a, R: Files + AllocGlobal>(
 }
 
 /// Tells where a new file has not the owner and the group of the old one.
-pub fn tell_owner<R: Files, W: Write>(
+pub fn tell_owner<W: Write>(
     out: &mut W,
     key: &str,
-    replacement: &Replacement<R>,
+    replacement: &Replacement<&HostRuntime>,
 ) -> io::Result<()> {
     if replacement.keeps_owner() {
         return Ok(());
@@ -45,12 +44,12 @@ fn busy() -> io::Error {
 }
 
 /// The new file of a path, which is refused where one stands there already. A line says so where it has not the owner of the old one.
-pub fn begin_new<'a, R: Files + AllocGlobal, W: Write>(
-    rt: &'a R,
+pub fn begin_new<'a, W: Write>(
+    rt: &'a HostRuntime,
     path: &str,
     beside: &str,
     out: &mut W,
-) -> Result<Replacement<&'a R>, FolderError> {
+) -> Result<Replacement<&'a HostRuntime>, FolderError> {
     let shown = escaped(rt.alloc(), path)?;
     let Some(new) = begin(rt, path, beside)? else {
         return Err(FolderError::system(rt.alloc(), beside, busy()));
@@ -61,8 +60,8 @@ pub fn begin_new<'a, R: Files + AllocGlobal, W: Write>(
 }
 
 /// Makes the file at a path of a header and what follows it. A file of that name is replaced once the new one is whole.
-pub fn save<R: Files + AllocGlobal, W: Write>(
-    rt: &R,
+pub fn save<W: Write>(
+    rt: &HostRuntime,
     path: &str,
     beside: &str,
     header: &[u8],
@@ -77,8 +76,8 @@ pub fn save<R: Files + AllocGlobal, W: Write>(
 }
 
 /// Makes a file at a path of bytes. A file of that name is replaced once the new one is whole.
-pub fn save_bytes<R: Files + AllocGlobal, W: Write>(
-    rt: &R,
+pub fn save_bytes<W: Write>(
+    rt: &HostRuntime,
     path: &str,
     bytes: &[u8],
     out: &mut W,

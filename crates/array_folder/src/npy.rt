@@ -8,7 +8,6 @@ use crate::folder_error::FolderError;
 use std::alloc::{AllocError, Global};
 use std::io;
 use std::io::ErrorKind;
-use std::rt::Files;
 use storage_files::{Replacement, check_folder, file_length, folder_of, path_beside};
 
 // What NumPy calls elements of the data type with a name, least significant byte first.
@@ -125,7 +124,7 @@ pub fn npy_header(
 
 /// The path at which a new file stands until it is whole, and is put at a path. Refused where anything but a regular file stands at
 /// this, and where the folder does not.
-pub fn npy_beside<R: Files + AllocGlobal>(rt: &R, path: &str) -> Result<String, FolderError>
+pub fn npy_beside(rt: &HostRuntime, path: &str) -> Result<String, FolderError>
     ensures { IfErr result IsPathPrinted }
 {
     let alloc = rt.alloc();
@@ -140,8 +139,8 @@ pub fn npy_beside<R: Files + AllocGlobal>(rt: &R, path: &str) -> Result<String, 
 }
 
 /// Writes a header and elements to a new file, and puts it in its place. Where that is refused nothing is left of it.
-pub fn write_npy<R: Files + Drop>(
-    mut new: Replacement<R>,
+pub fn write_npy(
+    mut new: Replacement<&HostRuntime>,
     header: &[u8],
     elements: &[u8],
 ) -> io::Result<()> {

@@ -1,15 +1,14 @@
 // The bytes of a subchunk as they are stored.
 use array_cli::{
-    Array, Ending, OpenShard, Place, Shard, ShardCodec, ShardFile, Stop, shard_of, written,
+    Array, Ending, OpenShard, Output, Place, Shard, ShardCodec, ShardFile, Stop, shard_of, written,
 };
 use array_fields::escaped;
 use parts_errors::CodecError;
 use parts_row_major::unravel_index;
 use std::io::Write;
-use std::rt::Files;
 
 // The number of a subchunk that a word is.
-fn number_of<R: Files + AllocGlobal, C>(array: &Array<'_, R, C>, word: &str) -> Result<u64, Stop> {
+fn number_of<C>(array: &Array<'_, C>, word: &str) -> Result<u64, Stop> {
     let count = array.subchunks.num_elements().unwrap_or(u64::MAX);
     match word.parse::<u64>() {
         Ok(number) if number < count => Ok(number),
@@ -21,8 +20,8 @@ fn number_of<R: Files + AllocGlobal, C>(array: &Array<'_, R, C>, word: &str) -> 
 }
 
 // The bytes of the subchunk with this number; `None` where it is absent.
-fn stored<'a, R: Files + AllocGlobal, C: ShardCodec<ShardFile<'a, R>>>(
-    array: &Array<'a, R, C>,
+fn stored<'a, C: ShardCodec<ShardFile<'a>>>(
+    array: &Array<'a, C>,
     opened: &mut C::Open,
     number: u64,
 ) -> Result<Option<Vec<u8>>, CodecError> {
@@ -34,8 +33,8 @@ fn stored<'a, R: Files + AllocGlobal, C: ShardCodec<ShardFile<'a, R>>>(
 }
 
 // The bytes of a subchunk of a shard that is open.
-fn extracted<'a, R: Files + AllocGlobal, C: ShardCodec<ShardFile<'a, R>>>(
-    array: &Array<'a, R, C>,
+fn extracted<'a, C: ShardCodec<ShardFile<'a>>>(
+    array: &Array<'a, C>,
     shard: &Shard<'_>,
     number: u64,
     mut opened: C::Open,
@@ -53,8 +52,8 @@ fn extracted<'a, R: Files + AllocGlobal, C: ShardCodec<ShardFile<'a, R>>>(
 }
 
 // The bytes of a subchunk of the shard that has a key.
-fn extracted_of_key<'a, R: Files + AllocGlobal, C: ShardCodec<ShardFile<'a, R>>>(
-    array: &Array<'a, R, C>,
+fn extracted_of_key<'a, C: ShardCodec<ShardFile<'a>>>(
+    array: &Array<'a, C>,
     key: &str,
     number: &str,
 ) -> Result<Vec<u8>, Stop> {
@@ -68,11 +67,11 @@ fn extracted_of_key<'a, R: Files + AllocGlobal, C: ShardCodec<ShardFile<'a, R>>>
 /// Writes the bytes of a subchunk as they are stored, by the key of its shard and its row-major number in it. Refused where no
 /// shard has the key, where the word is no number of a subchunk, where the index is refused or its entry of the subchunk, and
 /// where the subchunk is absent.
-pub fn extract<'a, R: Files + AllocGlobal, C: ShardCodec<ShardFile<'a, R>>, W: Write>(
-    array: &Array<'a, R, C>,
+pub fn extract<'a, C: ShardCodec<ShardFile<'a>>>(
+    array: &Array<'a, C>,
     key: &str,
     number: &str,
-    out: &mut W,
+    out: &mut Output,
 ) -> Result<Ending, Stop> {
     let bytes = extracted_of_key(array, key, number)?;
     written(out.write_all(&bytes), Ending::Done)?;

@@ -3,7 +3,6 @@ use array_cli::{Array, DecodeIndexes, ShardCodec, ShardFile};
 use array_folder::{IndexInfo, info_of};
 use parts_errors::CodecError;
 use sharding_format::ShardingIndexLocation;
-use std::rt::Files;
 use storage_handles::ByteRange;
 
 /// Where the index of a shard stands, which has a size.
@@ -15,8 +14,8 @@ pub fn index_range(location: ShardingIndexLocation, size: u64) -> ByteRange {
 }
 
 /// What the index of a shard in an object of a length says, which has these bytes.
-pub fn index_info<'a, R: Files + AllocGlobal, C: ShardCodec<ShardFile<'a, R>>>(
-    array: &Array<'a, R, C>,
+pub fn index_info<'a, C: ShardCodec<ShardFile<'a>>>(
+    array: &Array<'a, C>,
     indexes: &C::Indexes,
     bytes: &[u8],
     length: u64,

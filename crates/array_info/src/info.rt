@@ -3,8 +3,8 @@ use crate::index_info::{index_info, index_range};
 use crate::info_pieces::{KnownShards, known_shards};
 use crate::json;
 use array_cli::{
-    Array, DecodeIndexes, Ending, Place, Progress, Refusal, Shard, ShardCodec, ShardFile,
-    SharedArray, SharedSystem, Stop, write_folder, write_folder_lines, written,
+    Array, DecodeIndexes, Ending, Output, Place, Progress, Refusal, Shard, ShardCodec, ShardFile,
+    SharedArray, Stop, Workers, write_folder, write_folder_lines, written,
 };
 use array_folder::{ChunkFile, ChunkFiles, Counted, FolderFiles, IndexInfo, Listing, info_of};
 use array_grid::{ChunkKeys, KeyEncoding, write_cell_line, write_numbers};
@@ -13,7 +13,7 @@ use parts_errors::CodecError;
 use std::alloc::{AllocError, Global};
 use std::io;
 use std::io::Write;
-use std::rt::{Clock, Files};
+use std::thread::Threads;
 use storage_handles::BytesPartialDecoderTraits;
 
 /// What is known of a shard that is there.
@@ -39,8 +39,8 @@ pub struct Sums {
 const LONGEST_AT_ONCE: u64 = 65_536;
 
 // What the index of a shard says, which has these bytes, or why it is refused.
-fn index_of<'a, R: Files + AllocGlobal, C: ShardCodec<ShardFile<'a, R>>>(
-    array: &Array<'a, R, C>,
+fn index_of<'a, C: ShardCodec<ShardFile<'a>>>(
+    array: &Array<'a, C>,
     indexes: &C::Indexes,
     shard: &Shard<'_>,
     bytes: &[u8],
@@ -54,11 +54,11 @@ fn index_of<'a, R: Files + AllocGlobal, C: ShardCodec<ShardFile<'a, R>>>(
 }
 
 // What is known of a shard, whose index is read at once; nothing where its file is gone.
-fn read_at_once<'a, R: Files + AllocGlobal, C: ShardCodec<ShardFile<'a, R>>>(
-    array: &Array<'a, R, C>,
+fn read_at_once<'a, C: ShardCodec<ShardFile<'a>>>(
+    array: &Array<'a, C>,
     indexes: &C::Indexes,
     shard: &Shard<'_>,
-    files: &mut FolderFiles<'_, R>,
+    files: &mut FolderFiles<'_>,
 ) -> Result<Option<ShardInfo>, Stop> {
     let range = index_range(array.codec.index_location(), indexes.size());
     match files.read(shard.key, range) {
@@ -72,10 +72,10 @@ fn read_at_once<'a, R: Files + AllocGlobal, C: ShardCodec<ShardFile<'a, R>>>(
 }
 
 // The length of the shard in a file and what its index says, which has a size and is read in pieces; nothing where there is no file.
-fn info_in_pieces<'a, R: Files + AllocGlobal, C: ShardCodec<ShardFile<'a, R>>>(
-    array: &Array<'a, R, C>,
+fn info_in_pieces<'a, C: ShardCodec<ShardFile<'a>>>(
+    array: &Array<'a, C>,
     size: u64,
-    file: &mut ShardFile<'a, R>,
+    file: &mut ShardFile<'a>,
 ) -> Result<Option<(u64, Result<IndexInfo, CodecError>)>, CodecError> {
     let Some(length) = file.len()? else {
         return Ok(None);
@@ -89,10 +89,10 @@ fn info_in_pieces<'a, R: Files + AllocGlobal, C: ShardCodec<ShardFile<'a, R>>>(
 }
 
 // What is known of a shard in a file, which has a length and whose index says this or is refused so.
-fn known<'a, R: Files + AllocGlobal, C>(
-    array: &Array<'a, R, C>,
+fn known<'a, C>(
+    array: &Array<'a, C>,
     shard: &Shard<'_>,
-    file: &ShardFile<'a, R>,
+    file: &ShardFile<'a>,
     length: u64,
     read: Result<IndexInfo, CodecError>,
 ) -> Result<ShardInfo, Stop> {
@@ -104,8 +104,8 @@ fn known<'a, R: Files + AllocGlobal, C>(
 }
 
 // What is known of a shard, whose index has a size and is read in pieces; nothing where its file is gone.
-fn read_in_pieces<'a, R: Files + AllocGlobal, C: ShardCodec<ShardFile<'a, R>>>(
-    array: &Array<'a, R, C>,
+fn read_in_pieces<'a, C: ShardCodec<ShardFile<'a>>>(
+    array: &Array<'a, C>,
     shard: &Shard<'_>,
     size: u64,
 ) -> Result<Option<ShardInfo>, Stop> {
@@ -118,11 +118,11 @@ fn read_in_pieces<'a, R: Files + AllocGlobal, C: ShardCodec<ShardFile<'a, R>>>(
 }
 
 // What is known of the shard in a file; nothing where the file is gone.
-fn read_info<'a, R: Files + AllocGlobal, C: ShardCodec<ShardFile<'a, R>>>(
-    array: &Array<'a, R, C>,
+fn read_info<'a, C: ShardCodec<ShardFile<'a>>>(
+    array: &Array<'a, C>,
     indexes: &C::Indexes,
     chunk: &ChunkFile,
-    files: &mut FolderFiles<'_, R>,
+    files: &mut FolderFiles<'_>,
 ) -> Result<Option<ShardInfo>, Stop> {
     let shard = Shard::in_file(chunk);
     let size = indexes.size();
@@ -135,8 +135,8 @@ fn read_info<'a, R: Files + AllocGlobal, C: ShardCodec<ShardFile<'a, R>>>(
 
 /// What is known of the shards in these files; nothing of one whose file is gone. Of each only the index is read. Refused, in this order, as
 /// `Stop::Codec` where the index has no fixed size, and as `Stop::System` where the folder or a file is not read.
-pub fn read_infos<'a, R: Files + AllocGlobal, C: ShardCodec<ShardFile<'a, R>>>(
-    array: &Array<'a, R, C>,
+pub fn read_infos<'a, C: ShardCodec<ShardFile<'a>>>(
+    array: &Array<'a, C>,
     chunks: &[ChunkFile],
 ) -> Result<Vec<Option<ShardInfo>>, Stop> {
     let indexes = array.codec.indexes(array.alloc(), &array.subchunks)?;
@@ -183,7 +183,7 @@ impl Sums {
 }
 
 // Writes what the metadata says of elements.
-fn write_type<W: Write>(out: &mut W, metadata: &ArrayMetadata) -> io::Result<()> {
+fn write_type(out: &mut Output, metadata: &ArrayMetadata) -> io::Result<()> {
     if let Some(text) = &metadata.type_text {
         let (data_type, fill_value) = (&text.data_type, &text.fill_value);
         return writeln!(out, "data type: {data_type}\nfill value: {fill_value}");
@@ -195,7 +195,7 @@ fn write_type<W: Write>(out: &mut W, metadata: &ArrayMetadata) -> io::Result<()>
 }
 
 // Writes the shape of a subchunk, where there are shards.
-fn write_subchunk<W: Write>(out: &mut W, metadata: &ArrayMetadata) -> io::Result<()> {
+fn write_subchunk(out: &mut Output, metadata: &ArrayMetadata) -> io::Result<()> {
     match metadata.codec {
         ArrayCodec::Unsharded(_) => out.write_all(
             b"subchunks: none, since the chunks are no shards\n",
@@ -214,7 +214,7 @@ pub fn key_words(keys: ChunkKeys) -> (&'static str, &'static str) {
 }
 
 // Writes the names of the axes, where there are any, and what the keys of chunks are.
-fn write_names<W: Write>(out: &mut W, metadata: &ArrayMetadata) -> io::Result<()> {
+fn write_names(out: &mut Output, metadata: &ArrayMetadata) -> io::Result<()> {
     if let Some(names) = &metadata.dimension_names {
         writeln!(out, "dimension names: {names}")?;
     }
@@ -223,7 +223,7 @@ fn write_names<W: Write>(out: &mut W, metadata: &ArrayMetadata) -> io::Result<()
 }
 
 // Writes what the metadata says.
-fn write_metadata<W: Write>(out: &mut W, metadata: &ArrayMetadata) -> io::Result<()> {
+fn write_metadata(out: &mut Output, metadata: &ArrayMetadata) -> io::Result<()> {
     write_numbers(out, "shape", &metadata.shape)?;
     write_names(out, metadata)?;
     write_numbers(out, "chunks", metadata.shard.as_slice())?;
@@ -233,7 +233,7 @@ fn write_metadata<W: Write>(out: &mut W, metadata: &ArrayMetadata) -> io::Result
 }
 
 // Writes the codec for which no subchunk is looked into, if there is one.
-fn write_unread<W: Write>(out: &mut W, unread: Option<String>) -> io::Result<()> {
+fn write_unread(out: &mut Output, unread: Option<String>) -> io::Result<()> {
     match unread {
         Some(name) => writeln!(
             out,
@@ -267,8 +267,8 @@ fn set_line(line: &mut String, key: &str, length: u64, info: &IndexInfo) -> Resu
 }
 
 /// Writes what is known of a shard, by a line in memory that the next one has again.
-pub fn write_shard<W: Write>(
-    out: &mut W,
+pub fn write_shard(
+    out: &mut Output,
     line: &mut String,
     key: &str,
     shard: &ShardInfo,
@@ -286,8 +286,8 @@ pub fn write_shard<W: Write>(
 }
 
 // Writes a line for each shard.
-fn write_shards<W: Write>(
-    out: &mut W,
+fn write_shards(
+    out: &mut Output,
     alloc: Global,
     files: &ChunkFiles,
     shards: &[Option<ShardInfo>],
@@ -302,7 +302,7 @@ fn write_shards<W: Write>(
 }
 
 // Writes what is known of all shards.
-fn write_sums<W: Write>(out: &mut W, sums: &Sums) -> io::Result<()> {
+fn write_sums(out: &mut Output, sums: &Sums) -> io::Result<()> {
     let Sums {
         shards,
         bytes,
@@ -323,19 +323,15 @@ fn write_sums<W: Write>(out: &mut W, sums: &Sums) -> io::Result<()> {
 }
 
 // Writes how many shards there are, of how many there could be.
-fn write_count<R: Files + AllocGlobal, C, W: Write>(
-    out: &mut W,
-    array: &Array<'_, R, C>,
-    shards: u64,
-) -> io::Result<()> {
+fn write_count<C>(out: &mut Output, array: &Array<'_, C>, shards: u64) -> io::Result<()> {
     let possible = array.grid.count(array.alloc())?;
     writeln!(out, "shards: {shards} of {possible}")
 }
 
 // Writes what the metadata says, how many shards are there, a line for each, what else stands in the folder, and the sums.
-fn write_info<R: Files + AllocGlobal + Clock, C, W: Write>(
-    out: &mut W,
-    array: &Array<'_, R, C>,
+fn write_info<C>(
+    out: &mut Output,
+    array: &Array<'_, C>,
     files: &ChunkFiles,
     shards: &[Option<ShardInfo>],
     sums: &Sums,
@@ -349,8 +345,8 @@ fn write_info<R: Files + AllocGlobal + Clock, C, W: Write>(
 }
 
 // Writes a line of JSON for each shard.
-fn write_shard_lines<W: Write>(
-    out: &mut W,
+fn write_shard_lines(
+    out: &mut Output,
     alloc: Global,
     files: &ChunkFiles,
     shards: &[Option<ShardInfo>],
@@ -365,10 +361,7 @@ fn write_shard_lines<W: Write>(
 }
 
 // Writes what the metadata says as a line of JSON.
-fn write_array_line<R: Files + AllocGlobal, C, W: Write>(
-    out: &mut W,
-    array: &Array<'_, R, C>,
-) -> io::Result<()> {
+fn write_array_line<C>(out: &mut Output, array: &Array<'_, C>) -> io::Result<()> {
     let possible = array.grid.count(array.alloc())?;
     let unread = array.unread()?;
     let unread = unread.as_ref().map(String::as_str);
@@ -376,9 +369,9 @@ fn write_array_line<R: Files + AllocGlobal, C, W: Write>(
 }
 
 // Writes the same as lines of JSON.
-fn write_info_lines<R: Files + AllocGlobal, C, W: Write>(
-    out: &mut W,
-    array: &Array<'_, R, C>,
+fn write_info_lines<C>(
+    out: &mut Output,
+    array: &Array<'_, C>,
     files: &ChunkFiles,
     shards: &[Option<ShardInfo>],
     sums: &Sums,
@@ -390,9 +383,9 @@ fn write_info_lines<R: Files + AllocGlobal, C, W: Write>(
 }
 
 // Writes what the metadata says, and what is known of these shards.
-fn write_known<R: Files + AllocGlobal + Clock, C, W: Write>(
-    out: &mut W,
-    array: &Array<'_, R, C>,
+fn write_known<C>(
+    out: &mut Output,
+    array: &Array<'_, C>,
     known: &KnownShards,
     sums: &Sums,
     is_json: bool,
@@ -405,17 +398,17 @@ fn write_known<R: Files + AllocGlobal + Clock, C, W: Write>(
     }
 }
 
-/// Writes what the metadata says, and what is known of the shards that are there, of which `jobs` threads read the index; a shard that is
+/// Writes what the metadata says, and what is known of the shards that are there, of which threads read the index; a shard that is
 /// refused has a line that says why. Refused, in this order, as `known_shards` is, and as `Stop::Output` or `Stop::Closed` where the answer is
 /// not taken.
-pub fn info_of_array<R: SharedSystem, W: Write, M: Write>(
-    array: &SharedArray<'_, R>,
+pub fn info_of_array<T: Threads + Sync>(
+    array: &SharedArray<'_>,
     listing: &Listing,
-    jobs: usize,
-    out: &mut W,
-    progress: &mut Progress<'_, M>,
+    workers: &Workers<'_, T>,
+    out: &mut Output,
+    progress: &mut Progress,
 ) -> Result<Ending, Stop> {
-    let known = known_shards(array, &listing.part, jobs, progress)?;
+    let known = known_shards(array, &listing.part, workers, progress)?;
     progress.clear();
     let sums = Sums::of(&known.shards);
     let ending = if sums.refused == 0 {

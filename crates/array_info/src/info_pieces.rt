@@ -1,12 +1,11 @@
 // What threads find out of shards side by side, of a piece of their list each at a time.
 use crate::info::{ShardInfo, read_infos};
 use array_cli::{
-    Array, CodecUse, Progress, ShardCodec, ShardFile, SharedArray, SharedSystem, Stop, with_codec,
+    Array, CodecUse, Progress, ShardCodec, ShardFile, SharedArray, Stop, Workers, with_codec,
 };
 use array_folder::{ChunkFile, ChunkFiles};
 use array_grid::{ListPart, ShardWork, piece_length, piece_of, run_in_parallel};
-use std::io::Write;
-use std::rt::Files;
+use std::thread::Threads;
 
 // Of how many shards a thread reads the index at a time at most.
 const SHARDS_OF_A_PIECE: usize = 64;
@@ -21,18 +20,15 @@ pub struct KnownShards {
 
 // Files of shards of which one thread reads the indexes.
 #[derive(Drop)]
-struct InfoFiles<'s, R> {
-    array: &'s SharedArray<'s, R>,
+struct InfoFiles<'s> {
+    array: &'s SharedArray<'s>,
     files: &'s [ChunkFile],
 }
 
-impl<'s, R: Files + AllocGlobal> CodecUse<ShardFile<'s, R>> for InfoFiles<'s, R> {
+impl<'s> CodecUse<ShardFile<'s>> for InfoFiles<'s> {
     type Answer = Result<Vec<Option<ShardInfo>>, Stop>;
 
-    fn with<C: ShardCodec<ShardFile<'s, R>>>(
-        self,
-        codec: C,
-    ) -> Result<Vec<Option<ShardInfo>>, Stop> {
+    fn with<C: ShardCodec<ShardFile<'s>>>(self, codec: C) -> Result<Vec<Option<ShardInfo>>, Stop> {
         let InfoFiles { array, files } = self;
         let array = Array::open(array.rt, array.path, array.metadata, codec)?;
         read_infos(&array, files)
@@ -41,13 +37,13 @@ impl<'s, R: Files + AllocGlobal> CodecUse<ShardFile<'s, R>> for InfoFiles<'s, R>
 
 // Files of shards, in pieces of as many files.
 #[derive(Drop)]
-struct InfoPieces<'s, R> {
-    array: &'s SharedArray<'s, R>,
+struct InfoPieces<'s> {
+    array: &'s SharedArray<'s>,
     files: &'s [ChunkFile],
     in_piece: usize,
 }
 
-impl<R: Files + AllocGlobal> ShardWork for InfoPieces<'_, R> {
+impl ShardWork for InfoPieces<'_> {
     type Answer = Result<Vec<Option<ShardInfo>>, Stop>;
 
     // no contract says what files give
@@ -63,8 +59,9 @@ impl<R: Files + AllocGlobal> ShardWork for InfoPieces<'_, R> {
 }
 
 // Adds what is known of the shards in these files, each piece of them by a thread of its own.
-fn add_pieces<'s, R: SharedSystem>(
-    array: &'s SharedArray<'s, R>,
+fn add_pieces<'s, T: Threads + Sync>(
+    array: &'s SharedArray<'s>,
+    workers: &Workers<'_, T>,
     files: &'s [ChunkFile],
     in_piece: usize,
     shards: &mut Vec<Option<ShardInfo>>,
@@ -75,28 +72,28 @@ fn add_pieces<'s, R: SharedSystem>(
         in_piece,
     };
     let count = files.len().div_ceil(in_piece.max(1));
-    for piece in run_in_parallel(array.rt, array.alloc(), count, &pieces)? {
+    for piece in run_in_parallel(workers.threads, array.alloc(), count, &pieces)? {
         shards.append(&mut piece?)?;
     }
     Ok(())
 }
 
-/// The shards that a part of an array has, and what is known of each, of which `jobs` threads read the index; nothing of one whose file is
+/// The shards that a part of an array has, and what is known of each, of which threads read the index; nothing of one whose file is
 /// gone. Refused, in this order, as `Stop::System` where the folder is not read, and as `read_infos` refuses the first shard that is refused.
-pub fn known_shards<R: SharedSystem, M: Write>(
-    array: &SharedArray<'_, R>,
+pub fn known_shards<T: Threads + Sync>(
+    array: &SharedArray<'_>,
     part: &ListPart,
-    jobs: usize,
-    progress: &mut Progress<'_, M>,
+    workers: &Workers<'_, T>,
+    progress: &mut Progress,
 ) -> Result<KnownShards, Stop> {
     let files = array.files_in(part)?;
     let all = files.chunks.len();
     let mut shards: Vec<Option<ShardInfo>> = Vec::with_capacity(array.alloc(), all)?;
-    let in_piece = piece_length(all, jobs, SHARDS_OF_A_PIECE);
-    let at_once = in_piece.saturating_mul(jobs).max(1);
+    let in_piece = piece_length(all, workers.jobs, SHARDS_OF_A_PIECE);
+    let at_once = in_piece.saturating_mul(workers.jobs).max(1);
     for (number, some) in files.chunks.chunks(at_once).enumerate() {
         progress.step(number.saturating_mul(at_once) as u64, all as u64);
-        add_pieces(&*array, some, in_piece, &mut shards)?;
+        add_pieces(&*array, workers, some, in_piece, &mut shards)?;
     }
     Ok(KnownShards { files, shards })
 }

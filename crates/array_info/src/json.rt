@@ -1,6 +1,6 @@
 // What an array holds, as lines of JSON.
 use crate::info::{ShardInfo, Sums, key_words, push_counts};
-use array_cli::put_refusal;
+use array_cli::{Output, put_refusal};
 use array_fields::JsonLine;
 use array_folder::IndexInfo;
 use array_grid::write_json_cell;
@@ -10,7 +10,7 @@ use std::io;
 use std::io::Write;
 
 // Writes what the metadata says of elements.
-fn put_type<W: Write>(line: &mut JsonLine<'_, W>, metadata: &ArrayMetadata) -> io::Result<()> {
+fn put_type(line: &mut JsonLine<'_, Output>, metadata: &ArrayMetadata) -> io::Result<()> {
     match &metadata.type_text {
         Some(text) => {
             line.text("data_type", &text.data_type)?;
@@ -26,7 +26,7 @@ fn put_type<W: Write>(line: &mut JsonLine<'_, W>, metadata: &ArrayMetadata) -> i
 }
 
 // Puts the shape of a subchunk, or `null` where the chunks are no shards.
-fn put_subchunk<W: Write>(line: &mut JsonLine<'_, W>, metadata: &ArrayMetadata) -> io::Result<()> {
+fn put_subchunk(line: &mut JsonLine<'_, Output>, metadata: &ArrayMetadata) -> io::Result<()> {
     match metadata.codec {
         ArrayCodec::Unsharded(_) => line.member("subchunk_shape")?.write_all(b"null"),
         _ => line.numbers("subchunk_shape", metadata.subchunk.as_slice()),
@@ -34,7 +34,7 @@ fn put_subchunk<W: Write>(line: &mut JsonLine<'_, W>, metadata: &ArrayMetadata) 
 }
 
 // Puts the shape of an array, and the names of its axes where there are any.
-fn put_shape<W: Write>(line: &mut JsonLine<'_, W>, metadata: &ArrayMetadata) -> io::Result<()> {
+fn put_shape(line: &mut JsonLine<'_, Output>, metadata: &ArrayMetadata) -> io::Result<()> {
     line.numbers("shape", &metadata.shape)?;
     match &metadata.dimension_names {
         Some(names) => line.text("dimension_names", names),
@@ -43,7 +43,7 @@ fn put_shape<W: Write>(line: &mut JsonLine<'_, W>, metadata: &ArrayMetadata) -> 
 }
 
 // Puts what the keys of chunks are, and the shapes of chunks and of subchunks.
-fn put_chunks<W: Write>(line: &mut JsonLine<'_, W>, metadata: &ArrayMetadata) -> io::Result<()> {
+fn put_chunks(line: &mut JsonLine<'_, Output>, metadata: &ArrayMetadata) -> io::Result<()> {
     let (encoding, separator) = key_words(metadata.keys);
     line.text("chunk_key_encoding", encoding)?;
     line.text("separator", separator)?;
@@ -52,8 +52,8 @@ fn put_chunks<W: Write>(line: &mut JsonLine<'_, W>, metadata: &ArrayMetadata) ->
 }
 
 // Puts what the metadata says of elements, the codecs, and the one for which no subchunk is looked into.
-fn put_codecs<W: Write>(
-    line: &mut JsonLine<'_, W>,
+fn put_codecs(
+    line: &mut JsonLine<'_, Output>,
     metadata: &ArrayMetadata,
     unread: Option<&str>,
 ) -> io::Result<()> {
@@ -67,8 +67,8 @@ fn put_codecs<W: Write>(
 
 /// Writes a line of the kind `array`: what the metadata says, and how many shards there could be, in digits. `unread` is the codec for
 /// which no subchunk is looked into.
-pub fn write_array<W: Write>(
-    out: &mut W,
+pub fn write_array(
+    out: &mut Output,
     metadata: &ArrayMetadata,
     possible: &str,
     unread: Option<&str>,
@@ -103,7 +103,7 @@ fn is_plain(key: &str) -> bool {
 }
 
 // Writes a line of the kind `shard` of any shard.
-fn write_any_shard<W: Write>(out: &mut W, key: &str, shard: &ShardInfo) -> io::Result<()> {
+fn write_any_shard(out: &mut Output, key: &str, shard: &ShardInfo) -> io::Result<()> {
     let mut line = JsonLine::new(out, "shard")?;
     line.text("key", key)?;
     line.number("bytes", shard.length)?;
@@ -119,8 +119,8 @@ fn write_any_shard<W: Write>(out: &mut W, key: &str, shard: &ShardInfo) -> io::R
 }
 
 /// Writes a line of the kind `shard`, by a line in memory that the next one has again.
-pub fn write_shard<W: Write>(
-    out: &mut W,
+pub fn write_shard(
+    out: &mut Output,
     line: &mut String,
     key: &str,
     shard: &ShardInfo,
@@ -135,7 +135,7 @@ pub fn write_shard<W: Write>(
 }
 
 /// Writes a line of the kind `sum`.
-pub fn write_sums<W: Write>(out: &mut W, sums: &Sums) -> io::Result<()> {
+pub fn write_sums(out: &mut Output, sums: &Sums) -> io::Result<()> {
     let mut line = JsonLine::new(out, "sum")?;
     line.each(&[
         ("shards", sums.shards),

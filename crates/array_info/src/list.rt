@@ -1,12 +1,11 @@
 // The arrays below a group.
-use array_cli::{Ending, Stop, metadata_of, written};
+use array_cli::{Ending, Output, Stop, metadata_of, written};
 use array_fields::{MetadataError, escaped};
 use array_folder::list_members;
 use array_metadata::{ArrayMetadata, Obstacles};
 use std::alloc::{AllocError, Global};
 use std::io;
 use std::io::Write;
-use std::rt::Files;
 
 // Whether what is refused is the metadata of a group.
 fn is_group(obstacles: &Obstacles) -> bool {
@@ -24,8 +23,8 @@ fn shown(alloc: Global, name: &str) -> Result<String, AllocError> {
 }
 
 // Writes a line for an array: what its elements are, its shape, and why they are not read, if so.
-fn write_array<W: Write>(
-    out: &mut W,
+fn write_array(
+    out: &mut Output,
     alloc: Global,
     name: &str,
     metadata: &ArrayMetadata,
@@ -43,13 +42,13 @@ fn write_array<W: Write>(
 }
 
 // Writes a line for a group.
-fn write_group<W: Write>(out: &mut W, alloc: Global, name: &str) -> io::Result<()> {
+fn write_group(out: &mut Output, alloc: Global, name: &str) -> io::Result<()> {
     let name = shown(alloc, name)?;
     writeln!(out, "{name}: a group")
 }
 
 // Writes a line for what is refused.
-fn write_refused<W: Write>(out: &mut W, alloc: Global, name: &str, stop: &Stop) -> io::Result<()> {
+fn write_refused(out: &mut Output, alloc: Global, name: &str, stop: &Stop) -> io::Result<()> {
     let name = shown(alloc, name)?;
     writeln!(out, "{name}: refused: {stop}")
 }
@@ -87,7 +86,7 @@ fn is_at_group(stop: &Stop) -> bool {
 }
 
 // Writes a line for what stands under a name where no metadata of an array is read. At the path that is listed, this stops the listing.
-fn tell_other<W: Write>(out: &mut W, alloc: Global, name: &str, stop: Stop) -> Result<Kind, Stop> {
+fn tell_other(out: &mut Output, alloc: Global, name: &str, stop: Stop) -> Result<Kind, Stop> {
     if is_at_group(&stop) {
         return told(write_group(out, alloc, name), Kind::Group);
     }
@@ -109,8 +108,8 @@ fn below(alloc: Global, path: &str, name: &str) -> Result<String, AllocError> {
 }
 
 // Adds the members of a group under a name to those that are still to be listed, of which the last one is the next.
-fn add_members<R: Files + AllocGlobal>(
-    rt: &R,
+fn add_members(
+    rt: &HostRuntime,
     path: &str,
     name: &str,
     names: &mut Vec<String>,
@@ -123,12 +122,7 @@ fn add_members<R: Files + AllocGlobal>(
 }
 
 // Writes a line for what stands under a name, and says of which kind it is.
-fn list_one<R: Files + AllocGlobal, W: Write>(
-    rt: &R,
-    path: &str,
-    name: &str,
-    out: &mut W,
-) -> Result<Kind, Stop> {
+fn list_one(rt: &HostRuntime, path: &str, name: &str, out: &mut Output) -> Result<Kind, Stop> {
     let path = below(rt.alloc(), path, name)?;
     match metadata_of(rt, &path) {
         Ok(metadata) => told(write_array(out, rt.alloc(), name, &metadata), Kind::Array),
@@ -137,11 +131,11 @@ fn list_one<R: Files + AllocGlobal, W: Write>(
 }
 
 // Writes a line for what stands under a name, and adds its members to those that are still to be listed.
-fn list_next<R: Files + AllocGlobal, W: Write>(
-    rt: &R,
+fn list_next(
+    rt: &HostRuntime,
     path: &str,
     name: &str,
-    out: &mut W,
+    out: &mut Output,
     names: &mut Vec<String>,
 ) -> Result<Ending, Stop> {
     let kind = list_one(rt, path, name, out)?;
@@ -155,11 +149,7 @@ fn list_next<R: Files + AllocGlobal, W: Write>(
 /// whether they are read. What is refused has a line, and the listing goes on. Refused as `metadata_of` refuses what stands at the path
 /// itself, as `Stop::System` where the members of a group are not listed, and as `Stop::Output` or `Stop::Closed` where a line is not
 /// taken.
-pub fn list_nodes<R: Files + AllocGlobal, W: Write>(
-    rt: &R,
-    path: &str,
-    out: &mut W,
-) -> Result<Ending, Stop> {
+pub fn list_nodes(rt: &HostRuntime, path: &str, out: &mut Output) -> Result<Ending, Stop> {
     let mut ending = Ending::Done;
     let mut names = vec![in rt.alloc(); String::new(rt.alloc())]?;
     for _ in 0..u64::MAX {

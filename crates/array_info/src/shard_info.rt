@@ -2,7 +2,8 @@
 use crate::info::{ShardInfo, write_shard};
 use crate::json;
 use array_cli::{
-    Array, DecodeIndexes, Ending, Place, Shard, ShardCodec, ShardFile, Stop, shard_of, written,
+    Array, DecodeIndexes, Ending, Output, Place, Shard, ShardCodec, ShardFile, Stop, shard_of,
+    written,
 };
 use array_fields::{JsonLine, escaped};
 use array_folder::{DeadBytes, IndexInfo, index_interval, info_of, slice_of};
@@ -12,7 +13,6 @@ use sharding_format::ShardingIndexLocation;
 use std::alloc::Global;
 use std::io;
 use std::io::Write;
-use std::rt::Files;
 use storage_handles::BytesPartialDecoderTraits;
 
 // What the index of a shard says: its numbers, as they stand there and sorted.
@@ -62,10 +62,10 @@ impl Layout {
 }
 
 // Where the subchunks of the shard in a file lie, whose index has a size; `None` where there is no file.
-fn layout_of<'a, R: Files + AllocGlobal, C: ShardCodec<ShardFile<'a, R>>>(
-    array: &Array<'a, R, C>,
+fn layout_of<'a, C: ShardCodec<ShardFile<'a>>>(
+    array: &Array<'a, C>,
     size: u64,
-    file: &mut ShardFile<'a, R>,
+    file: &mut ShardFile<'a>,
 ) -> Result<Option<Layout>, CodecError> {
     let Some(length) = file.len()? else {
         return Ok(None);
@@ -77,8 +77,8 @@ fn layout_of<'a, R: Files + AllocGlobal, C: ShardCodec<ShardFile<'a, R>>>(
 }
 
 // Where the subchunks of a shard lie, whose index has a size.
-fn layout_of_shard<'a, R: Files + AllocGlobal, C: ShardCodec<ShardFile<'a, R>>>(
-    array: &Array<'a, R, C>,
+fn layout_of_shard<'a, C: ShardCodec<ShardFile<'a>>>(
+    array: &Array<'a, C>,
     shard: &Shard<'_>,
     size: u64,
 ) -> Result<Layout, Stop> {
@@ -91,8 +91,8 @@ fn layout_of_shard<'a, R: Files + AllocGlobal, C: ShardCodec<ShardFile<'a, R>>>(
 }
 
 // Where the subchunks of the shard lie that has a key, and whose index has a size.
-fn layout_of_key<'a, R: Files + AllocGlobal, C: ShardCodec<ShardFile<'a, R>>>(
-    array: &Array<'a, R, C>,
+fn layout_of_key<'a, C: ShardCodec<ShardFile<'a>>>(
+    array: &Array<'a, C>,
     size: u64,
     key: &str,
 ) -> Result<Layout, Stop> {
@@ -102,7 +102,7 @@ fn layout_of_key<'a, R: Files + AllocGlobal, C: ShardCodec<ShardFile<'a, R>>>(
 }
 
 // Writes what bytes a line is of, from a start to before an end.
-fn write_bytes<W: Write>(out: &mut W, name: &str, (start, end): (u64, u64)) -> io::Result<()> {
+fn write_bytes(out: &mut Output, name: &str, (start, end): (u64, u64)) -> io::Result<()> {
     write!(out, "{name:>8}")?;
     for number in [start, end.saturating_sub(start), end] {
         write!(out, "  {number:>14}")?;
@@ -111,8 +111,8 @@ fn write_bytes<W: Write>(out: &mut W, name: &str, (start, end): (u64, u64)) -> i
 }
 
 // Writes a line for a subchunk that lies at these bytes.
-fn write_subchunk<W: Write>(
-    out: &mut W,
+fn write_subchunk(
+    out: &mut Output,
     alloc: Global,
     number: u64,
     bytes: (u64, u64),
@@ -130,8 +130,8 @@ fn write_subchunk<W: Write>(
 }
 
 // Writes a line for each subchunk that is present.
-fn write_subchunks<W: Write>(
-    out: &mut W,
+fn write_subchunks(
+    out: &mut Output,
     alloc: Global,
     layout: &Layout,
     subchunks: &[u64],
@@ -147,7 +147,7 @@ fn write_subchunks<W: Write>(
 }
 
 // Writes a line for each range of dead bytes.
-fn write_dead<W: Write>(out: &mut W, mut bytes: DeadBytes<'_>) -> io::Result<()> {
+fn write_dead(out: &mut Output, mut bytes: DeadBytes<'_>) -> io::Result<()> {
     for _ in 0..bytes.steps() {
         let (start, end) = bytes.pass();
         if start < end {
@@ -159,8 +159,8 @@ fn write_dead<W: Write>(out: &mut W, mut bytes: DeadBytes<'_>) -> io::Result<()>
 }
 
 // Writes a line of JSON for a range of bytes, which has a number if it is a subchunk.
-fn write_range_line<W: Write>(
-    out: &mut W,
+fn write_range_line(
+    out: &mut Output,
     kind: &str,
     (start, end): (u64, u64),
     number: Option<u64>,
@@ -174,7 +174,7 @@ fn write_range_line<W: Write>(
 }
 
 // Writes a line of JSON for each subchunk that is present.
-fn write_subchunk_lines<W: Write>(out: &mut W, layout: &Layout) -> io::Result<()> {
+fn write_subchunk_lines(out: &mut Output, layout: &Layout) -> io::Result<()> {
     for (number, entry) in layout.numbers.chunks(2).enumerate() {
         if let [offset, size] = entry
             && let Some(bytes) = slice_of(*offset, *size, layout.length)
@@ -186,7 +186,7 @@ fn write_subchunk_lines<W: Write>(out: &mut W, layout: &Layout) -> io::Result<()
 }
 
 // Writes a line of JSON for each range of dead bytes.
-fn write_dead_lines<W: Write>(out: &mut W, mut bytes: DeadBytes<'_>) -> io::Result<()> {
+fn write_dead_lines(out: &mut Output, mut bytes: DeadBytes<'_>) -> io::Result<()> {
     for _ in 0..bytes.steps() {
         let (start, end) = bytes.pass();
         if start < end {
@@ -197,8 +197,8 @@ fn write_dead_lines<W: Write>(out: &mut W, mut bytes: DeadBytes<'_>) -> io::Resu
 }
 
 // Writes what the index of a shard says, as lines of JSON.
-fn write_layout_lines<W: Write>(
-    out: &mut W,
+fn write_layout_lines(
+    out: &mut Output,
     alloc: Global,
     key: &str,
     layout: &Layout,
@@ -210,8 +210,8 @@ fn write_layout_lines<W: Write>(
 }
 
 // Writes what the index of a shard says, as a table.
-fn write_layout<W: Write>(
-    out: &mut W,
+fn write_layout(
+    out: &mut Output,
     alloc: Global,
     key: &str,
     layout: &Layout,
@@ -229,11 +229,11 @@ fn write_layout<W: Write>(
 /// index is read. Refused, in this order, as `Stop::Codec` where the index has no fixed size, as `Stop::System` where the folder is not
 /// read, as `Stop::NoShard` where no shard has the key, as `Stop::System` or `Stop::Refused` where its index is not read, and as
 /// `Stop::Output` or `Stop::Closed` where the answer is not taken.
-pub fn info_of_shard<'a, R: Files + AllocGlobal, C: ShardCodec<ShardFile<'a, R>>, W: Write>(
-    array: &Array<'a, R, C>,
+pub fn info_of_shard<'a, C: ShardCodec<ShardFile<'a>>>(
+    array: &Array<'a, C>,
     key: &str,
     is_json: bool,
-    out: &mut W,
+    out: &mut Output,
 ) -> Result<Ending, Stop> {
     let size = array.codec.indexes(array.alloc(), &array.subchunks)?.size();
     let layout = layout_of_key(array, size, key)?;

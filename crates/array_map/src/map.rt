@@ -1,7 +1,7 @@
 // A map of an array's shards, or of the subchunks of one shard.
 use array_cli::{
-    Array, Ending, OpenShard, Place, Progress, Shard, ShardCodec, ShardFile, SharedArray,
-    SharedSystem, Stop, check_subchunk, shard_of, written,
+    Array, Ending, OpenShard, Output, Place, Progress, Shard, ShardCodec, ShardFile, SharedArray,
+    Stop, Workers, check_subchunk, shard_of, written,
 };
 use array_fields::escaped;
 use array_folder::{
@@ -16,8 +16,7 @@ use parts_subsets::ChunkShape;
 use sharding_format::SubchunkWriteOrder;
 use sharding_layout::SubchunkSequence;
 use std::alloc::{AllocError, Global};
-use std::io::Write;
-use std::rt::Files;
+use std::thread::Threads;
 use storage_handles::{ByteRange, BytesPartialDecoderTraits};
 
 // How many places a map has at most.
@@ -62,8 +61,8 @@ fn mark_of(decoded: Result<bool, CodecError>) -> Result<Mark, CodecError> {
 }
 
 // A subchunk of a shard that is open: where its slice lies, and whether it decodes where its codec is served.
-fn drawn_at<'a, R: Files + AllocGlobal, C, S: OpenShard<ShardFile<'a, R>>>(
-    array: &Array<'a, R, C>,
+fn drawn_at<'a, C, S: OpenShard<ShardFile<'a>>>(
+    array: &Array<'a, C>,
     opened: &mut S,
     number: u64,
     subchunk: &[u64],
@@ -84,8 +83,8 @@ fn drawn_at<'a, R: Files + AllocGlobal, C, S: OpenShard<ShardFile<'a, R>>>(
 }
 
 // Adds the subchunk of a shard that has a number.
-fn draw_next<'a, R: Files + AllocGlobal, C, S: OpenShard<ShardFile<'a, R>>>(
-    array: &Array<'a, R, C>,
+fn draw_next<'a, C, S: OpenShard<ShardFile<'a>>>(
+    array: &Array<'a, C>,
     opened: &mut S,
     number: u64,
     drawn: &mut Vec<Drawn>,
@@ -98,11 +97,11 @@ fn draw_next<'a, R: Files + AllocGlobal, C, S: OpenShard<ShardFile<'a, R>>>(
 }
 
 // The subchunks of a shard that is open.
-fn draw_each<'a, R: Files + AllocGlobal, C, S: OpenShard<ShardFile<'a, R>>, M: Write>(
-    array: &Array<'a, R, C>,
+fn draw_each<'a, C, S: OpenShard<ShardFile<'a>>>(
+    array: &Array<'a, C>,
     opened: &mut S,
     count: u64,
-    progress: &mut Progress<'_, M>,
+    progress: &mut Progress,
 ) -> Result<Vec<Drawn>, CodecError> {
     let mut drawn: Vec<Drawn> = Vec::new(array.alloc());
     for number in 0..count {
@@ -165,12 +164,12 @@ fn order_of(
 }
 
 // The map of a shard that is open.
-fn map_of<'a, R: Files + AllocGlobal, C: ShardCodec<ShardFile<'a, R>>, M: Write>(
-    array: &Array<'a, R, C>,
+fn map_of<'a, C: ShardCodec<ShardFile<'a>>>(
+    array: &Array<'a, C>,
     opened: &mut C::Open,
     length: u64,
     count: u64,
-    progress: &mut Progress<'_, M>,
+    progress: &mut Progress,
 ) -> Result<ShardMap, CodecError> {
     let alloc = array.alloc();
     let index = array
@@ -187,10 +186,10 @@ fn map_of<'a, R: Files + AllocGlobal, C: ShardCodec<ShardFile<'a, R>>, M: Write>
 }
 
 // The length of the file of a shard, which is there.
-fn length_of<'a, R: Files + AllocGlobal, C>(
-    array: &Array<'a, R, C>,
+fn length_of<'a, C>(
+    array: &Array<'a, C>,
     shard: &Shard<'_>,
-    file: &mut ShardFile<'a, R>,
+    file: &mut ShardFile<'a>,
 ) -> Result<u64, Stop> {
     match file.len() {
         Ok(Some(length)) => Ok(length),
@@ -200,12 +199,12 @@ fn length_of<'a, R: Files + AllocGlobal, C>(
 }
 
 // The map of the shard in a file, which has as many subchunks.
-fn map_of_file<'a, R: Files + AllocGlobal, C: ShardCodec<ShardFile<'a, R>>, M: Write>(
-    array: &Array<'a, R, C>,
+fn map_of_file<'a, C: ShardCodec<ShardFile<'a>>>(
+    array: &Array<'a, C>,
     shard: &Shard<'_>,
-    mut file: ShardFile<'a, R>,
+    mut file: ShardFile<'a>,
     count: u64,
-    progress: &mut Progress<'_, M>,
+    progress: &mut Progress,
 ) -> Result<ShardMap, Stop> {
     let length = length_of(array, shard, &mut file)?;
     let mut opened = array.opened(shard, file)?;
@@ -218,11 +217,11 @@ fn map_of_file<'a, R: Files + AllocGlobal, C: ShardCodec<ShardFile<'a, R>>, M: W
 }
 
 // The map of the shard that has a key, which has as many subchunks.
-fn map_of_key<'a, R: Files + AllocGlobal, C: ShardCodec<ShardFile<'a, R>>, M: Write>(
-    array: &Array<'a, R, C>,
+fn map_of_key<'a, C: ShardCodec<ShardFile<'a>>>(
+    array: &Array<'a, C>,
     key: &str,
     count: u64,
-    progress: &mut Progress<'_, M>,
+    progress: &mut Progress,
 ) -> Result<ShardMap, Stop> {
     let files = array.files()?;
     let shard = shard_of(array, &files, key)?;
@@ -230,12 +229,12 @@ fn map_of_key<'a, R: Files + AllocGlobal, C: ShardCodec<ShardFile<'a, R>>, M: Wr
 }
 
 // Saves a picture of a shard in a file.
-fn save_shard_picture<R: Files + AllocGlobal, C, W: Write>(
-    array: &Array<'_, R, C>,
+fn save_shard_picture<C>(
+    array: &Array<'_, C>,
     path: &str,
     key: &str,
     map: &ShardMap,
-    out: &mut W,
+    out: &mut Output,
 ) -> Result<(), Stop> {
     let mut picture: Vec<u8> = Vec::new(array.alloc());
     write_shard_picture(&mut picture, key, map, array.subchunks.as_slice())?;
@@ -243,12 +242,12 @@ fn save_shard_picture<R: Files + AllocGlobal, C, W: Write>(
 }
 
 // Draws a map of a shard, as text or as a picture in a file.
-fn draw_shard<R: Files + AllocGlobal, C, W: Write>(
-    array: &Array<'_, R, C>,
+fn draw_shard<C>(
+    array: &Array<'_, C>,
     key: &str,
     map: &ShardMap,
     svg: Option<&str>,
-    out: &mut W,
+    out: &mut Output,
 ) -> Result<Ending, Stop> {
     let ending = ending_of(&map.marks(array.alloc())?);
     if let Some(path) = svg {
@@ -264,12 +263,12 @@ fn draw_shard<R: Files + AllocGlobal, C, W: Write>(
 /// subchunk that is present is decoded, where its codec is served. Refused, in this order, as `Stop::TooManyPlaces` where a shard has
 /// more than 65,536 subchunks, as `Stop::System` where the folder is not read, as `Stop::NoShard` where no shard has the key, as
 /// `Stop::System` or `Stop::Refused` where its index is not read, and where the drawing is not taken.
-pub fn map_shard<'a, R: Files + AllocGlobal, C: ShardCodec<ShardFile<'a, R>>, W: Write, M: Write>(
-    array: &Array<'a, R, C>,
+pub fn map_shard<'a, C: ShardCodec<ShardFile<'a>>>(
+    array: &Array<'a, C>,
     key: &str,
     svg: Option<&str>,
-    out: &mut W,
-    progress: &mut Progress<'_, M>,
+    out: &mut Output,
+    progress: &mut Progress,
 ) -> Result<Ending, Stop> {
     let count = places_of(array.subchunks.as_slice())?;
     let map = map_of_key(array, key, count, progress)?;
@@ -278,8 +277,8 @@ pub fn map_shard<'a, R: Files + AllocGlobal, C: ShardCodec<ShardFile<'a, R>>, W:
 }
 
 // What stands at each place of the chunk grid.
-fn marks_of<R: Files + AllocGlobal, C>(
-    array: &Array<'_, R, C>,
+fn marks_of<C>(
+    array: &Array<'_, C>,
     files: &ChunkFiles,
     shards: &[Option<ShardInfo>],
     places: u64,
@@ -300,11 +299,11 @@ fn marks_of<R: Files + AllocGlobal, C>(
 }
 
 // Saves a picture of an array in a file.
-fn save_array_picture<R: Files + AllocGlobal, C, W: Write>(
-    array: &Array<'_, R, C>,
+fn save_array_picture<C>(
+    array: &Array<'_, C>,
     path: &str,
     marks: &[Mark],
-    out: &mut W,
+    out: &mut Output,
 ) -> Result<(), Stop> {
     let mut picture: Vec<u8> = Vec::new(array.alloc());
     write_array_picture(&mut picture, marks, array.grid.counts())?;
@@ -312,11 +311,11 @@ fn save_array_picture<R: Files + AllocGlobal, C, W: Write>(
 }
 
 // Draws a map of an array, as text or as a picture in a file.
-fn draw_array<R: Files + AllocGlobal, C, W: Write>(
-    array: &Array<'_, R, C>,
+fn draw_array<C>(
+    array: &Array<'_, C>,
     marks: &[Mark],
     svg: Option<&str>,
-    out: &mut W,
+    out: &mut Output,
 ) -> Result<Ending, Stop> {
     let ending = ending_of(marks);
     match svg {
@@ -328,15 +327,15 @@ fn draw_array<R: Files + AllocGlobal, C, W: Write>(
 
 /// Draws which shards of an array are there, and which have an index that is refused, as text or as a picture in a file of the format
 /// SVG. Refused, in this order, as `Stop::TooManyPlaces` where there could be more than 65,536 shards, and as `info` is.
-pub fn map_array<R: SharedSystem, W: Write, M: Write>(
-    array: &SharedArray<'_, R>,
+pub fn map_array<T: Threads + Sync>(
+    array: &SharedArray<'_>,
     svg: Option<&str>,
-    jobs: usize,
-    out: &mut W,
-    progress: &mut Progress<'_, M>,
+    workers: &Workers<'_, T>,
+    out: &mut Output,
+    progress: &mut Progress,
 ) -> Result<Ending, Stop> {
     let places = places_of(array.grid.counts())?;
-    let known = known_shards(array, &ListPart::whole(), jobs, progress)?;
+    let known = known_shards(array, &ListPart::whole(), workers, progress)?;
     progress.clear();
     let marks = marks_of(array, &known.files, &known.shards, places)?;
     draw_array(array, &marks, svg, out)

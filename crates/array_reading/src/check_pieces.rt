@@ -2,32 +2,31 @@
 use crate::checked::{Checked, Told};
 use crate::checking::check_each_file;
 use array_cli::{
-    Array, CodecUse, Ending, Progress, ShardCodec, ShardFile, SharedArray, SharedSystem, Stop,
+    Array, CodecUse, Ending, Output, Progress, ShardCodec, ShardFile, SharedArray, Stop, Workers,
     with_codec, written,
 };
 use array_folder::ChunkFile;
 use array_grid::{ShardWork, piece_length, piece_of, run_in_parallel};
 use std::io;
 use std::io::Write;
-use std::rt::Files;
+use std::thread::Threads;
 
 // How many shards a thread checks at a time at most.
 const SHARDS_OF_A_PIECE: usize = 16;
 
 // Files of shards that one thread checks.
 #[derive(Drop)]
-struct CheckedFiles<'s, 'o, 'm, R, W, M> {
-    array: &'s SharedArray<'s, R>,
+struct CheckedFiles<'s, 'o> {
+    array: &'s SharedArray<'s>,
     files: &'s [ChunkFile],
     checked: &'s mut Checked,
-    told: &'s mut Told<'o, 'm, W, M>,
+    told: &'s mut Told<'o>,
 }
 
-impl<'s, R: Files + AllocGlobal, W: Write, M: Write> CodecUse<ShardFile<'s, R>>
-    for CheckedFiles<'s, '_, '_, R, W, M> {
+impl<'s> CodecUse<ShardFile<'s>> for CheckedFiles<'s, '_> {
     type Answer = Result<(), Stop>;
 
-    fn with<C: ShardCodec<ShardFile<'s, R>>>(self, codec: C) -> Result<(), Stop> {
+    fn with<C: ShardCodec<ShardFile<'s>>>(self, codec: C) -> Result<(), Stop> {
         let CheckedFiles {
             array,
             files,
@@ -40,11 +39,11 @@ impl<'s, R: Files + AllocGlobal, W: Write, M: Write> CodecUse<ShardFile<'s, R>>
 }
 
 // Checks the shards in these files by one thread.
-fn check_files<'s, R: Files + AllocGlobal, W: Write, M: Write>(
-    array: &'s SharedArray<'s, R>,
+fn check_files<'s>(
+    array: &'s SharedArray<'s>,
     files: &'s [ChunkFile],
     checked: &'s mut Checked,
-    told: &'s mut Told<'_, '_, W, M>,
+    told: &'s mut Told<'_>,
 ) -> Result<(), Stop> {
     let checking = CheckedFiles {
         array,
@@ -59,21 +58,21 @@ fn check_files<'s, R: Files + AllocGlobal, W: Write, M: Write>(
 #[derive(Drop)]
 struct PieceChecked {
     checked: Checked,
-    lines: Vec<u8>,
+    lines: Output,
     stop: Option<Stop>,
 }
 
 // Files of shards, in pieces of as many files, and how they are checked.
 #[derive(Drop)]
-struct FilePieces<'s, R> {
-    array: &'s SharedArray<'s, R>,
+struct FilePieces<'s> {
+    array: &'s SharedArray<'s>,
     files: &'s [ChunkFile],
     in_piece: usize,
     is_index_alone: bool,
     is_json: bool,
 }
 
-impl<R: Files + AllocGlobal> ShardWork for FilePieces<'_, R> {
+impl ShardWork for FilePieces<'_> {
     type Answer = PieceChecked;
 
     // no contract says what files give
@@ -82,11 +81,11 @@ impl<R: Files + AllocGlobal> ShardWork for FilePieces<'_, R> {
     fn run(&self, number: u64) -> PieceChecked {
         let files = piece_of(self.files, number, self.in_piece);
         let alloc = self.array.alloc();
-        let (mut lines, mut silent) = (Vec::new(alloc), Vec::new(alloc));
+        let mut lines = Output::memory(alloc);
         let mut checked = Checked::none(files.len() as u64, self.is_index_alone);
         let mut told = Told {
             out: &mut lines,
-            progress: &mut Progress::new(&mut silent, false),
+            progress: &mut Progress::silent(),
             is_json: self.is_json,
         };
         let ended = check_files(self.array, files, &mut checked, &mut told);
@@ -99,7 +98,7 @@ impl<R: Files + AllocGlobal> ShardWork for FilePieces<'_, R> {
 }
 
 // Writes the lines that tell of a piece, which are seen at once.
-fn write_lines<W: Write>(out: &mut W, lines: &[u8]) -> io::Result<()> {
+fn write_lines(out: &mut Output, lines: &[u8]) -> io::Result<()> {
     if lines.is_empty() {
         return Ok(());
     }
@@ -108,11 +107,7 @@ fn write_lines<W: Write>(out: &mut W, lines: &[u8]) -> io::Result<()> {
 }
 
 // Tells what came of a piece.
-fn tell_piece<W: Write, M: Write>(
-    piece: PieceChecked,
-    checked: &mut Checked,
-    told: &mut Told<'_, '_, W, M>,
-) -> Result<(), Stop> {
+fn tell_piece(piece: PieceChecked, checked: &mut Checked, told: &mut Told<'_>) -> Result<(), Stop> {
     let PieceChecked {
         checked: of_piece,
         lines,
@@ -121,12 +116,12 @@ fn tell_piece<W: Write, M: Write>(
     checked.add_all(&of_piece);
     told.progress.clear();
     // a line that is none of JSON tells a refusal
-    let ending = if told.is_json || lines.is_empty() {
+    let ending = if told.is_json || lines.bytes().is_empty() {
         checked.ending(true)
     } else {
         Ending::Refused
     };
-    written(write_lines(told.out, &lines), ending)?;
+    written(write_lines(told.out, lines.bytes()), ending)?;
     match stop {
         Some(stop) => Err(stop),
         None => Ok(()),
@@ -134,12 +129,13 @@ fn tell_piece<W: Write, M: Write>(
 }
 
 // Checks the shards in these files, each piece of them by a thread of its own, and tells what came of them in their order.
-fn check_pieces_of<'s, R: SharedSystem, W: Write, M: Write>(
-    array: &'s SharedArray<'s, R>,
+fn check_pieces_of<'s, T: Threads + Sync>(
+    array: &'s SharedArray<'s>,
+    workers: &Workers<'_, T>,
     files: &'s [ChunkFile],
     in_piece: usize,
     checked: &mut Checked,
-    told: &mut Told<'_, '_, W, M>,
+    told: &mut Told<'_>,
 ) -> Result<(), Stop> {
     let pieces = FilePieces {
         array,
@@ -149,29 +145,29 @@ fn check_pieces_of<'s, R: SharedSystem, W: Write, M: Write>(
         is_json: told.is_json,
     };
     let count = files.len().div_ceil(in_piece.max(1));
-    for piece in run_in_parallel(array.rt, array.alloc(), count, &pieces)? {
+    for piece in run_in_parallel(workers.threads, array.alloc(), count, &pieces)? {
         tell_piece(piece, checked, told)?;
     }
     Ok(())
 }
 
-/// Checks the shards in these files by `jobs` threads, and tells what one thread tells, in its order: the lines of some shards at a time.
-pub fn check_all<R: SharedSystem, W: Write, M: Write>(
-    array: &SharedArray<'_, R>,
+/// Checks the shards in these files by threads, and tells what one thread tells, in its order: the lines of some shards at a time.
+pub fn check_all<T: Threads + Sync>(
+    array: &SharedArray<'_>,
     files: &[ChunkFile],
-    jobs: usize,
+    workers: &Workers<'_, T>,
     checked: &mut Checked,
-    told: &mut Told<'_, '_, W, M>,
+    told: &mut Told<'_>,
 ) -> Result<(), Stop> {
-    if jobs == 1 || files.len() < 2 {
+    if workers.jobs == 1 || files.len() < 2 {
         return check_files(array, files, checked, told);
     }
-    let in_piece = piece_length(files.len(), jobs, SHARDS_OF_A_PIECE);
-    let at_once = in_piece.saturating_mul(jobs).max(1);
+    let in_piece = piece_length(files.len(), workers.jobs, SHARDS_OF_A_PIECE);
+    let at_once = in_piece.saturating_mul(workers.jobs).max(1);
     for (number, some) in files.chunks(at_once).enumerate() {
         let done = number.saturating_mul(at_once);
         told.progress.step(done as u64, files.len() as u64);
-        check_pieces_of(&*array, some, in_piece, checked, told)?;
+        check_pieces_of(&*array, workers, some, in_piece, checked, told)?;
     }
     Ok(())
 }

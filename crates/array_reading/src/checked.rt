@@ -1,12 +1,12 @@
 // What a check came to, and what is written of it.
 use array_cli::{
-    Array, Ending, Progress, Refusal, Stop, put_refusal, write_folder, write_folder_lines, written,
+    Array, Ending, Output, Progress, Refusal, Stop, put_refusal, write_folder, write_folder_lines,
+    written,
 };
 use array_fields::JsonLine;
 use array_folder::{ChunkFiles, Counted};
 use std::io;
 use std::io::Write;
-use std::rt::{Clock, Files};
 
 /// What was checked so far, and what is refused.
 #[derive(Clone, Copy)]
@@ -69,14 +69,14 @@ impl Checked {
 
 /// Where a check shows how far it is, and what is refused.
 #[derive(Drop)]
-pub struct Told<'t, 'm, W, M> {
-    pub out: &'t mut W,
-    pub progress: &'t mut Progress<'m, M>,
+pub struct Told<'t> {
+    pub out: &'t mut Output,
+    pub progress: &'t mut Progress,
     pub is_json: bool,
 }
 
 // Writes a line of JSON for a refusal.
-fn write_refusal_line<W: Write>(out: &mut W, refusal: &Refusal) -> io::Result<()> {
+fn write_refusal_line(out: &mut Output, refusal: &Refusal) -> io::Result<()> {
     let mut line = JsonLine::new(out, "refusal")?;
     line.text("key", &refusal.key)?;
     put_refusal(&mut line, refusal)?;
@@ -84,7 +84,7 @@ fn write_refusal_line<W: Write>(out: &mut W, refusal: &Refusal) -> io::Result<()
 }
 
 // Writes a line for a refusal, which is seen at once.
-fn write_refusal<W: Write>(out: &mut W, refusal: &Refusal, is_json: bool) -> io::Result<()> {
+fn write_refusal(out: &mut Output, refusal: &Refusal, is_json: bool) -> io::Result<()> {
     if is_json {
         write_refusal_line(out, refusal)?;
     } else {
@@ -94,7 +94,7 @@ fn write_refusal<W: Write>(out: &mut W, refusal: &Refusal, is_json: bool) -> io:
 }
 
 // Writes a line of JSON for a shard that was checked.
-fn write_shard_line<W: Write>(out: &mut W, key: &str, shard: &Found) -> io::Result<()> {
+fn write_shard_line(out: &mut Output, key: &str, shard: &Found) -> io::Result<()> {
     let mut line = JsonLine::new(out, "shard")?;
     line.text("key", key)?;
     line.number("present", shard.present)?;
@@ -102,7 +102,7 @@ fn write_shard_line<W: Write>(out: &mut W, key: &str, shard: &Found) -> io::Resu
     line.end()
 }
 
-impl<W: Write, M: Write> Told<'_, '_, W, M> {
+impl Told<'_> {
     /// Tells a refusal.
     pub fn tell(&mut self, refusal: &Refusal) -> Result<(), Stop> {
         self.progress.clear();
@@ -123,7 +123,7 @@ impl<W: Write, M: Write> Told<'_, '_, W, M> {
 }
 
 // Writes how many subchunks were not looked into, and for which codec.
-fn write_unread<W: Write>(out: &mut W, checked: &Checked, unread: Option<&str>) -> io::Result<()> {
+fn write_unread(out: &mut Output, checked: &Checked, unread: Option<&str>) -> io::Result<()> {
     let subchunks = Counted(checked.subchunks, "subchunk");
     match unread {
         Some(name) => writeln!(
@@ -135,7 +135,7 @@ fn write_unread<W: Write>(out: &mut W, checked: &Checked, unread: Option<&str>) 
 }
 
 // Writes what was checked.
-fn write_checked<W: Write>(out: &mut W, checked: &Checked) -> io::Result<()> {
+fn write_checked(out: &mut Output, checked: &Checked) -> io::Result<()> {
     let shards = Counted(checked.shards, "shard");
     let subchunks = Counted(checked.subchunks, "subchunk");
     match checked.refused {
@@ -147,9 +147,9 @@ fn write_checked<W: Write>(out: &mut W, checked: &Checked) -> io::Result<()> {
 }
 
 /// Writes what else stands in the folder, how many subchunks were not looked into, and what was checked.
-pub fn write_end<R: Files + AllocGlobal + Clock, C, W: Write>(
-    array: &Array<'_, R, C>,
-    out: &mut W,
+pub fn write_end<C>(
+    array: &Array<'_, C>,
+    out: &mut Output,
     files: &ChunkFiles,
     checked: &Checked,
     unread: Option<&str>,
@@ -162,8 +162,8 @@ pub fn write_end<R: Files + AllocGlobal + Clock, C, W: Write>(
 }
 
 /// Writes the same as lines of JSON.
-pub fn write_end_lines<W: Write>(
-    out: &mut W,
+pub fn write_end_lines(
+    out: &mut Output,
     files: &ChunkFiles,
     checked: &Checked,
     unread: Option<&str>,

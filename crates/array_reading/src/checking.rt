@@ -2,14 +2,13 @@
 use crate::check_pieces::check_all;
 use crate::checked::{Checked, Found, Told, write_end, write_end_lines};
 use array_cli::{
-    Array, Ending, OpenShard, Place, Progress, Shard, ShardCodec, ShardFile, SharedArray,
-    SharedSystem, Stop, check_subchunk, written,
+    Array, Ending, OpenShard, Output, Place, Progress, Shard, ShardCodec, ShardFile, SharedArray,
+    Stop, Workers, check_subchunk, written,
 };
 use array_folder::{ChunkFile, ChunkFiles, Listing};
 use parts_errors::CodecError;
 use std::io;
-use std::io::Write;
-use std::rt::Files;
+use std::thread::Threads;
 use storage_handles::BytesPartialDecoderTraits;
 
 // What reading the subchunks of a shard came to.
@@ -48,24 +47,24 @@ impl Read {
 }
 
 // Tells that a subchunk of a shard is refused.
-fn tell_subchunk<R: Files + AllocGlobal, C, W: Write, M: Write>(
-    array: &Array<'_, R, C>,
+fn tell_subchunk<C>(
+    array: &Array<'_, C>,
     shard: &Shard<'_>,
     error: CodecError,
     number: u64,
-    told: &mut Told<'_, '_, W, M>,
+    told: &mut Told<'_>,
 ) -> Result<(), Stop> {
     let refusal = array.refusal_at(shard, error, Place::Subchunk(number))?;
     told.tell(&refusal)
 }
 
 // Reads each subchunk of a shard, and goes on behind one that is refused.
-fn check_each<'a, R: Files + AllocGlobal, C, S: OpenShard<ShardFile<'a, R>>, W: Write, M: Write>(
-    array: &Array<'a, R, C>,
+fn check_each<'a, C, S: OpenShard<ShardFile<'a>>>(
+    array: &Array<'a, C>,
     shard: &Shard<'_>,
     checked: &Checked,
     opened: &mut S,
-    told: &mut Told<'_, '_, W, M>,
+    told: &mut Told<'_>,
 ) -> Result<Read, Stop> {
     let count = array.subchunks.num_elements().unwrap_or(u64::MAX);
     let before = checked.shards.saturating_mul(count);
@@ -90,11 +89,11 @@ fn check_each<'a, R: Files + AllocGlobal, C, S: OpenShard<ShardFile<'a, R>>, W: 
 }
 
 // Tells the bad index entries of a shard on one line, if there are some.
-fn tell_bad<R: Files + AllocGlobal, C, W: Write, M: Write>(
-    array: &Array<'_, R, C>,
+fn tell_bad<C>(
+    array: &Array<'_, C>,
     shard: &Shard<'_>,
     read: &Read,
-    told: &mut Told<'_, '_, W, M>,
+    told: &mut Told<'_>,
 ) -> Result<(), Stop> {
     if read.bad == 0 {
         return Ok(());
@@ -107,12 +106,12 @@ fn tell_bad<R: Files + AllocGlobal, C, W: Write, M: Write>(
 }
 
 // Tells the subchunk behind which nothing more could be read of a shard, if there is one.
-fn tell_last<R: Files + AllocGlobal, C, W: Write, M: Write>(
-    array: &Array<'_, R, C>,
+fn tell_last<C>(
+    array: &Array<'_, C>,
     shard: &Shard<'_>,
-    file: &ShardFile<'_, R>,
+    file: &ShardFile<'_>,
     last: Option<(u64, CodecError)>,
-    told: &mut Told<'_, '_, W, M>,
+    told: &mut Told<'_>,
 ) -> Result<(), Stop> {
     if let Some((number, error)) = last {
         let refusal = array.refusal(shard, file, error, Place::Subchunk(number))?;
@@ -122,12 +121,12 @@ fn tell_last<R: Files + AllocGlobal, C, W: Write, M: Write>(
 }
 
 // Tells what reading the subchunks of a shard came to, which has this file.
-fn tell_read<R: Files + AllocGlobal, C, W: Write, M: Write>(
-    array: &Array<'_, R, C>,
+fn tell_read<C>(
+    array: &Array<'_, C>,
     shard: &Shard<'_>,
-    file: &ShardFile<'_, R>,
+    file: &ShardFile<'_>,
     read: Read,
-    told: &mut Told<'_, '_, W, M>,
+    told: &mut Told<'_>,
 ) -> Result<Found, Stop> {
     tell_bad(array, shard, &read, told)?;
     tell_last(array, shard, file, read.last, told)?;
@@ -138,12 +137,12 @@ fn tell_read<R: Files + AllocGlobal, C, W: Write, M: Write>(
 }
 
 // Reads each subchunk of a shard that is open.
-fn check_opened<'a, R: Files + AllocGlobal, C: ShardCodec<ShardFile<'a, R>>, W: Write, M: Write>(
-    array: &Array<'a, R, C>,
+fn check_opened<'a, C: ShardCodec<ShardFile<'a>>>(
+    array: &Array<'a, C>,
     shard: &Shard<'_>,
     checked: &Checked,
     mut opened: C::Open,
-    told: &mut Told<'_, '_, W, M>,
+    told: &mut Told<'_>,
 ) -> Result<Found, Stop> {
     let read = check_each(array, shard, checked, &mut opened, told);
     let file = opened.close();
@@ -151,12 +150,12 @@ fn check_opened<'a, R: Files + AllocGlobal, C: ShardCodec<ShardFile<'a, R>>, W: 
 }
 
 // Opens the shard that a file holds, and reads each subchunk.
-fn found_in<'a, R: Files + AllocGlobal, C: ShardCodec<ShardFile<'a, R>>, W: Write, M: Write>(
-    array: &Array<'a, R, C>,
+fn found_in<'a, C: ShardCodec<ShardFile<'a>>>(
+    array: &Array<'a, C>,
     shard: &Shard<'_>,
-    file: ShardFile<'a, R>,
+    file: ShardFile<'a>,
     checked: &Checked,
-    told: &mut Told<'_, '_, W, M>,
+    told: &mut Told<'_>,
 ) -> Result<Found, Stop> {
     match array.open_shard(shard, file)? {
         Ok(opened) => check_opened(array, shard, checked, opened, told),
@@ -171,12 +170,12 @@ fn found_in<'a, R: Files + AllocGlobal, C: ShardCodec<ShardFile<'a, R>>, W: Writ
 }
 
 // Checks the shard that a file holds, which is there.
-fn check_file<'a, R: Files + AllocGlobal, C: ShardCodec<ShardFile<'a, R>>, W: Write, M: Write>(
-    array: &Array<'a, R, C>,
+fn check_file<'a, C: ShardCodec<ShardFile<'a>>>(
+    array: &Array<'a, C>,
     shard: &Shard<'_>,
-    file: ShardFile<'a, R>,
+    file: ShardFile<'a>,
     checked: &mut Checked,
-    told: &mut Told<'_, '_, W, M>,
+    told: &mut Told<'_>,
 ) -> Result<(), Stop> {
     let found = found_in(array, shard, file, checked, told)?;
     checked.add(&found);
@@ -184,11 +183,11 @@ fn check_file<'a, R: Files + AllocGlobal, C: ShardCodec<ShardFile<'a, R>>, W: Wr
 }
 
 // Opens a shard and reads each subchunk. Where its file is gone, nothing is to be checked.
-fn check_shard<'a, R: Files + AllocGlobal, C: ShardCodec<ShardFile<'a, R>>, W: Write, M: Write>(
-    array: &Array<'a, R, C>,
+fn check_shard<'a, C: ShardCodec<ShardFile<'a>>>(
+    array: &Array<'a, C>,
     shard: &Shard<'_>,
     checked: &mut Checked,
-    told: &mut Told<'_, '_, W, M>,
+    told: &mut Told<'_>,
 ) -> Result<(), Stop> {
     let mut file = if checked.is_index_alone {
         array.file(shard.key)?
@@ -203,17 +202,11 @@ fn check_shard<'a, R: Files + AllocGlobal, C: ShardCodec<ShardFile<'a, R>>, W: W
 }
 
 /// Checks the shards in these files, one after the other.
-pub fn check_each_file<
-    'a,
-    R: Files + AllocGlobal,
-    C: ShardCodec<ShardFile<'a, R>>,
-    W: Write,
-    M: Write,
->(
-    array: &Array<'a, R, C>,
+pub fn check_each_file<'a, C: ShardCodec<ShardFile<'a>>>(
+    array: &Array<'a, C>,
     files: &[ChunkFile],
     checked: &mut Checked,
-    told: &mut Told<'_, '_, W, M>,
+    told: &mut Told<'_>,
 ) -> Result<(), Stop> {
     for file in files {
         check_shard(array, &Shard::in_file(file), checked, told)?;
@@ -222,9 +215,9 @@ pub fn check_each_file<
 }
 
 // Writes what was checked, and what else stands in the folder.
-fn write_checked<R: SharedSystem, W: Write>(
-    array: &SharedArray<'_, R>,
-    out: &mut W,
+fn write_checked(
+    array: &SharedArray<'_>,
+    out: &mut Output,
     files: &ChunkFiles,
     checked: &Checked,
     is_json: bool,
@@ -239,15 +232,15 @@ fn write_checked<R: SharedSystem, W: Write>(
 }
 
 /// Decodes each index of the shards that a part has, and each subchunk if its codec is served and the indexes are not all that is
-/// asked, by `jobs` threads; writes a line for each that is refused, in the order of the shards, what else stands in the folder, how many
+/// asked, by threads; writes a line for each that is refused, in the order of the shards, what else stands in the folder, how many
 /// subchunks were not looked into, and what was checked.
-pub fn check<R: SharedSystem, W: Write, M: Write>(
-    array: &SharedArray<'_, R>,
+pub fn check<T: Threads + Sync>(
+    array: &SharedArray<'_>,
     is_index_asked: bool,
     listing: &Listing,
-    jobs: usize,
-    out: &mut W,
-    progress: &mut Progress<'_, M>,
+    workers: &Workers<'_, T>,
+    out: &mut Output,
+    progress: &mut Progress,
 ) -> Result<Ending, Stop> {
     let files = array.files_in(&listing.part)?;
     let mut told = Told {
@@ -257,7 +250,7 @@ pub fn check<R: SharedSystem, W: Write, M: Write>(
     };
     let is_index_alone = is_index_asked || array.metadata.unread.is_some();
     let mut checked = Checked::none(files.chunks.len() as u64, is_index_alone);
-    check_all(array, &files.chunks, jobs, &mut checked, &mut told)?;
+    check_all(array, &files.chunks, workers, &mut checked, &mut told)?;
     told.progress.clear();
     let ending = checked.ending(is_index_asked);
     let wrote = write_checked(array, told.out, &files, &checked, listing.is_json);

@@ -9,7 +9,6 @@ use parts_errors::CodecError;
 use parts_row_major::unravel_index;
 use parts_subsets::{ArraySubset, ChunkShape};
 use std::alloc::{AllocError, Global};
-use std::rt::Files;
 
 // The chunks along an axis, of a size, that have elements of one of another size: the first one, and how many there are.
 fn touched_axis(chunk: u64, size: u64, other: u64, end: u64) -> (u64, u64) {
@@ -71,10 +70,7 @@ fn add_touched(
 }
 
 /// The coordinates of the chunks of a shape that have elements of the files of an array: each once, in the order of the grid.
-pub fn chunks_of<R: Files + AllocGlobal, C>(
-    array: &Array<'_, R, C>,
-    chunk: &ChunkShape,
-) -> Result<Vec<Vec<u64>>, Stop> {
+pub fn chunks_of<C>(array: &Array<'_, C>, chunk: &ChunkShape) -> Result<Vec<Vec<u64>>, Stop> {
     let alloc = array.alloc();
     let files = array.files()?;
     let mut found: Vec<Vec<u64>> = Vec::new(alloc);
@@ -87,19 +83,17 @@ pub fn chunks_of<R: Files + AllocGlobal, C>(
 }
 
 /// The elements of a subset as `read_array` gives them, where nothing is refused and nothing shows how far it is.
-pub fn read_silently<'a, R: Files + AllocGlobal, C: ShardCodec<ShardFile<'a, R>>>(
-    array: &Array<'a, R, C>,
+pub fn read_silently<'a, C: ShardCodec<ShardFile<'a>>>(
+    array: &Array<'a, C>,
     requested: &ArraySubset,
 ) -> Result<SubsetElements, Stop> {
-    let mut silent: Vec<u8> = Vec::new(array.alloc());
-    let mut progress = Progress::new(&mut silent, false);
-    let (elements, _) = read_array(array, requested, false, &mut progress)?;
+    let (elements, _) = read_array(array, requested, false, &mut Progress::silent())?;
     Ok(elements)
 }
 
 // Reads a part of a subset of a shape to where it lies in the subset, whose elements have these bytes.
-fn put_part<'a, R: Files + AllocGlobal, C: ShardCodec<ShardFile<'a, R>>>(
-    array: &Array<'a, R, C>,
+fn put_part<'a, C: ShardCodec<ShardFile<'a>>>(
+    array: &Array<'a, C>,
     grid: &ShardGrid,
     part: &ShardPart,
     shape: &[u64],
@@ -113,8 +107,8 @@ fn put_part<'a, R: Files + AllocGlobal, C: ShardCodec<ShardFile<'a, R>>>(
 }
 
 // Reads the parts of a subset of a shape, and puts each where it lies.
-fn put_parts<'a, R: Files + AllocGlobal, C: ShardCodec<ShardFile<'a, R>>>(
-    array: &Array<'a, R, C>,
+fn put_parts<'a, C: ShardCodec<ShardFile<'a>>>(
+    array: &Array<'a, C>,
     grid: &ShardGrid,
     parts: &ShardParts,
     shape: &[u64],
@@ -131,8 +125,8 @@ fn put_parts<'a, R: Files + AllocGlobal, C: ShardCodec<ShardFile<'a, R>>>(
 
 // Reads the elements of a subset, which have one size, into as many bytes as they have: each of these is written, unless a part of the
 // subset is refused.
-fn read_into<'a, R: Files + AllocGlobal, C: ShardCodec<ShardFile<'a, R>>>(
-    array: &Array<'a, R, C>,
+fn read_into<'a, C: ShardCodec<ShardFile<'a>>>(
+    array: &Array<'a, C>,
     requested: &ArraySubset,
     bytes: &mut [u8],
 ) -> Result<(), Stop> {
@@ -143,8 +137,8 @@ fn read_into<'a, R: Files + AllocGlobal, C: ShardCodec<ShardFile<'a, R>>>(
 
 /// As `read_into`, into room that becomes as many bytes as the elements have, in its memory as far as that reaches. Refused as `Stop::TooLarge`
 /// where no number can say how many these are.
-pub fn read_into_room<'a, R: Files + AllocGlobal, C: ShardCodec<ShardFile<'a, R>>>(
-    array: &Array<'a, R, C>,
+pub fn read_into_room<'a, C: ShardCodec<ShardFile<'a>>>(
+    array: &Array<'a, C>,
     requested: &ArraySubset,
     room: &mut Vec<u8>,
 ) -> Result<(), Stop> {

@@ -9,8 +9,6 @@ use parts_arrays::{ArrayBytes, FixedTarget};
 use parts_errors::CodecError;
 use parts_row_major::unravel_index;
 use parts_subsets::ArraySubset;
-use std::io::Write;
-use std::rt::Files;
 
 // What is read so far.
 #[derive(Drop)]
@@ -35,8 +33,8 @@ impl Answer {
 }
 
 // The cells of a subset as they are held, or fill values where none are.
-fn held_cells<R: Files + AllocGlobal, C>(
-    array: &Array<'_, R, C>,
+fn held_cells<C>(
+    array: &Array<'_, C>,
     requested: &ArraySubset,
     held: Option<SubsetElements>,
 ) -> Result<SubsetElements, CodecError> {
@@ -48,8 +46,8 @@ fn held_cells<R: Files + AllocGlobal, C>(
 }
 
 // Has the cells of a subset held: fill values where none are.
-fn hold_cells<R: Files + AllocGlobal, C>(
-    array: &Array<'_, R, C>,
+fn hold_cells<C>(
+    array: &Array<'_, C>,
     requested: &ArraySubset,
     cells: &mut Option<SubsetElements>,
 ) -> Result<(), CodecError> {
@@ -60,8 +58,8 @@ fn hold_cells<R: Files + AllocGlobal, C>(
 }
 
 // Puts the cells of a part into those of a subset, for which memory is asked with the first part.
-fn put_shard_part<R: Files + AllocGlobal, C>(
-    array: &Array<'_, R, C>,
+fn put_shard_part<C>(
+    array: &Array<'_, C>,
     requested: &ArraySubset,
     part: &ShardPart,
     found: &ArrayBytes,
@@ -75,8 +73,8 @@ fn put_shard_part<R: Files + AllocGlobal, C>(
 }
 
 // Whether a subchunk of a shard that is open does not decode.
-fn is_refused<'a, R: Files + AllocGlobal, C, S: OpenShard<ShardFile<'a, R>>>(
-    array: &Array<'a, R, C>,
+fn is_refused<'a, C, S: OpenShard<ShardFile<'a>>>(
+    array: &Array<'a, C>,
     opened: &mut S,
     subchunk: &[u64],
 ) -> bool {
@@ -85,8 +83,8 @@ fn is_refused<'a, R: Files + AllocGlobal, C, S: OpenShard<ShardFile<'a, R>>>(
 }
 
 // Whether a subchunk of a shard that is open has elements of a part of a subset, and does not decode.
-fn is_damaged<'a, R: Files + AllocGlobal, C, S: OpenShard<ShardFile<'a, R>>>(
-    array: &Array<'a, R, C>,
+fn is_damaged<'a, C, S: OpenShard<ShardFile<'a>>>(
+    array: &Array<'a, C>,
     part: &ShardPart,
     opened: &mut S,
     number: u64,
@@ -102,8 +100,8 @@ fn is_damaged<'a, R: Files + AllocGlobal, C, S: OpenShard<ShardFile<'a, R>>>(
 }
 
 // Where a refusal of a read of a part of a subset lies, of a shard that is open: the lowest subchunk that does not decode.
-fn place_of<'a, R: Files + AllocGlobal, C, S: OpenShard<ShardFile<'a, R>>>(
-    array: &Array<'a, R, C>,
+fn place_of<'a, C, S: OpenShard<ShardFile<'a>>>(
+    array: &Array<'a, C>,
     part: &ShardPart,
     opened: &mut S,
     error: CodecError,
@@ -120,8 +118,8 @@ fn place_of<'a, R: Files + AllocGlobal, C, S: OpenShard<ShardFile<'a, R>>>(
 }
 
 // Closes a shard of which a part of a subset was read. Why the command stops, with its place, where that was refused.
-fn closed<'a, T, R: Files + AllocGlobal, C, S: OpenShard<ShardFile<'a, R>>>(
-    array: &Array<'a, R, C>,
+fn closed<'a, T, C, S: OpenShard<ShardFile<'a>>>(
+    array: &Array<'a, C>,
     part: &ShardPart,
     shard: &Shard<'_>,
     mut opened: S,
@@ -142,11 +140,11 @@ fn closed<'a, T, R: Files + AllocGlobal, C, S: OpenShard<ShardFile<'a, R>>>(
 }
 
 // The file of the shard in which a part of a subset lies.
-fn file_of<'a, R: Files + AllocGlobal, C>(
-    array: &Array<'a, R, C>,
+fn file_of<'a, C>(
+    array: &Array<'a, C>,
     part: &ShardPart,
     shard: &Shard<'_>,
-) -> Result<ShardFile<'a, R>, Stop> {
+) -> Result<ShardFile<'a>, Stop> {
     if part.in_shard.shape() == array.metadata.shard.as_slice() {
         array.whole_file(shard.key)
     } else {
@@ -155,8 +153,8 @@ fn file_of<'a, R: Files + AllocGlobal, C>(
 }
 
 // Reads a part of a subset, which lies in a shard.
-fn read_shard<'a, 'e, R: Files + AllocGlobal, C: ShardCodec<ShardFile<'a, R>>>(
-    array: &Array<'a, R, C>,
+fn read_shard<'a, 'e, C: ShardCodec<ShardFile<'a>>>(
+    array: &Array<'a, C>,
     part: &ShardPart,
     shard: &Shard<'_>,
 ) -> Result<ArrayBytes<'e>, Stop> {
@@ -166,8 +164,8 @@ fn read_shard<'a, 'e, R: Files + AllocGlobal, C: ShardCodec<ShardFile<'a, R>>>(
 }
 
 // Reads a part of a subset, which lies in a shard, into a target.
-fn read_shard_into<'a, R: Files + AllocGlobal, C: ShardCodec<ShardFile<'a, R>>>(
-    array: &Array<'a, R, C>,
+fn read_shard_into<'a, C: ShardCodec<ShardFile<'a>>>(
+    array: &Array<'a, C>,
     part: &ShardPart,
     shard: &Shard<'_>,
     target: &mut FixedTarget,
@@ -178,8 +176,8 @@ fn read_shard_into<'a, R: Files + AllocGlobal, C: ShardCodec<ShardFile<'a, R>>>(
 }
 
 /// Reads a part of a subset, whose elements have one size, into a target. Where that is refused, the target's subset may have any elements.
-pub fn read_part_into<'a, R: Files + AllocGlobal, C: ShardCodec<ShardFile<'a, R>>>(
-    array: &Array<'a, R, C>,
+pub fn read_part_into<'a, C: ShardCodec<ShardFile<'a>>>(
+    array: &Array<'a, C>,
     grid: &ShardGrid,
     part: &ShardPart,
     target: &mut FixedTarget,
@@ -189,8 +187,8 @@ pub fn read_part_into<'a, R: Files + AllocGlobal, C: ShardCodec<ShardFile<'a, R>
 }
 
 // Reads a part of a subset, which lies in a shard; `None` where it is refused and is to be filled.
-fn read_or_fill<'a, 'e, R: Files + AllocGlobal, C: ShardCodec<ShardFile<'a, R>>>(
-    array: &Array<'a, R, C>,
+fn read_or_fill<'a, 'e, C: ShardCodec<ShardFile<'a>>>(
+    array: &Array<'a, C>,
     part: &ShardPart,
     shard: &Shard<'_>,
     fills: bool,
@@ -211,8 +209,8 @@ struct PartRead<'e> {
 }
 
 // Reads a part of a subset.
-fn read_part<'a, 'e, R: Files + AllocGlobal, C: ShardCodec<ShardFile<'a, R>>>(
-    array: &Array<'a, R, C>,
+fn read_part<'a, 'e, C: ShardCodec<ShardFile<'a>>>(
+    array: &Array<'a, C>,
     grid: &ShardGrid,
     part: ShardPart,
     fills: bool,
@@ -223,8 +221,8 @@ fn read_part<'a, 'e, R: Files + AllocGlobal, C: ShardCodec<ShardFile<'a, R>>>(
 }
 
 // Reads the part of a subset with this number, which is to be filled where it is refused, if `fills`; nothing past the last one.
-fn read_numbered<'a, 'e, R: Files + AllocGlobal, C: ShardCodec<ShardFile<'a, R>>>(
-    array: &Array<'a, R, C>,
+fn read_numbered<'a, 'e, C: ShardCodec<ShardFile<'a>>>(
+    array: &Array<'a, C>,
     grid: &ShardGrid,
     parts: &ShardParts,
     number: u64,
@@ -237,13 +235,13 @@ fn read_numbered<'a, 'e, R: Files + AllocGlobal, C: ShardCodec<ShardFile<'a, R>>
 }
 
 // Reads what is sound of a part of a subset that is refused, where the rest is to be filled.
-fn fill_part<'a, R: Files + AllocGlobal, C: ShardCodec<ShardFile<'a, R>>, M: Write>(
-    array: &Array<'a, R, C>,
+fn fill_part<'a, C: ShardCodec<ShardFile<'a>>>(
+    array: &Array<'a, C>,
     requested: &ArraySubset,
     part: &ShardPart,
     shard: &Shard<'_>,
     answer: &mut Answer,
-    progress: &mut Progress<'_, M>,
+    progress: &mut Progress,
 ) -> Result<(), Stop> {
     hold_cells(array, requested, &mut answer.cells)?;
     answer.is_filled = true;
@@ -254,12 +252,12 @@ fn fill_part<'a, R: Files + AllocGlobal, C: ShardCodec<ShardFile<'a, R>>, M: Wri
 }
 
 // Puts a part that was read into the answer.
-fn put_read<'a, R: Files + AllocGlobal, C: ShardCodec<ShardFile<'a, R>>, M: Write>(
-    array: &Array<'a, R, C>,
+fn put_read<'a, C: ShardCodec<ShardFile<'a>>>(
+    array: &Array<'a, C>,
     requested: &ArraySubset,
     read: &PartRead<'_>,
     answer: &mut Answer,
-    progress: &mut Progress<'_, M>,
+    progress: &mut Progress,
 ) -> Result<(), Stop> {
     let part = &read.part;
     match &read.found {
@@ -276,14 +274,14 @@ fn put_read<'a, R: Files + AllocGlobal, C: ShardCodec<ShardFile<'a, R>>, M: Writ
 }
 
 // Reads the part of a subset with a number into the answer.
-fn read_next<'a, R: Files + AllocGlobal, C: ShardCodec<ShardFile<'a, R>>, M: Write>(
-    array: &Array<'a, R, C>,
+fn read_next<'a, C: ShardCodec<ShardFile<'a>>>(
+    array: &Array<'a, C>,
     requested: &ArraySubset,
     grid: &ShardGrid,
     parts: &ShardParts,
     number: u64,
     answer: &mut Answer,
-    progress: &mut Progress<'_, M>,
+    progress: &mut Progress,
 ) -> Result<(), Stop> {
     match read_numbered(array, grid, parts, number, answer.fills)? {
         Some(read) => put_read(array, requested, &read, answer, progress),
@@ -292,13 +290,13 @@ fn read_next<'a, R: Files + AllocGlobal, C: ShardCodec<ShardFile<'a, R>>, M: Wri
 }
 
 // Reads the elements of the parts of a subset.
-fn read_parts<'a, R: Files + AllocGlobal, C: ShardCodec<ShardFile<'a, R>>, M: Write>(
-    array: &Array<'a, R, C>,
+fn read_parts<'a, C: ShardCodec<ShardFile<'a>>>(
+    array: &Array<'a, C>,
     requested: &ArraySubset,
     grid: &ShardGrid,
     parts: &ShardParts,
     answer: &mut Answer,
-    progress: &mut Progress<'_, M>,
+    progress: &mut Progress,
 ) -> Result<(), Stop> {
     for number in 0..parts.len() {
         progress.step(number, parts.len());
@@ -308,8 +306,8 @@ fn read_parts<'a, R: Files + AllocGlobal, C: ShardCodec<ShardFile<'a, R>>, M: Wr
 }
 
 // The elements of a subset that are read, or fill values where none are, and how the command ends.
-fn ended<R: Files + AllocGlobal, C>(
-    array: &Array<'_, R, C>,
+fn ended<C>(
+    array: &Array<'_, C>,
     requested: &ArraySubset,
     answer: Answer,
 ) -> Result<(SubsetElements, Ending), Stop> {
@@ -322,12 +320,12 @@ fn ended<R: Files + AllocGlobal, C>(
 }
 
 // The elements of a subset of an array whose shards lie in a grid, and how the command ends.
-fn read_in_grid<'a, R: Files + AllocGlobal, C: ShardCodec<ShardFile<'a, R>>, M: Write>(
-    array: &Array<'a, R, C>,
+fn read_in_grid<'a, C: ShardCodec<ShardFile<'a>>>(
+    array: &Array<'a, C>,
     requested: &ArraySubset,
     grid: &ShardGrid,
     fills: bool,
-    progress: &mut Progress<'_, M>,
+    progress: &mut Progress,
 ) -> Result<(SubsetElements, Ending), Stop> {
     let parts = grid.parts(array.alloc(), requested)?;
     let mut answer = Answer::new(fills);
@@ -338,11 +336,11 @@ fn read_in_grid<'a, R: Files + AllocGlobal, C: ShardCodec<ShardFile<'a, R>>, M: 
 /// The elements of a subset, from each shard that it overlaps, and fill values of those that are absent. Memory for them is
 /// allocated once a part is read, so that a subset in one shard takes less. Where `fills` is true, what is refused has fill values too,
 /// the messages say which shards and subchunks that are, and the command ends as `Ending::Refused`.
-pub fn read_array<'a, R: Files + AllocGlobal, C: ShardCodec<ShardFile<'a, R>>, M: Write>(
-    array: &Array<'a, R, C>,
+pub fn read_array<'a, C: ShardCodec<ShardFile<'a>>>(
+    array: &Array<'a, C>,
     requested: &ArraySubset,
     fills: bool,
-    progress: &mut Progress<'_, M>,
+    progress: &mut Progress,
 ) -> Result<(SubsetElements, Ending), Stop> {
     let grid = shards_of(array)?;
     read_in_grid(array, requested, &grid, fills, progress)

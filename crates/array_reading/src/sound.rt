@@ -5,13 +5,11 @@ use parts_errors::CodecError;
 use parts_row_major::unravel_index;
 use parts_subsets::ArraySubset;
 use std::alloc::{AllocError, Global};
-use std::io::Write;
-use std::rt::Files;
 
 // Puts what a subchunk of a shard that is open has of a part of a subset, and says whether it is sound. Refused where it could not be
 // read.
-fn put_subchunk<'a, R: Files + AllocGlobal, C, S: OpenShard<ShardFile<'a, R>>>(
-    array: &Array<'a, R, C>,
+fn put_subchunk<'a, C, S: OpenShard<ShardFile<'a>>>(
+    array: &Array<'a, C>,
     part: &ShardPart,
     opened: &mut S,
     subchunk: &[u64],
@@ -25,8 +23,8 @@ fn put_subchunk<'a, R: Files + AllocGlobal, C, S: OpenShard<ShardFile<'a, R>>>(
 }
 
 // Puts elements that a subchunk of a shard that is open shares with a subset, as `put_subchunk` says.
-fn put_shared<'a, R: Files + AllocGlobal, C, S: OpenShard<ShardFile<'a, R>>>(
-    array: &Array<'a, R, C>,
+fn put_shared<'a, C, S: OpenShard<ShardFile<'a>>>(
+    array: &Array<'a, C>,
     shared: &SharedElements,
     opened: &mut S,
     cells: &mut SubsetElements,
@@ -42,17 +40,17 @@ fn put_shared<'a, R: Files + AllocGlobal, C, S: OpenShard<ShardFile<'a, R>>>(
 }
 
 // Tells on a line that elements are filled, since something is refused.
-fn tell_filled<M: Write>(progress: &mut Progress<'_, M>, refusal: &Refusal) {
+fn tell_filled(progress: &mut Progress, refusal: &Refusal) {
     progress.tell_filled(&refusal.key, &refusal.reason());
 }
 
 // Tells that the elements of a subchunk are filled, since it is refused.
-fn tell_refused<R: Files + AllocGlobal, C, M: Write>(
-    array: &Array<'_, R, C>,
+fn tell_refused<C>(
+    array: &Array<'_, C>,
     shard: &Shard<'_>,
     error: CodecError,
     number: u64,
-    progress: &mut Progress<'_, M>,
+    progress: &mut Progress,
 ) -> Result<(), AllocError> {
     let refusal = array.refusal_at(shard, error, Place::Subchunk(number))?;
     tell_filled(progress, &refusal);
@@ -60,8 +58,8 @@ fn tell_refused<R: Files + AllocGlobal, C, M: Write>(
 }
 
 // Puts what the subchunk with a number has of a part of a subset, as `put_subchunk` does.
-fn put_numbered<'a, R: Files + AllocGlobal, C, S: OpenShard<ShardFile<'a, R>>>(
-    array: &Array<'a, R, C>,
+fn put_numbered<'a, C, S: OpenShard<ShardFile<'a>>>(
+    array: &Array<'a, C>,
     part: &ShardPart,
     opened: &mut S,
     number: u64,
@@ -74,13 +72,13 @@ fn put_numbered<'a, R: Files + AllocGlobal, C, S: OpenShard<ShardFile<'a, R>>>(
 }
 
 // Puts what each subchunk of a shard that is open has of a part of a subset, and tells which ones are refused.
-fn put_each<'a, R: Files + AllocGlobal, C: ShardCodec<ShardFile<'a, R>>, M: Write>(
-    array: &Array<'a, R, C>,
+fn put_each<'a, C: ShardCodec<ShardFile<'a>>>(
+    array: &Array<'a, C>,
     part: &ShardPart,
     shard: &Shard<'_>,
     opened: &mut C::Open,
     cells: &mut SubsetElements,
-    progress: &mut Progress<'_, M>,
+    progress: &mut Progress,
 ) -> Result<(), Stop> {
     for number in 0..array.subchunks.num_elements().unwrap_or(0) {
         if let Some(error) = put_numbered(array, part, opened, number, cells)? {
@@ -92,12 +90,12 @@ fn put_each<'a, R: Files + AllocGlobal, C: ShardCodec<ShardFile<'a, R>>, M: Writ
 
 /// Puts the sound elements of a part of a subset, of which a shard or a subchunk is refused, and leaves the others as they are; tells
 /// which ones these are.
-pub fn put_sound<'a, R: Files + AllocGlobal, C: ShardCodec<ShardFile<'a, R>>, M: Write>(
-    array: &Array<'a, R, C>,
+pub fn put_sound<'a, C: ShardCodec<ShardFile<'a>>>(
+    array: &Array<'a, C>,
     part: &ShardPart,
     shard: &Shard<'_>,
     cells: &mut SubsetElements,
-    progress: &mut Progress<'_, M>,
+    progress: &mut Progress,
 ) -> Result<(), Stop> {
     match array.open_shard(shard, array.file(shard.key)?)? {
         Ok(mut opened) => {

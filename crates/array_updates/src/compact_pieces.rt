@@ -1,31 +1,31 @@
 // Shards that threads compact side by side, a piece of their list each at a time.
 use crate::compaction::{Gained, Rule, compact_one};
 use array_cli::{
-    Array, CodecUse, Progress, ShardCodec, ShardFile, SharedArray, SharedSystem, Stop, with_codec,
-    written,
+    Array, CodecUse, Output, Progress, ShardCodec, ShardFile, SharedArray, Stop, Workers,
+    with_codec, written,
 };
 use array_folder::ChunkFile;
 use array_grid::{ShardWork, piece_length, piece_of, run_in_parallel};
 use std::io::Write;
-use std::rt::{Clock, Files};
+use std::thread::Threads;
 
 // How many shards a thread compacts at a time at most.
 const SHARDS_OF_A_PIECE: usize = 4;
 
 // Files of shards that one thread compacts, as a rule says.
 #[derive(Drop)]
-struct CompactedFiles<'s, R> {
-    array: &'s SharedArray<'s, R>,
+struct CompactedFiles<'s> {
+    array: &'s SharedArray<'s>,
     files: &'s [ChunkFile],
     rule: &'s Rule<'s>,
     gained: &'s mut Gained,
-    lines: &'s mut Vec<u8>,
+    lines: &'s mut Output,
 }
 
-impl<'s, R: Files + AllocGlobal + Clock> CodecUse<ShardFile<'s, R>> for CompactedFiles<'s, R> {
+impl<'s> CodecUse<ShardFile<'s>> for CompactedFiles<'s> {
     type Answer = Result<(), Stop>;
 
-    fn with<C: ShardCodec<ShardFile<'s, R>>>(self, codec: C) -> Result<(), Stop> {
+    fn with<C: ShardCodec<ShardFile<'s>>>(self, codec: C) -> Result<(), Stop> {
         let CompactedFiles {
             array,
             files,
@@ -42,12 +42,12 @@ impl<'s, R: Files + AllocGlobal + Clock> CodecUse<ShardFile<'s, R>> for Compacte
 }
 
 // Compacts the shards in these files by one thread.
-fn compact_files<'s, R: Files + AllocGlobal + Clock>(
-    array: &'s SharedArray<'s, R>,
+fn compact_files<'s>(
+    array: &'s SharedArray<'s>,
     files: &'s [ChunkFile],
     rule: &'s Rule<'s>,
     gained: &'s mut Gained,
-    lines: &'s mut Vec<u8>,
+    lines: &'s mut Output,
 ) -> Result<(), Stop> {
     let work = CompactedFiles {
         array,
@@ -63,20 +63,20 @@ fn compact_files<'s, R: Files + AllocGlobal + Clock>(
 #[derive(Drop)]
 struct PieceCompacted {
     gained: Gained,
-    lines: Vec<u8>,
+    lines: Output,
     stop: Option<Stop>,
 }
 
 // Files of shards, in pieces of as many files, and how they are compacted.
 #[derive(Drop)]
-struct CompactPieces<'s, R> {
-    array: &'s SharedArray<'s, R>,
+struct CompactPieces<'s> {
+    array: &'s SharedArray<'s>,
     files: &'s [ChunkFile],
     rule: &'s Rule<'s>,
     in_piece: usize,
 }
 
-impl<R: Files + AllocGlobal + Clock> ShardWork for CompactPieces<'_, R> {
+impl ShardWork for CompactPieces<'_> {
     type Answer = PieceCompacted;
 
     // no contract says what files give
@@ -84,7 +84,7 @@ impl<R: Files + AllocGlobal + Clock> ShardWork for CompactPieces<'_, R> {
 
     fn run(&self, number: u64) -> PieceCompacted {
         let files = piece_of(self.files, number, self.in_piece);
-        let mut lines = Vec::new(self.array.alloc());
+        let mut lines = Output::memory(self.array.alloc());
         let mut gained = Gained::nothing();
         let ended = compact_files(self.array, files, self.rule, &mut gained, &mut lines);
         PieceCompacted {
@@ -96,11 +96,11 @@ impl<R: Files + AllocGlobal + Clock> ShardWork for CompactPieces<'_, R> {
 }
 
 // Tells what came of a piece.
-fn tell_piece<W: Write, M: Write>(
+fn tell_piece(
     piece: PieceCompacted,
     gained: &mut Gained,
-    out: &mut W,
-    progress: &mut Progress<'_, M>,
+    out: &mut Output,
+    progress: &mut Progress,
 ) -> Result<(), Stop> {
     let PieceCompacted {
         gained: of_piece,
@@ -108,9 +108,9 @@ fn tell_piece<W: Write, M: Write>(
         stop,
     } = piece;
     gained.add_all(&of_piece);
-    if !lines.is_empty() {
+    if !lines.bytes().is_empty() {
         progress.clear();
-        written(out.write_all(&lines), gained.ending())?;
+        written(out.write_all(lines.bytes()), gained.ending())?;
     }
     match stop {
         Some(stop) => Err(stop),
@@ -118,45 +118,44 @@ fn tell_piece<W: Write, M: Write>(
     }
 }
 
-// Compacts the shards in these files, each piece of them by a thread of its own, and tells what came of them in their order.
-fn compact_pieces_of<'s, R: SharedSystem, W: Write, M: Write>(
-    array: &'s SharedArray<'s, R>,
-    files: &'s [ChunkFile],
-    rule: &'s Rule<'s>,
-    in_piece: usize,
+// Compacts the shards in files, each piece of them by a thread of its own, and tells what came of them in their order.
+fn compact_pieces_of<T: Threads + Sync>(
+    workers: &Workers<'_, T>,
+    pieces: &CompactPieces<'_>,
     gained: &mut Gained,
-    out: &mut W,
-    progress: &mut Progress<'_, M>,
+    out: &mut Output,
+    progress: &mut Progress,
 ) -> Result<(), Stop> {
-    let pieces = CompactPieces {
-        array,
-        files,
-        rule,
-        in_piece,
-    };
-    let count = files.len().div_ceil(in_piece.max(1));
-    for piece in run_in_parallel(array.rt, array.alloc(), count, &pieces)? {
+    let alloc = pieces.array.alloc();
+    let count = pieces.files.len().div_ceil(pieces.in_piece.max(1));
+    for piece in run_in_parallel(workers.threads, alloc, count, pieces)? {
         tell_piece(piece, gained, out, progress)?;
     }
     Ok(())
 }
 
-/// Compacts the shards in these files by `jobs` threads, and writes a line for each that is not compact, in their order: those of some
-/// shards at a time. Where it stops, shards behind may be compacted of which no line tells.
-pub fn compact_all<R: SharedSystem, W: Write, M: Write>(
-    array: &SharedArray<'_, R>,
+/// Compacts the shards in these files by threads, and writes a line for each that is not compact, in their order: those of some shards at a
+/// time. Where it stops, shards behind may be compacted of which no line tells.
+pub fn compact_all<T: Threads + Sync>(
+    array: &SharedArray<'_>,
     files: &[ChunkFile],
     rule: &Rule<'_>,
-    jobs: usize,
-    out: &mut W,
-    progress: &mut Progress<'_, M>,
+    workers: &Workers<'_, T>,
+    out: &mut Output,
+    progress: &mut Progress,
 ) -> Result<Gained, Stop> {
     let mut gained = Gained::nothing();
-    let in_piece = piece_length(files.len(), jobs, SHARDS_OF_A_PIECE);
-    let at_once = in_piece.saturating_mul(jobs).max(1);
+    let in_piece = piece_length(files.len(), workers.jobs, SHARDS_OF_A_PIECE);
+    let at_once = in_piece.saturating_mul(workers.jobs).max(1);
     for (number, some) in files.chunks(at_once).enumerate() {
         progress.step(number.saturating_mul(at_once) as u64, files.len() as u64);
-        compact_pieces_of(&*array, some, &*rule, in_piece, &mut gained, out, progress)?;
+        let pieces = CompactPieces {
+            array: &*array,
+            files: some,
+            rule: &*rule,
+            in_piece,
+        };
+        compact_pieces_of(workers, &pieces, &mut gained, out, progress)?;
     }
     Ok(gained)
 }

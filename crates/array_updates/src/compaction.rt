@@ -2,15 +2,15 @@
 use crate::compact_pieces::compact_all;
 use crate::rewriting::replace;
 use array_cli::{
-    Array, Ending, Place, Planned, Progress, Refusal, Shard, ShardCodec, ShardFile, SharedArray,
-    SharedSystem, Stop, put_refusal, written,
+    Array, Ending, Output, Place, Planned, Progress, Refusal, Shard, ShardCodec, ShardFile,
+    SharedArray, Stop, Workers, put_refusal, written,
 };
 use array_fields::{JsonLine, escaped};
 use array_folder::{ChunkFile, Listing, age_of, save};
 use array_grid::ListPart;
 use sharding_layout::CompactionPlan;
 use std::io::{ErrorKind, Write};
-use std::rt::{Clock, Files};
+use std::thread::Threads;
 use std::{fs, io};
 use storage_files::path_beside;
 
@@ -118,10 +118,7 @@ enum Outcome {
 }
 
 // The path at which the new file of a path stands until it is whole.
-fn beside_of<R: Files + AllocGlobal, C>(
-    array: &Array<'_, R, C>,
-    path: &str,
-) -> Result<String, Stop> {
+fn beside_of<C>(array: &Array<'_, C>, path: &str) -> Result<String, Stop> {
     match path_beside(array.alloc(), array.rt, path) {
         Ok(beside) => Ok(beside),
         Err(error) => Err(Stop::system(array.alloc(), path, error)),
@@ -130,13 +127,13 @@ fn beside_of<R: Files + AllocGlobal, C>(
 
 // Puts what a plan says of a shard, or without a plan the shard, at a path. Gives the path of the new file that stands there already, if
 // one does.
-fn put_at<'a, R: Files + AllocGlobal, C, W: Write>(
-    array: &Array<'a, R, C>,
+fn put_at<'a, C>(
+    array: &Array<'a, C>,
     shard: &Shard<'_>,
-    file: &mut ShardFile<'a, R>,
+    file: &mut ShardFile<'a>,
     path: &str,
     plan: Option<&CompactionPlan>,
-    out: &mut W,
+    out: &mut Output,
 ) -> Result<Option<String>, Stop> {
     let beside = beside_of(array, path)?;
     if replace(array, shard, file, (path, &beside), plan, out)? {
@@ -147,10 +144,7 @@ fn put_at<'a, R: Files + AllocGlobal, C, W: Write>(
 }
 
 // The path of the new file of a path, if one stands there.
-fn new_file_of<R: Files + AllocGlobal, C>(
-    array: &Array<'_, R, C>,
-    path: &str,
-) -> Result<Option<String>, Stop> {
+fn new_file_of<C>(array: &Array<'_, C>, path: &str) -> Result<Option<String>, Stop> {
     let beside = beside_of(array, path)?;
     if fs::symlink_metadata(array.rt, &beside).is_err() {
         Ok(None)
@@ -168,13 +162,13 @@ fn unless_busy(busy: Option<String>, outcome: Outcome) -> Outcome {
 }
 
 // Compacts a shard by a plan to save these bytes, if no new file stands beside it. Without a plan no file is written.
-fn put<'a, R: Files + AllocGlobal, C, W: Write>(
-    array: &Array<'a, R, C>,
+fn put<'a, C>(
+    array: &Array<'a, C>,
     shard: &Shard<'_>,
-    file: &mut ShardFile<'a, R>,
+    file: &mut ShardFile<'a>,
     bytes: u64,
     plan: Option<&CompactionPlan>,
-    out: &mut W,
+    out: &mut Output,
 ) -> Result<Outcome, Stop> {
     let path = array.path_of(shard.key)?;
     let busy = match plan {
@@ -185,10 +179,10 @@ fn put<'a, R: Files + AllocGlobal, C, W: Write>(
 }
 
 // What a compaction makes of the shard in a file: its plan, if it has one, and what is said of it.
-fn plan_and_outcome<'a, R: Files + AllocGlobal, C: ShardCodec<ShardFile<'a, R>>>(
-    array: &Array<'a, R, C>,
+fn plan_and_outcome<'a, C: ShardCodec<ShardFile<'a>>>(
+    array: &Array<'a, C>,
     shard: &Shard<'_>,
-    file: &mut ShardFile<'a, R>,
+    file: &mut ShardFile<'a>,
 ) -> Result<(Option<CompactionPlan>, Outcome), Stop> {
     match array.plan_compaction(file, false) {
         Ok(Planned::Nothing) => Ok((None, Outcome::Compact)),
@@ -202,13 +196,13 @@ fn plan_and_outcome<'a, R: Files + AllocGlobal, C: ShardCodec<ShardFile<'a, R>>>
 }
 
 // Puts what a plan says of a shard, or without a plan the shard, into another folder, as `put_at` does.
-fn put_in<'a, R: Files + AllocGlobal, C, W: Write>(
-    array: &Array<'a, R, C>,
+fn put_in<'a, C>(
+    array: &Array<'a, C>,
     shard: &Shard<'_>,
-    file: &mut ShardFile<'a, R>,
+    file: &mut ShardFile<'a>,
     folder: &str,
     plan: Option<&CompactionPlan>,
-    out: &mut W,
+    out: &mut Output,
 ) -> Result<Option<String>, Stop> {
     let key = shard.key;
     let path = format!(in array.alloc(); "{folder}/{key}")?;
@@ -216,12 +210,12 @@ fn put_in<'a, R: Files + AllocGlobal, C, W: Write>(
 }
 
 // Writes a shard to another folder: compacted, or as it is where that would not make it shorter or where it is refused.
-fn copy_to<'a, R: Files + AllocGlobal, C: ShardCodec<ShardFile<'a, R>>, W: Write>(
-    array: &Array<'a, R, C>,
+fn copy_to<'a, C: ShardCodec<ShardFile<'a>>>(
+    array: &Array<'a, C>,
     shard: &Shard<'_>,
-    file: &mut ShardFile<'a, R>,
+    file: &mut ShardFile<'a>,
     folder: &str,
-    out: &mut W,
+    out: &mut Output,
 ) -> Result<Outcome, Stop> {
     let (plan, outcome) = plan_and_outcome(array, shard, file)?;
     let busy = put_in(array, shard, file, folder, plan.as_ref(), out)?;
@@ -229,12 +223,12 @@ fn copy_to<'a, R: Files + AllocGlobal, C: ShardCodec<ShardFile<'a, R>>, W: Write
 }
 
 // Compacts the shard in a file.
-fn compact_file<'a, R: Files + AllocGlobal, C: ShardCodec<ShardFile<'a, R>>, W: Write>(
-    array: &Array<'a, R, C>,
+fn compact_file<'a, C: ShardCodec<ShardFile<'a>>>(
+    array: &Array<'a, C>,
     shard: &Shard<'_>,
-    file: &mut ShardFile<'a, R>,
+    file: &mut ShardFile<'a>,
     is_dry: bool,
-    out: &mut W,
+    out: &mut Output,
 ) -> Result<Outcome, Stop> {
     match array.plan_compaction(file, is_dry) {
         Ok(Planned::Nothing) => Ok(Outcome::Compact),
@@ -248,12 +242,7 @@ fn compact_file<'a, R: Files + AllocGlobal, C: ShardCodec<ShardFile<'a, R>>, W: 
 }
 
 // Writes that a shard is not compacted, since a new file stands at a path.
-fn write_busy<R: Files + AllocGlobal + Clock, W: Write>(
-    rt: &R,
-    out: &mut W,
-    key: &str,
-    path: &str,
-) -> io::Result<()> {
+fn write_busy(rt: &HostRuntime, out: &mut Output, key: &str, path: &str) -> io::Result<()> {
     let age = age_of(rt, path);
     let path = escaped(rt.alloc(), path)?;
     writeln!(
@@ -263,9 +252,9 @@ fn write_busy<R: Files + AllocGlobal + Clock, W: Write>(
 }
 
 // Writes what became of a shard, but of one that is compact.
-fn write_outcome<R: Files + AllocGlobal + Clock, W: Write>(
-    rt: &R,
-    out: &mut W,
+fn write_outcome(
+    rt: &HostRuntime,
+    out: &mut Output,
     key: &str,
     outcome: &Outcome,
 ) -> io::Result<()> {
@@ -287,7 +276,7 @@ fn write_outcome<R: Files + AllocGlobal + Clock, W: Write>(
 }
 
 // Writes a line of JSON for a shard of which this became.
-fn write_outcome_line<W: Write>(out: &mut W, key: &str, outcome: &Outcome) -> io::Result<()> {
+fn write_outcome_line(out: &mut Output, key: &str, outcome: &Outcome) -> io::Result<()> {
     let mut line = JsonLine::new(out, "shard")?;
     line.text("key", key)?;
     match outcome {
@@ -301,9 +290,9 @@ fn write_outcome_line<W: Write>(out: &mut W, key: &str, outcome: &Outcome) -> io
 }
 
 // Tells what became of a shard, in a line of JSON or one for a reader.
-fn tell<R: Files + AllocGlobal + Clock, W: Write>(
-    rt: &R,
-    out: &mut W,
+fn tell(
+    rt: &HostRuntime,
+    out: &mut Output,
     key: &str,
     outcome: &Outcome,
     is_json: bool,
@@ -316,7 +305,7 @@ fn tell<R: Files + AllocGlobal + Clock, W: Write>(
 }
 
 // Writes a line of JSON for what was gained, of as many shards as there are.
-fn write_sum_line<W: Write>(out: &mut W, gained: &Gained, all: u64) -> io::Result<()> {
+fn write_sum_line(out: &mut Output, gained: &Gained, all: u64) -> io::Result<()> {
     let mut line = JsonLine::new(out, "sum")?;
     line.each(&[
         ("saved", gained.bytes),
@@ -327,11 +316,11 @@ fn write_sum_line<W: Write>(out: &mut W, gained: &Gained, all: u64) -> io::Resul
 }
 
 // Compacts a shard, and says what became of it.
-fn outcome_of<'a, R: Files + AllocGlobal, C: ShardCodec<ShardFile<'a, R>>, W: Write>(
-    array: &Array<'a, R, C>,
+fn outcome_of<'a, C: ShardCodec<ShardFile<'a>>>(
+    array: &Array<'a, C>,
     shard: &Shard<'_>,
     rule: &Rule<'_>,
-    out: &mut W,
+    out: &mut Output,
 ) -> Result<Outcome, Stop> {
     let mut file = array.file(shard.key)?;
     match rule.folder {
@@ -341,11 +330,11 @@ fn outcome_of<'a, R: Files + AllocGlobal, C: ShardCodec<ShardFile<'a, R>>, W: Wr
 }
 
 /// Compacts the shard in a file, and writes a line where it is not compact.
-pub fn compact_one<'a, R: Files + AllocGlobal + Clock, C: ShardCodec<ShardFile<'a, R>>, W: Write>(
-    array: &Array<'a, R, C>,
+pub fn compact_one<'a, C: ShardCodec<ShardFile<'a>>>(
+    array: &Array<'a, C>,
     file: &ChunkFile,
     rule: &Rule<'_>,
-    out: &mut W,
+    out: &mut Output,
     gained: &mut Gained,
 ) -> Result<(), Stop> {
     let outcome = outcome_of(array, &Shard::in_file(file), rule, out)?;
@@ -355,7 +344,7 @@ pub fn compact_one<'a, R: Files + AllocGlobal + Clock, C: ShardCodec<ShardFile<'
 }
 
 // Writes what was gained, of as many shards as there are.
-fn write_sum<W: Write>(out: &mut W, gained: &Gained, all: u64, is_json: bool) -> Result<(), Stop> {
+fn write_sum(out: &mut Output, gained: &Gained, all: u64, is_json: bool) -> Result<(), Stop> {
     let Gained { bytes, shards, .. } = *gained;
     let wrote = if is_json {
         write_sum_line(out, gained, all)
@@ -366,10 +355,7 @@ fn write_sum<W: Write>(out: &mut W, gained: &Gained, all: u64, is_json: bool) ->
 }
 
 // Tests that a folder does not hold an array or a group yet.
-fn test_no_array<R: Files + AllocGlobal, C>(
-    array: &Array<'_, R, C>,
-    folder: &str,
-) -> Result<(), Stop> {
+fn test_no_array<C>(array: &Array<'_, C>, folder: &str) -> Result<(), Stop> {
     let alloc = array.alloc();
     let path = format!(in alloc; "{folder}/zarr.json")?;
     if fs::symlink_metadata(array.rt, &path).is_err() {
@@ -380,11 +366,7 @@ fn test_no_array<R: Files + AllocGlobal, C>(
 }
 
 // Copies the metadata of an array to another folder, which is an array's from then on.
-fn copy_metadata<R: Files + AllocGlobal, C, W: Write>(
-    array: &Array<'_, R, C>,
-    folder: &str,
-    out: &mut W,
-) -> Result<(), Stop> {
+fn copy_metadata<C>(array: &Array<'_, C>, folder: &str, out: &mut Output) -> Result<(), Stop> {
     let path = format!(in array.alloc(); "{folder}/zarr.json")?;
     let beside = beside_of(array, &path)?;
     let text = array.metadata.text.as_bytes();
@@ -392,31 +374,31 @@ fn copy_metadata<R: Files + AllocGlobal, C, W: Write>(
 }
 
 // Compacts each shard that a part has, as a rule says, and writes a line for each that is not compact and how many bytes were saved.
-fn compact_part<R: SharedSystem, W: Write, M: Write>(
-    array: &SharedArray<'_, R>,
+fn compact_part<T: Threads + Sync>(
+    array: &SharedArray<'_>,
     part: &ListPart,
     rule: &Rule<'_>,
-    jobs: usize,
-    out: &mut W,
-    progress: &mut Progress<'_, M>,
+    workers: &Workers<'_, T>,
+    out: &mut Output,
+    progress: &mut Progress,
 ) -> Result<Gained, Stop> {
     let files = array.files_in(part)?;
-    let gained = compact_all(array, &files.chunks, rule, jobs, out, progress)?;
+    let gained = compact_all(array, &files.chunks, rule, workers, out, progress)?;
     progress.clear();
     write_sum(out, &gained, files.chunks.len() as u64, rule.is_json)?;
     Ok(gained)
 }
 
-/// Compacts each shard that a part has, by `jobs` threads, and writes a line for each that is not compact, in the order of the shards, and
+/// Compacts each shard that a part has, by threads, and writes a line for each that is not compact, in the order of the shards, and
 /// how many bytes were saved in all. As a copy, each shard is written to the folder of another array, also one that is compact or refused,
 /// and the metadata last, once every shard is there.
-pub fn compact<R: SharedSystem, W: Write, M: Write>(
-    array: &SharedArray<'_, R>,
+pub fn compact<T: Threads + Sync>(
+    array: &SharedArray<'_>,
     way: Way<'_>,
     listing: &Listing,
-    jobs: usize,
-    out: &mut W,
-    progress: &mut Progress<'_, M>,
+    workers: &Workers<'_, T>,
+    out: &mut Output,
+    progress: &mut Progress,
 ) -> Result<Ending, Stop> {
     if let Way::Copy { folder } = way {
         test_no_array(array, folder)?;
@@ -426,7 +408,7 @@ pub fn compact<R: SharedSystem, W: Write, M: Write>(
         folder: way.folder(),
         is_json: listing.is_json,
     };
-    let gained = compact_part(array, &listing.part, &rule, jobs, out, progress)?;
+    let gained = compact_part(array, &listing.part, &rule, workers, out, progress)?;
     // a copy that has not every shard becomes no array
     if let Way::Copy { folder } = way
         && !gained.is_undone

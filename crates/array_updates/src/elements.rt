@@ -6,7 +6,6 @@ use array_grid::Requested;
 use std::alloc::Global;
 use std::io;
 use std::io::ErrorKind;
-use std::rt::Files;
 use storage_files::{file_length, read_file_range};
 use storage_handles::ByteRange;
 
@@ -73,7 +72,7 @@ fn described(file: &[u8]) -> Option<(&str, usize)> {
 }
 
 // The length of the regular file at a path.
-fn length_of<R: Files>(rt: &R, path: &str) -> io::Result<u64> {
+fn length_of(rt: &HostRuntime, path: &str) -> io::Result<u64> {
     match file_length(rt, path)? {
         Some(length) => Ok(length),
         None => Err(io::Error::new(ErrorKind::NotFound, "is not there")),
@@ -81,7 +80,7 @@ fn length_of<R: Files>(rt: &R, path: &str) -> io::Result<u64> {
 }
 
 // The bytes of a file that has a length.
-fn read_all<R: Files + AllocGlobal>(rt: &R, path: &str, length: u64) -> io::Result<Vec<u8>> {
+fn read_all(rt: &HostRuntime, path: &str, length: u64) -> io::Result<Vec<u8>> {
     let mut room = Vec::new(rt.alloc());
     let whole = ByteRange::FromStart(0, Some(length));
     let _ = read_file_range(rt, path, whole, &mut room)?;
@@ -106,12 +105,7 @@ fn wrong_length(alloc: Global, path: &str, length: u64, wanted: u64) -> Result<S
 }
 
 // The bytes of the file at a path: at most a header of a length, and the bytes of elements that are wanted.
-fn read_file<R: Files + AllocGlobal>(
-    rt: &R,
-    path: &str,
-    wanted: u64,
-    header: u64,
-) -> Result<Vec<u8>, Stop> {
+fn read_file(rt: &HostRuntime, path: &str, wanted: u64, header: u64) -> Result<Vec<u8>, Stop> {
     let alloc = rt.alloc();
     let length = named(alloc, path, length_of(rt, path))?;
     if length > wanted.saturating_add(header) {
@@ -121,10 +115,7 @@ fn read_file<R: Files + AllocGlobal>(
 }
 
 // How many bytes the elements of a subset take.
-fn wanted_bytes<R: Files + AllocGlobal, C>(
-    array: &Array<'_, R, C>,
-    requested: &Requested,
-) -> Result<u64, Stop> {
+fn wanted_bytes<C>(array: &Array<'_, C>, requested: &Requested) -> Result<u64, Stop> {
     let size = array.metadata.fill_value.as_ne_bytes().len() as u64;
     let count = requested.subset.num_elements().ok_or(Stop::TooLarge)?;
     count.checked_mul(size).ok_or(Stop::TooLarge)
@@ -132,8 +123,8 @@ fn wanted_bytes<R: Files + AllocGlobal, C>(
 
 /// The header of a file of NumPy's format, at a path, that has the elements that are requested of an array. Refused where memory ran out,
 /// and as `npy_header` refuses.
-pub fn header_of<R: Files + AllocGlobal, C>(
-    array: &Array<'_, R, C>,
+pub fn header_of<C>(
+    array: &Array<'_, C>,
     requested: &Requested,
     path: &str,
 ) -> Result<Vec<u8>, Stop> {
@@ -157,8 +148,8 @@ fn header_length(alloc: Global, path: &str, bytes: &[u8], wanted: &str) -> Resul
 }
 
 // The elements of a file of NumPy's format. Refused as `Stop::Header` where it has not the description of those that are wanted.
-fn npy_elements<R: Files + AllocGlobal, C>(
-    array: &Array<'_, R, C>,
+fn npy_elements<C>(
+    array: &Array<'_, C>,
     requested: &Requested,
     path: &str,
     wanted: u64,
@@ -171,11 +162,7 @@ fn npy_elements<R: Files + AllocGlobal, C>(
 }
 
 // The elements of a file that has nothing else.
-fn raw_elements<R: Files + AllocGlobal>(
-    rt: &R,
-    path: &str,
-    wanted: u64,
-) -> Result<FileElements, Stop> {
+fn raw_elements(rt: &HostRuntime, path: &str, wanted: u64) -> Result<FileElements, Stop> {
     let bytes = read_file(rt, path, wanted, 0)?;
     Ok(FileElements { bytes, header: 0 })
 }
@@ -197,8 +184,8 @@ fn test_length(
 /// The elements of a file that are to be a subset of an array. Refused, in this order, as `Stop::System` where the file is not read,
 /// as `Stop::Length` where it is too long, as `Stop::Header` where it is not of NumPy's format with the description of these elements,
 /// and as `Stop::Length` where it is too short.
-pub fn elements_of_file<R: Files + AllocGlobal, C>(
-    array: &Array<'_, R, C>,
+pub fn elements_of_file<C>(
+    array: &Array<'_, C>,
     requested: &Requested,
     file: ElementsFile<'_>,
 ) -> Result<FileElements, Stop> {

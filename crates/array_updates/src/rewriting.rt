@@ -1,5 +1,5 @@
 // A compact shard that is written in the place of a shard's file.
-use array_cli::{Array, Place, Shard, ShardFile, Stop};
+use array_cli::{Array, Output, Place, Shard, ShardFile, Stop};
 use array_folder::{begin, tell_owner};
 use parts_errors::CodecError;
 use sharding_format::ShardingIndexLocation;
@@ -7,7 +7,6 @@ use sharding_layout::CompactionPlan;
 use std::alloc::Global;
 use std::io;
 use std::io::Write;
-use std::rt::Files;
 use storage_files::Replacement;
 use storage_handles::{ByteRange, BytesPartialDecoderTraits, read_range};
 
@@ -34,12 +33,12 @@ impl From<io::Error> for Failure {
 }
 
 // Appends bytes of an old file to the new one.
-fn copy_piece<H: BytesPartialDecoderTraits, R: Files>(
+fn copy_piece<H: BytesPartialDecoderTraits>(
     alloc: Global,
     old: &mut H,
     offset: u64,
     size: u64,
-    new: &mut Replacement<R>,
+    new: &mut Replacement<&HostRuntime>,
 ) -> Result<(), Failure> {
     let mut room: Vec<u8> = Vec::new(alloc);
     let range = ByteRange::FromStart(offset, Some(size));
@@ -50,12 +49,12 @@ fn copy_piece<H: BytesPartialDecoderTraits, R: Files>(
 }
 
 // Appends a slice of an old file to the new one.
-fn copy_slice<H: BytesPartialDecoderTraits, R: Files>(
+fn copy_slice<H: BytesPartialDecoderTraits>(
     alloc: Global,
     old: &mut H,
     offset: u64,
     size: u64,
-    new: &mut Replacement<R>,
+    new: &mut Replacement<&HostRuntime>,
 ) -> Result<(), Failure> {
     for done in (0..size).step_by(PIECE) {
         let piece = size.saturating_sub(done).min(PIECE as u64);
@@ -65,11 +64,11 @@ fn copy_slice<H: BytesPartialDecoderTraits, R: Files>(
 }
 
 // Appends the slices of a plan to the new file.
-fn copy_slices<H: BytesPartialDecoderTraits, R: Files>(
+fn copy_slices<H: BytesPartialDecoderTraits>(
     alloc: Global,
     old: &mut H,
     plan: &CompactionPlan,
-    new: &mut Replacement<R>,
+    new: &mut Replacement<&HostRuntime>,
 ) -> Result<(), Failure> {
     for subchunk in 0..plan.subchunks() {
         if let Some(slice) = plan.slice(subchunk) {
@@ -80,10 +79,10 @@ fn copy_slices<H: BytesPartialDecoderTraits, R: Files>(
 }
 
 // Appends all bytes of an old file to the new one.
-fn copy_file<H: BytesPartialDecoderTraits, R: Files>(
+fn copy_file<H: BytesPartialDecoderTraits>(
     alloc: Global,
     old: &mut H,
-    new: &mut Replacement<R>,
+    new: &mut Replacement<&HostRuntime>,
 ) -> Result<(), Failure> {
     match old.len()? {
         Some(length) => copy_slice(alloc, old, 0, length, new),
@@ -92,11 +91,11 @@ fn copy_file<H: BytesPartialDecoderTraits, R: Files>(
 }
 
 // Writes what a plan says to the new file; without a plan what the old one has.
-fn write_plan<H: BytesPartialDecoderTraits, R: Files>(
+fn write_plan<H: BytesPartialDecoderTraits>(
     alloc: Global,
     old: &mut H,
     plan: Option<&CompactionPlan>,
-    new: &mut Replacement<R>,
+    new: &mut Replacement<&HostRuntime>,
 ) -> Result<(), Failure> {
     let Some(plan) = plan else {
         return copy_file(alloc, old, new);
@@ -115,11 +114,11 @@ fn write_plan<H: BytesPartialDecoderTraits, R: Files>(
 
 // Writes what a plan says, or without a plan what the old file has, to the new file, and puts it in its place. Where that is refused,
 // what stood there stands.
-fn carry_out<H: BytesPartialDecoderTraits, R: Files + Drop>(
+fn carry_out<H: BytesPartialDecoderTraits>(
     alloc: Global,
     old: &mut H,
     plan: Option<&CompactionPlan>,
-    mut new: Replacement<R>,
+    mut new: Replacement<&HostRuntime>,
 ) -> Result<(), Failure> {
     match write_plan(alloc, old, plan, &mut new) {
         Ok(()) => Ok(new.finish()?),
@@ -131,10 +130,10 @@ fn carry_out<H: BytesPartialDecoderTraits, R: Files + Drop>(
 }
 
 // Why a shard was not replaced.
-fn stop_of<'a, R: Files + AllocGlobal, C>(
-    array: &Array<'a, R, C>,
+fn stop_of<'a, C>(
+    array: &Array<'a, C>,
     shard: &Shard<'_>,
-    old: &ShardFile<'a, R>,
+    old: &ShardFile<'a>,
     beside: &str,
     failure: Failure,
 ) -> Stop {
@@ -146,13 +145,13 @@ fn stop_of<'a, R: Files + AllocGlobal, C>(
 
 /// Puts what a plan says, or without a plan the shard as it is, at a path, by a new file that stands at the path `beside` until it is
 /// whole; or says that a file stands there already.
-pub fn replace<'a, R: Files + AllocGlobal, C, W: Write>(
-    array: &Array<'a, R, C>,
+pub fn replace<'a, C>(
+    array: &Array<'a, C>,
     shard: &Shard<'_>,
-    old: &mut ShardFile<'a, R>,
+    old: &mut ShardFile<'a>,
     (path, beside): (&str, &str),
     plan: Option<&CompactionPlan>,
-    out: &mut W,
+    out: &mut Output,
 ) -> Result<bool, Stop> {
     let Some(new) = begin(array.rt, path, beside)? else {
         return Ok(false);

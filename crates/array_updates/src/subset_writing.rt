@@ -1,7 +1,7 @@
 // Elements that are written into an array.
 use crate::elements::{ElementsFile, elements_of_file};
 use array_cli::{
-    Array, Ending, OpenShard, Place, Progress, Shard, ShardCodec, ShardFile, Stop,
+    Array, Ending, OpenShard, Output, Place, Progress, Shard, ShardCodec, ShardFile, Stop,
     chunk_of_fill_values, elements_of, shard_of_grid, shards_of, turned, whole_of, written,
 };
 use array_folder::{Counted, save};
@@ -14,7 +14,6 @@ use std::alloc::{AllocError, Global};
 use std::borrow::CowSlice;
 use std::fs;
 use std::io::{ErrorKind, Write};
-use std::rt::Files;
 use storage_files::path_beside;
 
 // The elements that are written, and the subset that they are.
@@ -25,7 +24,7 @@ struct Update<'u> {
 }
 
 // Puts all elements of a shard that is open into cells of its shape.
-fn put_all<'a, R: Files + 'a, S: OpenShard<ShardFile<'a, R>>>(
+fn put_all<'a, S: OpenShard<ShardFile<'a>>>(
     alloc: Global,
     metadata: &ArrayMetadata,
     opened: &mut S,
@@ -37,8 +36,8 @@ fn put_all<'a, R: Files + 'a, S: OpenShard<ShardFile<'a, R>>>(
 }
 
 // Puts all elements of a shard into cells of its shape.
-fn put_shard<'a, R: Files + AllocGlobal, C: ShardCodec<ShardFile<'a, R>>>(
-    array: &Array<'a, R, C>,
+fn put_shard<'a, C: ShardCodec<ShardFile<'a>>>(
+    array: &Array<'a, C>,
     shard: &Shard<'_>,
     whole: &ArraySubset,
     cells: &mut SubsetCells,
@@ -53,8 +52,8 @@ fn put_shard<'a, R: Files + AllocGlobal, C: ShardCodec<ShardFile<'a, R>>>(
 }
 
 // Whether a part of a shard is all that the shard has of the array.
-fn is_whole<R: Files + AllocGlobal, C>(
-    array: &Array<'_, R, C>,
+fn is_whole<C>(
+    array: &Array<'_, C>,
     shard: &Shard<'_>,
     part: &ShardPart,
 ) -> Result<bool, AllocError> {
@@ -72,8 +71,8 @@ fn is_whole<R: Files + AllocGlobal, C>(
 }
 
 // Puts the elements of a shard, of which a part is to be written, where another element of the array stays.
-fn put_old<'a, R: Files + AllocGlobal, C: ShardCodec<ShardFile<'a, R>>>(
-    array: &Array<'a, R, C>,
+fn put_old<'a, C: ShardCodec<ShardFile<'a>>>(
+    array: &Array<'a, C>,
     shard: &Shard<'_>,
     part: &ShardPart,
     cells: &mut SubsetCells,
@@ -86,8 +85,8 @@ fn put_old<'a, R: Files + AllocGlobal, C: ShardCodec<ShardFile<'a, R>>>(
 }
 
 // The elements of a shard, of which a part is to be written: as they are, or fill values where no other element of the array stays.
-fn old_cells<'a, R: Files + AllocGlobal, C: ShardCodec<ShardFile<'a, R>>>(
-    array: &Array<'a, R, C>,
+fn old_cells<'a, C: ShardCodec<ShardFile<'a>>>(
+    array: &Array<'a, C>,
     shard: &Shard<'_>,
     part: &ShardPart,
 ) -> Result<SubsetCells, Stop> {
@@ -114,8 +113,8 @@ fn put_update(
 }
 
 // The bytes of a shard of these elements; `None` where each of them is the fill value.
-fn encoded<'a, R: Files + AllocGlobal, C: ShardCodec<ShardFile<'a, R>>>(
-    array: &Array<'a, R, C>,
+fn encoded<'a, C: ShardCodec<ShardFile<'a>>>(
+    array: &Array<'a, C>,
     cells: &SubsetCells,
 ) -> Result<Option<Vec<u8>>, CodecError> {
     let size = array.metadata.fill_value.as_ne_bytes().len();
@@ -126,8 +125,8 @@ fn encoded<'a, R: Files + AllocGlobal, C: ShardCodec<ShardFile<'a, R>>>(
 }
 
 // The bytes of a shard of which a part is written; `None` where each of its elements is the fill value then.
-fn new_shard<'a, R: Files + AllocGlobal, C: ShardCodec<ShardFile<'a, R>>>(
-    array: &Array<'a, R, C>,
+fn new_shard<'a, C: ShardCodec<ShardFile<'a>>>(
+    array: &Array<'a, C>,
     shard: &Shard<'_>,
     part: &ShardPart,
     update: &Update<'_>,
@@ -138,7 +137,7 @@ fn new_shard<'a, R: Files + AllocGlobal, C: ShardCodec<ShardFile<'a, R>>>(
 }
 
 // Removes the file at a path, if it is there.
-fn remove<R: Files + AllocGlobal>(rt: &R, path: &str) -> Result<(), Stop> {
+fn remove(rt: &HostRuntime, path: &str) -> Result<(), Stop> {
     match fs::remove_file(rt, path) {
         Ok(()) => Ok(()),
         Err(error) if error.kind() == ErrorKind::NotFound => Ok(()),
@@ -147,12 +146,7 @@ fn remove<R: Files + AllocGlobal>(rt: &R, path: &str) -> Result<(), Stop> {
 }
 
 // Puts a shard of these bytes at a path, by a new file beside it.
-fn save_shard<R: Files + AllocGlobal, W: Write>(
-    rt: &R,
-    path: &str,
-    bytes: &[u8],
-    out: &mut W,
-) -> Result<(), Stop> {
+fn save_shard(rt: &HostRuntime, path: &str, bytes: &[u8], out: &mut Output) -> Result<(), Stop> {
     match path_beside(rt.alloc(), rt, path) {
         Ok(beside) => Ok(save(rt, path, &beside, &[], bytes, out)?),
         Err(error) => Err(Stop::system(rt.alloc(), path, error)),
@@ -160,11 +154,11 @@ fn save_shard<R: Files + AllocGlobal, W: Write>(
 }
 
 // Puts a shard of these bytes in the place of the one with a key, or removes its file where there are none. Writes a line that says it.
-fn replace<R: Files + AllocGlobal, C, W: Write>(
-    array: &Array<'_, R, C>,
+fn replace<C>(
+    array: &Array<'_, C>,
     key: &str,
     bytes: Option<&[u8]>,
-    out: &mut W,
+    out: &mut Output,
 ) -> Result<(), Stop> {
     let path = array.path_of(key)?;
     // a line that nobody reads stops nothing
@@ -182,12 +176,12 @@ fn replace<R: Files + AllocGlobal, C, W: Write>(
 }
 
 // Writes a part of an update into the shard in which it lies.
-fn write_part<'a, R: Files + AllocGlobal, C: ShardCodec<ShardFile<'a, R>>, W: Write>(
-    array: &Array<'a, R, C>,
+fn write_part<'a, C: ShardCodec<ShardFile<'a>>>(
+    array: &Array<'a, C>,
     grid: &ShardGrid,
     part: &ShardPart,
     update: &Update<'_>,
-    out: &mut W,
+    out: &mut Output,
 ) -> Result<(), Stop> {
     let shard = shard_of_grid(array, grid, part.shard)?;
     let bytes = new_shard(array, &shard.shard(), part, update)?;
@@ -195,13 +189,13 @@ fn write_part<'a, R: Files + AllocGlobal, C: ShardCodec<ShardFile<'a, R>>, W: Wr
 }
 
 // Writes the parts of an update, one of each shard in which it lies.
-fn write_parts<'a, R: Files + AllocGlobal, C: ShardCodec<ShardFile<'a, R>>, W: Write, M: Write>(
-    array: &Array<'a, R, C>,
+fn write_parts<'a, C: ShardCodec<ShardFile<'a>>>(
+    array: &Array<'a, C>,
     grid: &ShardGrid,
     parts: &ShardParts,
     update: &Update<'_>,
-    out: &mut W,
-    progress: &mut Progress<'_, M>,
+    out: &mut Output,
+    progress: &mut Progress,
 ) -> Result<(), Stop> {
     for number in 0..parts.len() {
         progress.step(number, parts.len());
@@ -215,12 +209,12 @@ fn write_parts<'a, R: Files + AllocGlobal, C: ShardCodec<ShardFile<'a, R>>, W: W
 }
 
 // Writes an update into the shards of a grid in which it lies, and says how many these are.
-fn write_in_grid<'a, R: Files + AllocGlobal, C: ShardCodec<ShardFile<'a, R>>, W: Write, M: Write>(
-    array: &Array<'a, R, C>,
+fn write_in_grid<'a, C: ShardCodec<ShardFile<'a>>>(
+    array: &Array<'a, C>,
     grid: &ShardGrid,
     update: &Update<'_>,
-    out: &mut W,
-    progress: &mut Progress<'_, M>,
+    out: &mut Output,
+    progress: &mut Progress,
 ) -> Result<u64, Stop> {
     let parts = grid.parts(array.alloc(), update.subset)?;
     write_parts(array, grid, &parts, update, out, progress)?;
@@ -228,23 +222,23 @@ fn write_in_grid<'a, R: Files + AllocGlobal, C: ShardCodec<ShardFile<'a, R>>, W:
 }
 
 // Writes an update into the shards of an array in which it lies, and says how many these are.
-fn write_in_shards<'a, R: Files + AllocGlobal, C: ShardCodec<ShardFile<'a, R>>, W: Write, M: Write>(
-    array: &Array<'a, R, C>,
+fn write_in_shards<'a, C: ShardCodec<ShardFile<'a>>>(
+    array: &Array<'a, C>,
     update: &Update<'_>,
-    out: &mut W,
-    progress: &mut Progress<'_, M>,
+    out: &mut Output,
+    progress: &mut Progress,
 ) -> Result<u64, Stop> {
     let grid = shards_of(array)?;
     write_in_grid(array, &grid, update, out, progress)
 }
 
 // Writes elements, as they are stored, into a subset of an array.
-fn write_update<'a, R: Files + AllocGlobal, C: ShardCodec<ShardFile<'a, R>>, W: Write, M: Write>(
-    array: &Array<'a, R, C>,
+fn write_update<'a, C: ShardCodec<ShardFile<'a>>>(
+    array: &Array<'a, C>,
     subset: &ArraySubset,
     elements: &[u8],
-    out: &mut W,
-    progress: &mut Progress<'_, M>,
+    out: &mut Output,
+    progress: &mut Progress,
 ) -> Result<u64, Stop> {
     let size = array.metadata.fill_value.as_ne_bytes().len();
     match ArrayBytes::new_flen(CowSlice::Borrowed(elements), size) {
@@ -257,12 +251,12 @@ fn write_update<'a, R: Files + AllocGlobal, C: ShardCodec<ShardFile<'a, R>>, W: 
 }
 
 // Writes elements into a subset of an array, and says how many shards these lie in.
-fn write_elements<'a, R: Files + AllocGlobal, C: ShardCodec<ShardFile<'a, R>>, W: Write, M: Write>(
-    array: &Array<'a, R, C>,
+fn write_elements<'a, C: ShardCodec<ShardFile<'a>>>(
+    array: &Array<'a, C>,
     subset: &ArraySubset,
     elements: &[u8],
-    out: &mut W,
-    progress: &mut Progress<'_, M>,
+    out: &mut Output,
+    progress: &mut Progress,
 ) -> Result<u64, Stop> {
     match turned(array.alloc(), array.metadata, elements)? {
         Some(stored) => write_update(array, subset, &stored, out, progress),
@@ -271,12 +265,12 @@ fn write_elements<'a, R: Files + AllocGlobal, C: ShardCodec<ShardFile<'a, R>>, W
 }
 
 // Writes the elements of a file into a subset of an array, and says how many shards these lie in.
-fn write_file<'a, R: Files + AllocGlobal, C: ShardCodec<ShardFile<'a, R>>, W: Write, M: Write>(
-    array: &Array<'a, R, C>,
+fn write_file<'a, C: ShardCodec<ShardFile<'a>>>(
+    array: &Array<'a, C>,
     requested: &Requested,
     file: ElementsFile<'_>,
-    out: &mut W,
-    progress: &mut Progress<'_, M>,
+    out: &mut Output,
+    progress: &mut Progress,
 ) -> Result<u64, Stop> {
     let found = elements_of_file(array, requested, file)?;
     write_elements(array, &requested.subset, found.as_slice(), out, progress)
@@ -287,18 +281,12 @@ fn write_file<'a, R: Files + AllocGlobal, C: ShardCodec<ShardFile<'a, R>>, W: Wr
 /// elements are the fill value then; a line tells of it. Refused, in this order, as `Stop::Metadata` where elements are not read, as
 /// `Stop::Box` where the text names no subset, as `elements_of_file` refuses, and as a shard is refused that is to keep some of its
 /// elements: those before it are written then, and none behind it.
-pub fn write_subset<
-    'a,
-    R: Files + AllocGlobal,
-    C: ShardCodec<ShardFile<'a, R>>,
-    W: Write,
-    M: Write,
->(
-    array: &Array<'a, R, C>,
+pub fn write_subset<'a, C: ShardCodec<ShardFile<'a>>>(
+    array: &Array<'a, C>,
     requested: Option<&str>,
     file: ElementsFile<'_>,
-    out: &mut W,
-    progress: &mut Progress<'_, M>,
+    out: &mut Output,
+    progress: &mut Progress,
 ) -> Result<Ending, Stop> {
     array.test_sized()?;
     let requested = subset_of(array.alloc(), requested, &array.metadata.shape)?;

@@ -1,6 +1,7 @@
 // A subset that lies in four chunks, of which two are there: three rows of four elements of one byte, in chunks of two rows of two. The
 // sharding codec encodes them, by subchunks of one row; the fill value is 9.
 use array_grid::{ChunkKeys, KeyEncoding};
+use array_metadata::ArrayMetadata;
 use array_store::{
     Array, ArrayError, ArrayFormat, MemoryStore, OpenError, Store, create_metadata, open_metadata,
     put_metadata,
@@ -193,15 +194,24 @@ const TEXT: &str =
     "chunk_grid": {"name": "regular", "configuration": {"chunk_shape": [2]}}, "chunk_key_encoding": {"name": "default"},
     "codecs": [{"name": "bytes"}], "attributes": {"unit": "m"}, "later": {"must_understand": false}}"#;
 
+// The metadata of a new array with this text.
+fn opened<R: Abort>(rt: &R, alloc: Global) -> ArrayMetadata {
+    let mut store = MemoryStore::new(alloc);
+    create_metadata(alloc, &mut store, TEXT).expect(rt, "refused");
+    open_metadata(alloc, &store).expect(rt, "refused")
+}
+
+// Ends the test where metadata is not written as this text, or written where some stands already.
+fn check_written<R: Abort>(rt: &R, alloc: Global, metadata: &ArrayMetadata) {
+    let mut store = MemoryStore::new(alloc);
+    put_metadata(alloc, &mut store, metadata).expect(rt, "refused");
+    assert_eq!(rt; store.get("zarr.json"), Some(TEXT.as_bytes()));
+    let refused = put_metadata(alloc, &mut store, metadata);
+    assert!(rt; matches!(refused, Err(OpenError::Present)));
+}
+
 #[test]
 fn metadata_is_written_as_it_was_read(rt: HostRuntime) {
-    let alloc = rt.alloc();
-    let mut one = MemoryStore::new(alloc);
-    create_metadata(alloc, &mut one, TEXT).expect(&rt, "refused");
-    let metadata = open_metadata(alloc, &one).expect(&rt, "refused");
-    let mut other = MemoryStore::new(alloc);
-    put_metadata(alloc, &mut other, &metadata).expect(&rt, "refused");
-    assert_eq!(rt; other.get("zarr.json"), Some(TEXT.as_bytes()));
-    let refused = put_metadata(alloc, &mut other, &metadata);
-    assert!(rt; matches!(refused, Err(OpenError::Present)));
+    let metadata = opened(&rt, rt.alloc());
+    check_written(&rt, rt.alloc(), &metadata);
 }

@@ -31,6 +31,6 @@ fn main(rt: HostRuntime) -> ExitCode {
         }
     };
     let shows_progress = messages.is_terminal();
-    let status = run_command(&rt, &words, io::writer(&rt), messages, shows_progress);
+    let status = run_command(&rt, &rt, &words, shows_progress);
     ExitCode::from(status)
 }
