@@ -8,11 +8,20 @@ use std::alloc::{AllocError, Global};
 use std::marker::Model;
 
 /// A permutation of the axes of an array (Zarr V3, codec `transpose`): axis i of the transposed array is axis `order[i]` of this.
-#[derive(Debug, Drop)]
+#[derive(Debug)]
 pub struct AxisOrder {
     order: Vec<u64>,
     // where each axis stands in the order
     inverse: Vec<u64>,
+}
+
+impl Drop for AxisOrder {
+    fn drop(self) {
+        let AxisOrder {
+            order: _,
+            inverse: _,
+        } = self;
+    }
 }
 
 impl Model for AxisOrder {

@@ -18,11 +18,20 @@ use std::borrow::CowSlice;
 use std::marker::Model;
 
 /// The cells of a subset of an array, in row-major order of the subset; their elements have one size.
-#[derive(Drop)]
 pub struct SubsetCells {
     bytes: Vec<u8>,
     element_size: usize,
     shape: Vec<u64>,
+}
+
+impl Drop for SubsetCells {
+    fn drop(self) {
+        let SubsetCells {
+            bytes: _,
+            element_size: _,
+            shape: _,
+        } = self;
+    }
 }
 
 impl Model for SubsetCells {

@@ -18,7 +18,6 @@ use std::marker::Model;
 /// The shards of an array of a regular chunk grid (Zarr V3 core, "Regular grids"), numbered in row-major order of the grid.
 /// Along an axis there are as many as hold all its cells, so that those at the edge may reach beyond the shape; an array
 /// without cells has none.
-#[derive(Drop)]
 pub struct ShardGrid {
     pub(crate) shape: Vec<u64>,
     pub(crate) shard: ChunkShape,
@@ -27,6 +26,18 @@ pub struct ShardGrid {
     // how many shards there are along each axis
     pub(crate) grid: ChunkShape,
     len: u64,
+}
+
+impl Drop for ShardGrid {
+    fn drop(self) {
+        let ShardGrid {
+            shape: _,
+            shard: _,
+            whole: _,
+            grid: _,
+            len: _,
+        } = self;
+    }
 }
 
 impl Model for ShardGrid {

@@ -26,13 +26,23 @@ pub struct ShardPart {
 
 /// The parts that a subset of an array is made of, one of each shard that it meets, in the order of the shards' numbers. They are made
 /// one at a time: what this holds does not grow with their number.
-#[derive(Drop)]
 pub struct ShardParts<'a> {
     grid: &'a ShardGrid,
     subset: &'a ArraySubset,
     // the shards that the subset meets, as a subset of the grid
     touched: ArraySubset,
     len: u64,
+}
+
+impl Drop for ShardParts<'_> {
+    fn drop(self) {
+        let ShardParts {
+            grid: _,
+            subset: _,
+            touched: _,
+            len: _,
+        } = self;
+    }
 }
 
 impl<'a> Model for ShardParts<'a> {

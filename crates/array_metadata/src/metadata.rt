@@ -33,7 +33,6 @@ use serde_json::Value;
 use std::alloc::{AllocError, Global};
 
 /// The metadata of an array whose chunks are shards, or elements (Zarr V3 core, "Array metadata").
-#[derive(Drop)]
 pub struct ArrayMetadata {
     /// How many cells there are along each axis; 0 is served.
     pub shape: Vec<u64>,
@@ -62,6 +61,27 @@ pub struct ArrayMetadata {
     pub codecs: String,
     /// The text of the `zarr.json` that says this, as it stands there, with attributes and all members that need not be understood.
     pub text: String,
+}
+
+impl Drop for ArrayMetadata {
+    fn drop(self) {
+        let ArrayMetadata {
+            shape: _,
+            dimension_names: _,
+            shard: _,
+            encoded: _,
+            subchunk: _,
+            keys: _,
+            element_type: _,
+            data_type: _,
+            fill_value: _,
+            codec: _,
+            unread: _,
+            type_text: _,
+            codecs: _,
+            text: _,
+        } = self;
+    }
 }
 
 // Tests that a grid is the regular one. Refused as `BadField`.

@@ -18,9 +18,14 @@ struct StoredObject {
 }
 
 /// Objects in memory. It is transparent and never fails.
-#[derive(Drop)]
 pub struct MemoryStore {
     objects: Vec<StoredObject>,
+}
+
+impl Drop for MemoryStore {
+    fn drop(self) {
+        let MemoryStore { objects: _ } = self;
+    }
 }
 
 impl Model for MemoryStore {

@@ -38,10 +38,16 @@ enum Held {
 
 /// The elements of an array in row-major order, each a string of bytes: all of one size, or each of a
 /// length of its own; borrowed or owned.
-#[derive(Debug, Drop)]
+#[derive(Debug)]
 pub struct ArrayBytes<'a> {
     bytes: CowSlice<'a, u8>,
     held: Held,
+}
+
+impl Drop for ArrayBytes<'_> {
+    fn drop(self) {
+        let ArrayBytes { bytes: _, held: _ } = self;
+    }
 }
 
 impl<'a> Model for ArrayBytes<'a> {

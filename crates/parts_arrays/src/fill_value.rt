@@ -5,9 +5,15 @@ use std::alloc::{AllocError, Global};
 use std::marker::Model;
 
 /// The bytes of the element that stands wherever nothing was written (Zarr V3 core, "Fill value").
-#[derive(Debug, Drop)]
+#[derive(Debug)]
 pub struct FillValue {
     bytes: Vec<u8>,
+}
+
+impl Drop for FillValue {
+    fn drop(self) {
+        let FillValue { bytes: _ } = self;
+    }
 }
 
 impl Model for FillValue {

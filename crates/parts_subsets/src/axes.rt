@@ -7,13 +7,22 @@ use std::marker::Model;
 use std::ops::DerefSlice;
 
 /// One number for each axis: up to four in the value itself, more of them in memory of their own.
-#[derive(Drop)]
 pub struct Axes {
     few: [u64; 4],
     // how many of the few are held
     len: usize,
     // all numbers, or none where they are few
     many: Vec<u64>,
+}
+
+impl Drop for Axes {
+    fn drop(self) {
+        let Axes {
+            few: _,
+            len: _,
+            many: _,
+        } = self;
+    }
 }
 
 impl Model for Axes {

@@ -41,11 +41,21 @@ pub trait Indexer {
 }
 
 /// Listed coordinates, each with as many numbers; one may come more than once.
-#[derive(Debug, Drop)]
+#[derive(Debug)]
 pub struct Coordinates {
     dimensionality: usize,
     count: u64,
     flat: Vec<u64>,
+}
+
+impl Drop for Coordinates {
+    fn drop(self) {
+        let Coordinates {
+            dimensionality: _,
+            count: _,
+            flat: _,
+        } = self;
+    }
 }
 
 impl Model for Coordinates {

@@ -8,11 +8,17 @@ use std::alloc::{AllocError, Global};
 use std::marker::Model;
 
 /// A shape whose axes are all at least 1: of a shard, of a subchunk, or of the grid of subchunks.
-#[derive(Debug, Drop)]
+#[derive(Debug)]
 pub struct ChunkShape {
     axes: Axes,
     // their product, if it fits
     count: Option<u64>,
+}
+
+impl Drop for ChunkShape {
+    fn drop(self) {
+        let ChunkShape { axes: _, count: _ } = self;
+    }
 }
 
 impl Model for ChunkShape {

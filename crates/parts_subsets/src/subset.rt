@@ -18,10 +18,16 @@ use std::ops::Range;
 pub use touched::touched_subset;
 
 /// A subset of coordinates: a start and a length along each axis, whose sum fits 64 bits.
-#[derive(Debug, Drop)]
+#[derive(Debug)]
 pub struct ArraySubset {
     start: Axes,
     shape: Axes,
+}
+
+impl Drop for ArraySubset {
+    fn drop(self) {
+        let ArraySubset { start: _, shape: _ } = self;
+    }
 }
 
 impl Model for ArraySubset {

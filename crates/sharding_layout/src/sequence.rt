@@ -13,11 +13,20 @@ use std::marker::Model;
 
 /// The row-major numbers of the subchunks of a grid, each once, in the order in which a shard has their encodings. The ascending
 /// order takes no memory.
-#[derive(Drop)]
 pub struct SubchunkSequence {
     count: u64,
     is_ascending: bool,
     listed: Vec<u64>,
+}
+
+impl Drop for SubchunkSequence {
+    fn drop(self) {
+        let SubchunkSequence {
+            count: _,
+            is_ascending: _,
+            listed: _,
+        } = self;
+    }
 }
 
 impl Model for SubchunkSequence {

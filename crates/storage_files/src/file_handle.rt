@@ -26,7 +26,6 @@ use storage_handles::{ByteRange, Interval, LendsSlice};
 /// file's length as it was told last, and once more where it passes that or the file ends before. `partial_encode_many` writes
 /// in place, and makes the folders that are missing. `replace` makes a `Replacement`: whoever reads, and whoever looks after a
 /// crash, finds the old object or the new one. It is refused while another one stands there.
-#[derive(Drop)]
 pub struct FileHandle<R: Files> {
     files: R,
     path: String,
@@ -42,6 +41,23 @@ pub struct FileHandle<R: Files> {
     // as `u64::MAX` where it would pass that
     fault_count: u64,
     error: Option<io::Error>,
+}
+
+impl<R: Files + Drop> Drop for FileHandle<R> {
+    fn drop(self) {
+        let FileHandle {
+            files: _,
+            path: _,
+            file: _,
+            told_length: _,
+            place: _,
+            room: _,
+            ahead: _,
+            faults: _,
+            fault_count: _,
+            error: _,
+        } = self;
+    }
 }
 
 impl<R: Files> Model for FileHandle<R> {

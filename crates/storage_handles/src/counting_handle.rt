@@ -9,11 +9,19 @@ use std::marker::Model;
 
 /// Bytes in memory of its own, that are only read, and how many of them were lent in all: those that are lent twice count
 /// twice. It always lends, is transparent and never fails. No clause says what it counts.
-#[derive(Drop)]
 pub struct CountingHandle {
     bytes: Vec<u8>,
     // as `u64::MAX` where it would pass that
     bytes_read: u64,
+}
+
+impl Drop for CountingHandle {
+    fn drop(self) {
+        let CountingHandle {
+            bytes: _,
+            bytes_read: _,
+        } = self;
+    }
 }
 
 impl Model for CountingHandle {

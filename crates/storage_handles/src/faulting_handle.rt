@@ -15,11 +15,19 @@ use std::marker::Model;
 
 /// An object in memory, or none, behind a handle of which one call fails. Counted are the calls that answer a `Result`:
 /// the one with a given number, from 0, does nothing and is refused as `Fault`. It is transparent.
-#[derive(Drop)]
 pub struct FaultingHandle {
     handle: MemoryHandle,
     // how many calls come before the one that fails, or none once it has failed
     calls_left: Option<u64>,
+}
+
+impl Drop for FaultingHandle {
+    fn drop(self) {
+        let FaultingHandle {
+            handle: _,
+            calls_left: _,
+        } = self;
+    }
 }
 
 impl Model for FaultingHandle {
@@ -46,7 +54,11 @@ impl FaultingHandle {
     pub fn into_inner(self) -> Option<Vec<u8>>
         ensures { seen (λ bytes. bytes.items) result ≡ self.object }
     {
-        self.handle.into_inner()
+        let FaultingHandle {
+            handle,
+            calls_left: _,
+        } = self;
+        handle.into_inner()
     }
 
     /// How often a call failed: once, or not yet.

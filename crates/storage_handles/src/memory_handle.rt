@@ -11,9 +11,14 @@ use std::alloc::Global;
 use std::marker::Model;
 
 /// An object in memory of its own, or none. It is transparent and never fails.
-#[derive(Drop)]
 pub struct MemoryHandle {
     object: Option<Vec<u8>>,
+}
+
+impl Drop for MemoryHandle {
+    fn drop(self) {
+        let MemoryHandle { object: _ } = self;
+    }
 }
 
 impl Model for MemoryHandle {
@@ -38,7 +43,8 @@ impl MemoryHandle {
     pub fn into_inner(self) -> Option<Vec<u8>>
         ensures { seen (λ bytes. bytes.items) result ≡ self }
     {
-        self.object
+        let MemoryHandle { object } = self;
+        object
     }
 }
 

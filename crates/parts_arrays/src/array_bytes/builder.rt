@@ -14,10 +14,16 @@ use std::borrow::CowSlice;
 use std::marker::Model;
 
 /// Elements that are gathered one after the other into an array.
-#[derive(Debug, Drop)]
+#[derive(Debug)]
 pub struct ArrayBuilder {
     bytes: Vec<u8>,
     held: Held,
+}
+
+impl Drop for ArrayBuilder {
+    fn drop(self) {
+        let ArrayBuilder { bytes: _, held: _ } = self;
+    }
 }
 
 impl Model for ArrayBuilder {
