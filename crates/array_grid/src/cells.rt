@@ -140,6 +140,7 @@ impl SubsetCells {
     pub fn put(&mut self, in_subset: &ArraySubset, part: &ArrayBytes) -> Result<(), CodecError>
         ensures same_size { self.new.element_size ≡ self.old.element_size }
         ensures same_shape { self.new.shape ≡ self.old.shape }
+        ensures whole { AreWhole self.new.bytes self.new.element_size self.new.shape }
         ensures written { OnOk result (IsUpdated (count_of in_subset.now.shape) (number_in in_subset.now self.old.shape)
             (piece self.old.element_size self.old.bytes) (element_of part.now) (piece self.old.element_size self.new.bytes)) }
         ensures served { OnOk result (IsServed in_subset.now self.old.shape) }
