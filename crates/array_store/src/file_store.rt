@@ -6,20 +6,21 @@ use crate::store::Store;
 use array_folder::{ChunkFiles, ChunkGrid, FolderError, list_chunks};
 use parts_errors::CodecError;
 use std::alloc::{AllocError, Global};
+use std::rt::Files;
 use storage_files::FileHandle;
 use storage_handles::BytesPartialEncoderTraits;
 
 /// Objects that are the files of a folder: the key is the path from there (Zarr V3, "File system store"). It is not transparent. Files
 /// are read, replaced and removed as `FileHandle` says: whoever reads a file meanwhile finds the old object or the new one.
 #[derive(Drop)]
-pub struct FileStore<'a> {
-    files: &'a HostRuntime,
+pub struct FileStore<'a, R> {
+    files: &'a R,
     path: String,
 }
 
-impl<'a> FileStore<'a> {
+impl<'a, R: Files> FileStore<'a, R> {
     /// The objects in the folder of this path, which need not be there.
-    pub fn new(alloc: Global, files: &'a HostRuntime, path: &str) -> Result<Self, AllocError> {
+    pub fn new(alloc: Global, files: &'a R, path: &str) -> Result<Self, AllocError> {
         Ok(FileStore {
             files,
             path: String::from_str(alloc, path)?,
@@ -27,18 +28,18 @@ impl<'a> FileStore<'a> {
     }
 
     // A handle over the file of a key.
-    fn handle(&self, alloc: Global, key: &str) -> Result<FileHandle<&'a HostRuntime>, AllocError> {
+    fn handle(&self, alloc: Global, key: &str) -> Result<FileHandle<&'a R>, AllocError> {
         let path = format!(in alloc; "{}/{key}", self.path)?;
         FileHandle::new(alloc, self.files, &path)
     }
 }
 
-impl<'a> Store for FileStore<'a> {
-    type Handle = FileHandle<&'a HostRuntime>;
+impl<'a, R: Files> Store for FileStore<'a, R> {
+    type Handle = FileHandle<&'a R>;
 
     ghost state = { λ store. record { transparent = false; contents = λ key. None } };
 
-    fn open(&self, alloc: Global, key: &str) -> Result<FileHandle<&'a HostRuntime>, CodecError> {
+    fn open(&self, alloc: Global, key: &str) -> Result<FileHandle<&'a R>, CodecError> {
         Ok(self.handle(alloc, key)?)
     }
 
@@ -51,7 +52,7 @@ impl<'a> Store for FileStore<'a> {
     }
 }
 
-impl<C> Array<'_, FileStore<'_>, C> {
+impl<C> Array<'_, FileStore<'_, HostRuntime>, C> {
     /// The files that stand in the array's folder: those of chunks, in row-major order of their coordinates, and how many others. Refused
     /// where one of the folders that keys name is none, or cannot be read.
     pub fn chunks(&self, alloc: Global) -> Result<ChunkFiles, FolderError> {
