@@ -37,6 +37,7 @@ macro_rules! stored {
             index: $index,
             shape: $shard.planned.spec.shape,
             cells: $shard.planned.plan.cells,
+            grid: &$shard.planned.plan.index.grid,
         }
     };
 }

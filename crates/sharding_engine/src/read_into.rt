@@ -62,13 +62,7 @@ impl<I: ArrayToBytesCodecTraits, X: ArrayToBytesCodecTraits> Sharding<'_, I, X> 
             shard.planned.options,
         )?;
         let stored = stored!(self, shard, &index);
-        if stored.put_plain_requested(
-            alloc,
-            handle,
-            indexer,
-            &shard.planned.plan.index.grid,
-            target,
-        )? {
+        if stored.put_plain_requested(alloc, handle, indexer, target)? {
             return Ok(());
         }
         let count = target.num_elements();

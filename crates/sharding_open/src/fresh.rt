@@ -60,7 +60,7 @@ impl OpenShard {
             return Ok(false);
         };
         let shard = stored!(self, sharding, index, options);
-        let put = shard.put_plain_requested(alloc, handle, indexer, &self.grid, target)?;
+        let put = shard.put_plain_requested(alloc, handle, indexer, target)?;
         Ok(put)
     }
 }

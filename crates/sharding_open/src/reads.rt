@@ -40,6 +40,7 @@ macro_rules! stored {
             index: $index,
             shape: &$open.shape,
             cells: $open.cells,
+            grid: &$open.grid,
         }
     };
 }

@@ -30,8 +30,8 @@ use codec_traits::ArrayToBytesCodecTraits;
 use parts_arrays::FixedTarget;
 use parts_errors::CodecError;
 use parts_strided_copy::PairedRows;
-use parts_subsets::{ArraySubset, ChunkShape, Indexer};
-use sharding_format::{Slot, calculate_chunks_per_shard};
+use parts_subsets::{ArraySubset, Indexer};
+use sharding_format::Slot;
 use sharding_gather::{SubsetInGrid, whole_subset};
 use std::alloc::Global;
 use storage_handles::{ByteRange, BytesPartialDecoderTraits, read_range};
@@ -134,12 +134,10 @@ impl<I: ArrayToBytesCodecTraits> StoredShard<'_, I> {
         alloc: Global,
         handle: &mut H,
         subset: &ArraySubset,
-        grid: &ChunkShape,
         target: &mut FixedTarget,
     ) -> Result<bool, CodecError>
         requires inside { IsTrue (H.state handle.old).transparent → HasInterval self.now.interval (H.state handle.old).contents }
         requires lies { LiesIn subset.now self.now.shape.now }
-        requires grid { grid.now ≡ grid_of self.now.shape.now self.now.subchunks.shape.now }
         requires kind { size_of self.now.subchunks.data_type.now ≡ Fixed (target_element_size target.old) }
         requires same { (target_subset target.old).shape ≡ subset.now.shape }
         ensures read { IsRead (H.state handle.old) (H.state handle.new) }
@@ -162,9 +160,9 @@ impl<I: ArrayToBytesCodecTraits> StoredShard<'_, I> {
             subset,
             shape,
             sub,
-            grid,
+            grid: self.grid,
         };
-        if let Some(number) = subset.only_subchunk(shape, sub, grid) {
+        if let Some(number) = subset.only_subchunk(shape, sub, self.grid) {
             return self.put_touched(alloc, handle, size, &met, &[number], target);
         }
         let touched = subset.touched_subchunks(alloc, shape, sub)?;
@@ -194,10 +192,9 @@ impl<I: ArrayToBytesCodecTraits> StoredShard<'_, I> {
     {
         let element = self.subchunks.fill_value.as_ne_bytes();
         let axes = subset.shape();
-        let grid = calculate_chunks_per_shard(alloc, self.shape, self.subchunks.shape)?;
         let whole = whole_subset(alloc, axes)?;
         let mut target = FixedTarget::over(bytes, element.len(), axes, &whole);
-        let put = self.put_subset(alloc, handle, subset, &grid, &mut target)?;
+        let put = self.put_subset(alloc, handle, subset, &mut target)?;
         Ok(put)
     }
 
@@ -248,12 +245,10 @@ impl<I: ArrayToBytesCodecTraits> StoredShard<'_, I> {
         alloc: Global,
         handle: &mut H,
         indexer: &N,
-        grid: &ChunkShape,
         target: &mut FixedTarget,
     ) -> Result<bool, CodecError>
         requires inside { IsTrue (H.state handle.old).transparent → HasInterval self.now.interval (H.state handle.old).contents }
         requires selection { IsSelectionOf self.now.shape.now (N.selection indexer.now) }
-        requires grid { grid.now ≡ grid_of self.now.shape.now self.now.subchunks.shape.now }
         requires kind { size_of self.now.subchunks.data_type.now ≡ Fixed (target_element_size target.old) }
         ensures read { IsRead (H.state handle.old) (H.state handle.new) }
         ensures written { IsOverwritten target.old target.new }
@@ -270,6 +265,6 @@ impl<I: ArrayToBytesCodecTraits> StoredShard<'_, I> {
         if !same_axes(target.subset().shape(), subset.shape()) {
             return Ok(false);
         }
-        self.put_subset(alloc, handle, subset, grid, target)
+        self.put_subset(alloc, handle, subset, target)
     }
 }

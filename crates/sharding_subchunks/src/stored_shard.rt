@@ -10,8 +10,8 @@ use parts_subsets::ChunkShape;
 use sharding_format::ShardIndex;
 use storage_handles::Interval;
 
-/// A shard that stands in an interval of an object, by its index: its subchunks, where it stands, what its index says, its shape and
-/// how many cells the shape has.
+/// A shard that stands in an interval of an object, by its index: its subchunks, where it stands, what its index says, its shape, how
+/// many cells the shape has, and how many subchunks there are along each axis.
 #[derive(Drop)]
 pub struct StoredShard<'a, I> {
     pub subchunks: Subchunks<'a, I>,
@@ -19,10 +19,12 @@ pub struct StoredShard<'a, I> {
     pub index: &'a ShardIndex,
     pub shape: &'a ChunkShape,
     pub cells: u64,
+    pub grid: &'a ChunkShape,
     pub ghost room: { interval.offset + interval.size < 2 ^ 64 },
     pub ghost len: { index.now.len ≡ interval.size },
     pub ghost indexed: { length index.now.numbers.items ≡ 2 * count_of (grid_of shape.now subchunks.shape.now) },
     pub ghost counted: { cells ≡ count_of shape.now },
+    pub ghost cut: { grid.now ≡ grid_of shape.now subchunks.shape.now },
     pub ghost fits: { count_of shape.now < 2 ^ 64 },
     pub ghost divides: { Divides subchunks.shape.now shape.now } by { divides-prop subchunks.shape.now shape.now },
     pub ghost supported: { HasElements subchunks.data_type.now },

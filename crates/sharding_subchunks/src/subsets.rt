@@ -21,7 +21,7 @@ use codec_traits::{ArrayToBytesCodecTraits, StoredArray};
 use parts_arrays::{ArrayBytes, FixedTarget};
 use parts_errors::CodecError;
 use parts_subsets::ArraySubset;
-use sharding_format::{Slot, calculate_chunks_per_shard, of_stored};
+use sharding_format::{Slot, of_stored};
 use sharding_gather::{SubchunkOverlap, room_for, subchunk_overlap};
 use std::alloc::Global;
 use std::borrow::CowSlice;
@@ -123,12 +123,11 @@ impl<I: ArrayToBytesCodecTraits> StoredShard<'_, I> {
         let axes = subset.shape();
         let (shape, sub) = (self.shape, self.subchunks.shape);
         let touched = subset.touched_subchunks(alloc, shape, sub)?;
-        let grid = calculate_chunks_per_shard(alloc, shape, sub)?;
         let filled = self.index.any_absent_of(&touched);
         let mut bytes = room_for(alloc, filled, count as usize, fill)?;
         for j in 0..touched.len() {
             let number = touched[j];
-            let overlap = subchunk_overlap(alloc, number, subset, &grid, shape, sub)?;
+            let overlap = subchunk_overlap(alloc, number, subset, self.grid, shape, sub)?;
             self.read_into(alloc, handle, number, &overlap, axes, &mut bytes)?;
         }
         Ok(bytes)
