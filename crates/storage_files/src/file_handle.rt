@@ -4,12 +4,14 @@ ghost use Rattle.storage_handles.specs.Handles.{IsRead, IsCounted};
 ghost use Rattle.storage_files.specs.Files.{untold, IsRequestedSize};
 ghost use Rattle.parts_errors.specs.declared.error.CodecError.TheVariants.{Fault};
 
+mod host_file;
 mod writes;
 
 use crate::count::Count;
 use crate::interval::interval_of;
 use crate::read_ahead::ReadAhead;
 use crate::system::{end_of, open_if_there};
+pub use host_file::HostFile;
 use parts_errors::CodecError;
 use std::alloc::{AllocError, Global};
 use std::io::{self, Read, Seek, SeekFrom};

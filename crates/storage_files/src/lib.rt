@@ -11,6 +11,6 @@ mod replacement;
 mod system;
 
 pub use entries::{check_folder, file_length};
-pub use file_handle::FileHandle;
+pub use file_handle::{FileHandle, HostFile};
 pub use file_range::read_file_range;
 pub use replacement::{Replacement, folder_of, path_beside};
