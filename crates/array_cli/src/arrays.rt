@@ -1,5 +1,6 @@
 // An array on disk that is open: its metadata, its shards, and their files.
 use crate::compaction_plans::Planned;
+use crate::open_shard::OpenShard;
 use crate::refusal::{Place, Refusal};
 use crate::shard_codec::{ShardCodec, ShardFile};
 use crate::stop::Stop;
@@ -14,7 +15,7 @@ use parts_subsets::ChunkShape;
 use sharding_format::SubchunkWriteOrder;
 use std::alloc::{AllocError, Global};
 use std::borrow::CowSlice;
-use storage_files::FileHandle;
+use storage_files::HostFile;
 
 // How many bytes of a file are read at once at most, where its slices are small.
 const READ_AHEAD: usize = 65_536;
@@ -38,12 +39,12 @@ impl<'s> Shard<'s> {
 
 /// An array on disk, whose shards are of a codec.
 #[derive(Drop)]
-pub struct Array<'a, C> {
+pub struct Array<'a> {
     pub rt: &'a HostRuntime,
     pub path: &'a str,
     pub metadata: &'a ArrayMetadata,
-    /// The codec that the metadata names.
-    pub codec: C,
+    /// The codec of its shards, which the metadata names.
+    pub codec: ShardCodec<'a>,
     pub grid: ChunkGrid,
     /// How many subchunks a shard has along each axis.
     pub subchunks: ChunkShape,
@@ -152,7 +153,7 @@ fn chunks_in(
     Ok(kept)
 }
 
-impl<'a, C> Array<'a, C> {
+impl<'a> Array<'a> {
     /// The allocator.
     pub fn alloc(&self) -> Global {
         self.rt.alloc()
@@ -230,7 +231,7 @@ impl<'a, C> Array<'a, C> {
     /// The file of the shard with this key.
     pub fn file(&self, key: &str) -> Result<ShardFile<'a>, Stop> {
         let path = self.path_of(key)?;
-        Ok(FileHandle::new(self.alloc(), self.rt, &path)?)
+        Ok(HostFile::new(self.alloc(), self.rt, &path)?)
     }
 
     /// The file of the shard with this key, of which all slices are to be read: small ones that follow one another are read at once.
@@ -285,17 +286,15 @@ impl<'a, C> Array<'a, C> {
             position,
         )
     }
-}
 
-impl<'a, C: ShardCodec<ShardFile<'a>>> Array<'a, C> {
-    /// Opens the array whose folder has this path, with its metadata and the codec that this names.
+    /// Opens the array whose folder has this path, with its metadata.
     pub fn open(
         rt: &'a HostRuntime,
         path: &'a str,
         metadata: &'a ArrayMetadata,
-        codec: C,
     ) -> Result<Self, Stop> {
         let alloc = rt.alloc();
+        let codec = ShardCodec::of(metadata);
         let subchunks = codec.subchunks(alloc, metadata)?;
         let grid = ChunkGrid::new(alloc, &metadata.shape, metadata.shard.as_slice())?;
         Ok(Array {
@@ -313,7 +312,7 @@ impl<'a, C: ShardCodec<ShardFile<'a>>> Array<'a, C> {
         &self,
         shard: &Shard<'_>,
         file: ShardFile<'a>,
-    ) -> Result<Result<C::Open, Refusal>, Stop> {
+    ) -> Result<Result<OpenShard<'a>, Refusal>, Stop> {
         match self.codec.open(self.alloc(), file, self.metadata) {
             Ok(opened) => Ok(Ok(opened)),
             Err((file, error)) => match self.refusal(shard, &file, error, Place::opening(&error)) {
@@ -324,7 +323,7 @@ impl<'a, C: ShardCodec<ShardFile<'a>>> Array<'a, C> {
     }
 
     /// The shard that a file holds, opened. A refusal of it stops the command.
-    pub fn opened(&self, shard: &Shard<'_>, file: ShardFile<'a>) -> Result<C::Open, Stop> {
+    pub fn opened(&self, shard: &Shard<'_>, file: ShardFile<'a>) -> Result<OpenShard<'a>, Stop> {
         match self.open_shard(shard, file)? {
             Ok(opened) => Ok(opened),
             Err(refusal) => Err(Stop::Refused(refusal)),

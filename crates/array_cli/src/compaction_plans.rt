@@ -3,7 +3,7 @@ ghost use Rattle.std.specs.Prelude.{◌≡◌, ◌*◌, length};
 ghost use Rattle.parts_row_major.specs.Numbering.{count_of};
 ghost use Rattle.parts_subsets.specs.Grid.{grid_of};
 
-use crate::shard_codec::whole_index;
+use crate::open_shard::whole_index;
 use codec_traits::ArrayToBytesCodecTraits;
 use parts_errors::{CodecError, CodecOptions};
 use parts_subsets::ChunkShape;

@@ -8,8 +8,8 @@ use std::io;
 use std::io::Write;
 
 /// The shard of an array that has a key, among the files of its chunks. Refused as `Stop::NoShard` where none has it.
-pub fn shard_of<'s, C>(
-    array: &Array<'_, C>,
+pub fn shard_of<'s>(
+    array: &Array<'_>,
     files: &'s ChunkFiles,
     key: &str,
 ) -> Result<Shard<'s>, Stop> {
@@ -22,7 +22,7 @@ pub fn shard_of<'s, C>(
 }
 
 // Writes a line for the new file with a key, which stands beside a shard.
-fn write_replacing<C>(array: &Array<'_, C>, out: &mut Output, key: &str) -> io::Result<()> {
+fn write_replacing(array: &Array<'_>, out: &mut Output, key: &str) -> io::Result<()> {
     let age = age_of(array.rt, &array.path_of(key)?);
     writeln!(
         out,
@@ -32,11 +32,7 @@ fn write_replacing<C>(array: &Array<'_, C>, out: &mut Output, key: &str) -> io::
 
 /// Writes what stands in an array's folder besides its shards: a line for each new file that stands beside a shard, and how
 /// many other files there are. Refused as the writer refuses.
-pub fn write_folder<C>(
-    array: &Array<'_, C>,
-    out: &mut Output,
-    files: &ChunkFiles,
-) -> io::Result<()> {
+pub fn write_folder(array: &Array<'_>, out: &mut Output, files: &ChunkFiles) -> io::Result<()> {
     for key in files.replacing.iter() {
         write_replacing(array, out, key)?;
     }

@@ -64,11 +64,7 @@ impl GridShard {
 }
 
 /// The shard of a grid with this number. Refused as `OutOfBounds` where it has none.
-pub fn shard_of_grid<C>(
-    array: &Array<'_, C>,
-    grid: &ShardGrid,
-    number: u64,
-) -> Result<GridShard, Stop> {
+pub fn shard_of_grid(array: &Array<'_>, grid: &ShardGrid, number: u64) -> Result<GridShard, Stop> {
     let Some(coordinates) = grid.coordinates(array.alloc(), number)? else {
         return Err(CodecError::OutOfBounds.into());
     };
@@ -77,7 +73,7 @@ pub fn shard_of_grid<C>(
 }
 
 /// The shards of an array whose elements have numbers. Refused as `Stop::TooManyElements` where they have not.
-pub fn shards_of<C>(array: &Array<'_, C>) -> Result<ShardGrid, Stop> {
+pub fn shards_of(array: &Array<'_>) -> Result<ShardGrid, Stop> {
     match ShardGrid::new(array.alloc(), &array.metadata.shape, &array.metadata.shard) {
         Ok(grid) => Ok(grid),
         Err(CodecError::TooLarge) => Err(Stop::TooManyElements),

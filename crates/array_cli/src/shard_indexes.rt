@@ -1,4 +1,6 @@
 // The indexes of the shards of an array, which all have one shape.
+use crate::whole_chunks::one_entry;
+use array_metadata::IndexCodec as ShardsIndexCodec;
 use codec_traits::ArrayToBytesCodecTraits;
 use parts_errors::{CodecError, CodecOptions};
 use parts_subsets::ChunkShape;
@@ -6,15 +8,6 @@ use sharding_codec::ShardingCodec;
 use sharding_index::{IndexCodec, IndexPlan};
 use std::alloc::Global;
 use std::marker::Model;
-
-/// What decodes the indexes of the shards of an array.
-pub trait DecodeIndexes {
-    /// How many bytes each index has.
-    fn size(&self) -> u64;
-
-    /// The numbers of the index of a shard in an object of a length, which has these bytes.
-    fn numbers(&self, alloc: Global, bytes: &[u8], length: u64) -> Result<Vec<u64>, CodecError>;
-}
 
 /// The indexes of shards of the codec `sharding_indexed`. What is tested of their shape, is tested once.
 #[derive(Drop)]
@@ -51,15 +44,42 @@ impl<'a, X: ArrayToBytesCodecTraits> ShardIndexes<'a, X> {
     }
 }
 
-impl<'a, X: ArrayToBytesCodecTraits> DecodeIndexes for ShardIndexes<'a, X> {
-    fn size(&self) -> u64 {
-        self.plan.size
-    }
-
-    fn numbers(&self, alloc: Global, bytes: &[u8], _length: u64) -> Result<Vec<u64>, CodecError> {
+impl<X: ArrayToBytesCodecTraits> ShardIndexes<'_, X> {
+    // The numbers of an index that has these bytes.
+    fn numbers(&self, alloc: Global, bytes: &[u8]) -> Result<Vec<u64>, CodecError> {
         let index = self
             .codec
             .decode(alloc, bytes, &self.plan, &CodecOptions::default())?;
         Ok(index.numbers)
+    }
+}
+
+/// What decodes the indexes of the shards of an array. A chunk that is no shard is taken as one whose index has no bytes.
+#[derive(Drop)]
+pub enum IndexDecoder<'a> {
+    Indexes(ShardIndexes<'a, ShardsIndexCodec>),
+    None,
+}
+
+impl IndexDecoder<'_> {
+    /// How many bytes each index has.
+    pub fn size(&self) -> u64 {
+        match self {
+            IndexDecoder::Indexes(indexes) => indexes.plan.size,
+            IndexDecoder::None => 0,
+        }
+    }
+
+    /// The numbers of the index of a shard in an object of a length, which has these bytes.
+    pub fn numbers(
+        &self,
+        alloc: Global,
+        bytes: &[u8],
+        length: u64,
+    ) -> Result<Vec<u64>, CodecError> {
+        match self {
+            IndexDecoder::Indexes(indexes) => indexes.numbers(alloc, bytes),
+            IndexDecoder::None => Ok(one_entry(alloc, length)?),
+        }
     }
 }

@@ -1,14 +1,14 @@
 // Whether a subchunk is sound.
 use crate::arrays::Array;
-use crate::shard_codec::{OpenShard, ShardFile};
+use crate::open_shard::OpenShard;
 use parts_errors::CodecError;
 use parts_row_major::unravel_index;
 
 /// Reads a subchunk of a shard, or looks it up in the index alone, and says whether it is present.
-pub fn check_subchunk<'a, C, S: OpenShard<ShardFile<'a>>>(
-    array: &Array<'a, C>,
+pub fn check_subchunk(
+    array: &Array<'_>,
     is_index_alone: bool,
-    opened: &mut S,
+    opened: &mut OpenShard<'_>,
     number: u64,
 ) -> Result<bool, CodecError> {
     let alloc = array.alloc();

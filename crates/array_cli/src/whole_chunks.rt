@@ -1,44 +1,21 @@
 // Chunks that are no shards, by what commands do with shards: such a chunk is one subchunk, whose bytes are those of the file.
-use crate::chunk_encoding::encode_chunk;
-use crate::compaction_plans::Planned;
 use crate::grid_shards::whole_of;
-use crate::shard_codec::{OpenShard, ShardCodec, ShardEncoder, check_served, test_decoding};
-use crate::shard_indexes::DecodeIndexes;
+use crate::open_shard::test_decoding;
 use array_metadata::ArrayMetadata;
 use codec_traits::{ArrayToBytesCodecTraits, StoredArray};
 use parts_arrays::{ArrayBytes, DataTypeSize, FixedTarget};
 use parts_errors::{CodecError, CodecOptions};
-use parts_subsets::{ArraySubset, ChunkShape};
-use sharding_format::{ShardIndex, ShardingIndexLocation, calculate_chunks_per_shard, of_stored};
+use parts_subsets::ArraySubset;
+use sharding_format::of_stored;
 use std::alloc::{AllocError, Global};
 use std::borrow::CowSlice;
 use storage_handles::{ByteRange, BytesPartialDecoderTraits, Interval, copy_range};
-
-/// The codec of chunks that are no shards.
-#[derive(Drop)]
-pub struct WholeChunks<'a, C> {
-    pub codec: &'a C,
-}
-
-impl<'a, C> Copy for WholeChunks<'a, C> {}
-
-impl<'a, C> Clone for WholeChunks<'a, C> {
-    ghost use Rattle.std.specs.Prelude.{◌≡◌};
-
-    ghost is_clone = { λ x y. y.codec.now ≡ x.codec.now };
-
-    ghost is_infallible = { λ _. Unit {0} };
-
-    fn clone(&self) -> Result<Self, AllocError> {
-        Ok(WholeChunks { codec: self.codec })
-    }
-}
 
 /// A chunk that is open: its file, and how long that is, or `None` where there is none.
 #[derive(Drop)]
 pub struct WholeChunk<'a, C, H> {
     codec: &'a C,
-    file: H,
+    pub(crate) file: H,
     length: Option<u64>,
 }
 
@@ -173,27 +150,25 @@ fn read_varying<'e, C: ArrayToBytesCodecTraits, H: BytesPartialDecoderTraits>(
 }
 
 // The numbers of the index that a shard of one subchunk with as many bytes would have.
-fn one_entry(alloc: Global, length: u64) -> Result<Vec<u64>, AllocError> {
+pub(crate) fn one_entry(alloc: Global, length: u64) -> Result<Vec<u64>, AllocError> {
     Vec::from_slice(alloc, &[0, length])
 }
 
-/// What takes chunks that are no shards as shards whose indexes have no bytes.
-#[derive(Clone, Copy)]
-pub struct NoIndexes;
-
-impl DecodeIndexes for NoIndexes {
-    fn size(&self) -> u64 {
-        0
+impl<'a, C: ArrayToBytesCodecTraits, H: BytesPartialDecoderTraits> WholeChunk<'a, C, H> {
+    // Opens the chunk that a file holds; where it is refused, the file is given back.
+    pub(crate) fn open(codec: &'a C, mut file: H) -> Result<Self, (H, CodecError)> {
+        match file.len() {
+            Ok(length) => Ok(WholeChunk {
+                codec,
+                file,
+                length,
+            }),
+            Err(error) => Err((file, error)),
+        }
     }
 
-    fn numbers(&self, alloc: Global, _bytes: &[u8], length: u64) -> Result<Vec<u64>, CodecError> {
-        Ok(one_entry(alloc, length)?)
-    }
-}
-
-impl<C: ArrayToBytesCodecTraits, H: BytesPartialDecoderTraits> OpenShard<H>
-    for WholeChunk<'_, C, H> {
-    fn read_subset<'e>(
+    // Reads the elements of a subset.
+    pub(crate) fn read_subset<'e>(
         &mut self,
         alloc: Global,
         metadata: &ArrayMetadata,
@@ -205,7 +180,8 @@ impl<C: ArrayToBytesCodecTraits, H: BytesPartialDecoderTraits> OpenShard<H>
         }
     }
 
-    fn read_subset_into(
+    // Reads the elements of a subset into a target.
+    pub(crate) fn read_subset_into(
         &mut self,
         alloc: Global,
         metadata: &ArrayMetadata,
@@ -215,26 +191,22 @@ impl<C: ArrayToBytesCodecTraits, H: BytesPartialDecoderTraits> OpenShard<H>
         read_into(alloc, self, metadata, subset, target)
     }
 
-    fn byte_range(&self, _subchunk: &[u64]) -> Result<Option<ByteRange>, CodecError> {
-        match self.length {
-            Some(length) => Ok(Some(ByteRange::FromStart(0, Some(length)))),
-            None => Ok(None),
-        }
+    // Where its bytes stand, which are those of the file; `None` where there is none.
+    pub(crate) fn byte_range(&self) -> Option<ByteRange> {
+        self.length
+            .map(|length| ByteRange::FromStart(0, Some(length)))
     }
 
-    fn stored_bytes(
-        &mut self,
-        alloc: Global,
-        _subchunk: &[u64],
-    ) -> Result<Option<Vec<u8>>, CodecError> {
+    // Its bytes as they are stored; `None` where there is no file.
+    pub(crate) fn stored_bytes(&mut self, alloc: Global) -> Result<Option<Vec<u8>>, CodecError> {
         bytes_of(alloc, self)
     }
 
-    fn test_subchunk(
+    // Decodes its bytes, and lets the elements go. Says whether there is a file.
+    pub(crate) fn test(
         &mut self,
         alloc: Global,
         metadata: &ArrayMetadata,
-        _subchunk: &[u64],
     ) -> Result<bool, CodecError> {
         match bytes_of(alloc, self)? {
             Some(bytes) => {
@@ -243,93 +215,5 @@ impl<C: ArrayToBytesCodecTraits, H: BytesPartialDecoderTraits> OpenShard<H>
             }
             None => Ok(false),
         }
-    }
-
-    fn close(self) -> H {
-        self.file
-    }
-}
-
-impl<C: ArrayToBytesCodecTraits> ShardEncoder for WholeChunks<'_, C> {
-    fn encode(
-        &self,
-        alloc: Global,
-        elements: &ArrayBytes,
-        metadata: &ArrayMetadata,
-    ) -> Result<Option<Vec<u8>>, CodecError> {
-        encode_chunk(alloc, self.codec, elements, metadata)
-    }
-}
-
-impl<'a, C: ArrayToBytesCodecTraits, H: BytesPartialDecoderTraits> ShardCodec<H>
-    for WholeChunks<'a, C> {
-    type Open = WholeChunk<'a, C, H>;
-
-    type Indexes = NoIndexes;
-
-    fn subchunks(self, alloc: Global, metadata: &ArrayMetadata) -> Result<ChunkShape, CodecError> {
-        check_served(alloc, self.codec, metadata)?;
-        calculate_chunks_per_shard(alloc, &metadata.shard, &metadata.subchunk)
-    }
-
-    fn open(
-        self,
-        _alloc: Global,
-        mut file: H,
-        _metadata: &ArrayMetadata,
-    ) -> Result<WholeChunk<'a, C, H>, (H, CodecError)> {
-        let codec = self.codec;
-        match file.len() {
-            Ok(length) => Ok(WholeChunk {
-                codec,
-                file,
-                length,
-            }),
-            Err(error) => Err((file, error)),
-        }
-    }
-
-    fn indexes(self, _alloc: Global, _subchunks: &ChunkShape) -> Result<NoIndexes, CodecError> {
-        Ok(NoIndexes)
-    }
-
-    fn index_location(self) -> ShardingIndexLocation {
-        ShardingIndexLocation::End
-    }
-
-    fn index_interval(
-        self,
-        _alloc: Global,
-        length: u64,
-        _shape: &ChunkShape,
-    ) -> Result<Interval, CodecError> {
-        Ok(Interval {
-            offset: length,
-            size: 0,
-        })
-    }
-
-    fn read_index(
-        self,
-        alloc: Global,
-        _file: &mut H,
-        length: u64,
-        _shape: &ChunkShape,
-    ) -> Result<ShardIndex, CodecError> {
-        let numbers = one_entry(alloc, length)?;
-        Ok(ShardIndex {
-            len: length,
-            numbers,
-        })
-    }
-
-    fn plan_compaction(
-        self,
-        _alloc: Global,
-        _file: &mut H,
-        _shape: &ChunkShape,
-        _is_dry: bool,
-    ) -> Result<Planned, CodecError> {
-        Ok(Planned::Nothing)
     }
 }

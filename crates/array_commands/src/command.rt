@@ -6,10 +6,7 @@ use crate::differences::compare;
 use crate::npy::save_subset;
 use crate::reading::{Reading, print_subset};
 use crate::usages::program;
-use array_cli::{
-    Array, CodecUse, Ending, Output, Progress, ShardCodec, ShardFile, SharedArray, Stop, Workers,
-    metadata_of, open_shared, with_codec,
-};
+use array_cli::{Array, Ending, Output, Progress, Stop, Workers, metadata_of};
 use array_creation::{create, reshard};
 use array_fields::escaped;
 use array_folder::Listing;
@@ -40,7 +37,7 @@ fn jobs_of<T: Threads>(alloc: Global, threads: &T, word: Option<&str>) -> Result
 }
 
 // Tests that the elements of an array are read, and written in a form: bytes alone do not say where one begins that has a length of its own.
-fn test_form(array: &SharedArray<'_>, form: Form) -> Result<(), Stop> {
+fn test_form(array: &Array<'_>, form: Form) -> Result<(), Stop> {
     match form {
         Form::Raw => array.test_sized(),
         Form::Text | Form::Json => array.test_read(),
@@ -49,7 +46,7 @@ fn test_form(array: &SharedArray<'_>, form: Form) -> Result<(), Stop> {
 
 // Reads the subset that a word names, and writes its elements.
 fn run_read<T: Threads + Sync>(
-    array: &SharedArray<'_>,
+    array: &Array<'_>,
     requested: Option<&str>,
     target: Target<'_>,
     reading: &Reading<'_, T>,
@@ -89,8 +86,8 @@ fn way_of(is_dry: bool, output: Option<&str>) -> Way<'_> {
 }
 
 // Does a work of one thread, and writes its answer.
-fn run_work<'a, C: ShardCodec<ShardFile<'a>>>(
-    array: &Array<'a, C>,
+fn run_work(
+    array: &Array<'_>,
     work: Work<'_>,
     out: &mut Output,
     progress: &mut Progress,
@@ -113,37 +110,9 @@ fn status_of(ran: Result<Ending, Stop>) -> Result<u8, Stop>
     }
 }
 
-// A work of one thread on an array whose metadata is read.
-#[derive(Drop)]
-struct LoneWork<'w> {
-    rt: &'w HostRuntime,
-    path: &'w str,
-    metadata: &'w ArrayMetadata,
-    work: Work<'w>,
-    out: &'w mut Output,
-    progress: &'w mut Progress,
-}
-
-impl<'w> CodecUse<ShardFile<'w>> for LoneWork<'w> {
-    type Answer = Result<Ending, Stop>;
-
-    fn with<C: ShardCodec<ShardFile<'w>>>(self, codec: C) -> Result<Ending, Stop> {
-        let LoneWork {
-            rt,
-            path,
-            metadata,
-            work,
-            out,
-            progress,
-        } = self;
-        let array = Array::open(rt, path, metadata, codec)?;
-        run_work(&array, work, out, progress)
-    }
-}
-
 // Does a work of several threads, and writes its answer.
 fn run_shared<T: Threads + Sync>(
-    array: &SharedArray<'_>,
+    array: &Array<'_>,
     work: SharedWork<'_>,
     workers: &Workers<'_, T>,
     out: &mut Output,
@@ -198,15 +167,8 @@ fn run_alone(
     out: &mut Output,
     progress: &mut Progress,
 ) -> Result<Ending, Stop> {
-    let work = LoneWork {
-        rt,
-        path,
-        metadata,
-        work,
-        out,
-        progress,
-    };
-    with_codec(metadata, work)
+    let array = Array::open(rt, path, metadata)?;
+    run_work(&array, work, out, progress)
 }
 
 // Does a work on an array that has this metadata.
@@ -221,7 +183,7 @@ fn run_described<T: Threads + Sync>(
 ) -> Result<Ending, Stop> {
     match work {
         ArrayWork::Shared { work, jobs } => {
-            let array = open_shared(rt, path, metadata)?;
+            let array = Array::open(rt, path, metadata)?;
             let jobs = jobs_of(rt.alloc(), threads, jobs)?;
             run_shared(&array, work, &Workers { threads, jobs }, out, progress)
         }
@@ -244,53 +206,6 @@ fn run_array<T: Threads + Sync>(
     }
 }
 
-// A comparison of two arrays whose metadata is read.
-#[derive(Drop)]
-struct Comparison<'w> {
-    rt: &'w HostRuntime,
-    paths: (&'w str, &'w str),
-    metadata: (&'w ArrayMetadata, &'w ArrayMetadata),
-    out: &'w mut Output,
-    progress: &'w mut Progress,
-}
-
-// The same, of which the codec of the first array is known.
-#[derive(Drop)]
-struct HalfComparison<'w, C> {
-    comparison: Comparison<'w>,
-    codec: C,
-}
-
-impl<'w> CodecUse<ShardFile<'w>> for Comparison<'w> {
-    type Answer = Result<Ending, Stop>;
-
-    fn with<C: ShardCodec<ShardFile<'w>>>(self, codec: C) -> Result<Ending, Stop> {
-        let metadata = self.metadata.1;
-        let comparison = HalfComparison {
-            comparison: self,
-            codec,
-        };
-        with_codec(metadata, comparison)
-    }
-}
-
-impl<'w, C: ShardCodec<ShardFile<'w>>> CodecUse<ShardFile<'w>> for HalfComparison<'w, C> {
-    type Answer = Result<Ending, Stop>;
-
-    fn with<D: ShardCodec<ShardFile<'w>>>(self, codec: D) -> Result<Ending, Stop> {
-        let Comparison {
-            rt,
-            paths,
-            metadata,
-            out,
-            progress,
-        } = self.comparison;
-        let one = Array::open(rt, paths.0, metadata.0, self.codec)?;
-        let other = Array::open(rt, paths.1, metadata.1, codec)?;
-        compare(&one, &other, out, progress)
-    }
-}
-
 // Compares the arrays at two paths, which have this metadata.
 fn compare_described(
     rt: &HostRuntime,
@@ -299,14 +214,9 @@ fn compare_described(
     out: &mut Output,
     progress: &mut Progress,
 ) -> Result<Ending, Stop> {
-    let comparison = Comparison {
-        rt,
-        paths,
-        metadata,
-        out,
-        progress,
-    };
-    with_codec(metadata.0, comparison)
+    let one = Array::open(rt, paths.0, metadata.0)?;
+    let other = Array::open(rt, paths.1, metadata.1)?;
+    compare(&one, &other, out, progress)
 }
 
 // Compares the arrays at two paths, of which the first has this metadata.

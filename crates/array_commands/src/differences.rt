@@ -1,7 +1,5 @@
 // Two arrays, compared element by element.
-use array_cli::{
-    Array, Ending, Output, Progress, ShardCodec, ShardFile, Stop, elements_of, written,
-};
+use array_cli::{Array, Ending, Output, Progress, Stop, elements_of, written};
 use array_fields::ElementType;
 use array_grid::{SubsetCells, SubsetElements, VaryingCells, write_cell_line, write_numbers};
 use array_metadata::ArrayMetadata;
@@ -91,9 +89,9 @@ impl Differences {
 }
 
 // Adds the elements of a subset of two arrays that differ, where they have these.
-fn add_cells<C, D>(
-    one: &Array<'_, C>,
-    other: &Array<'_, D>,
+fn add_cells(
+    one: &Array<'_>,
+    other: &Array<'_>,
     subset: &ArraySubset,
     cells: (&SubsetCells, &SubsetCells),
     found: &mut Differences,
@@ -105,9 +103,9 @@ fn add_cells<C, D>(
 }
 
 // Adds the elements of a subset of two arrays that differ.
-fn add_subset<'a, C: ShardCodec<ShardFile<'a>>, D: ShardCodec<ShardFile<'a>>>(
-    one: &Array<'a, C>,
-    other: &Array<'a, D>,
+fn add_subset<'a>(
+    one: &Array<'a>,
+    other: &Array<'a>,
     subset: &ArraySubset,
     found: &mut Differences,
 ) -> Result<(), Stop> {
@@ -123,9 +121,9 @@ fn add_subset<'a, C: ShardCodec<ShardFile<'a>>, D: ShardCodec<ShardFile<'a>>>(
 }
 
 // Adds what differs in the chunk at these coordinates of the first array's grid.
-fn add_chunk<'a, C: ShardCodec<ShardFile<'a>>, D: ShardCodec<ShardFile<'a>>>(
-    one: &Array<'a, C>,
-    other: &Array<'a, D>,
+fn add_chunk<'a>(
+    one: &Array<'a>,
+    other: &Array<'a>,
     coordinates: &[u64],
     found: &mut Differences,
 ) -> Result<(), Stop> {
@@ -138,7 +136,7 @@ fn add_chunk<'a, C: ShardCodec<ShardFile<'a>>, D: ShardCodec<ShardFile<'a>>>(
 
 // The chunks of the first array's grid in which elements may differ: those that either has elements of, or all where they have other
 // fill values.
-fn chunks_of_both<C, D>(one: &Array<'_, C>, other: &Array<'_, D>) -> Result<Vec<Vec<u64>>, Stop> {
+fn chunks_of_both(one: &Array<'_>, other: &Array<'_>) -> Result<Vec<Vec<u64>>, Stop> {
     let chunk = &one.metadata.shard;
     if one.metadata.fill_value != other.metadata.fill_value {
         return all_chunks(one.alloc(), one.grid.counts());
@@ -168,9 +166,9 @@ fn all_chunks(alloc: Global, counts: &[u64]) -> Result<Vec<Vec<u64>>, Stop> {
 }
 
 // The differences of two arrays of a shape and a type.
-fn found_in<'a, C: ShardCodec<ShardFile<'a>>, D: ShardCodec<ShardFile<'a>>>(
-    one: &Array<'a, C>,
-    other: &Array<'a, D>,
+fn found_in<'a>(
+    one: &Array<'a>,
+    other: &Array<'a>,
     progress: &mut Progress,
 ) -> Result<Differences, Stop> {
     let chunks = chunks_of_both(one, other)?;
@@ -227,9 +225,9 @@ fn differing_metadata(one: &ArrayMetadata, other: &ArrayMetadata) -> Option<&'st
 /// Compares two arrays element by element, and writes how many elements differ, and of the first one its coordinates and what it is in
 /// either array. Where shapes or data types differ, it says so instead. Only the chunks that one of the arrays has are read, unless their
 /// fill values differ.
-pub fn compare<'a, C: ShardCodec<ShardFile<'a>>, D: ShardCodec<ShardFile<'a>>>(
-    one: &Array<'a, C>,
-    other: &Array<'a, D>,
+pub fn compare<'a>(
+    one: &Array<'a>,
+    other: &Array<'a>,
     out: &mut Output,
     progress: &mut Progress,
 ) -> Result<Ending, Stop> {

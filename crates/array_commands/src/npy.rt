@@ -1,6 +1,6 @@
 // A subset of an array as a file of NumPy's format.
 use crate::reading::{Reading, Sink, read_bands};
-use array_cli::{Ending, Output, Progress, SharedArray, Stop};
+use array_cli::{Array, Ending, Output, Progress, Stop};
 use array_folder::{begin_new, npy_beside};
 use array_grid::{Requested, VaryingCells, subset_of};
 use array_updates::header_of;
@@ -59,7 +59,7 @@ fn end_file(new: NewFile<'_>, wrote: Result<Ending, Stop>) -> Result<Ending, Sto
 
 // Reads what is requested, and writes it into a new file behind a header.
 fn fill<T: Threads + Sync>(
-    array: &SharedArray<'_>,
+    array: &Array<'_>,
     requested: &Requested,
     reading: &Reading<'_, T>,
     header: &[u8],
@@ -72,7 +72,7 @@ fn fill<T: Threads + Sync>(
 
 // Reads what is requested into a new file of a path, which stands beside it until it is whole.
 fn save_requested<T: Threads + Sync>(
-    array: &SharedArray<'_>,
+    array: &Array<'_>,
     requested: &Requested,
     (path, beside): (&str, &str),
     reading: &Reading<'_, T>,
@@ -91,7 +91,7 @@ fn save_requested<T: Threads + Sync>(
 /// Reads a subset, and makes a file of NumPy's format of it, which has no axis that is named by one coordinate. A file of that
 /// name is replaced once the new one is whole. Where the path is refused nothing is read.
 pub fn save_subset<T: Threads + Sync>(
-    array: &SharedArray<'_>,
+    array: &Array<'_>,
     requested: Option<&str>,
     path: &str,
     reading: &Reading<'_, T>,

@@ -1,13 +1,14 @@
 // Elements that are written as they are read, band by band.
 use crate::command_line::Form;
-use crate::shared_read::{BandRead, read_side_by_side, read_whole};
-use array_cli::{Ending, Output, Progress, SharedArray, Stop, Workers, written};
+use crate::shared_read::{BandRead, read_side_by_side};
+use array_cli::{Array, Ending, Output, Progress, Stop, Workers, written};
 use array_fields::ElementType;
 use array_grid::{
     Bands, SubsetElements, TextRows, VaryingCells, begin_json, end_json, is_text, write_json_cell,
     write_json_cells,
 };
 use array_metadata::ArrayMetadata;
+use array_reading::read_array;
 use parts_arrays::DataTypeSize;
 use parts_errors::CodecError;
 use parts_row_major::unravel_index;
@@ -77,13 +78,13 @@ fn coordinates_of(alloc: Global, subset: &ArraySubset, number: u64) -> Result<St
 }
 
 // Whether the elements of an array are texts.
-fn are_texts(array: &SharedArray<'_>) -> bool {
+fn are_texts(array: &Array<'_>) -> bool {
     array.metadata.element_type.encoding().is_some()
 }
 
 // Tests that an element of a band, with a number, is the text that its type says it is. Refused as `Stop::NoUtf8` and `Stop::NoUtf32`.
 fn test_text(
-    array: &SharedArray<'_>,
+    array: &Array<'_>,
     band: &ArraySubset,
     number: usize,
     element: &[u8],
@@ -101,11 +102,7 @@ fn test_text(
 
 // Tests the elements of a band that have lengths of their own, where they are texts. Refused as `test_text` refuses the first one that is
 // none.
-fn test_varying(
-    array: &SharedArray<'_>,
-    band: &ArraySubset,
-    cells: &VaryingCells,
-) -> Result<(), Stop> {
+fn test_varying(array: &Array<'_>, band: &ArraySubset, cells: &VaryingCells) -> Result<(), Stop> {
     if !are_texts(array) {
         return Ok(());
     }
@@ -116,7 +113,7 @@ fn test_varying(
 }
 
 // Tests the elements of a band that have one size, where they are texts. Refused as `test_text` refuses the first one that is none.
-fn test_sized(array: &SharedArray<'_>, band: &ArraySubset, elements: &[u8]) -> Result<(), Stop> {
+fn test_sized(array: &Array<'_>, band: &ArraySubset, elements: &[u8]) -> Result<(), Stop> {
     if !are_texts(array) {
         return Ok(());
     }
@@ -129,7 +126,7 @@ fn test_sized(array: &SharedArray<'_>, band: &ArraySubset, elements: &[u8]) -> R
 
 // Hands on the elements of a band, which have one size, as the codecs gave them.
 fn put_sized<S: Sink>(
-    array: &SharedArray<'_>,
+    array: &Array<'_>,
     band: &ArraySubset,
     bytes: &[u8],
     ending: Ending,
@@ -178,11 +175,7 @@ fn room_of_bands(
 }
 
 // Hands on the bands that threads have read, as far as none is refused.
-fn put_bands<S: Sink>(
-    array: &SharedArray<'_>,
-    reads: &mut [BandRead],
-    sink: &mut S,
-) -> Result<(), Stop> {
+fn put_bands<S: Sink>(array: &Array<'_>, reads: &mut [BandRead], sink: &mut S) -> Result<(), Stop> {
     for read in reads {
         if let Some(stop) = read.stop.take() {
             return Err(stop);
@@ -196,7 +189,7 @@ fn put_bands<S: Sink>(
 
 // Reads the elements of a subset, which have one size, some bands at a time, each by a thread of its own to where it is handed on from.
 fn read_sized<S: Sink, T: Threads + Sync>(
-    array: &SharedArray<'_>,
+    array: &Array<'_>,
     subset: &ArraySubset,
     workers: &Workers<'_, T>,
     sink: &mut S,
@@ -224,7 +217,7 @@ fn read_sized<S: Sink, T: Threads + Sync>(
 
 // Hands on the elements of a band, of a command that ends so as far as it has come.
 fn put_elements<S: Sink>(
-    array: &SharedArray<'_>,
+    array: &Array<'_>,
     band: &ArraySubset,
     elements: &SubsetElements,
     ending: Ending,
@@ -241,7 +234,7 @@ fn put_elements<S: Sink>(
 
 // Reads the elements of a subset by one thread, those of a row of shards at a time, with fill values for what is refused if `fills`.
 fn read_rows<S: Sink>(
-    array: &SharedArray<'_>,
+    array: &Array<'_>,
     subset: &ArraySubset,
     fills: bool,
     sink: &mut S,
@@ -255,7 +248,7 @@ fn read_rows<S: Sink>(
         let Some(band) = bands.band(array.alloc(), number)? else {
             return Err(CodecError::OutOfBounds.into());
         };
-        let (elements, ended) = read_whole(array, &band, fills, progress)?;
+        let (elements, ended) = read_array(array, &band, fills, progress)?;
         if ended != Ending::Done {
             ending = ended;
         }
@@ -269,7 +262,7 @@ fn read_rows<S: Sink>(
 /// at a time, so that memory is that of these. Refused as `Stop::TooLarge` where they have more than 2^40 bytes, and as `read_array` refuses
 /// the first band that is refused, and as `test_text` where a text that is shown is none; then the bands before are handed on.
 pub fn read_bands<S: Sink, T: Threads + Sync>(
-    array: &SharedArray<'_>,
+    array: &Array<'_>,
     subset: &ArraySubset,
     reading: &Reading<'_, T>,
     sink: &mut S,
@@ -358,7 +351,7 @@ impl Sink for Printed<'_> {
 
 /// Reads the elements of a subset, and writes them in a form to an answer.
 pub fn print_subset<T: Threads + Sync>(
-    array: &SharedArray<'_>,
+    array: &Array<'_>,
     subset: &ArraySubset,
     form: Form,
     reading: &Reading<'_, T>,

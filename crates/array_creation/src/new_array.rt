@@ -2,10 +2,7 @@
 use crate::chunk_elements::{encoded_sized, encoded_varying};
 use crate::layout::{LayoutWords, new_document, order_of};
 use crate::new_folder::{begin_folder, end_folder, put, test_served};
-use array_cli::{
-    Array, CodecUse, Ending, Output, Progress, ShardCodec, ShardFile, SharedArray, Stop, Workers,
-    described, elements_of, with_codec, written,
-};
+use array_cli::{Array, Ending, Output, Progress, Stop, Workers, described, elements_of, written};
 use array_folder::Counted;
 use array_grid::{ShardWork, SubsetElements, piece_length, piece_of, run_in_parallel};
 use array_metadata::ArrayMetadata;
@@ -52,8 +49,8 @@ impl Written {
 }
 
 // The bytes of the chunk of a new array whose elements lie in a subset of the old one, have one size, and are read into room for them.
-fn encoded_in_room<'a, C: ShardCodec<ShardFile<'a>>>(
-    old: &Array<'a, C>,
+fn encoded_in_room(
+    old: &Array<'_>,
     requested: &ArraySubset,
     new: &ArrayMetadata,
     room: &mut Vec<u8>,
@@ -64,8 +61,8 @@ fn encoded_in_room<'a, C: ShardCodec<ShardFile<'a>>>(
 }
 
 // The bytes of the chunk of a new array whose elements lie in a subset of the old one; `None` where it has no file.
-fn encoded_subset<'a, C: ShardCodec<ShardFile<'a>>>(
-    old: &Array<'a, C>,
+fn encoded_subset(
+    old: &Array<'_>,
     requested: &ArraySubset,
     new: &ArrayMetadata,
     room: &mut Vec<u8>,
@@ -82,8 +79,8 @@ fn encoded_subset<'a, C: ShardCodec<ShardFile<'a>>>(
 }
 
 // The bytes of the chunk at these coordinates of a new array, with the elements that the old one has there; `None` where it has no file.
-fn new_chunk<'a, C: ShardCodec<ShardFile<'a>>>(
-    old: &Array<'a, C>,
+fn new_chunk(
+    old: &Array<'_>,
     new: &NewArray<'_>,
     coordinates: &[u64],
     room: &mut Vec<u8>,
@@ -96,8 +93,8 @@ fn new_chunk<'a, C: ShardCodec<ShardFile<'a>>>(
 }
 
 // Makes the chunk at these coordinates of a new array, and says how many bytes it has; `None` where it has no file.
-fn put_chunk<'a, C: ShardCodec<ShardFile<'a>>>(
-    old: &Array<'a, C>,
+fn put_chunk(
+    old: &Array<'_>,
     new: &NewArray<'_>,
     coordinates: &[u64],
     room: &mut Vec<u8>,
@@ -111,11 +108,7 @@ fn put_chunk<'a, C: ShardCodec<ShardFile<'a>>>(
 }
 
 // Makes chunks of a new array, one after the other, as far as none is refused.
-fn put_each<'a, C: ShardCodec<ShardFile<'a>>>(
-    old: &Array<'a, C>,
-    new: &NewArray<'_>,
-    chunks: &[Vec<u64>],
-) -> Result<Written, Stop> {
+fn put_each(old: &Array<'_>, new: &NewArray<'_>, chunks: &[Vec<u64>]) -> Result<Written, Stop> {
     let mut sum = Written::nothing();
     let mut room = Vec::new(old.alloc());
     for coordinates in chunks {
@@ -126,28 +119,10 @@ fn put_each<'a, C: ShardCodec<ShardFile<'a>>>(
     Ok(sum)
 }
 
-// Chunks of a new array, by their coordinates.
-#[derive(Drop)]
-struct NewChunks<'s, 'n> {
-    old: &'s SharedArray<'s>,
-    new: &'s NewArray<'n>,
-    chunks: &'s [Vec<u64>],
-}
-
-impl<'s> CodecUse<ShardFile<'s>> for NewChunks<'s, '_> {
-    type Answer = Result<Written, Stop>;
-
-    fn with<C: ShardCodec<ShardFile<'s>>>(self, codec: C) -> Result<Written, Stop> {
-        let NewChunks { old, new, chunks } = self;
-        let old = Array::open(old.rt, old.path, old.metadata, codec)?;
-        put_each(&old, new, chunks)
-    }
-}
-
 // Chunks of a new array, in pieces of as many chunks.
 #[derive(Drop)]
 struct ChunkPieces<'s, 'n> {
-    old: &'s SharedArray<'s>,
+    old: &'s Array<'s>,
     new: &'s NewArray<'n>,
     chunks: &'s [Vec<u64>],
     in_piece: usize,
@@ -160,9 +135,8 @@ impl ShardWork for ChunkPieces<'_, '_> {
     ghost gives = { λ pieces number made. Unit {0} };
 
     fn run(&self, number: u64) -> Result<Written, Stop> {
-        let (old, new) = (self.old, self.new);
         let chunks = piece_of(self.chunks, number, self.in_piece);
-        with_codec(old.metadata, NewChunks { old, new, chunks })
+        put_each(self.old, self.new, chunks)
     }
 }
 
@@ -182,7 +156,7 @@ fn put_pieces<T: Threads + Sync>(
 
 // Makes the chunks of a new array that have these coordinates, by threads that have a piece each at a time.
 fn put_all<'s, T: Threads + Sync>(
-    old: &'s SharedArray<'s>,
+    old: &'s Array<'s>,
     new: &'s NewArray<'_>,
     chunks: &'s [Vec<u64>],
     workers: &Workers<'_, T>,
@@ -206,7 +180,7 @@ fn put_all<'s, T: Threads + Sync>(
 
 // Makes a new array in the folder `beside`, which is there, and puts it at its path.
 fn make_in<T: Threads + Sync>(
-    old: &SharedArray<'_>,
+    old: &Array<'_>,
     paths: (&str, &str),
     document: &str,
     new: &ArrayMetadata,
@@ -226,7 +200,7 @@ fn make_in<T: Threads + Sync>(
 
 // Makes a new array in a folder beside its path, and puts it there; where that is refused, nothing is left of it.
 fn make<T: Threads + Sync>(
-    old: &SharedArray<'_>,
+    old: &Array<'_>,
     path: &str,
     document: &str,
     new: &ArrayMetadata,
@@ -244,7 +218,7 @@ fn make<T: Threads + Sync>(
 
 // Makes a new array that has this document, where the codecs serve it.
 fn make_described<T: Threads + Sync>(
-    old: &SharedArray<'_>,
+    old: &Array<'_>,
     path: &str,
     document: &str,
     order: SubchunkWriteOrder,
@@ -268,7 +242,7 @@ fn tell(wrote: &Written, out: &mut Output) -> Result<Ending, Stop> {
 /// that of the first new shard, in the order of their grid, that is refused. Each new shard is read from the old array as one subset, and
 /// made by one of the threads. Writes how many shards and bytes it has.
 pub fn reshard<T: Threads + Sync>(
-    old: &SharedArray<'_>,
+    old: &Array<'_>,
     path: &str,
     words: &LayoutWords<'_>,
     workers: &Workers<'_, T>,

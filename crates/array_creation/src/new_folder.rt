@@ -1,5 +1,5 @@
 // The folder of a new array, which stands beside its path until it is whole.
-use array_cli::{Array, CodecUse, ShardCodec, ShardFile, Stop, with_codec};
+use array_cli::{Array, Stop};
 use array_metadata::ArrayMetadata;
 use std::io::ErrorKind;
 use std::rt::Files;
@@ -54,24 +54,7 @@ pub fn end_folder(rt: &HostRuntime, path: &str, beside: &str, document: &str) ->
     }
 }
 
-// The test of a new array.
-#[derive(Drop)]
-struct NewArrayTest<'t> {
-    rt: &'t HostRuntime,
-    path: &'t str,
-    metadata: &'t ArrayMetadata,
-}
-
-impl<'t> CodecUse<ShardFile<'t>> for NewArrayTest<'t> {
-    type Answer = Result<(), Stop>;
-
-    fn with<C: ShardCodec<ShardFile<'t>>>(self, codec: C) -> Result<(), Stop> {
-        let array = Array::open(self.rt, self.path, self.metadata, codec)?;
-        array.test_read()
-    }
-}
-
 /// Tests that the codecs that metadata names serve a new array, and that its elements are read.
 pub fn test_served(rt: &HostRuntime, path: &str, metadata: &ArrayMetadata) -> Result<(), Stop> {
-    with_codec(metadata, NewArrayTest { rt, path, metadata })
+    Array::open(rt, path, metadata)?.test_read()
 }

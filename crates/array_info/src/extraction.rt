@@ -1,14 +1,12 @@
 // The bytes of a subchunk as they are stored.
-use array_cli::{
-    Array, Ending, OpenShard, Output, Place, Shard, ShardCodec, ShardFile, Stop, shard_of, written,
-};
+use array_cli::{Array, Ending, OpenShard, Output, Place, Shard, Stop, shard_of, written};
 use array_fields::escaped;
 use parts_errors::CodecError;
 use parts_row_major::unravel_index;
 use std::io::Write;
 
 // The number of a subchunk that a word is.
-fn number_of<C>(array: &Array<'_, C>, word: &str) -> Result<u64, Stop> {
+fn number_of(array: &Array<'_>, word: &str) -> Result<u64, Stop> {
     let count = array.subchunks.num_elements().unwrap_or(u64::MAX);
     match word.parse::<u64>() {
         Ok(number) if number < count => Ok(number),
@@ -20,9 +18,9 @@ fn number_of<C>(array: &Array<'_, C>, word: &str) -> Result<u64, Stop> {
 }
 
 // The bytes of the subchunk with this number; `None` where it is absent.
-fn stored<'a, C: ShardCodec<ShardFile<'a>>>(
-    array: &Array<'a, C>,
-    opened: &mut C::Open,
+fn stored<'a>(
+    array: &Array<'a>,
+    opened: &mut OpenShard<'a>,
     number: u64,
 ) -> Result<Option<Vec<u8>>, CodecError> {
     let alloc = array.alloc();
@@ -33,11 +31,11 @@ fn stored<'a, C: ShardCodec<ShardFile<'a>>>(
 }
 
 // The bytes of a subchunk of a shard that is open.
-fn extracted<'a, C: ShardCodec<ShardFile<'a>>>(
-    array: &Array<'a, C>,
+fn extracted<'a>(
+    array: &Array<'a>,
     shard: &Shard<'_>,
     number: u64,
-    mut opened: C::Open,
+    mut opened: OpenShard<'a>,
 ) -> Result<Vec<u8>, Stop> {
     let bytes = stored(array, &mut opened, number);
     let file = opened.close();
@@ -52,11 +50,7 @@ fn extracted<'a, C: ShardCodec<ShardFile<'a>>>(
 }
 
 // The bytes of a subchunk of the shard that has a key.
-fn extracted_of_key<'a, C: ShardCodec<ShardFile<'a>>>(
-    array: &Array<'a, C>,
-    key: &str,
-    number: &str,
-) -> Result<Vec<u8>, Stop> {
+fn extracted_of_key(array: &Array<'_>, key: &str, number: &str) -> Result<Vec<u8>, Stop> {
     let files = array.files()?;
     let shard = shard_of(array, &files, key)?;
     let number = number_of(array, number)?;
@@ -67,8 +61,8 @@ fn extracted_of_key<'a, C: ShardCodec<ShardFile<'a>>>(
 /// Writes the bytes of a subchunk as they are stored, by the key of its shard and its row-major number in it. Refused where no
 /// shard has the key, where the word is no number of a subchunk, where the index is refused or its entry of the subchunk, and
 /// where the subchunk is absent.
-pub fn extract<'a, C: ShardCodec<ShardFile<'a>>>(
-    array: &Array<'a, C>,
+pub fn extract(
+    array: &Array<'_>,
     key: &str,
     number: &str,
     out: &mut Output,

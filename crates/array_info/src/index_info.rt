@@ -1,5 +1,5 @@
 // What the index of a shard says.
-use array_cli::{Array, DecodeIndexes, ShardCodec, ShardFile};
+use array_cli::{Array, IndexDecoder};
 use array_folder::{IndexInfo, info_of};
 use parts_errors::CodecError;
 use sharding_format::ShardingIndexLocation;
@@ -14,9 +14,9 @@ pub fn index_range(location: ShardingIndexLocation, size: u64) -> ByteRange {
 }
 
 /// What the index of a shard in an object of a length says, which has these bytes.
-pub fn index_info<'a, C: ShardCodec<ShardFile<'a>>>(
-    array: &Array<'a, C>,
-    indexes: &C::Indexes,
+pub fn index_info(
+    array: &Array<'_>,
+    indexes: &IndexDecoder<'_>,
     bytes: &[u8],
     length: u64,
 ) -> Result<IndexInfo, CodecError> {

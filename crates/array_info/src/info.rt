@@ -3,8 +3,8 @@ use crate::index_info::{index_info, index_range};
 use crate::info_pieces::{KnownShards, known_shards};
 use crate::json;
 use array_cli::{
-    Array, DecodeIndexes, Ending, Output, Place, Progress, Refusal, Shard, ShardCodec, ShardFile,
-    SharedArray, Stop, Workers, write_folder, write_folder_lines, written,
+    Array, Ending, IndexDecoder, Output, Place, Progress, Refusal, Shard, ShardFile, Stop, Workers,
+    write_folder, write_folder_lines, written,
 };
 use array_folder::{ChunkFile, ChunkFiles, Counted, FolderFiles, IndexInfo, Listing, info_of};
 use array_grid::{ChunkKeys, KeyEncoding, write_cell_line, write_numbers};
@@ -39,9 +39,9 @@ pub struct Sums {
 const LONGEST_AT_ONCE: u64 = 65_536;
 
 // What the index of a shard says, which has these bytes, or why it is refused.
-fn index_of<'a, C: ShardCodec<ShardFile<'a>>>(
-    array: &Array<'a, C>,
-    indexes: &C::Indexes,
+fn index_of(
+    array: &Array<'_>,
+    indexes: &IndexDecoder<'_>,
     shard: &Shard<'_>,
     bytes: &[u8],
     length: u64,
@@ -54,9 +54,9 @@ fn index_of<'a, C: ShardCodec<ShardFile<'a>>>(
 }
 
 // What is known of a shard, whose index is read at once; nothing where its file is gone.
-fn read_at_once<'a, C: ShardCodec<ShardFile<'a>>>(
-    array: &Array<'a, C>,
-    indexes: &C::Indexes,
+fn read_at_once(
+    array: &Array<'_>,
+    indexes: &IndexDecoder<'_>,
     shard: &Shard<'_>,
     files: &mut FolderFiles<'_>,
 ) -> Result<Option<ShardInfo>, Stop> {
@@ -72,8 +72,8 @@ fn read_at_once<'a, C: ShardCodec<ShardFile<'a>>>(
 }
 
 // The length of the shard in a file and what its index says, which has a size and is read in pieces; nothing where there is no file.
-fn info_in_pieces<'a, C: ShardCodec<ShardFile<'a>>>(
-    array: &Array<'a, C>,
+fn info_in_pieces<'a>(
+    array: &Array<'a>,
     size: u64,
     file: &mut ShardFile<'a>,
 ) -> Result<Option<(u64, Result<IndexInfo, CodecError>)>, CodecError> {
@@ -89,8 +89,8 @@ fn info_in_pieces<'a, C: ShardCodec<ShardFile<'a>>>(
 }
 
 // What is known of a shard in a file, which has a length and whose index says this or is refused so.
-fn known<'a, C>(
-    array: &Array<'a, C>,
+fn known<'a>(
+    array: &Array<'a>,
     shard: &Shard<'_>,
     file: &ShardFile<'a>,
     length: u64,
@@ -104,8 +104,8 @@ fn known<'a, C>(
 }
 
 // What is known of a shard, whose index has a size and is read in pieces; nothing where its file is gone.
-fn read_in_pieces<'a, C: ShardCodec<ShardFile<'a>>>(
-    array: &Array<'a, C>,
+fn read_in_pieces(
+    array: &Array<'_>,
     shard: &Shard<'_>,
     size: u64,
 ) -> Result<Option<ShardInfo>, Stop> {
@@ -118,9 +118,9 @@ fn read_in_pieces<'a, C: ShardCodec<ShardFile<'a>>>(
 }
 
 // What is known of the shard in a file; nothing where the file is gone.
-fn read_info<'a, C: ShardCodec<ShardFile<'a>>>(
-    array: &Array<'a, C>,
-    indexes: &C::Indexes,
+fn read_info(
+    array: &Array<'_>,
+    indexes: &IndexDecoder<'_>,
     chunk: &ChunkFile,
     files: &mut FolderFiles<'_>,
 ) -> Result<Option<ShardInfo>, Stop> {
@@ -135,10 +135,7 @@ fn read_info<'a, C: ShardCodec<ShardFile<'a>>>(
 
 /// What is known of the shards in these files; nothing of one whose file is gone. Of each only the index is read. Refused, in this order, as
 /// `Stop::Codec` where the index has no fixed size, and as `Stop::System` where the folder or a file is not read.
-pub fn read_infos<'a, C: ShardCodec<ShardFile<'a>>>(
-    array: &Array<'a, C>,
-    chunks: &[ChunkFile],
-) -> Result<Vec<Option<ShardInfo>>, Stop> {
+pub fn read_infos(array: &Array<'_>, chunks: &[ChunkFile]) -> Result<Vec<Option<ShardInfo>>, Stop> {
     let indexes = array.codec.indexes(array.alloc(), &array.subchunks)?;
     let mut shards: Vec<Option<ShardInfo>> = Vec::with_capacity(array.alloc(), chunks.len())?;
     let mut files = FolderFiles::new(array.alloc(), array.rt, array.path)?;
@@ -323,15 +320,15 @@ fn write_sums(out: &mut Output, sums: &Sums) -> io::Result<()> {
 }
 
 // Writes how many shards there are, of how many there could be.
-fn write_count<C>(out: &mut Output, array: &Array<'_, C>, shards: u64) -> io::Result<()> {
+fn write_count(out: &mut Output, array: &Array<'_>, shards: u64) -> io::Result<()> {
     let possible = array.grid.count(array.alloc())?;
     writeln!(out, "shards: {shards} of {possible}")
 }
 
 // Writes what the metadata says, how many shards are there, a line for each, what else stands in the folder, and the sums.
-fn write_info<C>(
+fn write_info(
     out: &mut Output,
-    array: &Array<'_, C>,
+    array: &Array<'_>,
     files: &ChunkFiles,
     shards: &[Option<ShardInfo>],
     sums: &Sums,
@@ -361,7 +358,7 @@ fn write_shard_lines(
 }
 
 // Writes what the metadata says as a line of JSON.
-fn write_array_line<C>(out: &mut Output, array: &Array<'_, C>) -> io::Result<()> {
+fn write_array_line(out: &mut Output, array: &Array<'_>) -> io::Result<()> {
     let possible = array.grid.count(array.alloc())?;
     let unread = array.unread()?;
     let unread = unread.as_ref().map(String::as_str);
@@ -369,9 +366,9 @@ fn write_array_line<C>(out: &mut Output, array: &Array<'_, C>) -> io::Result<()>
 }
 
 // Writes the same as lines of JSON.
-fn write_info_lines<C>(
+fn write_info_lines(
     out: &mut Output,
-    array: &Array<'_, C>,
+    array: &Array<'_>,
     files: &ChunkFiles,
     shards: &[Option<ShardInfo>],
     sums: &Sums,
@@ -383,9 +380,9 @@ fn write_info_lines<C>(
 }
 
 // Writes what the metadata says, and what is known of these shards.
-fn write_known<C>(
+fn write_known(
     out: &mut Output,
-    array: &Array<'_, C>,
+    array: &Array<'_>,
     known: &KnownShards,
     sums: &Sums,
     is_json: bool,
@@ -402,7 +399,7 @@ fn write_known<C>(
 /// refused has a line that says why. Refused, in this order, as `known_shards` is, and as `Stop::Output` or `Stop::Closed` where the answer is
 /// not taken.
 pub fn info_of_array<T: Threads + Sync>(
-    array: &SharedArray<'_>,
+    array: &Array<'_>,
     listing: &Listing,
     workers: &Workers<'_, T>,
     out: &mut Output,

@@ -1,8 +1,6 @@
 // What threads find out of shards side by side, of a piece of their list each at a time.
 use crate::info::{ShardInfo, read_infos};
-use array_cli::{
-    Array, CodecUse, Progress, ShardCodec, ShardFile, SharedArray, Stop, Workers, with_codec,
-};
+use array_cli::{Array, Progress, Stop, Workers};
 use array_folder::{ChunkFile, ChunkFiles};
 use array_grid::{ListPart, ShardWork, piece_length, piece_of, run_in_parallel};
 use std::thread::Threads;
@@ -18,27 +16,10 @@ pub struct KnownShards {
     pub shards: Vec<Option<ShardInfo>>,
 }
 
-// Files of shards of which one thread reads the indexes.
-#[derive(Drop)]
-struct InfoFiles<'s> {
-    array: &'s SharedArray<'s>,
-    files: &'s [ChunkFile],
-}
-
-impl<'s> CodecUse<ShardFile<'s>> for InfoFiles<'s> {
-    type Answer = Result<Vec<Option<ShardInfo>>, Stop>;
-
-    fn with<C: ShardCodec<ShardFile<'s>>>(self, codec: C) -> Result<Vec<Option<ShardInfo>>, Stop> {
-        let InfoFiles { array, files } = self;
-        let array = Array::open(array.rt, array.path, array.metadata, codec)?;
-        read_infos(&array, files)
-    }
-}
-
 // Files of shards, in pieces of as many files.
 #[derive(Drop)]
 struct InfoPieces<'s> {
-    array: &'s SharedArray<'s>,
+    array: &'s Array<'s>,
     files: &'s [ChunkFile],
     in_piece: usize,
 }
@@ -50,17 +31,13 @@ impl ShardWork for InfoPieces<'_> {
     ghost gives = { λ pieces number found. Unit {0} };
 
     fn run(&self, number: u64) -> Result<Vec<Option<ShardInfo>>, Stop> {
-        let piece = InfoFiles {
-            array: self.array,
-            files: piece_of(self.files, number, self.in_piece),
-        };
-        with_codec(self.array.metadata, piece)
+        read_infos(self.array, piece_of(self.files, number, self.in_piece))
     }
 }
 
 // Adds what is known of the shards in these files, each piece of them by a thread of its own.
 fn add_pieces<'s, T: Threads + Sync>(
-    array: &'s SharedArray<'s>,
+    array: &'s Array<'s>,
     workers: &Workers<'_, T>,
     files: &'s [ChunkFile],
     in_piece: usize,
@@ -81,7 +58,7 @@ fn add_pieces<'s, T: Threads + Sync>(
 /// The shards that a part of an array has, and what is known of each, of which threads read the index; nothing of one whose file is
 /// gone. Refused, in this order, as `Stop::System` where the folder is not read, and as `read_infos` refuses the first shard that is refused.
 pub fn known_shards<T: Threads + Sync>(
-    array: &SharedArray<'_>,
+    array: &Array<'_>,
     part: &ListPart,
     workers: &Workers<'_, T>,
     progress: &mut Progress,

@@ -1,5 +1,5 @@
 // The arrays below a group.
-use array_cli::{Ending, Output, Stop, metadata_of, written};
+use array_cli::{Array, Ending, Output, Stop, metadata_of, written};
 use array_fields::{MetadataError, escaped};
 use array_folder::list_members;
 use array_metadata::{ArrayMetadata, Obstacles};

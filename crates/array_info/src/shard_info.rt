@@ -1,10 +1,7 @@
 // Where the subchunks of one shard lie in its file.
 use crate::info::{ShardInfo, write_shard};
 use crate::json;
-use array_cli::{
-    Array, DecodeIndexes, Ending, Output, Place, Shard, ShardCodec, ShardFile, Stop, shard_of,
-    written,
-};
+use array_cli::{Array, Ending, Output, Place, Shard, ShardFile, Stop, shard_of, written};
 use array_fields::{JsonLine, escaped};
 use array_folder::{DeadBytes, IndexInfo, index_interval, info_of, slice_of};
 use parts_errors::CodecError;
@@ -62,8 +59,8 @@ impl Layout {
 }
 
 // Where the subchunks of the shard in a file lie, whose index has a size; `None` where there is no file.
-fn layout_of<'a, C: ShardCodec<ShardFile<'a>>>(
-    array: &Array<'a, C>,
+fn layout_of<'a>(
+    array: &Array<'a>,
     size: u64,
     file: &mut ShardFile<'a>,
 ) -> Result<Option<Layout>, CodecError> {
@@ -77,11 +74,7 @@ fn layout_of<'a, C: ShardCodec<ShardFile<'a>>>(
 }
 
 // Where the subchunks of a shard lie, whose index has a size.
-fn layout_of_shard<'a, C: ShardCodec<ShardFile<'a>>>(
-    array: &Array<'a, C>,
-    shard: &Shard<'_>,
-    size: u64,
-) -> Result<Layout, Stop> {
+fn layout_of_shard(array: &Array<'_>, shard: &Shard<'_>, size: u64) -> Result<Layout, Stop> {
     let mut file = array.file(shard.key)?;
     match layout_of(array, size, &mut file) {
         Ok(Some(layout)) => Ok(layout),
@@ -91,11 +84,7 @@ fn layout_of_shard<'a, C: ShardCodec<ShardFile<'a>>>(
 }
 
 // Where the subchunks of the shard lie that has a key, and whose index has a size.
-fn layout_of_key<'a, C: ShardCodec<ShardFile<'a>>>(
-    array: &Array<'a, C>,
-    size: u64,
-    key: &str,
-) -> Result<Layout, Stop> {
+fn layout_of_key(array: &Array<'_>, size: u64, key: &str) -> Result<Layout, Stop> {
     let files = array.files()?;
     let shard = shard_of(array, &files, key)?;
     layout_of_shard(array, &shard, size)
@@ -229,8 +218,8 @@ fn write_layout(
 /// index is read. Refused, in this order, as `Stop::Codec` where the index has no fixed size, as `Stop::System` where the folder is not
 /// read, as `Stop::NoShard` where no shard has the key, as `Stop::System` or `Stop::Refused` where its index is not read, and as
 /// `Stop::Output` or `Stop::Closed` where the answer is not taken.
-pub fn info_of_shard<'a, C: ShardCodec<ShardFile<'a>>>(
-    array: &Array<'a, C>,
+pub fn info_of_shard(
+    array: &Array<'_>,
     key: &str,
     is_json: bool,
     out: &mut Output,

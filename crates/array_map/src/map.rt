@@ -1,7 +1,7 @@
 // A map of an array's shards, or of the subchunks of one shard.
 use array_cli::{
-    Array, Ending, OpenShard, Output, Place, Progress, Shard, ShardCodec, ShardFile, SharedArray,
-    Stop, Workers, check_subchunk, shard_of, written,
+    Array, Ending, OpenShard, Output, Place, Progress, Shard, ShardFile, Stop, Workers,
+    check_subchunk, shard_of, written,
 };
 use array_fields::escaped;
 use array_folder::{
@@ -61,9 +61,9 @@ fn mark_of(decoded: Result<bool, CodecError>) -> Result<Mark, CodecError> {
 }
 
 // A subchunk of a shard that is open: where its slice lies, and whether it decodes where its codec is served.
-fn drawn_at<'a, C, S: OpenShard<ShardFile<'a>>>(
-    array: &Array<'a, C>,
-    opened: &mut S,
+fn drawn_at<'a>(
+    array: &Array<'a>,
+    opened: &mut OpenShard<'a>,
     number: u64,
     subchunk: &[u64],
 ) -> Result<Drawn, CodecError> {
@@ -83,9 +83,9 @@ fn drawn_at<'a, C, S: OpenShard<ShardFile<'a>>>(
 }
 
 // Adds the subchunk of a shard that has a number.
-fn draw_next<'a, C, S: OpenShard<ShardFile<'a>>>(
-    array: &Array<'a, C>,
-    opened: &mut S,
+fn draw_next<'a>(
+    array: &Array<'a>,
+    opened: &mut OpenShard<'a>,
     number: u64,
     drawn: &mut Vec<Drawn>,
 ) -> Result<(), CodecError> {
@@ -97,9 +97,9 @@ fn draw_next<'a, C, S: OpenShard<ShardFile<'a>>>(
 }
 
 // The subchunks of a shard that is open.
-fn draw_each<'a, C, S: OpenShard<ShardFile<'a>>>(
-    array: &Array<'a, C>,
-    opened: &mut S,
+fn draw_each<'a>(
+    array: &Array<'a>,
+    opened: &mut OpenShard<'a>,
     count: u64,
     progress: &mut Progress,
 ) -> Result<Vec<Drawn>, CodecError> {
@@ -164,9 +164,9 @@ fn order_of(
 }
 
 // The map of a shard that is open.
-fn map_of<'a, C: ShardCodec<ShardFile<'a>>>(
-    array: &Array<'a, C>,
-    opened: &mut C::Open,
+fn map_of<'a>(
+    array: &Array<'a>,
+    opened: &mut OpenShard<'a>,
     length: u64,
     count: u64,
     progress: &mut Progress,
@@ -186,8 +186,8 @@ fn map_of<'a, C: ShardCodec<ShardFile<'a>>>(
 }
 
 // The length of the file of a shard, which is there.
-fn length_of<'a, C>(
-    array: &Array<'a, C>,
+fn length_of<'a>(
+    array: &Array<'a>,
     shard: &Shard<'_>,
     file: &mut ShardFile<'a>,
 ) -> Result<u64, Stop> {
@@ -199,8 +199,8 @@ fn length_of<'a, C>(
 }
 
 // The map of the shard in a file, which has as many subchunks.
-fn map_of_file<'a, C: ShardCodec<ShardFile<'a>>>(
-    array: &Array<'a, C>,
+fn map_of_file<'a>(
+    array: &Array<'a>,
     shard: &Shard<'_>,
     mut file: ShardFile<'a>,
     count: u64,
@@ -217,8 +217,8 @@ fn map_of_file<'a, C: ShardCodec<ShardFile<'a>>>(
 }
 
 // The map of the shard that has a key, which has as many subchunks.
-fn map_of_key<'a, C: ShardCodec<ShardFile<'a>>>(
-    array: &Array<'a, C>,
+fn map_of_key(
+    array: &Array<'_>,
     key: &str,
     count: u64,
     progress: &mut Progress,
@@ -229,8 +229,8 @@ fn map_of_key<'a, C: ShardCodec<ShardFile<'a>>>(
 }
 
 // Saves a picture of a shard in a file.
-fn save_shard_picture<C>(
-    array: &Array<'_, C>,
+fn save_shard_picture(
+    array: &Array<'_>,
     path: &str,
     key: &str,
     map: &ShardMap,
@@ -242,8 +242,8 @@ fn save_shard_picture<C>(
 }
 
 // Draws a map of a shard, as text or as a picture in a file.
-fn draw_shard<C>(
-    array: &Array<'_, C>,
+fn draw_shard(
+    array: &Array<'_>,
     key: &str,
     map: &ShardMap,
     svg: Option<&str>,
@@ -263,8 +263,8 @@ fn draw_shard<C>(
 /// subchunk that is present is decoded, where its codec is served. Refused, in this order, as `Stop::TooManyPlaces` where a shard has
 /// more than 65,536 subchunks, as `Stop::System` where the folder is not read, as `Stop::NoShard` where no shard has the key, as
 /// `Stop::System` or `Stop::Refused` where its index is not read, and where the drawing is not taken.
-pub fn map_shard<'a, C: ShardCodec<ShardFile<'a>>>(
-    array: &Array<'a, C>,
+pub fn map_shard(
+    array: &Array<'_>,
     key: &str,
     svg: Option<&str>,
     out: &mut Output,
@@ -277,8 +277,8 @@ pub fn map_shard<'a, C: ShardCodec<ShardFile<'a>>>(
 }
 
 // What stands at each place of the chunk grid.
-fn marks_of<C>(
-    array: &Array<'_, C>,
+fn marks_of(
+    array: &Array<'_>,
     files: &ChunkFiles,
     shards: &[Option<ShardInfo>],
     places: u64,
@@ -299,8 +299,8 @@ fn marks_of<C>(
 }
 
 // Saves a picture of an array in a file.
-fn save_array_picture<C>(
-    array: &Array<'_, C>,
+fn save_array_picture(
+    array: &Array<'_>,
     path: &str,
     marks: &[Mark],
     out: &mut Output,
@@ -311,8 +311,8 @@ fn save_array_picture<C>(
 }
 
 // Draws a map of an array, as text or as a picture in a file.
-fn draw_array<C>(
-    array: &Array<'_, C>,
+fn draw_array(
+    array: &Array<'_>,
     marks: &[Mark],
     svg: Option<&str>,
     out: &mut Output,
@@ -328,7 +328,7 @@ fn draw_array<C>(
 /// Draws which shards of an array are there, and which have an index that is refused, as text or as a picture in a file of the format
 /// SVG. Refused, in this order, as `Stop::TooManyPlaces` where there could be more than 65,536 shards, and as `info` is.
 pub fn map_array<T: Threads + Sync>(
-    array: &SharedArray<'_>,
+    array: &Array<'_>,
     svg: Option<&str>,
     workers: &Workers<'_, T>,
     out: &mut Output,

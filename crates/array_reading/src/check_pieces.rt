@@ -1,10 +1,7 @@
 // Shards that threads check side by side, a piece of their list each at a time.
 use crate::checked::{Checked, Told};
 use crate::checking::check_each_file;
-use array_cli::{
-    Array, CodecUse, Ending, Output, Progress, ShardCodec, ShardFile, SharedArray, Stop, Workers,
-    with_codec, written,
-};
+use array_cli::{Array, Ending, Output, Progress, Stop, Workers, written};
 use array_folder::ChunkFile;
 use array_grid::{ShardWork, piece_length, piece_of, run_in_parallel};
 use std::io;
@@ -13,46 +10,6 @@ use std::thread::Threads;
 
 // How many shards a thread checks at a time at most.
 const SHARDS_OF_A_PIECE: usize = 16;
-
-// Files of shards that one thread checks.
-#[derive(Drop)]
-struct CheckedFiles<'s, 'o> {
-    array: &'s SharedArray<'s>,
-    files: &'s [ChunkFile],
-    checked: &'s mut Checked,
-    told: &'s mut Told<'o>,
-}
-
-impl<'s> CodecUse<ShardFile<'s>> for CheckedFiles<'s, '_> {
-    type Answer = Result<(), Stop>;
-
-    fn with<C: ShardCodec<ShardFile<'s>>>(self, codec: C) -> Result<(), Stop> {
-        let CheckedFiles {
-            array,
-            files,
-            checked,
-            told,
-        } = self;
-        let array = Array::open(array.rt, array.path, array.metadata, codec)?;
-        check_each_file(&array, files, checked, told)
-    }
-}
-
-// Checks the shards in these files by one thread.
-fn check_files<'s>(
-    array: &'s SharedArray<'s>,
-    files: &'s [ChunkFile],
-    checked: &'s mut Checked,
-    told: &'s mut Told<'_>,
-) -> Result<(), Stop> {
-    let checking = CheckedFiles {
-        array,
-        files,
-        checked,
-        told,
-    };
-    with_codec(array.metadata, checking)
-}
 
 // What came of a piece: what was checked, the lines that tell of it, and why the command stops behind them, if it does.
 #[derive(Drop)]
@@ -65,7 +22,7 @@ struct PieceChecked {
 // Files of shards, in pieces of as many files, and how they are checked.
 #[derive(Drop)]
 struct FilePieces<'s> {
-    array: &'s SharedArray<'s>,
+    array: &'s Array<'s>,
     files: &'s [ChunkFile],
     in_piece: usize,
     is_index_alone: bool,
@@ -88,7 +45,7 @@ impl ShardWork for FilePieces<'_> {
             progress: &mut Progress::silent(),
             is_json: self.is_json,
         };
-        let ended = check_files(self.array, files, &mut checked, &mut told);
+        let ended = check_each_file(self.array, files, &mut checked, &mut told);
         PieceChecked {
             checked,
             lines,
@@ -130,7 +87,7 @@ fn tell_piece(piece: PieceChecked, checked: &mut Checked, told: &mut Told<'_>) -
 
 // Checks the shards in these files, each piece of them by a thread of its own, and tells what came of them in their order.
 fn check_pieces_of<'s, T: Threads + Sync>(
-    array: &'s SharedArray<'s>,
+    array: &'s Array<'s>,
     workers: &Workers<'_, T>,
     files: &'s [ChunkFile],
     in_piece: usize,
@@ -153,14 +110,14 @@ fn check_pieces_of<'s, T: Threads + Sync>(
 
 /// Checks the shards in these files by threads, and tells what one thread tells, in its order: the lines of some shards at a time.
 pub fn check_all<T: Threads + Sync>(
-    array: &SharedArray<'_>,
+    array: &Array<'_>,
     files: &[ChunkFile],
     workers: &Workers<'_, T>,
     checked: &mut Checked,
     told: &mut Told<'_>,
 ) -> Result<(), Stop> {
     if workers.jobs == 1 || files.len() < 2 {
-        return check_files(array, files, checked, told);
+        return check_each_file(array, files, checked, told);
     }
     let in_piece = piece_length(files.len(), workers.jobs, SHARDS_OF_A_PIECE);
     let at_once = in_piece.saturating_mul(workers.jobs).max(1);

@@ -147,8 +147,8 @@ fn write_checked(out: &mut Output, checked: &Checked) -> io::Result<()> {
 }
 
 /// Writes what else stands in the folder, how many subchunks were not looked into, and what was checked.
-pub fn write_end<C>(
-    array: &Array<'_, C>,
+pub fn write_end(
+    array: &Array<'_>,
     out: &mut Output,
     files: &ChunkFiles,
     checked: &Checked,

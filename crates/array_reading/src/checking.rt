@@ -2,8 +2,8 @@
 use crate::check_pieces::check_all;
 use crate::checked::{Checked, Found, Told, write_end, write_end_lines};
 use array_cli::{
-    Array, Ending, OpenShard, Output, Place, Progress, Shard, ShardCodec, ShardFile, SharedArray,
-    Stop, Workers, check_subchunk, written,
+    Array, Ending, OpenShard, Output, Place, Progress, Shard, ShardFile, Stop, Workers,
+    check_subchunk, written,
 };
 use array_folder::{ChunkFile, ChunkFiles, Listing};
 use parts_errors::CodecError;
@@ -47,8 +47,8 @@ impl Read {
 }
 
 // Tells that a subchunk of a shard is refused.
-fn tell_subchunk<C>(
-    array: &Array<'_, C>,
+fn tell_subchunk(
+    array: &Array<'_>,
     shard: &Shard<'_>,
     error: CodecError,
     number: u64,
@@ -59,11 +59,11 @@ fn tell_subchunk<C>(
 }
 
 // Reads each subchunk of a shard, and goes on behind one that is refused.
-fn check_each<'a, C, S: OpenShard<ShardFile<'a>>>(
-    array: &Array<'a, C>,
+fn check_each<'a>(
+    array: &Array<'a>,
     shard: &Shard<'_>,
     checked: &Checked,
-    opened: &mut S,
+    opened: &mut OpenShard<'a>,
     told: &mut Told<'_>,
 ) -> Result<Read, Stop> {
     let count = array.subchunks.num_elements().unwrap_or(u64::MAX);
@@ -89,8 +89,8 @@ fn check_each<'a, C, S: OpenShard<ShardFile<'a>>>(
 }
 
 // Tells the bad index entries of a shard on one line, if there are some.
-fn tell_bad<C>(
-    array: &Array<'_, C>,
+fn tell_bad(
+    array: &Array<'_>,
     shard: &Shard<'_>,
     read: &Read,
     told: &mut Told<'_>,
@@ -106,10 +106,10 @@ fn tell_bad<C>(
 }
 
 // Tells the subchunk behind which nothing more could be read of a shard, if there is one.
-fn tell_last<C>(
-    array: &Array<'_, C>,
+fn tell_last<'a>(
+    array: &Array<'a>,
     shard: &Shard<'_>,
-    file: &ShardFile<'_>,
+    file: &ShardFile<'a>,
     last: Option<(u64, CodecError)>,
     told: &mut Told<'_>,
 ) -> Result<(), Stop> {
@@ -121,10 +121,10 @@ fn tell_last<C>(
 }
 
 // Tells what reading the subchunks of a shard came to, which has this file.
-fn tell_read<C>(
-    array: &Array<'_, C>,
+fn tell_read<'a>(
+    array: &Array<'a>,
     shard: &Shard<'_>,
-    file: &ShardFile<'_>,
+    file: &ShardFile<'a>,
     read: Read,
     told: &mut Told<'_>,
 ) -> Result<Found, Stop> {
@@ -137,11 +137,11 @@ fn tell_read<C>(
 }
 
 // Reads each subchunk of a shard that is open.
-fn check_opened<'a, C: ShardCodec<ShardFile<'a>>>(
-    array: &Array<'a, C>,
+fn check_opened<'a>(
+    array: &Array<'a>,
     shard: &Shard<'_>,
     checked: &Checked,
-    mut opened: C::Open,
+    mut opened: OpenShard<'a>,
     told: &mut Told<'_>,
 ) -> Result<Found, Stop> {
     let read = check_each(array, shard, checked, &mut opened, told);
@@ -150,8 +150,8 @@ fn check_opened<'a, C: ShardCodec<ShardFile<'a>>>(
 }
 
 // Opens the shard that a file holds, and reads each subchunk.
-fn found_in<'a, C: ShardCodec<ShardFile<'a>>>(
-    array: &Array<'a, C>,
+fn found_in<'a>(
+    array: &Array<'a>,
     shard: &Shard<'_>,
     file: ShardFile<'a>,
     checked: &Checked,
@@ -170,8 +170,8 @@ fn found_in<'a, C: ShardCodec<ShardFile<'a>>>(
 }
 
 // Checks the shard that a file holds, which is there.
-fn check_file<'a, C: ShardCodec<ShardFile<'a>>>(
-    array: &Array<'a, C>,
+fn check_file<'a>(
+    array: &Array<'a>,
     shard: &Shard<'_>,
     file: ShardFile<'a>,
     checked: &mut Checked,
@@ -183,8 +183,8 @@ fn check_file<'a, C: ShardCodec<ShardFile<'a>>>(
 }
 
 // Opens a shard and reads each subchunk. Where its file is gone, nothing is to be checked.
-fn check_shard<'a, C: ShardCodec<ShardFile<'a>>>(
-    array: &Array<'a, C>,
+fn check_shard(
+    array: &Array<'_>,
     shard: &Shard<'_>,
     checked: &mut Checked,
     told: &mut Told<'_>,
@@ -202,8 +202,8 @@ fn check_shard<'a, C: ShardCodec<ShardFile<'a>>>(
 }
 
 /// Checks the shards in these files, one after the other.
-pub fn check_each_file<'a, C: ShardCodec<ShardFile<'a>>>(
-    array: &Array<'a, C>,
+pub fn check_each_file(
+    array: &Array<'_>,
     files: &[ChunkFile],
     checked: &mut Checked,
     told: &mut Told<'_>,
@@ -216,7 +216,7 @@ pub fn check_each_file<'a, C: ShardCodec<ShardFile<'a>>>(
 
 // Writes what was checked, and what else stands in the folder.
 fn write_checked(
-    array: &SharedArray<'_>,
+    array: &Array<'_>,
     out: &mut Output,
     files: &ChunkFiles,
     checked: &Checked,
@@ -235,7 +235,7 @@ fn write_checked(
 /// asked, by threads; writes a line for each that is refused, in the order of the shards, what else stands in the folder, how many
 /// subchunks were not looked into, and what was checked.
 pub fn check<T: Threads + Sync>(
-    array: &SharedArray<'_>,
+    array: &Array<'_>,
     is_index_asked: bool,
     listing: &Listing,
     workers: &Workers<'_, T>,

@@ -1,6 +1,6 @@
 // The chunks of a grid that have elements in the files of an array.
 use crate::read::{read_array, read_part_into};
-use array_cli::{Array, Progress, ShardCodec, ShardFile, Stop, shards_of};
+use array_cli::{Array, Progress, Stop, shards_of};
 use array_folder::ChunkFile;
 use array_grid::{ShardGrid, ShardPart, ShardParts, SubsetElements};
 use array_metadata::ArrayMetadata;
@@ -70,7 +70,7 @@ fn add_touched(
 }
 
 /// The coordinates of the chunks of a shape that have elements of the files of an array: each once, in the order of the grid.
-pub fn chunks_of<C>(array: &Array<'_, C>, chunk: &ChunkShape) -> Result<Vec<Vec<u64>>, Stop> {
+pub fn chunks_of(array: &Array<'_>, chunk: &ChunkShape) -> Result<Vec<Vec<u64>>, Stop> {
     let alloc = array.alloc();
     let files = array.files()?;
     let mut found: Vec<Vec<u64>> = Vec::new(alloc);
@@ -83,17 +83,14 @@ pub fn chunks_of<C>(array: &Array<'_, C>, chunk: &ChunkShape) -> Result<Vec<Vec<
 }
 
 /// The elements of a subset as `read_array` gives them, where nothing is refused and nothing shows how far it is.
-pub fn read_silently<'a, C: ShardCodec<ShardFile<'a>>>(
-    array: &Array<'a, C>,
-    requested: &ArraySubset,
-) -> Result<SubsetElements, Stop> {
+pub fn read_silently(array: &Array<'_>, requested: &ArraySubset) -> Result<SubsetElements, Stop> {
     let (elements, _) = read_array(array, requested, false, &mut Progress::silent())?;
     Ok(elements)
 }
 
 // Reads a part of a subset of a shape to where it lies in the subset, whose elements have these bytes.
-fn put_part<'a, C: ShardCodec<ShardFile<'a>>>(
-    array: &Array<'a, C>,
+fn put_part(
+    array: &Array<'_>,
     grid: &ShardGrid,
     part: &ShardPart,
     shape: &[u64],
@@ -107,8 +104,8 @@ fn put_part<'a, C: ShardCodec<ShardFile<'a>>>(
 }
 
 // Reads the parts of a subset of a shape, and puts each where it lies.
-fn put_parts<'a, C: ShardCodec<ShardFile<'a>>>(
-    array: &Array<'a, C>,
+fn put_parts(
+    array: &Array<'_>,
     grid: &ShardGrid,
     parts: &ShardParts,
     shape: &[u64],
@@ -125,11 +122,7 @@ fn put_parts<'a, C: ShardCodec<ShardFile<'a>>>(
 
 // Reads the elements of a subset, which have one size, into as many bytes as they have: each of these is written, unless a part of the
 // subset is refused.
-fn read_into<'a, C: ShardCodec<ShardFile<'a>>>(
-    array: &Array<'a, C>,
-    requested: &ArraySubset,
-    bytes: &mut [u8],
-) -> Result<(), Stop> {
+fn read_into(array: &Array<'_>, requested: &ArraySubset, bytes: &mut [u8]) -> Result<(), Stop> {
     let grid = shards_of(array)?;
     let parts = grid.parts(array.alloc(), requested)?;
     put_parts(array, &grid, &parts, requested.shape(), bytes)
@@ -137,8 +130,8 @@ fn read_into<'a, C: ShardCodec<ShardFile<'a>>>(
 
 /// As `read_into`, into room that becomes as many bytes as the elements have, in its memory as far as that reaches. Refused as `Stop::TooLarge`
 /// where no number can say how many these are.
-pub fn read_into_room<'a, C: ShardCodec<ShardFile<'a>>>(
-    array: &Array<'a, C>,
+pub fn read_into_room(
+    array: &Array<'_>,
     requested: &ArraySubset,
     room: &mut Vec<u8>,
 ) -> Result<(), Stop> {

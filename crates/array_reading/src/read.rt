@@ -1,8 +1,8 @@
 // The elements of a subset of an array.
 use crate::sound::put_sound;
 use array_cli::{
-    Array, Ending, GridShard, OpenShard, Place, Progress, Shard, ShardCodec, ShardFile, Stop,
-    shard_of_grid, shards_of,
+    Array, Ending, GridShard, OpenShard, Place, Progress, Shard, ShardFile, Stop, shard_of_grid,
+    shards_of,
 };
 use array_grid::{ShardGrid, ShardPart, ShardParts, SubsetElements, shared_elements};
 use parts_arrays::{ArrayBytes, FixedTarget};
@@ -33,8 +33,8 @@ impl Answer {
 }
 
 // The cells of a subset as they are held, or fill values where none are.
-fn held_cells<C>(
-    array: &Array<'_, C>,
+fn held_cells(
+    array: &Array<'_>,
     requested: &ArraySubset,
     held: Option<SubsetElements>,
 ) -> Result<SubsetElements, CodecError> {
@@ -46,8 +46,8 @@ fn held_cells<C>(
 }
 
 // Has the cells of a subset held: fill values where none are.
-fn hold_cells<C>(
-    array: &Array<'_, C>,
+fn hold_cells(
+    array: &Array<'_>,
     requested: &ArraySubset,
     cells: &mut Option<SubsetElements>,
 ) -> Result<(), CodecError> {
@@ -58,8 +58,8 @@ fn hold_cells<C>(
 }
 
 // Puts the cells of a part into those of a subset, for which memory is asked with the first part.
-fn put_shard_part<C>(
-    array: &Array<'_, C>,
+fn put_shard_part(
+    array: &Array<'_>,
     requested: &ArraySubset,
     part: &ShardPart,
     found: &ArrayBytes,
@@ -73,20 +73,16 @@ fn put_shard_part<C>(
 }
 
 // Whether a subchunk of a shard that is open does not decode.
-fn is_refused<'a, C, S: OpenShard<ShardFile<'a>>>(
-    array: &Array<'a, C>,
-    opened: &mut S,
-    subchunk: &[u64],
-) -> bool {
+fn is_refused<'a>(array: &Array<'a>, opened: &mut OpenShard<'a>, subchunk: &[u64]) -> bool {
     let read = opened.test_subchunk(array.alloc(), array.metadata, subchunk);
     matches!(read, Err(CodecError::Damaged))
 }
 
 // Whether a subchunk of a shard that is open has elements of a part of a subset, and does not decode.
-fn is_damaged<'a, C, S: OpenShard<ShardFile<'a>>>(
-    array: &Array<'a, C>,
+fn is_damaged<'a>(
+    array: &Array<'a>,
     part: &ShardPart,
-    opened: &mut S,
+    opened: &mut OpenShard<'a>,
     number: u64,
 ) -> Result<bool, CodecError> {
     let (alloc, shape) = (array.alloc(), array.metadata.subchunk.as_slice());
@@ -100,10 +96,10 @@ fn is_damaged<'a, C, S: OpenShard<ShardFile<'a>>>(
 }
 
 // Where a refusal of a read of a part of a subset lies, of a shard that is open: the lowest subchunk that does not decode.
-fn place_of<'a, C, S: OpenShard<ShardFile<'a>>>(
-    array: &Array<'a, C>,
+fn place_of<'a>(
+    array: &Array<'a>,
     part: &ShardPart,
-    opened: &mut S,
+    opened: &mut OpenShard<'a>,
     error: CodecError,
 ) -> Result<Place, CodecError> {
     if error != CodecError::Damaged {
@@ -118,11 +114,11 @@ fn place_of<'a, C, S: OpenShard<ShardFile<'a>>>(
 }
 
 // Closes a shard of which a part of a subset was read. Why the command stops, with its place, where that was refused.
-fn closed<'a, T, C, S: OpenShard<ShardFile<'a>>>(
-    array: &Array<'a, C>,
+fn closed<'a, T>(
+    array: &Array<'a>,
     part: &ShardPart,
     shard: &Shard<'_>,
-    mut opened: S,
+    mut opened: OpenShard<'a>,
     read: Result<T, CodecError>,
 ) -> Result<T, Stop> {
     let error = match read {
@@ -140,8 +136,8 @@ fn closed<'a, T, C, S: OpenShard<ShardFile<'a>>>(
 }
 
 // The file of the shard in which a part of a subset lies.
-fn file_of<'a, C>(
-    array: &Array<'a, C>,
+fn file_of<'a>(
+    array: &Array<'a>,
     part: &ShardPart,
     shard: &Shard<'_>,
 ) -> Result<ShardFile<'a>, Stop> {
@@ -153,8 +149,8 @@ fn file_of<'a, C>(
 }
 
 // Reads a part of a subset, which lies in a shard.
-fn read_shard<'a, 'e, C: ShardCodec<ShardFile<'a>>>(
-    array: &Array<'a, C>,
+fn read_shard<'a, 'e>(
+    array: &Array<'a>,
     part: &ShardPart,
     shard: &Shard<'_>,
 ) -> Result<ArrayBytes<'e>, Stop> {
@@ -164,8 +160,8 @@ fn read_shard<'a, 'e, C: ShardCodec<ShardFile<'a>>>(
 }
 
 // Reads a part of a subset, which lies in a shard, into a target.
-fn read_shard_into<'a, C: ShardCodec<ShardFile<'a>>>(
-    array: &Array<'a, C>,
+fn read_shard_into(
+    array: &Array<'_>,
     part: &ShardPart,
     shard: &Shard<'_>,
     target: &mut FixedTarget,
@@ -176,8 +172,8 @@ fn read_shard_into<'a, C: ShardCodec<ShardFile<'a>>>(
 }
 
 /// Reads a part of a subset, whose elements have one size, into a target. Where that is refused, the target's subset may have any elements.
-pub fn read_part_into<'a, C: ShardCodec<ShardFile<'a>>>(
-    array: &Array<'a, C>,
+pub fn read_part_into(
+    array: &Array<'_>,
     grid: &ShardGrid,
     part: &ShardPart,
     target: &mut FixedTarget,
@@ -187,8 +183,8 @@ pub fn read_part_into<'a, C: ShardCodec<ShardFile<'a>>>(
 }
 
 // Reads a part of a subset, which lies in a shard; `None` where it is refused and is to be filled.
-fn read_or_fill<'a, 'e, C: ShardCodec<ShardFile<'a>>>(
-    array: &Array<'a, C>,
+fn read_or_fill<'a, 'e>(
+    array: &Array<'a>,
     part: &ShardPart,
     shard: &Shard<'_>,
     fills: bool,
@@ -209,8 +205,8 @@ struct PartRead<'e> {
 }
 
 // Reads a part of a subset.
-fn read_part<'a, 'e, C: ShardCodec<ShardFile<'a>>>(
-    array: &Array<'a, C>,
+fn read_part<'a, 'e>(
+    array: &Array<'a>,
     grid: &ShardGrid,
     part: ShardPart,
     fills: bool,
@@ -221,8 +217,8 @@ fn read_part<'a, 'e, C: ShardCodec<ShardFile<'a>>>(
 }
 
 // Reads the part of a subset with this number, which is to be filled where it is refused, if `fills`; nothing past the last one.
-fn read_numbered<'a, 'e, C: ShardCodec<ShardFile<'a>>>(
-    array: &Array<'a, C>,
+fn read_numbered<'a, 'e>(
+    array: &Array<'a>,
     grid: &ShardGrid,
     parts: &ShardParts,
     number: u64,
@@ -235,8 +231,8 @@ fn read_numbered<'a, 'e, C: ShardCodec<ShardFile<'a>>>(
 }
 
 // Reads what is sound of a part of a subset that is refused, where the rest is to be filled.
-fn fill_part<'a, C: ShardCodec<ShardFile<'a>>>(
-    array: &Array<'a, C>,
+fn fill_part(
+    array: &Array<'_>,
     requested: &ArraySubset,
     part: &ShardPart,
     shard: &Shard<'_>,
@@ -252,8 +248,8 @@ fn fill_part<'a, C: ShardCodec<ShardFile<'a>>>(
 }
 
 // Puts a part that was read into the answer.
-fn put_read<'a, C: ShardCodec<ShardFile<'a>>>(
-    array: &Array<'a, C>,
+fn put_read(
+    array: &Array<'_>,
     requested: &ArraySubset,
     read: &PartRead<'_>,
     answer: &mut Answer,
@@ -274,8 +270,8 @@ fn put_read<'a, C: ShardCodec<ShardFile<'a>>>(
 }
 
 // Reads the part of a subset with a number into the answer.
-fn read_next<'a, C: ShardCodec<ShardFile<'a>>>(
-    array: &Array<'a, C>,
+fn read_next(
+    array: &Array<'_>,
     requested: &ArraySubset,
     grid: &ShardGrid,
     parts: &ShardParts,
@@ -290,8 +286,8 @@ fn read_next<'a, C: ShardCodec<ShardFile<'a>>>(
 }
 
 // Reads the elements of the parts of a subset.
-fn read_parts<'a, C: ShardCodec<ShardFile<'a>>>(
-    array: &Array<'a, C>,
+fn read_parts(
+    array: &Array<'_>,
     requested: &ArraySubset,
     grid: &ShardGrid,
     parts: &ShardParts,
@@ -306,8 +302,8 @@ fn read_parts<'a, C: ShardCodec<ShardFile<'a>>>(
 }
 
 // The elements of a subset that are read, or fill values where none are, and how the command ends.
-fn ended<C>(
-    array: &Array<'_, C>,
+fn ended(
+    array: &Array<'_>,
     requested: &ArraySubset,
     answer: Answer,
 ) -> Result<(SubsetElements, Ending), Stop> {
@@ -320,8 +316,8 @@ fn ended<C>(
 }
 
 // The elements of a subset of an array whose shards lie in a grid, and how the command ends.
-fn read_in_grid<'a, C: ShardCodec<ShardFile<'a>>>(
-    array: &Array<'a, C>,
+fn read_in_grid(
+    array: &Array<'_>,
     requested: &ArraySubset,
     grid: &ShardGrid,
     fills: bool,
@@ -336,8 +332,8 @@ fn read_in_grid<'a, C: ShardCodec<ShardFile<'a>>>(
 /// The elements of a subset, from each shard that it overlaps, and fill values of those that are absent. Memory for them is
 /// allocated once a part is read, so that a subset in one shard takes less. Where `fills` is true, what is refused has fill values too,
 /// the messages say which shards and subchunks that are, and the command ends as `Ending::Refused`.
-pub fn read_array<'a, C: ShardCodec<ShardFile<'a>>>(
-    array: &Array<'a, C>,
+pub fn read_array(
+    array: &Array<'_>,
     requested: &ArraySubset,
     fills: bool,
     progress: &mut Progress,

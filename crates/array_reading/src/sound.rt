@@ -1,17 +1,16 @@
 // What is sound of a part of a subset, where its shard or a subchunk is refused.
-use array_cli::{Array, OpenShard, Place, Progress, Refusal, Shard, ShardCodec, ShardFile, Stop};
+use array_cli::{Array, OpenShard, Place, Progress, Refusal, Shard, Stop};
 use array_grid::{ShardPart, SharedElements, SubsetElements, shared_elements};
 use parts_errors::CodecError;
 use parts_row_major::unravel_index;
-use parts_subsets::ArraySubset;
-use std::alloc::{AllocError, Global};
+use std::alloc::AllocError;
 
 // Puts what a subchunk of a shard that is open has of a part of a subset, and says whether it is sound. Refused where it could not be
 // read.
-fn put_subchunk<'a, C, S: OpenShard<ShardFile<'a>>>(
-    array: &Array<'a, C>,
+fn put_subchunk<'a>(
+    array: &Array<'a>,
     part: &ShardPart,
-    opened: &mut S,
+    opened: &mut OpenShard<'a>,
     subchunk: &[u64],
     cells: &mut SubsetElements,
 ) -> Result<Option<CodecError>, CodecError> {
@@ -23,10 +22,10 @@ fn put_subchunk<'a, C, S: OpenShard<ShardFile<'a>>>(
 }
 
 // Puts elements that a subchunk of a shard that is open shares with a subset, as `put_subchunk` says.
-fn put_shared<'a, C, S: OpenShard<ShardFile<'a>>>(
-    array: &Array<'a, C>,
+fn put_shared<'a>(
+    array: &Array<'a>,
     shared: &SharedElements,
-    opened: &mut S,
+    opened: &mut OpenShard<'a>,
     cells: &mut SubsetElements,
 ) -> Result<Option<CodecError>, CodecError> {
     match opened.read_subset(array.alloc(), array.metadata, &shared.in_shard) {
@@ -45,8 +44,8 @@ fn tell_filled(progress: &mut Progress, refusal: &Refusal) {
 }
 
 // Tells that the elements of a subchunk are filled, since it is refused.
-fn tell_refused<C>(
-    array: &Array<'_, C>,
+fn tell_refused(
+    array: &Array<'_>,
     shard: &Shard<'_>,
     error: CodecError,
     number: u64,
@@ -58,10 +57,10 @@ fn tell_refused<C>(
 }
 
 // Puts what the subchunk with a number has of a part of a subset, as `put_subchunk` does.
-fn put_numbered<'a, C, S: OpenShard<ShardFile<'a>>>(
-    array: &Array<'a, C>,
+fn put_numbered<'a>(
+    array: &Array<'a>,
     part: &ShardPart,
-    opened: &mut S,
+    opened: &mut OpenShard<'a>,
     number: u64,
     cells: &mut SubsetElements,
 ) -> Result<Option<CodecError>, CodecError> {
@@ -72,11 +71,11 @@ fn put_numbered<'a, C, S: OpenShard<ShardFile<'a>>>(
 }
 
 // Puts what each subchunk of a shard that is open has of a part of a subset, and tells which ones are refused.
-fn put_each<'a, C: ShardCodec<ShardFile<'a>>>(
-    array: &Array<'a, C>,
+fn put_each<'a>(
+    array: &Array<'a>,
     part: &ShardPart,
     shard: &Shard<'_>,
-    opened: &mut C::Open,
+    opened: &mut OpenShard<'a>,
     cells: &mut SubsetElements,
     progress: &mut Progress,
 ) -> Result<(), Stop> {
@@ -90,8 +89,8 @@ fn put_each<'a, C: ShardCodec<ShardFile<'a>>>(
 
 /// Puts the sound elements of a part of a subset, of which a shard or a subchunk is refused, and leaves the others as they are; tells
 /// which ones these are.
-pub fn put_sound<'a, C: ShardCodec<ShardFile<'a>>>(
-    array: &Array<'a, C>,
+pub fn put_sound(
+    array: &Array<'_>,
     part: &ShardPart,
     shard: &Shard<'_>,
     cells: &mut SubsetElements,

@@ -1,9 +1,6 @@
 // Shards that threads compact side by side, a piece of their list each at a time.
 use crate::compaction::{Gained, Rule, compact_one};
-use array_cli::{
-    Array, CodecUse, Output, Progress, ShardCodec, ShardFile, SharedArray, Stop, Workers,
-    with_codec, written,
-};
+use array_cli::{Array, Output, Progress, Stop, Workers, written};
 use array_folder::ChunkFile;
 use array_grid::{ShardWork, piece_length, piece_of, run_in_parallel};
 use std::io::Write;
@@ -12,51 +9,18 @@ use std::thread::Threads;
 // How many shards a thread compacts at a time at most.
 const SHARDS_OF_A_PIECE: usize = 4;
 
-// Files of shards that one thread compacts, as a rule says.
-#[derive(Drop)]
-struct CompactedFiles<'s> {
-    array: &'s SharedArray<'s>,
-    files: &'s [ChunkFile],
-    rule: &'s Rule<'s>,
-    gained: &'s mut Gained,
-    lines: &'s mut Output,
-}
-
-impl<'s> CodecUse<ShardFile<'s>> for CompactedFiles<'s> {
-    type Answer = Result<(), Stop>;
-
-    fn with<C: ShardCodec<ShardFile<'s>>>(self, codec: C) -> Result<(), Stop> {
-        let CompactedFiles {
-            array,
-            files,
-            rule,
-            gained,
-            lines,
-        } = self;
-        let array = Array::open(array.rt, array.path, array.metadata, codec)?;
-        for file in files {
-            compact_one(&array, file, rule, lines, gained)?;
-        }
-        Ok(())
-    }
-}
-
-// Compacts the shards in these files by one thread.
-fn compact_files<'s>(
-    array: &'s SharedArray<'s>,
-    files: &'s [ChunkFile],
-    rule: &'s Rule<'s>,
-    gained: &'s mut Gained,
-    lines: &'s mut Output,
+// Compacts the shards in these files by one thread, as a rule says.
+fn compact_files(
+    array: &Array<'_>,
+    files: &[ChunkFile],
+    rule: &Rule<'_>,
+    gained: &mut Gained,
+    lines: &mut Output,
 ) -> Result<(), Stop> {
-    let work = CompactedFiles {
-        array,
-        files,
-        rule,
-        gained,
-        lines,
-    };
-    with_codec(array.metadata, work)
+    for file in files {
+        compact_one(array, file, rule, lines, gained)?;
+    }
+    Ok(())
 }
 
 // What came of a piece: what was gained, the lines that tell of it, and why the command stops behind them, if it does.
@@ -70,7 +34,7 @@ struct PieceCompacted {
 // Files of shards, in pieces of as many files, and how they are compacted.
 #[derive(Drop)]
 struct CompactPieces<'s> {
-    array: &'s SharedArray<'s>,
+    array: &'s Array<'s>,
     files: &'s [ChunkFile],
     rule: &'s Rule<'s>,
     in_piece: usize,
@@ -137,7 +101,7 @@ fn compact_pieces_of<T: Threads + Sync>(
 /// Compacts the shards in these files by threads, and writes a line for each that is not compact, in their order: those of some shards at a
 /// time. Where it stops, shards behind may be compacted of which no line tells.
 pub fn compact_all<T: Threads + Sync>(
-    array: &SharedArray<'_>,
+    array: &Array<'_>,
     files: &[ChunkFile],
     rule: &Rule<'_>,
     workers: &Workers<'_, T>,

@@ -2,8 +2,8 @@
 use crate::compact_pieces::compact_all;
 use crate::rewriting::replace;
 use array_cli::{
-    Array, Ending, Output, Place, Planned, Progress, Refusal, Shard, ShardCodec, ShardFile,
-    SharedArray, Stop, Workers, put_refusal, written,
+    Array, Ending, Output, Place, Planned, Progress, Refusal, Shard, ShardFile, Stop, Workers,
+    put_refusal, written,
 };
 use array_fields::{JsonLine, escaped};
 use array_folder::{ChunkFile, Listing, age_of, save};
@@ -118,7 +118,7 @@ enum Outcome {
 }
 
 // The path at which the new file of a path stands until it is whole.
-fn beside_of<C>(array: &Array<'_, C>, path: &str) -> Result<String, Stop> {
+fn beside_of(array: &Array<'_>, path: &str) -> Result<String, Stop> {
     match path_beside(array.alloc(), array.rt, path) {
         Ok(beside) => Ok(beside),
         Err(error) => Err(Stop::system(array.alloc(), path, error)),
@@ -127,8 +127,8 @@ fn beside_of<C>(array: &Array<'_, C>, path: &str) -> Result<String, Stop> {
 
 // Puts what a plan says of a shard, or without a plan the shard, at a path. Gives the path of the new file that stands there already, if
 // one does.
-fn put_at<'a, C>(
-    array: &Array<'a, C>,
+fn put_at<'a>(
+    array: &Array<'a>,
     shard: &Shard<'_>,
     file: &mut ShardFile<'a>,
     path: &str,
@@ -144,7 +144,7 @@ fn put_at<'a, C>(
 }
 
 // The path of the new file of a path, if one stands there.
-fn new_file_of<C>(array: &Array<'_, C>, path: &str) -> Result<Option<String>, Stop> {
+fn new_file_of(array: &Array<'_>, path: &str) -> Result<Option<String>, Stop> {
     let beside = beside_of(array, path)?;
     if fs::symlink_metadata(array.rt, &beside).is_err() {
         Ok(None)
@@ -162,8 +162,8 @@ fn unless_busy(busy: Option<String>, outcome: Outcome) -> Outcome {
 }
 
 // Compacts a shard by a plan to save these bytes, if no new file stands beside it. Without a plan no file is written.
-fn put<'a, C>(
-    array: &Array<'a, C>,
+fn put<'a>(
+    array: &Array<'a>,
     shard: &Shard<'_>,
     file: &mut ShardFile<'a>,
     bytes: u64,
@@ -179,8 +179,8 @@ fn put<'a, C>(
 }
 
 // What a compaction makes of the shard in a file: its plan, if it has one, and what is said of it.
-fn plan_and_outcome<'a, C: ShardCodec<ShardFile<'a>>>(
-    array: &Array<'a, C>,
+fn plan_and_outcome<'a>(
+    array: &Array<'a>,
     shard: &Shard<'_>,
     file: &mut ShardFile<'a>,
 ) -> Result<(Option<CompactionPlan>, Outcome), Stop> {
@@ -196,8 +196,8 @@ fn plan_and_outcome<'a, C: ShardCodec<ShardFile<'a>>>(
 }
 
 // Puts what a plan says of a shard, or without a plan the shard, into another folder, as `put_at` does.
-fn put_in<'a, C>(
-    array: &Array<'a, C>,
+fn put_in<'a>(
+    array: &Array<'a>,
     shard: &Shard<'_>,
     file: &mut ShardFile<'a>,
     folder: &str,
@@ -210,8 +210,8 @@ fn put_in<'a, C>(
 }
 
 // Writes a shard to another folder: compacted, or as it is where that would not make it shorter or where it is refused.
-fn copy_to<'a, C: ShardCodec<ShardFile<'a>>>(
-    array: &Array<'a, C>,
+fn copy_to<'a>(
+    array: &Array<'a>,
     shard: &Shard<'_>,
     file: &mut ShardFile<'a>,
     folder: &str,
@@ -223,8 +223,8 @@ fn copy_to<'a, C: ShardCodec<ShardFile<'a>>>(
 }
 
 // Compacts the shard in a file.
-fn compact_file<'a, C: ShardCodec<ShardFile<'a>>>(
-    array: &Array<'a, C>,
+fn compact_file<'a>(
+    array: &Array<'a>,
     shard: &Shard<'_>,
     file: &mut ShardFile<'a>,
     is_dry: bool,
@@ -316,8 +316,8 @@ fn write_sum_line(out: &mut Output, gained: &Gained, all: u64) -> io::Result<()>
 }
 
 // Compacts a shard, and says what became of it.
-fn outcome_of<'a, C: ShardCodec<ShardFile<'a>>>(
-    array: &Array<'a, C>,
+fn outcome_of(
+    array: &Array<'_>,
     shard: &Shard<'_>,
     rule: &Rule<'_>,
     out: &mut Output,
@@ -330,8 +330,8 @@ fn outcome_of<'a, C: ShardCodec<ShardFile<'a>>>(
 }
 
 /// Compacts the shard in a file, and writes a line where it is not compact.
-pub fn compact_one<'a, C: ShardCodec<ShardFile<'a>>>(
-    array: &Array<'a, C>,
+pub fn compact_one(
+    array: &Array<'_>,
     file: &ChunkFile,
     rule: &Rule<'_>,
     out: &mut Output,
@@ -355,7 +355,7 @@ fn write_sum(out: &mut Output, gained: &Gained, all: u64, is_json: bool) -> Resu
 }
 
 // Tests that a folder does not hold an array or a group yet.
-fn test_no_array<C>(array: &Array<'_, C>, folder: &str) -> Result<(), Stop> {
+fn test_no_array(array: &Array<'_>, folder: &str) -> Result<(), Stop> {
     let alloc = array.alloc();
     let path = format!(in alloc; "{folder}/zarr.json")?;
     if fs::symlink_metadata(array.rt, &path).is_err() {
@@ -366,7 +366,7 @@ fn test_no_array<C>(array: &Array<'_, C>, folder: &str) -> Result<(), Stop> {
 }
 
 // Copies the metadata of an array to another folder, which is an array's from then on.
-fn copy_metadata<C>(array: &Array<'_, C>, folder: &str, out: &mut Output) -> Result<(), Stop> {
+fn copy_metadata(array: &Array<'_>, folder: &str, out: &mut Output) -> Result<(), Stop> {
     let path = format!(in array.alloc(); "{folder}/zarr.json")?;
     let beside = beside_of(array, &path)?;
     let text = array.metadata.text.as_bytes();
@@ -375,7 +375,7 @@ fn copy_metadata<C>(array: &Array<'_, C>, folder: &str, out: &mut Output) -> Res
 
 // Compacts each shard that a part has, as a rule says, and writes a line for each that is not compact and how many bytes were saved.
 fn compact_part<T: Threads + Sync>(
-    array: &SharedArray<'_>,
+    array: &Array<'_>,
     part: &ListPart,
     rule: &Rule<'_>,
     workers: &Workers<'_, T>,
@@ -393,7 +393,7 @@ fn compact_part<T: Threads + Sync>(
 /// how many bytes were saved in all. As a copy, each shard is written to the folder of another array, also one that is compact or refused,
 /// and the metadata last, once every shard is there.
 pub fn compact<T: Threads + Sync>(
-    array: &SharedArray<'_>,
+    array: &Array<'_>,
     way: Way<'_>,
     listing: &Listing,
     workers: &Workers<'_, T>,

@@ -115,7 +115,7 @@ fn read_file(rt: &HostRuntime, path: &str, wanted: u64, header: u64) -> Result<V
 }
 
 // How many bytes the elements of a subset take.
-fn wanted_bytes<C>(array: &Array<'_, C>, requested: &Requested) -> Result<u64, Stop> {
+fn wanted_bytes(array: &Array<'_>, requested: &Requested) -> Result<u64, Stop> {
     let size = array.metadata.fill_value.as_ne_bytes().len() as u64;
     let count = requested.subset.num_elements().ok_or(Stop::TooLarge)?;
     count.checked_mul(size).ok_or(Stop::TooLarge)
@@ -123,11 +123,7 @@ fn wanted_bytes<C>(array: &Array<'_, C>, requested: &Requested) -> Result<u64, S
 
 /// The header of a file of NumPy's format, at a path, that has the elements that are requested of an array. Refused where memory ran out,
 /// and as `npy_header` refuses.
-pub fn header_of<C>(
-    array: &Array<'_, C>,
-    requested: &Requested,
-    path: &str,
-) -> Result<Vec<u8>, Stop> {
+pub fn header_of(array: &Array<'_>, requested: &Requested, path: &str) -> Result<Vec<u8>, Stop> {
     let alloc = array.alloc();
     let element_type = array.metadata.element_type;
     let shape = requested.kept_shape(alloc)?;
@@ -148,8 +144,8 @@ fn header_length(alloc: Global, path: &str, bytes: &[u8], wanted: &str) -> Resul
 }
 
 // The elements of a file of NumPy's format. Refused as `Stop::Header` where it has not the description of those that are wanted.
-fn npy_elements<C>(
-    array: &Array<'_, C>,
+fn npy_elements(
+    array: &Array<'_>,
     requested: &Requested,
     path: &str,
     wanted: u64,
@@ -184,8 +180,8 @@ fn test_length(
 /// The elements of a file that are to be a subset of an array. Refused, in this order, as `Stop::System` where the file is not read,
 /// as `Stop::Length` where it is too long, as `Stop::Header` where it is not of NumPy's format with the description of these elements,
 /// and as `Stop::Length` where it is too short.
-pub fn elements_of_file<C>(
-    array: &Array<'_, C>,
+pub fn elements_of_file(
+    array: &Array<'_>,
     requested: &Requested,
     file: ElementsFile<'_>,
 ) -> Result<FileElements, Stop> {

@@ -130,8 +130,8 @@ fn carry_out<H: BytesPartialDecoderTraits>(
 }
 
 // Why a shard was not replaced.
-fn stop_of<'a, C>(
-    array: &Array<'a, C>,
+fn stop_of<'a>(
+    array: &Array<'a>,
     shard: &Shard<'_>,
     old: &ShardFile<'a>,
     beside: &str,
@@ -145,8 +145,8 @@ fn stop_of<'a, C>(
 
 /// Puts what a plan says, or without a plan the shard as it is, at a path, by a new file that stands at the path `beside` until it is
 /// whole; or says that a file stands there already.
-pub fn replace<'a, C>(
-    array: &Array<'a, C>,
+pub fn replace<'a>(
+    array: &Array<'a>,
     shard: &Shard<'_>,
     old: &mut ShardFile<'a>,
     (path, beside): (&str, &str),

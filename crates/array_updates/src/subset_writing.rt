@@ -1,8 +1,8 @@
 // Elements that are written into an array.
 use crate::elements::{ElementsFile, elements_of_file};
 use array_cli::{
-    Array, Ending, OpenShard, Output, Place, Progress, Shard, ShardCodec, ShardFile, Stop,
-    chunk_of_fill_values, elements_of, shard_of_grid, shards_of, turned, whole_of, written,
+    Array, Ending, OpenShard, Output, Place, Progress, Shard, Stop, chunk_of_fill_values,
+    elements_of, shard_of_grid, shards_of, turned, whole_of, written,
 };
 use array_folder::{Counted, save};
 use array_grid::{Requested, ShardGrid, ShardPart, ShardParts, SubsetCells, subset_of};
@@ -24,10 +24,10 @@ struct Update<'u> {
 }
 
 // Puts all elements of a shard that is open into cells of its shape.
-fn put_all<'a, S: OpenShard<ShardFile<'a>>>(
+fn put_all(
     alloc: Global,
     metadata: &ArrayMetadata,
-    opened: &mut S,
+    opened: &mut OpenShard<'_>,
     whole: &ArraySubset,
     cells: &mut SubsetCells,
 ) -> Result<(), CodecError> {
@@ -36,8 +36,8 @@ fn put_all<'a, S: OpenShard<ShardFile<'a>>>(
 }
 
 // Puts all elements of a shard into cells of its shape.
-fn put_shard<'a, C: ShardCodec<ShardFile<'a>>>(
-    array: &Array<'a, C>,
+fn put_shard(
+    array: &Array<'_>,
     shard: &Shard<'_>,
     whole: &ArraySubset,
     cells: &mut SubsetCells,
@@ -52,11 +52,7 @@ fn put_shard<'a, C: ShardCodec<ShardFile<'a>>>(
 }
 
 // Whether a part of a shard is all that the shard has of the array.
-fn is_whole<C>(
-    array: &Array<'_, C>,
-    shard: &Shard<'_>,
-    part: &ShardPart,
-) -> Result<bool, AllocError> {
+fn is_whole(array: &Array<'_>, shard: &Shard<'_>, part: &ShardPart) -> Result<bool, AllocError> {
     let metadata = array.metadata;
     let found = elements_of(
         array.alloc(),
@@ -71,8 +67,8 @@ fn is_whole<C>(
 }
 
 // Puts the elements of a shard, of which a part is to be written, where another element of the array stays.
-fn put_old<'a, C: ShardCodec<ShardFile<'a>>>(
-    array: &Array<'a, C>,
+fn put_old(
+    array: &Array<'_>,
     shard: &Shard<'_>,
     part: &ShardPart,
     cells: &mut SubsetCells,
@@ -85,11 +81,7 @@ fn put_old<'a, C: ShardCodec<ShardFile<'a>>>(
 }
 
 // The elements of a shard, of which a part is to be written: as they are, or fill values where no other element of the array stays.
-fn old_cells<'a, C: ShardCodec<ShardFile<'a>>>(
-    array: &Array<'a, C>,
-    shard: &Shard<'_>,
-    part: &ShardPart,
-) -> Result<SubsetCells, Stop> {
+fn old_cells(array: &Array<'_>, shard: &Shard<'_>, part: &ShardPart) -> Result<SubsetCells, Stop> {
     let mut cells = chunk_of_fill_values(array.alloc(), array.metadata)?;
     put_old(array, shard, part, &mut cells)?;
     Ok(cells)
@@ -113,10 +105,7 @@ fn put_update(
 }
 
 // The bytes of a shard of these elements; `None` where each of them is the fill value.
-fn encoded<'a, C: ShardCodec<ShardFile<'a>>>(
-    array: &Array<'a, C>,
-    cells: &SubsetCells,
-) -> Result<Option<Vec<u8>>, CodecError> {
+fn encoded(array: &Array<'_>, cells: &SubsetCells) -> Result<Option<Vec<u8>>, CodecError> {
     let size = array.metadata.fill_value.as_ne_bytes().len();
     match ArrayBytes::new_flen(CowSlice::Borrowed(cells.bytes()), size) {
         Some(elements) => array.codec.encode(array.alloc(), &elements, array.metadata),
@@ -125,8 +114,8 @@ fn encoded<'a, C: ShardCodec<ShardFile<'a>>>(
 }
 
 // The bytes of a shard of which a part is written; `None` where each of its elements is the fill value then.
-fn new_shard<'a, C: ShardCodec<ShardFile<'a>>>(
-    array: &Array<'a, C>,
+fn new_shard(
+    array: &Array<'_>,
     shard: &Shard<'_>,
     part: &ShardPart,
     update: &Update<'_>,
@@ -154,8 +143,8 @@ fn save_shard(rt: &HostRuntime, path: &str, bytes: &[u8], out: &mut Output) -> R
 }
 
 // Puts a shard of these bytes in the place of the one with a key, or removes its file where there are none. Writes a line that says it.
-fn replace<C>(
-    array: &Array<'_, C>,
+fn replace(
+    array: &Array<'_>,
     key: &str,
     bytes: Option<&[u8]>,
     out: &mut Output,
@@ -176,8 +165,8 @@ fn replace<C>(
 }
 
 // Writes a part of an update into the shard in which it lies.
-fn write_part<'a, C: ShardCodec<ShardFile<'a>>>(
-    array: &Array<'a, C>,
+fn write_part(
+    array: &Array<'_>,
     grid: &ShardGrid,
     part: &ShardPart,
     update: &Update<'_>,
@@ -189,8 +178,8 @@ fn write_part<'a, C: ShardCodec<ShardFile<'a>>>(
 }
 
 // Writes the parts of an update, one of each shard in which it lies.
-fn write_parts<'a, C: ShardCodec<ShardFile<'a>>>(
-    array: &Array<'a, C>,
+fn write_parts(
+    array: &Array<'_>,
     grid: &ShardGrid,
     parts: &ShardParts,
     update: &Update<'_>,
@@ -209,8 +198,8 @@ fn write_parts<'a, C: ShardCodec<ShardFile<'a>>>(
 }
 
 // Writes an update into the shards of a grid in which it lies, and says how many these are.
-fn write_in_grid<'a, C: ShardCodec<ShardFile<'a>>>(
-    array: &Array<'a, C>,
+fn write_in_grid(
+    array: &Array<'_>,
     grid: &ShardGrid,
     update: &Update<'_>,
     out: &mut Output,
@@ -222,8 +211,8 @@ fn write_in_grid<'a, C: ShardCodec<ShardFile<'a>>>(
 }
 
 // Writes an update into the shards of an array in which it lies, and says how many these are.
-fn write_in_shards<'a, C: ShardCodec<ShardFile<'a>>>(
-    array: &Array<'a, C>,
+fn write_in_shards(
+    array: &Array<'_>,
     update: &Update<'_>,
     out: &mut Output,
     progress: &mut Progress,
@@ -233,8 +222,8 @@ fn write_in_shards<'a, C: ShardCodec<ShardFile<'a>>>(
 }
 
 // Writes elements, as they are stored, into a subset of an array.
-fn write_update<'a, C: ShardCodec<ShardFile<'a>>>(
-    array: &Array<'a, C>,
+fn write_update(
+    array: &Array<'_>,
     subset: &ArraySubset,
     elements: &[u8],
     out: &mut Output,
@@ -251,8 +240,8 @@ fn write_update<'a, C: ShardCodec<ShardFile<'a>>>(
 }
 
 // Writes elements into a subset of an array, and says how many shards these lie in.
-fn write_elements<'a, C: ShardCodec<ShardFile<'a>>>(
-    array: &Array<'a, C>,
+fn write_elements(
+    array: &Array<'_>,
     subset: &ArraySubset,
     elements: &[u8],
     out: &mut Output,
@@ -265,8 +254,8 @@ fn write_elements<'a, C: ShardCodec<ShardFile<'a>>>(
 }
 
 // Writes the elements of a file into a subset of an array, and says how many shards these lie in.
-fn write_file<'a, C: ShardCodec<ShardFile<'a>>>(
-    array: &Array<'a, C>,
+fn write_file(
+    array: &Array<'_>,
     requested: &Requested,
     file: ElementsFile<'_>,
     out: &mut Output,
@@ -281,8 +270,8 @@ fn write_file<'a, C: ShardCodec<ShardFile<'a>>>(
 /// elements are the fill value then; a line tells of it. Refused, in this order, as `Stop::Metadata` where elements are not read, as
 /// `Stop::Box` where the text names no subset, as `elements_of_file` refuses, and as a shard is refused that is to keep some of its
 /// elements: those before it are written then, and none behind it.
-pub fn write_subset<'a, C: ShardCodec<ShardFile<'a>>>(
-    array: &Array<'a, C>,
+pub fn write_subset(
+    array: &Array<'_>,
     requested: Option<&str>,
     file: ElementsFile<'_>,
     out: &mut Output,
