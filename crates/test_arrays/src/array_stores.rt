@@ -1,13 +1,15 @@
 // A subset that lies in four chunks, of which two are there: three rows of four elements of one byte, in chunks of two rows of two. The
 // sharding codec encodes them, by subchunks of one row; the fill value is 9.
-use array_grid::{ChunkKeys, KeyEncoding};
+use crate::compared::same;
+use array_grid::{ChunkKeys, KeyEncoding, SubsetCells};
 use array_metadata::ArrayMetadata;
 use array_store::{
-    Array, ArrayError, ArrayFormat, MemoryStore, OpenError, Store, create_metadata, open_metadata,
-    put_metadata,
+    Array, ArrayError, ArrayFormat, MemoryStore, OpenError, Store, WriteError, create_metadata,
+    open_metadata, put_metadata,
 };
 use std::alloc::Global;
 use std::borrow::CowSlice;
+use std::ops::Range;
 use std::process::Abort;
 use zarr_codecs::BytesCodec;
 use zarr_parts::{ArrayBytes, ArraySubset, ChunkShape, DataType, FillValue};
@@ -22,11 +24,20 @@ fn shape_of<R: Abort>(rt: &R, alloc: Global, axes: &[u64]) -> ChunkShape {
 }
 
 // What an array is made of.
-#[derive(Drop)]
 struct Scene {
     codec: Codec,
     chunk: ChunkShape,
     fill_value: FillValue,
+}
+
+impl Drop for Scene {
+    fn drop(self) {
+        let Scene {
+            codec: _,
+            chunk: _,
+            fill_value: _,
+        } = self;
+    }
 }
 
 fn scene_of<R: Abort>(rt: &R, alloc: Global) -> Scene {
@@ -80,6 +91,16 @@ fn middle<R: Abort>(rt: &R, alloc: Global) -> ArraySubset {
     ArraySubset::from_ranges(alloc, &[1..3, 1..3]).expect(rt, "refused")
 }
 
+// The cells of the subset that is the first element alone.
+fn first_cell<R: Abort>(
+    rt: &R,
+    alloc: Global,
+    array: &Array<'_, MemoryStore, Codec>,
+) -> SubsetCells {
+    let first = ArraySubset::from_ranges(alloc, &[0..1, 0..1]).expect(rt, "refused");
+    array.read(alloc, &first).expect(rt, "refused")
+}
+
 // Ends the test where a subset has other elements, also where they are read into cells of another subset.
 fn read_back<R: Abort>(
     rt: &R,
@@ -89,13 +110,12 @@ fn read_back<R: Abort>(
     want: &[u8],
 ) {
     let cells = array.read(alloc, subset).expect(rt, "refused");
-    assert_eq!(rt; cells.bytes(), want);
-    let first = ArraySubset::from_ranges(alloc, &[0..1, 0..1]).expect(rt, "refused");
-    let mut room = array.read(alloc, &first).expect(rt, "refused");
+    same(rt, cells.bytes(), want);
+    let mut room = first_cell(rt, alloc, array);
     array
         .read_into(alloc, subset, &mut room)
         .expect(rt, "refused");
-    assert_eq!(rt; room.bytes(), want);
+    same(rt, room.bytes(), want);
 }
 
 // Writes the chunks at (0, 0) and (1, 1).
@@ -104,58 +124,102 @@ fn write_two<R: Abort>(rt: &R, alloc: Global, array: &mut Array<'_, MemoryStore,
     write(rt, alloc, array, &[1, 1], &[5, 6, 7, 8]);
 }
 
+// Ends the test where the object of a chunk is there, or is not, as it should be, or another subset is read.
+fn check_middle<R: Abort>(
+    rt: &R,
+    alloc: Global,
+    array: &Array<'_, MemoryStore, Codec>,
+    is_there: bool,
+    want: &[u8],
+) {
+    same(rt, array.store.get("c/1/1").is_some(), is_there);
+    read_back(rt, alloc, array, &middle(rt, alloc), want);
+}
+
+// Reads a subset, and reads it once more without one of the chunks.
+fn read_and_erase<R: Abort>(rt: &R, alloc: Global, array: &mut Array<'_, MemoryStore, Codec>) {
+    write_two(rt, alloc, array);
+    check_middle(rt, alloc, array, true, &[4, 9, 9, 5]);
+    array.erase_chunk(alloc, &[1, 1]).expect(rt, "refused");
+    check_middle(rt, alloc, array, false, &[4, 9, 9, 9]);
+}
+
 #[test]
 fn a_subset_is_read_from_each_chunk_that_it_meets(rt: HostRuntime) {
-    let alloc = rt.alloc();
-    let scene = scene_of(&rt, alloc);
-    let mut array = scene.array(alloc);
-    write_two(&rt, alloc, &mut array);
-    let subset = middle(&rt, alloc);
-    read_back(&rt, alloc, &array, &subset, &[4, 9, 9, 5]);
-    assert!(rt; array.store.get("c/1/1").is_some());
-    array.erase_chunk(alloc, &[1, 1]).expect(&rt, "refused");
-    read_back(&rt, alloc, &array, &subset, &[4, 9, 9, 9]);
-    assert!(rt; array.store.get("c/1/1").is_none());
+    let scene = scene_of(&rt, rt.alloc());
+    read_and_erase(&rt, rt.alloc(), &mut scene.array(rt.alloc()));
+}
+
+// Writes four elements into the subset, as an array answers.
+fn write_middle<R: Abort>(
+    rt: &R,
+    alloc: Global,
+    array: &mut Array<'_, MemoryStore, Codec>,
+) -> Result<(), WriteError> {
+    let new = [10u8, 11, 12, 13];
+    let elements = ArrayBytes::new_flen(CowSlice::Borrowed(&new), 1).expect(rt, "one byte each");
+    array.write(alloc, &middle(rt, alloc), &elements)
+}
+
+// Ends the test where the elements of a subset, by its ranges, are others.
+fn check_range<R: Abort>(
+    rt: &R,
+    alloc: Global,
+    array: &Array<'_, MemoryStore, Codec>,
+    ranges: &[Range<u64>],
+    want: &[u8],
+) {
+    let subset = ArraySubset::from_ranges(alloc, ranges).expect(rt, "refused");
+    read_back(rt, alloc, array, &subset, want);
+}
+
+// Writes a subset, and reads all.
+fn write_and_read<R: Abort>(rt: &R, alloc: Global, array: &mut Array<'_, MemoryStore, Codec>) {
+    write_two(rt, alloc, array);
+    same(rt, write_middle(rt, alloc, array).is_ok(), true);
+    let want = [1, 2, 9, 9, 3, 10, 11, 9, 9, 12, 13, 6];
+    check_range(rt, alloc, array, &[0..3, 0..4], &want);
 }
 
 #[test]
 fn a_subset_is_written_into_each_chunk_that_it_meets(rt: HostRuntime) {
-    let alloc = rt.alloc();
-    let scene = scene_of(&rt, alloc);
-    let mut array = scene.array(alloc);
-    write_two(&rt, alloc, &mut array);
-    let new = [10u8, 11, 12, 13];
-    let elements = ArrayBytes::new_flen(CowSlice::Borrowed(&new), 1).expect(&rt, "one byte each");
-    array
-        .write(alloc, &middle(&rt, alloc), &elements)
-        .expect(&rt, "refused");
-    let whole = ArraySubset::from_ranges(alloc, &[0..3, 0..4]).expect(&rt, "refused");
-    let want = [1, 2, 9, 9, 3, 10, 11, 9, 9, 12, 13, 6];
-    read_back(&rt, alloc, &array, &whole, &want);
+    let scene = scene_of(&rt, rt.alloc());
+    write_and_read(&rt, rt.alloc(), &mut scene.array(rt.alloc()));
+}
+
+// Puts bytes as the object of a key.
+fn put<R: Abort>(
+    rt: &R,
+    alloc: Global,
+    array: &mut Array<'_, MemoryStore, Codec>,
+    key: &str,
+    bytes: &[u8],
+) {
+    let bytes = bytes.to_vec(alloc).expect(rt, "refused");
+    array.store.put(alloc, key, bytes).expect(rt, "refused");
+}
+
+// Ends the test where a write is not refused at the third chunk, or lists others than those before.
+fn check_refused<R: Abort>(rt: &R, wrote: Result<(), WriteError>) {
+    let stop = wrote.expect_err(rt, "not refused");
+    same(rt, stop.written.as_slice(), [0u64, 1].as_slice());
+    assert!(rt; matches!(&stop.error, ArrayError::Chunk { key, .. } if key.as_str() == "c/1/0"));
+}
+
+// Writes over a chunk that is damaged, and reads the chunks before it and behind it.
+fn write_over_damage<R: Abort>(rt: &R, alloc: Global, array: &mut Array<'_, MemoryStore, Codec>) {
+    write_two(rt, alloc, array);
+    put(rt, alloc, array, "c/1/0", &[0]);
+    check_refused(rt, write_middle(rt, alloc, array));
+    let first = [1, 2, 9, 9, 3, 10, 11, 9];
+    check_range(rt, alloc, array, &[0..2, 0..4], &first);
+    check_range(rt, alloc, array, &[2..3, 2..4], &[5, 6]);
 }
 
 #[test]
 fn a_refused_write_lists_the_chunks_before(rt: HostRuntime) {
-    let alloc = rt.alloc();
-    let scene = scene_of(&rt, alloc);
-    let mut array = scene.array(alloc);
-    write_two(&rt, alloc, &mut array);
-    let damaged = [0u8].as_slice().to_vec(alloc).expect(&rt, "refused");
-    array
-        .store
-        .put(alloc, "c/1/0", damaged)
-        .expect(&rt, "refused");
-    let new = [10u8, 11, 12, 13];
-    let elements = ArrayBytes::new_flen(CowSlice::Borrowed(&new), 1).expect(&rt, "one byte each");
-    let stop = array
-        .write(alloc, &middle(&rt, alloc), &elements)
-        .expect_err(&rt, "not refused");
-    assert_eq!(rt; stop.written.as_slice(), [0u64, 1].as_slice());
-    assert!(rt; matches!(&stop.error, ArrayError::Chunk { key, .. } if key.as_str() == "c/1/0"));
-    let first = ArraySubset::from_ranges(alloc, &[0..2, 0..4]).expect(&rt, "refused");
-    read_back(&rt, alloc, &array, &first, &[1, 2, 9, 9, 3, 10, 11, 9]);
-    let last = ArraySubset::from_ranges(alloc, &[2..3, 2..4]).expect(&rt, "refused");
-    read_back(&rt, alloc, &array, &last, &[5, 6]);
+    let scene = scene_of(&rt, rt.alloc());
+    write_over_damage(&rt, rt.alloc(), &mut scene.array(rt.alloc()));
 }
 
 // A shard of two subchunks of two elements, with three dead bytes between; and compacted, by hand.
@@ -169,23 +233,31 @@ const COMPACT: &[u8] = &[
     0, 0, 0, 0,
 ];
 
+// Compacts a chunk of a column, and says whether it was made anew.
+fn compacted<R: Abort>(
+    rt: &R,
+    alloc: Global,
+    array: &mut Array<'_, MemoryStore, Codec>,
+    column: u64,
+) -> bool {
+    let changed = array.compact_chunk(alloc, &[0, column]);
+    changed.expect(rt, "refused")
+}
+
+// Compacts a chunk that is not compact, the same once more, and one that is absent.
+fn compact_three<R: Abort>(rt: &R, alloc: Global, array: &mut Array<'_, MemoryStore, Codec>) {
+    put(rt, alloc, array, "c/0/1", LOOSE);
+    for (column, want) in [(1, true), (1, false), (0, false)] {
+        same(rt, compacted(rt, alloc, array, column), want);
+        same(rt, array.store.get("c/0/1"), Some(COMPACT));
+    }
+    check_range(rt, alloc, array, &[0..2, 1..4], &[9, 1, 2, 9, 3, 4]);
+}
+
 #[test]
 fn a_chunk_is_compacted_where_it_is_there_and_not_compact(rt: HostRuntime) {
-    let alloc = rt.alloc();
-    let scene = scene_of(&rt, alloc);
-    let mut array = scene.array(alloc);
-    let loose = LOOSE.to_vec(alloc).expect(&rt, "refused");
-    array
-        .store
-        .put(alloc, "c/0/1", loose)
-        .expect(&rt, "refused");
-    for (column, want) in [(1, true), (1, false), (0, false)] {
-        let changed = array.compact_chunk(alloc, &[0, column]);
-        assert_eq!(rt; changed.expect(&rt, "refused"), want);
-        assert_eq!(rt; array.store.get("c/0/1"), Some(COMPACT));
-    }
-    let rows = ArraySubset::from_ranges(alloc, &[0..2, 1..4]).expect(&rt, "refused");
-    read_back(&rt, alloc, &array, &rows, &[9, 1, 2, 9, 3, 4]);
+    let scene = scene_of(&rt, rt.alloc());
+    compact_three(&rt, rt.alloc(), &mut scene.array(rt.alloc()));
 }
 
 // The metadata of an array, with a member that need not be understood.

@@ -49,11 +49,20 @@ pub fn coordinates<R: Abort>(
 }
 
 // Arrays that a codec is asked to serve.
-#[derive(Drop)]
 pub struct ArraySpec {
     pub axes: ChunkShape,
     pub data_type: DataType,
     pub none: FillValue,
+}
+
+impl Drop for ArraySpec {
+    fn drop(self) {
+        let ArraySpec {
+            axes: _,
+            data_type: _,
+            none: _,
+        } = self;
+    }
 }
 
 pub fn spec_of<R: Abort>(

@@ -20,7 +20,7 @@ pub struct Stored {
 }
 
 /// An object that nobody wrote as a shard, and the answers that are owed to whoever takes it for one.
-#[derive(Drop)]
+#[derive(Clone, Copy)]
 pub struct HostileObject {
     pub name: &'static str,
     /// Whether the index is at the start.

@@ -174,10 +174,18 @@ fn place_and_cell(answer: &Result<(u64, ArrayBytes<'static>), CodecError>) -> An
 }
 
 // A value over one cell.
-#[derive(Drop)]
 struct Update {
     subset: ArraySubset,
     bytes: ArrayBytes<'static>,
+}
+
+impl Drop for Update {
+    fn drop(self) {
+        let Update {
+            subset: _,
+            bytes: _,
+        } = self;
+    }
 }
 
 fn update_of(alloc: Global, cell: u64, value: u8) -> Result<Update, CodecError> {

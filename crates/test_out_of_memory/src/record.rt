@@ -68,10 +68,18 @@ fn open<I: ArrayToBytesCodecTraits, J: Naming<I, BytesCodec>>(
 }
 
 // What is written.
-#[derive(Drop)]
 struct Update {
     subset: ArraySubset,
     elements: ArrayBytes<'static>,
+}
+
+impl Drop for Update {
+    fn drop(self) {
+        let Update {
+            subset: _,
+            elements: _,
+        } = self;
+    }
 }
 
 fn update_of<I: ArrayToBytesCodecTraits>(

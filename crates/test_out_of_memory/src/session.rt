@@ -112,12 +112,22 @@ fn write_once<I: ArrayToBytesCodecTraits>(
 }
 
 // What is written, in a session whose elements these were before.
-#[derive(Drop)]
 struct Update<'a> {
     subset: ArraySubset,
     elements: ArrayBytes<'static>,
     whole: &'a ArraySubset,
     before: &'a [u8],
+}
+
+impl Drop for Update<'_> {
+    fn drop(self) {
+        let Update {
+            subset: _,
+            elements: _,
+            whole: _,
+            before: _,
+        } = self;
+    }
 }
 
 // A refused write leaves the number of bytes that are held, and the elements.

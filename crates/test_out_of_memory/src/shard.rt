@@ -12,7 +12,6 @@ pub(crate) type Plain = ShardingCodec<BytesCodec, BytesCodec>;
 
 // A codec, the arrays that it serves, another codec, and what is requested of them. The object is as it was encoded, and after all
 // writes.
-#[derive(Drop)]
 pub(crate) struct Shard<I: ArrayToBytesCodecTraits> {
     pub codec: ShardingCodec<I, BytesCodec>,
     pub other: Plain,
@@ -24,12 +23,36 @@ pub(crate) struct Shard<I: ArrayToBytesCodecTraits> {
     pub worked: Worked,
 }
 
+impl<I: ArrayToBytesCodecTraits + Drop> Drop for Shard<I> {
+    fn drop(self) {
+        let Shard {
+            codec: _,
+            other: _,
+            shape: _,
+            fill: _,
+            requested: _,
+            object: _,
+            written: _,
+            worked: _,
+        } = self;
+    }
+}
+
 // All elements, some in a subset, and three by their coordinates.
-#[derive(Drop)]
 pub(crate) struct Requested {
     pub whole: ArraySubset,
     pub subset: ArraySubset,
     pub listed: Coordinates,
+}
+
+impl Drop for Requested {
+    fn drop(self) {
+        let Requested {
+            whole: _,
+            subset: _,
+            listed: _,
+        } = self;
+    }
 }
 
 fn put(object: &mut Vec<u8>, part: &Part) -> Result<(), CodecError> {

@@ -17,12 +17,22 @@ use zarrs_sharding::{ShardingCodec, ShardingIndexLocation, read_after_write};
 type Codec = ShardingCodec<BytesCodec, BytesCodec>;
 
 // A codec, and what it is asked to serve.
-#[derive(Drop)]
 struct Coded {
     codec: Codec,
     shape: ChunkShape,
     data_type: DataType,
     fill: FillValue,
+}
+
+impl Drop for Coded {
+    fn drop(self) {
+        let Coded {
+            codec: _,
+            shape: _,
+            data_type: _,
+            fill: _,
+        } = self;
+    }
 }
 
 // What a decoder that is opened anew reads of an object into which an update was written, and which had other bytes before.

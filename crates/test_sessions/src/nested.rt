@@ -20,11 +20,20 @@ fn codec<R: Abort>(rt: &R, alloc: Global) -> ShardingCodec<Inner, BytesCodec> {
 }
 
 // A codec, and what it is asked to serve.
-#[derive(Drop)]
 struct Nests {
     codec: ShardingCodec<Inner, BytesCodec>,
     shape: ChunkShape,
     fill: FillValue,
+}
+
+impl Drop for Nests {
+    fn drop(self) {
+        let Nests {
+            codec: _,
+            shape: _,
+            fill: _,
+        } = self;
+    }
 }
 
 impl Nests {

@@ -29,11 +29,20 @@ struct Way {
 }
 
 // What came of it.
-#[derive(Drop)]
 struct Trip {
     cells: Vec<u16>,
     index: Vec<u64>,
     differs: bool,
+}
+
+impl Drop for Trip {
+    fn drop(self) {
+        let Trip {
+            cells: _,
+            index: _,
+            differs: _,
+        } = self;
+    }
 }
 
 // The cell of this number.
@@ -59,11 +68,20 @@ fn shape_of<R: Abort>(rt: &R, alloc: Global, axes: &[u64]) -> ChunkShape {
 }
 
 // A codec for 16 by 16 by 16 cells in subchunks of 2 by 2 by 2.
-#[derive(Drop)]
 struct Shards<I> {
     codec: ShardingCodec<I, BytesCodec>,
     shape: ChunkShape,
     fill: FillValue,
+}
+
+impl<I: Drop> Drop for Shards<I> {
+    fn drop(self) {
+        let Shards {
+            codec: _,
+            shape: _,
+            fill: _,
+        } = self;
+    }
 }
 
 impl<I: ArrayToBytesCodecTraits + Drop + Sync> Shards<I> {

@@ -26,11 +26,20 @@ pub(crate) fn shape_of<R: Abort>(rt: &R, alloc: Global, axes: &[u64]) -> ChunkSh
 }
 
 // A codec, and what it is asked to serve.
-#[derive(Drop)]
 pub(crate) struct Shards {
     codec: ShardingCodec<BytesCodec, BytesCodec>,
     shape: ChunkShape,
     fill: FillValue,
+}
+
+impl Drop for Shards {
+    fn drop(self) {
+        let Shards {
+            codec: _,
+            shape: _,
+            fill: _,
+        } = self;
+    }
 }
 
 impl Shards {

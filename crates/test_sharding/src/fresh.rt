@@ -50,11 +50,20 @@ fn subsets_of_nested_shards_are_read(rt: HostRuntime) {
 }
 
 // What reads of the cells in the middle take.
-#[derive(Drop)]
 struct Middle {
     codec: ShardingCodec<Plain, BytesCodec>,
     cells: Cells,
     requested: ArraySubset,
+}
+
+impl Drop for Middle {
+    fn drop(self) {
+        let Middle {
+            codec: _,
+            cells: _,
+            requested: _,
+        } = self;
+    }
 }
 
 fn requested_middle<R: Abort>(rt: &R, alloc: Global) -> Middle {

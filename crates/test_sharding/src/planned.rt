@@ -8,10 +8,18 @@ use std::process::Abort;
 use zarr_parts::{ArraySubset, ChunkShape, CodecError};
 
 // The grid of a shard.
-#[derive(Drop)]
 pub(crate) struct Layout {
     grid: PlannedShard,
     subchunk_shape: ChunkShape,
+}
+
+impl Drop for Layout {
+    fn drop(self) {
+        let Layout {
+            grid: _,
+            subchunk_shape: _,
+        } = self;
+    }
 }
 
 // The bytes of a shard, and the numbers of its index.

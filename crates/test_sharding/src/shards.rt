@@ -27,10 +27,15 @@ pub(crate) fn fill_of<R: Abort>(rt: &R, alloc: Global, bytes: &[u8]) -> FillValu
 }
 
 // The shape of an array of cells, and their fill value.
-#[derive(Drop)]
 pub(crate) struct Cells {
     pub(crate) shape: ChunkShape,
     pub(crate) fill: FillValue,
+}
+
+impl Drop for Cells {
+    fn drop(self) {
+        let Cells { shape: _, fill: _ } = self;
+    }
 }
 
 // Cells of one byte with the fill value 0.
@@ -179,10 +184,15 @@ pub(crate) fn shard_of<R: Abort>(rt: &R, alloc: Global, slices: &[u8], index: &[
 }
 
 // A codec of four subchunks of 2 by 2, and its shard of the cells 0 to 15.
-#[derive(Drop)]
 pub(crate) struct Sixteen {
     pub(crate) codec: Plain,
     pub(crate) shard: Vec<u8>,
+}
+
+impl Drop for Sixteen {
+    fn drop(self) {
+        let Sixteen { codec: _, shard: _ } = self;
+    }
 }
 
 pub(crate) fn sixteen_cells<R: Abort>(rt: &R, alloc: Global) -> Sixteen {

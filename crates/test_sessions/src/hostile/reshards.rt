@@ -53,12 +53,22 @@ fn they_are_resharded(rt: HostRuntime) {
 }
 
 // The codecs of 4 by 4 elements in four squares, and in two halves of two columns each; and what they are asked to serve.
-#[derive(Drop)]
 struct Both {
     squares: Plain,
     halves: Plain,
     shape: ChunkShape,
     fill: FillValue,
+}
+
+impl Drop for Both {
+    fn drop(self) {
+        let Both {
+            squares: _,
+            halves: _,
+            shape: _,
+            fill: _,
+        } = self;
+    }
 }
 
 // The codec of 4 by 4 elements in halves, whose index is after them.

@@ -24,11 +24,20 @@ pub(crate) type Decoder<'a, I> = ShardingPartialDecoder<'a, I, BytesCodec, Slice
 pub(crate) type Session<'a, I> = ShardState<'a, I, BytesCodec, MemoryHandle>;
 
 // A codec, and what it is asked to serve.
-#[derive(Drop)]
 pub(crate) struct Shards<I> {
     pub(crate) codec: ShardingCodec<I, BytesCodec>,
     pub(crate) shape: ChunkShape,
     pub(crate) fill: FillValue,
+}
+
+impl<I: Drop> Drop for Shards<I> {
+    fn drop(self) {
+        let Shards {
+            codec: _,
+            shape: _,
+            fill: _,
+        } = self;
+    }
 }
 
 pub(crate) fn shape_of<R: Abort>(rt: &R, alloc: Global, axes: &[u64]) -> ChunkShape {
