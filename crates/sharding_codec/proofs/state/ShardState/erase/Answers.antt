@@ -3,6 +3,18 @@ use Rattle.sharding_open.proofs.SessionLemmas.{none_open}
 use Rattle.sharding_codec.proofs.SessionLemmas.{meant, session_open}
 use Rattle.sharding_codec.proofs.state.ShardState.erase.Goals as goal
 
+pub returns-then-self-clause-was_in_step : goal.returns-then-self-clause-was_in_step
+returns-then-self-clause-was_in_step g c = rw (← c.self.view_is) c.self.invariant.in_step
+
+pub returns-then-self-clause-in_step : goal.returns-then-self-clause-in_step
+returns-then-self-clause-in_step g c = rw (← c.self.view_is) c.self.invariant.in_step
+
+pub returns-in-Err-clause-was_in_step : goal.returns-in-Err-clause-was_in_step
+returns-in-Err-clause-was_in_step g c = rw (← c.self.view_is) c.self.invariant.in_step
+
+pub returns-clause-was_in_step : goal.returns-clause-was_in_step
+returns-clause-was_in_step g c = rw (← c.self.view_is) c.self.invariant.in_step
+
 pub invariant_of-self-2 : goal.invariant_of-self-2
 invariant_of-self-2 g c =
     let inner = g.I.ArrayToBytesCodecTraits in

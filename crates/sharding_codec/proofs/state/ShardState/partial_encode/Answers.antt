@@ -13,6 +13,27 @@ use Rattle.sharding_codec.proofs.SessionLemmas.{meant, session_open, read_open}
 use Rattle.sharding_codec.proofs.WriteLemmas.{update_refused}
 use Rattle.sharding_codec.proofs.state.ShardState.partial_encode.Goals as goal
 
+pub returns-then-self-clause-was_in_step : goal.returns-then-self-clause-was_in_step
+returns-then-self-clause-was_in_step g c = rw (← c.self.view_is) c.self.invariant.in_step
+
+pub returns-then-self-clause-in_step : goal.returns-then-self-clause-in_step
+returns-then-self-clause-in_step g c = rw (← c.self.view_is) c.self.invariant.in_step
+
+pub returns-in_err-subset-clause-was_in_step : goal.returns-in_err-subset-clause-was_in_step
+returns-in_err-subset-clause-was_in_step g c = rw (← c.self.view_is) c.self.invariant.in_step
+
+pub returns-in_err-subset-clause-in_step : goal.returns-in_err-subset-clause-in_step
+returns-in_err-subset-clause-in_step g c = rw (← c.self.view_is) c.self.invariant.in_step
+
+pub returns-in_err-prepared-clause-was_in_step : goal.returns-in_err-prepared-clause-was_in_step
+returns-in_err-prepared-clause-was_in_step g c = rw (← c.self.view_is) c.self.invariant.in_step
+
+pub returns-in-Err-clause-was_in_step : goal.returns-in-Err-clause-was_in_step
+returns-in-Err-clause-was_in_step g c = rw (← c.self.view_is) c.self.invariant.in_step
+
+pub returns-clause-was_in_step : goal.returns-clause-was_in_step
+returns-clause-was_in_step g c = rw (← c.self.view_is) c.self.invariant.in_step
+
 pub returns-in_err-prepared-clause-refused : goal.returns-in_err-prepared-clause-refused
 returns-in_err-prepared-clause-refused g c =
     let inner = g.I.ArrayToBytesCodecTraits in
