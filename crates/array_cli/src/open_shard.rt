@@ -27,24 +27,6 @@ pub struct OpenedShard<
     codec: &'a ShardingCodec<I, X>,
 }
 
-// Opens a shard of an array's codec.
-fn opened<'c, I: ArrayToBytesCodecTraits, X: ArrayToBytesCodecTraits, H: BytesPartialDecoderTraits>(
-    alloc: Global,
-    codec: &'c ShardingCodec<I, X>,
-    file: H,
-    metadata: &ArrayMetadata,
-) -> Result<ShardingPartialDecoder<'c, I, X, H>, (H, CodecError)> {
-    let options = CodecOptions::default();
-    codec.partial_decoder(
-        alloc,
-        file,
-        &metadata.encoded,
-        &metadata.data_type,
-        &metadata.fill_value,
-        &options,
-    )
-}
-
 // Decodes the bytes of an array of a shape, of the elements of this metadata, and lets its elements go.
 pub(crate) fn test_decoding<C: ArrayToBytesCodecTraits>(
     alloc: Global,
@@ -126,7 +108,16 @@ impl<
         file: H,
         metadata: &ArrayMetadata,
     ) -> Result<Self, (H, CodecError)> {
-        match opened(alloc, codec, file, metadata) {
+        let options = CodecOptions::default();
+        let opened = codec.partial_decoder(
+            alloc,
+            file,
+            &metadata.encoded,
+            &metadata.data_type,
+            &metadata.fill_value,
+            &options,
+        );
+        match opened {
             Ok(decoder) => Ok(OpenedShard { decoder, codec }),
             Err(refused) => Err(refused),
         }

@@ -1,4 +1,6 @@
 // A handle over a file of the host.
+ghost use Rattle.std.specs.Prelude.{◌≡◌, IfOk};
+
 use crate::file_handle::FileHandle;
 use parts_errors::CodecError;
 use std::alloc::{AllocError, Global};
@@ -18,14 +20,18 @@ impl Drop for HostFile<'_> {
 
 impl<'a> HostFile<'a> {
     /// A handle over the file of this path, which need not be there.
-    pub fn new(alloc: Global, rt: &'a HostRuntime, path: &str) -> Result<Self, AllocError> {
+    pub fn new(alloc: Global, rt: &'a HostRuntime, path: &str) -> Result<Self, AllocError>
+        ensures { IfOk result (λ file. file.handle ≡ record { faults = 0; cached = 0 }) }
+    {
         Ok(HostFile {
             handle: FileHandle::new(alloc, rt, path)?,
         })
     }
 
     /// As `FileHandle::read_ahead`.
-    pub fn read_ahead(&mut self, alloc: Global, size: usize) {
+    pub fn read_ahead(&mut self, alloc: Global, size: usize)
+        ensures { self.new ≡ self.old }
+    {
         self.handle.read_ahead(alloc, size);
     }
 
