@@ -5,9 +5,10 @@ ghost use Rattle.parts_subsets.specs.Grid.{grid_of};
 
 use crate::shard_codec::ShardFile;
 use crate::whole_chunks::WholeChunk;
-use array_metadata::{ArrangedCodec, ArrayMetadata, IndexCodec, InnerCodec};
+use array_codecs::ArrangedCodec;
+use array_metadata::{ArrayMetadata, IndexCodec, InnerCodec};
 use codec_traits::ArrayToBytesCodecTraits;
-use parts_arrays::{ArrayBytes, FixedTarget};
+use parts_arrays::ArrayBytes;
 use parts_errors::{CodecError, CodecOptions};
 use parts_subsets::{ArraySubset, ChunkShape};
 use sharding_codec::{ShardingCodec, ShardingPartialDecoder};
@@ -132,18 +133,6 @@ impl<
         self.decoder
             .partial_decode(alloc, subset, &CodecOptions::default())
     }
-
-    // Reads the elements of a subset into a target.
-    fn read_subset_into(
-        &mut self,
-        alloc: Global,
-        subset: &ArraySubset,
-        target: &mut FixedTarget,
-    ) -> Result<(), CodecError> {
-        let options = CodecOptions::default();
-        self.decoder
-            .partial_decode_into_fresh(alloc, subset, target, &options)
-    }
 }
 
 /// A shard that is opened to be read. A subchunk is named by its coordinates among those of the shard.
@@ -172,21 +161,6 @@ impl<'a> OpenShard<'a> {
         match self {
             OpenShard::Shard(shard) => shard.read_subset(alloc, subset),
             OpenShard::Chunk(chunk) => chunk.read_subset(alloc, metadata, subset),
-        }
-    }
-
-    /// Reads the elements of a subset, of an array with this metadata whose elements have one size, into a target, in row-major order of
-    /// both. Where that is refused, the target's subset may have any elements.
-    pub fn read_subset_into(
-        &mut self,
-        alloc: Global,
-        metadata: &ArrayMetadata,
-        subset: &ArraySubset,
-        target: &mut FixedTarget,
-    ) -> Result<(), CodecError> {
-        match self {
-            OpenShard::Shard(shard) => shard.read_subset_into(alloc, subset, target),
-            OpenShard::Chunk(chunk) => chunk.read_subset_into(alloc, metadata, subset, target),
         }
     }
 

@@ -180,17 +180,6 @@ impl<'a, C: ArrayToBytesCodecTraits, H: BytesPartialDecoderTraits> WholeChunk<'a
         }
     }
 
-    // Reads the elements of a subset into a target.
-    pub(crate) fn read_subset_into(
-        &mut self,
-        alloc: Global,
-        metadata: &ArrayMetadata,
-        subset: &ArraySubset,
-        target: &mut FixedTarget,
-    ) -> Result<(), CodecError> {
-        read_into(alloc, self, metadata, subset, target)
-    }
-
     // Where its bytes stand, which are those of the file; `None` where there is none.
     pub(crate) fn byte_range(&self) -> Option<ByteRange> {
         self.length

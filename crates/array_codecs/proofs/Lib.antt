@@ -3,3 +3,5 @@ pub mod MovedRows
 pub mod TransposeSteps
 pub mod TransposedLists
 pub mod ByteLists
+pub mod ByteNames
+pub mod Lengths

@@ -11,3 +11,7 @@ pub mod MovedPoints
 pub mod TransposeCodec
 pub mod TransposeLaws
 pub mod Transposes
+pub mod CodecNames
+pub mod ByteCodecsMetadata
+pub mod ElementCodecsMetadata
+pub mod UnreadCodecs

@@ -4,8 +4,8 @@ use crate::shared_read::{BandRead, read_side_by_side};
 use array_cli::{Array, Ending, Output, Progress, Stop, Workers, written};
 use array_fields::ElementType;
 use array_grid::{
-    Bands, SubsetElements, TextRows, VaryingCells, begin_json, end_json, is_text, write_json_cell,
-    write_json_cells,
+    Bands, SubsetCells, SubsetElements, TextRows, VaryingCells, begin_json, end_json, is_text,
+    write_json_cell, write_json_cells,
 };
 use array_metadata::ArrayMetadata;
 use array_reading::read_array;
@@ -166,7 +166,7 @@ fn room_of_bands(
     for _ in 0..count {
         let read = BandRead {
             band: None,
-            bytes: Vec::new(alloc),
+            cells: SubsetCells::none(alloc)?,
             stop: None,
         };
         reads.push(read)?;
@@ -181,7 +181,7 @@ fn put_bands<S: Sink>(array: &Array<'_>, reads: &mut [BandRead], sink: &mut S) -
             return Err(stop);
         }
         if let Some(band) = &read.band {
-            put_sized(array, band, &read.bytes, Ending::Done, sink)?;
+            put_sized(array, band, read.cells.bytes(), Ending::Done, sink)?;
         }
     }
     Ok(())

@@ -1,17 +1,17 @@
 // The elements of a subset of an array that threads share.
 use array_cli::{Array, Stop, Workers};
-use array_grid::Bands;
-use array_reading::read_into_room;
+use array_grid::{Bands, SubsetCells};
+use array_reading::read_into_cells;
 use parts_subsets::ArraySubset;
 use std::thread;
 use std::thread::Threads;
 
-/// A band of a subset, and the bytes of its elements, which have one size.
+/// A band of a subset, and its elements, which have one size.
 #[derive(Drop)]
 pub struct BandRead {
     // none past the last one
     pub band: Option<ArraySubset>,
-    pub bytes: Vec<u8>,
+    pub cells: SubsetCells,
     // why it was not read, if it was not
     pub stop: Option<Stop>,
 }
@@ -27,7 +27,7 @@ fn read_next(
     let Some(band) = &read.band else {
         return Ok(());
     };
-    read_into_room(array, band, &mut read.bytes)
+    read_into_cells(array, band, &mut read.cells)
 }
 
 /// Reads bands of a subset from a number on, whose elements have one size, each by a thread of its own to where the one before lies in

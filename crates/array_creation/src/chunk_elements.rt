@@ -1,5 +1,5 @@
-// The chunks of a new array, by the elements at their start; behind the array's end they have fill values.
-use array_cli::{encode_chunk, encode_padded, turned, whole_of};
+// The chunks of a new array whose elements have lengths of their own; behind the array's end they have fill values.
+use array_cli::{encode_chunk, whole_of};
 use array_grid::VaryingCells;
 use array_metadata::ArrayMetadata;
 use parts_arrays::ArrayBytes;
@@ -7,34 +7,6 @@ use parts_errors::CodecError;
 use parts_subsets::check_subset;
 use std::alloc::{AllocError, Global};
 use std::borrow::CowSlice;
-
-// The bytes of a chunk, at whose start elements stand that have a shape; `None` where it has no file.
-fn encoded_stored(
-    rt: &HostRuntime,
-    shape: &[u64],
-    elements: &[u8],
-    new: &ArrayMetadata,
-) -> Result<Option<Vec<u8>>, CodecError> {
-    let size = new.fill_value.as_ne_bytes().len();
-    match ArrayBytes::new_flen(CowSlice::Borrowed(elements), size) {
-        Some(elements) => encode_padded(rt.alloc(), &new.codec, shape, &elements, new),
-        None => Err(CodecError::WrongElementKind),
-    }
-}
-
-/// The bytes of a chunk of a new array, at whose start elements of one size stand that have a shape, least significant byte first; `None`
-/// where it has no file.
-pub fn encoded_sized(
-    rt: &HostRuntime,
-    shape: &[u64],
-    elements: &[u8],
-    new: &ArrayMetadata,
-) -> Result<Option<Vec<u8>>, CodecError> {
-    match turned(rt.alloc(), new, elements)? {
-        Some(stored) => encoded_stored(rt, shape, &stored, new),
-        None => encoded_stored(rt, shape, elements, new),
-    }
-}
 
 // Which element stands at each place of a chunk at whose start `count` of them stand that have a shape; `None` where none does.
 fn places_in(

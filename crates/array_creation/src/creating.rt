@@ -5,6 +5,7 @@ use crate::layout::{
 use crate::new_folder::{begin_folder, end_folder, test_served};
 use array_cli::{Ending, Stop, described};
 use array_fields::{ElementType, escaped};
+use codec_bytes::Endianness;
 use parts_arrays::DataType;
 use serde_json::Value;
 use sharding_format::SubchunkWriteOrder;
@@ -97,7 +98,7 @@ fn plain_document(alloc: Global, words: &ArrayWords<'_>) -> Result<String, Stop>
     text.push_str(",\"codecs\":")?;
     add(&mut text, BEFORE_SUBCHUNK, list_of(alloc, words.subchunk))?;
     text.push_str(BEHIND_SUBCHUNK)?;
-    text.push_str(codec_of_elements(codec_type(words.data_type)))?;
+    text.push_str(codec_of_elements(codec_type(words.data_type), Endianness::Little))?;
     text.push_str(BEHIND_ELEMENTS)?;
     Ok(text)
 }

@@ -1,7 +1,8 @@
 // How an array is laid out anew, and its metadata then.
 use array_cli::Stop;
 use array_fields::{ElementType, escaped};
-use array_metadata::{ArrayCodec, ArrayMetadata};
+use array_metadata::{ArrayCodec, ArrayMetadata, reversed_size};
+use codec_bytes::Endianness;
 use parts_arrays::DataType;
 use serde_json::Value;
 use sharding_format::{ShardingIndexLocation, SubchunkWriteOrder};
@@ -68,25 +69,29 @@ fn first_of(list: Option<&Value>) -> Option<(&Value, &str)> {
     Some((codec, name))
 }
 
-/// The metadata of the codec of elements of a type, in a new array: `bytes`, least significant byte first, or the codec of those that have
-/// lengths of their own.
-pub fn codec_of_elements(element_type: ElementType) -> &'static str {
-    match element_type {
-        ElementType::Utf8 => "{\"name\":\"vlen-utf8\"}",
-        ElementType::Binary => "{\"name\":\"vlen-bytes\"}",
-        _ => "{\"name\":\"bytes\",\"configuration\":{\"endian\":\"little\"}}",
+/// The metadata of the codec of elements of a type, in a new array: `bytes`, or the codec of those that have lengths of their own.
+pub fn codec_of_elements(element_type: ElementType, order: Endianness) -> &'static str {
+    match (element_type, order) {
+        (ElementType::Utf8, _) => "{\"name\":\"vlen-utf8\"}",
+        (ElementType::Binary, _) => "{\"name\":\"vlen-bytes\"}",
+        (_, Endianness::Little) => "{\"name\":\"bytes\",\"configuration\":{\"endian\":\"little\"}}",
+        (_, Endianness::Big) => "{\"name\":\"bytes\",\"configuration\":{\"endian\":\"big\"}}",
     }
 }
 
-// The codec of elements of a list, or that of elements of a type where the list does not begin with one.
-fn first_text(
-    alloc: Global,
-    list: Option<&Value>,
-    element_type: ElementType,
-) -> Result<String, AllocError> {
+// The byte order of elements that are laid out anew: as it is where the codecs do not turn elements, so that these go as they are.
+fn byte_order(metadata: &ArrayMetadata) -> Endianness {
+    match reversed_size(metadata.element_type, &metadata.codec) {
+        Some(_) => Endianness::Big,
+        None => Endianness::Little,
+    }
+}
+
+// The codec of elements of a list, or another where the list does not begin with one.
+fn first_text(alloc: Global, list: Option<&Value>, other: &str) -> Result<String, AllocError> {
     match first_of(list) {
         Some((codec, "bytes" | "vlen-utf8" | "vlen-bytes")) => codec.to_string(alloc),
-        _ => String::from_str(alloc, codec_of_elements(element_type)),
+        _ => String::from_str(alloc, other),
     }
 }
 
@@ -95,7 +100,7 @@ fn inner_text(
     alloc: Global,
     word: Option<&str>,
     old: Option<&Value>,
-    element_type: ElementType,
+    metadata: &ArrayMetadata,
 ) -> Result<String, Stop> {
     let Some(word) = word else {
         return match old {
@@ -106,7 +111,8 @@ fn inner_text(
     let Some(behind) = behind_elements(word) else {
         return Err(Stop::BadWord(escaped(alloc, word)?));
     };
-    let first = first_text(alloc, old, element_type)?;
+    let codec = codec_of_elements(metadata.element_type, byte_order(metadata));
+    let first = first_text(alloc, old, codec)?;
     Ok(format!(in alloc; "[{first}{behind}]")?)
 }
 
@@ -122,7 +128,8 @@ fn index_text(
         (Some(true), _) | (None, None) => ",{\"name\":\"crc32c\"}",
     };
     // the numbers of an index are of 64 bits
-    let bytes = first_text(alloc, old, ElementType::Number(DataType::UInt64))?;
+    let number = ElementType::Number(DataType::UInt64);
+    let bytes = first_text(alloc, old, codec_of_elements(number, Endianness::Little))?;
     format!(in alloc; "[{bytes}{behind}]")
 }
 
@@ -192,7 +199,7 @@ fn codecs_text(
     let chunk = shape_text(alloc, words.subchunk, metadata.subchunk.as_slice());
     let mut text = String::new(alloc);
     add(&mut text, BEFORE_SUBCHUNK, chunk)?;
-    let inner = inner_text(alloc, words.inner, old.inner, metadata.element_type);
+    let inner = inner_text(alloc, words.inner, old.inner, metadata);
     add(&mut text, ",\"codecs\":", inner)?;
     let index = index_text(alloc, words.is_checked, old.index);
     add(&mut text, ",\"index_codecs\":", Ok(index?))?;

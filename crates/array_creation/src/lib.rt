@@ -6,7 +6,9 @@ mod creating;
 mod layout;
 mod new_array;
 mod new_folder;
+mod subset_chunk;
 
 pub use creating::{ArrayWords, create};
 pub use layout::LayoutWords;
 pub use new_array::reshard;
+pub use subset_chunk::chunk_of_subset;

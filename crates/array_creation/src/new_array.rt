@@ -1,12 +1,13 @@
 // An array laid out anew in another folder.
-use crate::chunk_elements::{encoded_sized, encoded_varying};
+use crate::chunk_elements::encoded_varying;
 use crate::layout::{LayoutWords, new_document, order_of};
 use crate::new_folder::{begin_folder, end_folder, put, test_served};
+use crate::subset_chunk::chunk_of_subset;
 use array_cli::{Array, Ending, Output, Progress, Stop, Workers, described, elements_of, written};
 use array_folder::Counted;
-use array_grid::{ShardWork, SubsetElements, piece_length, piece_of, run_in_parallel};
+use array_grid::{ShardWork, SubsetCells, SubsetElements, piece_length, piece_of, run_in_parallel};
 use array_metadata::ArrayMetadata;
-use array_reading::{chunks_of, read_into_room, read_silently};
+use array_reading::{chunks_of, files_of, read_silently, why_refused};
 use parts_arrays::DataTypeSize;
 use parts_errors::CodecError;
 use parts_subsets::ArraySubset;
@@ -15,7 +16,7 @@ use std::fs;
 use std::io::Write;
 use std::thread::Threads;
 
-// How many chunks a thread makes at a time at most: their elements are read into the same room.
+// How many chunks a thread makes at a time at most: their elements are read into the same cells.
 const CHUNKS_OF_A_PIECE: usize = 4;
 
 // A new array: the folder in which its shards are made, and its metadata.
@@ -48,16 +49,18 @@ impl Written {
     }
 }
 
-// The bytes of the chunk of a new array whose elements lie in a subset of the old one, have one size, and are read into room for them.
-fn encoded_in_room(
+// The bytes of the chunk of a new array whose elements lie in a subset of the old one, have one size, and are read into cells that are there.
+// Both arrays have elements in one byte order: `new_document` keeps it where the codecs do not turn them.
+fn encoded_sized(
     old: &Array<'_>,
     requested: &ArraySubset,
     new: &ArrayMetadata,
-    room: &mut Vec<u8>,
+    cells: &mut SubsetCells,
 ) -> Result<Option<Vec<u8>>, Stop> {
-    read_into_room(old, requested, room)?;
-    let elements = old.least_first(room.as_slice())?;
-    Ok(encoded_sized(old.rt, requested.shape(), &elements, new)?)
+    match chunk_of_subset(old.alloc(), &files_of(old)?, requested, new, cells) {
+        Ok(chunk) => Ok(chunk),
+        Err(error) => Err(why_refused(old, requested, error)),
+    }
 }
 
 // The bytes of the chunk of a new array whose elements lie in a subset of the old one; `None` where it has no file.
@@ -65,10 +68,10 @@ fn encoded_subset(
     old: &Array<'_>,
     requested: &ArraySubset,
     new: &ArrayMetadata,
-    room: &mut Vec<u8>,
+    cells: &mut SubsetCells,
 ) -> Result<Option<Vec<u8>>, Stop> {
     if let DataTypeSize::Fixed(_) = new.data_type.size() {
-        return encoded_in_room(old, requested, new, room);
+        return encoded_sized(old, requested, new, cells);
     }
     match read_silently(old, requested)? {
         SubsetElements::Varying(found) => {
@@ -83,11 +86,11 @@ fn new_chunk(
     old: &Array<'_>,
     new: &NewArray<'_>,
     coordinates: &[u64],
-    room: &mut Vec<u8>,
+    cells: &mut SubsetCells,
 ) -> Result<Option<Vec<u8>>, Stop> {
     let metadata = new.metadata;
     match elements_of(old.alloc(), coordinates, &metadata.shard, &metadata.shape)? {
-        Some(requested) => encoded_subset(old, &requested, metadata, room),
+        Some(requested) => encoded_subset(old, &requested, metadata, cells),
         None => Ok(None),
     }
 }
@@ -97,9 +100,9 @@ fn put_chunk(
     old: &Array<'_>,
     new: &NewArray<'_>,
     coordinates: &[u64],
-    room: &mut Vec<u8>,
+    cells: &mut SubsetCells,
 ) -> Result<Option<u64>, Stop> {
-    let Some(bytes) = new_chunk(old, new, coordinates, room)? else {
+    let Some(bytes) = new_chunk(old, new, coordinates, cells)? else {
         return Ok(None);
     };
     let key = new.metadata.keys.key_of(old.alloc(), coordinates)?;
@@ -110,9 +113,9 @@ fn put_chunk(
 // Makes chunks of a new array, one after the other, as far as none is refused.
 fn put_each(old: &Array<'_>, new: &NewArray<'_>, chunks: &[Vec<u64>]) -> Result<Written, Stop> {
     let mut sum = Written::nothing();
-    let mut room = Vec::new(old.alloc());
+    let mut cells = SubsetCells::none(old.alloc())?;
     for coordinates in chunks {
-        if let Some(bytes) = put_chunk(old, new, coordinates, &mut room)? {
+        if let Some(bytes) = put_chunk(old, new, coordinates, &mut cells)? {
             sum.add(Written { shards: 1, bytes });
         }
     }

@@ -1,21 +1,29 @@
 // The cells of a subset of an array, put together of its parts.
-ghost use Rattle.std.specs.Prelude.{◌≡◌, ◌*◌, ◌^◌, ◌<◌, ℕ, IfOk, IfErr, OnOk, OnErr, length};
-ghost use Rattle.parts_errors.specs.Order.{RefusedBy};
+ghost use Rattle.std.specs.Prelude.{◌≡◌, ◌*◌, ◌^◌, ◌<◌, ◌∷◌, [], ℕ, IsTrue, IfOk, IfErr, OnOk, OnErr, length};
+ghost use Rattle.parts_errors.specs.Order.{◌or◌then◌, ◌or_as◌then◌, done, RefusedBy};
+ghost use Rattle.parts_errors.specs.declared.error.CodecError.TheVariants.{InvalidNumberOfElements, WrongElementKind};
 ghost use Rattle.parts_row_major.specs.Numbering.{count_of};
 ghost use Rattle.parts_row_major.specs.Subsets.{IsServed, number_in};
 ghost use Rattle.parts_row_major.specs.Pieces.{piece, IsUpdated};
+ghost use Rattle.parts_subsets.specs.Selections.{subset_selection};
 ghost use Rattle.parts_arrays.specs.Arrays.{element_of, fixed_array};
+ghost use Rattle.parts_arrays.specs.Types.{size_of};
 ghost use Rattle.parts_arrays.specs.declared.data_type.DataTypeSize.TheVariants.{Fixed};
-ghost use Rattle.array_grid.specs.Cells.{AreWhole, AreFilled, FillRefusals, PutRefusals};
+ghost use Rattle.storage_handles.specs.Handles.{IsRead};
+ghost use Rattle.storage_handles.specs.Objects.{interval_part, HasInterval, ObjectRefusals, IntervalRefusals};
+ghost use Rattle.codec_traits.specs.Reads.{stored_spec, RequestRefusals};
+ghost use Rattle.codec_traits.specs.Refusals.{RefusesUnserved};
+ghost use Rattle.array_grid.specs.Cells.{AreWhole, AreFilled, FillRefusals, IsPartDecoded, PartRefusals, PutRefusals};
 
+use codec_traits::{ArrayToBytesCodecTraits, StoredArray};
 use parts_arrays::{ArrayBytes, FillValue, FixedTarget};
-use parts_errors::CodecError;
-use parts_strided_copy::fill_run;
+use parts_errors::{CodecError, CodecOptions};
 use parts_subsets::{ArraySubset, check_subset};
 use sharding_gather::room_for;
-use std::alloc::Global;
+use std::alloc::{AllocError, Global};
 use std::borrow::CowSlice;
 use std::marker::Model;
+use storage_handles::BytesPartialDecoderTraits;
 
 /// The cells of a subset of an array, in row-major order of the subset; their elements have one size.
 pub struct SubsetCells {
@@ -69,6 +77,73 @@ fn put_into(
     target.copy_from(part)
 }
 
+// Writes an element at each point of a part where it lies in a subset whose cells have these bytes.
+fn fill_in(
+    bytes: &mut [u8],
+    element_size: usize,
+    shape: &[u64],
+    in_subset: &ArraySubset,
+    fill_value: &FillValue,
+) -> Result<(), CodecError>
+    requires whole { AreWhole bytes.old element_size shape.now }
+    ensures length { length bytes.new ≡ length bytes.old }
+    ensures written { OnOk result (IsUpdated (count_of in_subset.now.shape) (number_in in_subset.now shape.now)
+        (piece element_size bytes.old) (λ k. fill_value.now) (piece element_size bytes.new)) }
+    ensures served { OnOk result (IsServed in_subset.now shape.now) }
+    ensures size { OnOk result (length fill_value.now ≡ element_size) }
+    ensures kept { OnErr result (bytes.new ≡ bytes.old) }
+    ensures refused { IfErr result (PartRefusals shape.now in_subset.now (length fill_value.now ≡ element_size or WrongElementKind then done)) }
+{
+    let _axes = in_subset.start();
+    check_subset(in_subset, shape)?;
+    let mut target = FixedTarget::over(bytes, element_size, shape, in_subset);
+    target.fill(fill_value)
+}
+
+// Where a part lies in a subset of a shape, whose cells have a size.
+#[derive(Clone, Copy)]
+struct PartPlace<'p> {
+    element_size: usize,
+    shape: &'p [u64],
+    in_subset: &'p ArraySubset,
+}
+
+// Reads the cells of a part of an array that stands in an interval of an object to their place in a subset whose cells have these bytes.
+fn read_to<C: ArrayToBytesCodecTraits, H: BytesPartialDecoderTraits>(
+    alloc: Global,
+    codec: &C,
+    handle: &mut H,
+    stored: &StoredArray,
+    in_stored: &ArraySubset,
+    bytes: &mut [u8],
+    place: &PartPlace,
+) -> Result<(), CodecError>
+    requires whole { AreWhole bytes.old place.now.element_size place.now.shape.now }
+    ensures length { length bytes.new ≡ length bytes.old }
+    ensures read { IsRead (H.state handle.old) (H.state handle.new) }
+    ensures served { OnOk result (IsServed place.now.in_subset.now place.now.shape.now) }
+    ensures counted { OnOk result (count_of place.now.in_subset.now.shape ≡ count_of in_stored.now.shape) }
+    ensures cells { let m = C.meaning codec.now (stored_spec stored.now) in
+        OnOk result (IsTrue (H.state handle.old).transparent
+        → HasInterval stored.now.interval (H.state handle.old).contents
+        × IsPartDecoded (m.cells (interval_part stored.now.interval (H.state handle.old).contents)) stored.now.shape.now in_stored.now place.now.in_subset.now
+        place.now.element_size place.now.shape.now bytes.old bytes.new) }
+    ensures refused { let m = C.meaning codec.now (stored_spec stored.now) in let selection = subset_selection in_stored.now in
+        IfErr result (PartRefusals place.now.shape.now place.now.in_subset.now (RefusedBy (
+        m.serves or_as RefusesUnserved m then
+        size_of stored.now.data_type.now ≡ Fixed place.now.element_size or WrongElementKind then
+        count_of place.now.in_subset.now.shape ≡ length selection.points or InvalidNumberOfElements then
+        RequestRefusals (stored_spec stored.now) selection m.answerable (
+        ObjectRefusals (H.state handle.old) (H.state handle.new) (
+        IntervalRefusals stored.now.interval (H.state handle.old).contents (λ b. m.read_refusals b selection.points)))))) }
+{
+    let _axes = place.in_subset.start();
+    check_subset(place.in_subset, place.shape)?;
+    let mut target = FixedTarget::over(bytes, place.element_size, place.shape, place.in_subset);
+    let options = CodecOptions::default();
+    codec.partial_decode_into_fresh(alloc, handle, stored, in_stored, &mut target, &options)
+}
+
 // How many cells a subset has, whose bytes a number can say, where each is a fill value.
 fn count_cells(subset: &ArraySubset, fill: &[u8]) -> Result<u64, CodecError>
     ensures counted { IfOk result (λ count. count ≡ count_of subset.now.shape) }
@@ -88,6 +163,17 @@ fn count_cells(subset: &ArraySubset, fill: &[u8]) -> Result<u64, CodecError>
 }
 
 impl SubsetCells {
+    /// No cells: those of a subset that has none.
+    pub fn none(alloc: Global) -> Result<Self, AllocError>
+        ensures { IfOk result (λ cells. cells ≡ record { bytes = []; element_size = 1; shape = 0 ∷ [] }) }
+    {
+        Ok(SubsetCells {
+            bytes: Vec::new(alloc),
+            element_size: 1,
+            shape: Vec::from_slice(alloc, &[0])?,
+        })
+    }
+
     /// The cells of a subset, each of them the fill value. Refused, in this order, as `BadFillValue` where it has no byte, and as
     /// `TooLarge` where the cells or their bytes are more than `u64::MAX`; or as `OutOfMemory`.
     pub fn new(
@@ -110,15 +196,16 @@ impl SubsetCells {
         })
     }
 
-    /// Makes them the cells of a subset, each of them the fill value, in the memory that is there as far as it reaches. Refused as `new`
-    /// refuses, which leaves all as it was.
-    pub fn refill(
+    /// Makes them as many cells as a subset has, of the size of the fill value, in the memory that is there as far as it reaches. What they
+    /// are is not said. Refused as `new` refuses, which leaves all as it was.
+    pub fn resize(
         &mut self,
         alloc: Global,
         subset: &ArraySubset,
         fill_value: &FillValue,
     ) -> Result<(), CodecError>
-        ensures filled { OnOk result (AreFilled subset.now.shape fill_value.now self.new) }
+        ensures shape { OnOk result (self.new.shape ≡ subset.now.shape) }
+        ensures size { OnOk result (self.new.element_size ≡ length fill_value.now) }
         ensures served { OnOk result ((0 < length fill_value.now) × (count_of subset.now.shape < 2 ^ 64) × (count_of subset.now.shape * length fill_value.now < 2 ^ 64)) }
         ensures kept { OnErr result (self.new ≡ self.old) }
         ensures refused { IfErr result (RefusedBy (FillRefusals subset.now.shape fill_value.now)) }
@@ -127,7 +214,6 @@ impl SubsetCells {
         let count = count_cells(subset, fill)? as usize;
         let shape = Vec::from_slice(alloc, subset.shape())?;
         self.bytes.resize(count * fill.len(), 0)?;
-        fill_run(&mut self.bytes, fill.len(), 0, count, fill);
         self.element_size = fill.len();
         self.shape = shape;
         Ok(())
@@ -151,6 +237,69 @@ impl SubsetCells {
     {
         let bytes = self.bytes.as_mut_slice();
         put_into(bytes, self.element_size, &self.shape, in_subset, part)
+    }
+
+    /// Writes the fill value at each point of a part, where it lies in the subset. Refused, in this order, as `IncompatibleDimensionality`
+    /// and `OutOfBounds` where it does not lie in the subset, and as `WrongElementKind` where the fill value is of another size; all cells
+    /// are then as they were. Takes no memory.
+    pub fn fill_part(
+        &mut self,
+        in_subset: &ArraySubset,
+        fill_value: &FillValue,
+    ) -> Result<(), CodecError>
+        ensures same_size { self.new.element_size ≡ self.old.element_size }
+        ensures same_shape { self.new.shape ≡ self.old.shape }
+        ensures whole { AreWhole self.new.bytes self.new.element_size self.new.shape }
+        ensures written { OnOk result (IsUpdated (count_of in_subset.now.shape) (number_in in_subset.now self.old.shape)
+            (piece self.old.element_size self.old.bytes) (λ k. fill_value.now) (piece self.old.element_size self.new.bytes)) }
+        ensures served { OnOk result (IsServed in_subset.now self.old.shape) }
+        ensures size { OnOk result (length fill_value.now ≡ self.old.element_size) }
+        ensures kept { OnErr result (self.new ≡ self.old) }
+        ensures refused { IfErr result (PartRefusals self.old.shape in_subset.now (length fill_value.now ≡ self.old.element_size or WrongElementKind then done)) }
+    {
+        let bytes = self.bytes.as_mut_slice();
+        fill_in(bytes, self.element_size, &self.shape, in_subset, fill_value)
+    }
+
+    /// Reads the cells of a part of an array that stands in an interval of an object, and writes them, in row-major order of the part, where
+    /// it lies in the subset; all other cells stay. Refused, in this order, as `IncompatibleDimensionality` and `OutOfBounds` where it does
+    /// not lie in the subset, and as `partial_decode_into_fresh` of the codec refuses; the part's cells are then any.
+    pub fn read_part<C: ArrayToBytesCodecTraits, H: BytesPartialDecoderTraits>(
+        &mut self,
+        alloc: Global,
+        codec: &C,
+        handle: &mut H,
+        stored: &StoredArray,
+        in_stored: &ArraySubset,
+        in_subset: &ArraySubset,
+    ) -> Result<(), CodecError>
+        ensures same_size { self.new.element_size ≡ self.old.element_size }
+        ensures same_shape { self.new.shape ≡ self.old.shape }
+        ensures whole { AreWhole self.new.bytes self.new.element_size self.new.shape }
+        ensures read { IsRead (H.state handle.old) (H.state handle.new) }
+        ensures served { OnOk result (IsServed in_subset.now self.old.shape) }
+        ensures counted { OnOk result (count_of in_subset.now.shape ≡ count_of in_stored.now.shape) }
+        ensures cells { let m = C.meaning codec.now (stored_spec stored.now) in
+            OnOk result (IsTrue (H.state handle.old).transparent
+            → HasInterval stored.now.interval (H.state handle.old).contents
+            × IsPartDecoded (m.cells (interval_part stored.now.interval (H.state handle.old).contents)) stored.now.shape.now in_stored.now in_subset.now
+            self.old.element_size self.old.shape self.old.bytes self.new.bytes) }
+        ensures refused { let m = C.meaning codec.now (stored_spec stored.now) in let selection = subset_selection in_stored.now in
+            IfErr result (PartRefusals self.old.shape in_subset.now (RefusedBy (
+            m.serves or_as RefusesUnserved m then
+            size_of stored.now.data_type.now ≡ Fixed self.old.element_size or WrongElementKind then
+            count_of in_subset.now.shape ≡ length selection.points or InvalidNumberOfElements then
+            RequestRefusals (stored_spec stored.now) selection m.answerable (
+            ObjectRefusals (H.state handle.old) (H.state handle.new) (
+            IntervalRefusals stored.now.interval (H.state handle.old).contents (λ b. m.read_refusals b selection.points)))))) }
+    {
+        let place = PartPlace {
+            element_size: self.element_size,
+            shape: &self.shape,
+            in_subset,
+        };
+        let bytes = self.bytes.as_mut_slice();
+        read_to(alloc, codec, handle, stored, in_stored, bytes, &place)
     }
 
     /// The bytes of the cells.

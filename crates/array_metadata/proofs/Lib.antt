@@ -1,4 +1,2 @@
-pub mod Lengths
 pub mod Lists
 pub mod ShardCodecs
-pub mod ByteNames

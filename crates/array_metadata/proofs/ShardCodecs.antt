@@ -7,7 +7,8 @@ use Rattle.sharding_format.specs.declared.order.SubchunkWriteOrder.TheVariants.{
 use Rattle.sharding_codec.specs.Configuration.{Configuration, configuration_in}
 use Rattle.sharding_codec.specs.ShardMetadata.{shard_of, shard_configured}
 use Rattle.array_codecs.specs.declared.element_codec.ElementCodec.{ElementCodec}
-use Rattle.array_metadata.specs.ArrayCodecs.{elements_in, shards_in}
+use Rattle.array_codecs.specs.ElementCodecsMetadata.{elements_in}
+use Rattle.array_metadata.specs.ArrayCodecs.{shards_in}
 use Rattle.array_fields.specs.MetadataFields.{Names}
 use Rattle.array_metadata.proofs.Lists.{some_same}
 

@@ -13,7 +13,7 @@ use Rattle.array_grid.specs.KeyEncodings.{encoding_name, default_separator}
 use Rattle.array_fields.specs.FillValues.{IsFillIn}
 use Rattle.array_metadata.specs.ArrayCodecs.{array_codec_in, encoded_of, subchunk_in, subchunk_of}
 use Rattle.array_fields.specs.ElementTypes.{IsTypeIn, carrier}
-use Rattle.array_metadata.specs.UnreadCodecs.{chunks_in, unread_codec_in}
+use Rattle.array_codecs.specs.UnreadCodecs.{chunks_in, unread_codec_in}
 use Rattle.array_metadata.specs.declared.metadata.ArrayMetadata.{ArrayMetadata}
 
 -- a text is the metadata of an array of Zarr V3 whose chunk grid is regular, and of which all is understood

@@ -7,7 +7,7 @@ use Rattle.codec_vlen.specs.declared.default_codec.DefaultArrayToBytesCodec.TheV
 use Rattle.codec_chains.specs.declared.either_codec.EitherCodec.TheVariants.{First, Second}
 use Rattle.array_codecs.specs.declared.element_codec.ElementCodec.{ElementCodec}
 use Rattle.array_codecs.specs.declared.element_codec.ElementCodec.TheVariants.{Alone, Chain}
-use Rattle.array_metadata.specs.ArrayCodecs.{Arranged}
+use Rattle.array_codecs.specs.ElementCodecsMetadata.{Arranged}
 use Rattle.array_metadata.specs.declared.inner_codec.InnerCodec.{InnerCodec}
 use Rattle.array_metadata.specs.declared.inner_codec.InnerCodec.TheVariants.{Elements, Shards, Opaque}
 use Rattle.array_metadata.specs.declared.array_codec.ArrayCodec.{ArrayCodec}

@@ -22,7 +22,7 @@ use Rattle.array_codecs.specs.TransposeCodec.{transpose_meaning, transposed_spec
 use Rattle.array_codecs.specs.TransposeLaws.{transpose_lawful}
 use Rattle.array_codecs.specs.declared.element_codec.ElementCodec.{ElementCodec}
 use Rattle.array_codecs.specs.declared.transpose_codec.TransposeCodec.{TransposeCodec}
-use Rattle.array_metadata.specs.ArrayCodecs.{Arranged}
+use Rattle.array_codecs.specs.ElementCodecsMetadata.{Arranged}
 use Rattle.array_metadata.specs.declared.inner_codec.InnerCodec.{InnerCodec}
 use Rattle.array_metadata.specs.declared.inner_codec.InnerCodec.TheVariants.{Elements, Shards, Opaque}
 use Rattle.array_metadata.specs.declared.array_codec.ArrayCodec.{ArrayCodec}

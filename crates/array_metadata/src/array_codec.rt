@@ -1,16 +1,18 @@
 // The codec of an array's chunks.
-use crate::codecs::{ArrangedCodec, ShardsCodec};
-use array_codecs::TransposeCodec;
-use codec_traits::{ArrayToBytesCodecTraits, BytesRepresentation, RecommendedConcurrency};
-use parts_arrays::{ArrayBytes, DataType, FillValue};
+use crate::codecs::ShardsCodec;
+use array_codecs::{ArrangedCodec, TransposeCodec};
+use codec_traits::{
+    ArrayToBytesCodecTraits, BytesRepresentation, RecommendedConcurrency, StoredArray,
+};
+use parts_arrays::{ArrayBytes, DataType, FillValue, FixedTarget};
 use parts_errors::{CodecError, CodecOptions};
 use parts_subsets::{ChunkShape, Indexer};
 use std::alloc::Global;
 use storage_handles::{BytesPartialDecoderTraits, Interval};
 
 /// The codec of an array's chunks: of shards, of shards with `transpose` before them, behind which no subchunk is looked into, or of
-/// elements. It gives what the codec that it holds gives; the calls that append and those that decode into a target are the trait's own,
-/// since an array over a store makes none of them.
+/// elements. It gives what the codec that it holds gives; the call that appends and those that leave a target where they are refused are
+/// the trait's own, since an array over a store makes none of them.
 #[derive(Debug, Drop)]
 pub enum ArrayCodec {
     Sharded(ShardsCodec),
@@ -144,6 +146,23 @@ impl ArrayToBytesCodecTraits for ArrayCodec {
             held.partial_decode(
                 alloc, handle, interval, shape, data_type, fill_value, indexer, options,
             )
+        )
+    }
+
+    /// As `partial_decode_into_fresh` of the codec that it holds.
+    fn partial_decode_into_fresh<H: BytesPartialDecoderTraits, N: Indexer>(
+        &self,
+        alloc: Global,
+        handle: &mut H,
+        stored: &StoredArray,
+        indexer: &N,
+        target: &mut FixedTarget,
+        options: &CodecOptions,
+    ) -> Result<(), CodecError> {
+        of_held!(
+            self,
+            held,
+            held.partial_decode_into_fresh(alloc, handle, stored, indexer, target, options)
         )
     }
 }

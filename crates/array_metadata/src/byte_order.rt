@@ -3,9 +3,8 @@ ghost use Rattle.std.specs.Prelude.{◌≡◌};
 ghost use Rattle.array_metadata.specs.ByteOrders.{first_order, order_of, arranged_order, subchunks_order, chunks_order, size_if_big, reversed_size};
 
 use crate::array_codec::ArrayCodec;
-use crate::codecs::ArrangedCodec;
 use crate::inner_codec::InnerCodec;
-use array_codecs::ElementCodec;
+use array_codecs::{ArrangedCodec, ElementCodec};
 use array_fields::ElementType;
 use codec_bytes::Endianness;
 use codec_chains::EitherCodec;

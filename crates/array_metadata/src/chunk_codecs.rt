@@ -7,18 +7,18 @@ ghost use Rattle.sharding_format.specs.declared.order.SubchunkWriteOrder.TheVari
 ghost use Rattle.sharding_codec.specs.Configuration.{configuration_in, shape_in};
 ghost use Rattle.sharding_codec.specs.Configurations.{configuration_of};
 ghost use Rattle.array_fields.specs.MetadataFields.{configured_in};
-ghost use Rattle.array_metadata.specs.ArrayCodecs.{elements_in, arranged_in, shards_in, served_in, subchunks_in, opaque_in, chunk_shards_or, array_codec_in, subchunk_in, subchunk_of, HasAxes};
-ghost use Rattle.array_metadata.specs.UnreadCodecs.{chunks_in};
+ghost use Rattle.array_codecs.specs.ElementCodecsMetadata.{elements_in, arranged_in};
+ghost use Rattle.array_metadata.specs.ArrayCodecs.{shards_in, served_in, subchunks_in, opaque_in, chunk_shards_or, array_codec_in, subchunk_in, subchunk_of, HasAxes};
+ghost use Rattle.array_codecs.specs.UnreadCodecs.{chunks_in};
 ghost use Rattle.array_fields.specs.MetadataFields.{Names};
 
 use crate::array_codec::ArrayCodec;
-use crate::codecs::{ArrangedCodec, CodecList, IndexCodec, ShardsCodec, arranged_codec};
+use crate::codecs::{IndexCodec, ShardsCodec};
 use crate::inner_codec::InnerCodec;
-use crate::unread::{
-    first_unserved, innermost, names_shards, sole_shards as sole_value, test_names,
-};
 use array_codecs::{
-    CodecValues, ElementCodec, OpaqueCodec, TransposeCodec, codec_values, transpose_order,
+    ArrangedCodec, CodecList, CodecValues, ElementCodec, OpaqueCodec, TransposeCodec,
+    arranged_codec, codec_values, first_unserved, innermost, names_shards,
+    sole_shards as sole_value, test_names, transpose_order,
 };
 use array_fields::{MetadataError, Placed};
 use codec_metadata::PluginCreateError;

@@ -1,6 +1,6 @@
 // The codec of a shard's subchunks.
-use crate::codecs::{ArrangedCodec, IndexCodec};
-use array_codecs::OpaqueCodec;
+use crate::codecs::IndexCodec;
+use array_codecs::{ArrangedCodec, OpaqueCodec};
 use codec_traits::{
     ArrayToBytesCodecTraits, BytesRepresentation, RecommendedConcurrency, StoredArray,
 };

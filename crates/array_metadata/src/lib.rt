@@ -2,7 +2,6 @@
 #![tactic(auto)]
 
 mod array_codec;
-mod byte_codecs;
 mod byte_order;
 mod chunk_codecs;
 mod chunk_cuts;
@@ -10,11 +9,10 @@ mod codecs;
 mod inner_codec;
 mod metadata;
 mod obstacles;
-mod unread;
 
 pub use array_codec::ArrayCodec;
 pub use byte_order::reversed_size;
-pub use codecs::{ArrangedCodec, IndexCodec, ShardsCodec};
+pub use codecs::{IndexCodec, ShardsCodec};
 pub use inner_codec::InnerCodec;
 pub use metadata::ArrayMetadata;
 pub use obstacles::Obstacles;

@@ -11,7 +11,7 @@ ghost use Rattle.array_fields.specs.FillValues.{IsFillIn};
 ghost use Rattle.array_grid.specs.ChunkKeys.{separator_of};
 ghost use Rattle.array_grid.specs.KeyEncodings.{encoding_name, default_separator};
 ghost use Rattle.array_metadata.specs.ArrayCodecs.{array_codec_in, encoded_of, subchunk_in, subchunk_of, HasAxes, are_transposed};
-ghost use Rattle.array_metadata.specs.UnreadCodecs.{chunks_in, unread_codec_in};
+ghost use Rattle.array_codecs.specs.UnreadCodecs.{chunks_in, unread_codec_in};
 ghost use Rattle.array_fields.specs.ElementTypes.{IsTypeIn, IsRead, carrier};
 ghost use Rattle.parts_subsets.specs.Grid.{Divides};
 ghost use Rattle.parts_arrays.specs.Types.{size_of, FitsKind, HasElements};
@@ -19,8 +19,7 @@ ghost use Rattle.parts_arrays.specs.Types.{size_of, FitsKind, HasElements};
 use crate::array_codec::ArrayCodec;
 use crate::chunk_codecs::array_codec;
 use crate::chunk_cuts::cut_of;
-use crate::codecs::unserved;
-use crate::unread::unread_codec;
+use array_codecs::{unread_codec, unserved};
 use array_fields::{
     ElementType, KeptText, MetadataError, Placed, TypeText, axes_in, element_type_in, escaped,
     escaped_whole, fill_value_in, kept_text, test_array, test_understood, unread_type, value_in,

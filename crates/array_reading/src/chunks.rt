@@ -1,13 +1,9 @@
 // The chunks of a grid that have elements in the files of an array.
-use crate::read::{read_array, read_part_into};
-use array_cli::{Array, Progress, Stop, shards_of};
+use array_cli::{Array, Stop};
 use array_folder::ChunkFile;
-use array_grid::{ShardGrid, ShardPart, ShardParts, SubsetElements};
 use array_metadata::ArrayMetadata;
-use parts_arrays::FixedTarget;
-use parts_errors::CodecError;
 use parts_row_major::unravel_index;
-use parts_subsets::{ArraySubset, ChunkShape};
+use parts_subsets::ChunkShape;
 use std::alloc::{AllocError, Global};
 
 // The chunks along an axis, of a size, that have elements of one of another size: the first one, and how many there are.
@@ -80,64 +76,4 @@ pub fn chunks_of(array: &Array<'_>, chunk: &ChunkShape) -> Result<Vec<Vec<u64>>,
     found.sort_unstable();
     found.dedup();
     Ok(found)
-}
-
-/// The elements of a subset as `read_array` gives them, where nothing is refused and nothing shows how far it is.
-pub fn read_silently(array: &Array<'_>, requested: &ArraySubset) -> Result<SubsetElements, Stop> {
-    let (elements, _) = read_array(array, requested, false, &mut Progress::silent())?;
-    Ok(elements)
-}
-
-// Reads a part of a subset of a shape to where it lies in the subset, whose elements have these bytes.
-fn put_part(
-    array: &Array<'_>,
-    grid: &ShardGrid,
-    part: &ShardPart,
-    shape: &[u64],
-    bytes: &mut [u8],
-) -> Result<(), Stop> {
-    let size = array.metadata.fill_value.as_ne_bytes().len();
-    match FixedTarget::new(bytes, size, shape, &part.in_subset) {
-        Some(mut target) => read_part_into(array, grid, part, &mut target),
-        None => Err(CodecError::OutOfBounds.into()),
-    }
-}
-
-// Reads the parts of a subset of a shape, and puts each where it lies.
-fn put_parts(
-    array: &Array<'_>,
-    grid: &ShardGrid,
-    parts: &ShardParts,
-    shape: &[u64],
-    bytes: &mut [u8],
-) -> Result<(), Stop> {
-    for number in 0..parts.len() {
-        let Some(part) = parts.part(array.alloc(), number)? else {
-            return Err(CodecError::OutOfBounds.into());
-        };
-        put_part(array, grid, &part, shape, bytes)?;
-    }
-    Ok(())
-}
-
-// Reads the elements of a subset, which have one size, into as many bytes as they have: each of these is written, unless a part of the
-// subset is refused.
-fn read_into(array: &Array<'_>, requested: &ArraySubset, bytes: &mut [u8]) -> Result<(), Stop> {
-    let grid = shards_of(array)?;
-    let parts = grid.parts(array.alloc(), requested)?;
-    put_parts(array, &grid, &parts, requested.shape(), bytes)
-}
-
-/// As `read_into`, into room that becomes as many bytes as the elements have, in its memory as far as that reaches. Refused as `Stop::TooLarge`
-/// where no number can say how many these are.
-pub fn read_into_room(
-    array: &Array<'_>,
-    requested: &ArraySubset,
-    room: &mut Vec<u8>,
-) -> Result<(), Stop> {
-    let size = array.metadata.fill_value.as_ne_bytes().len() as u64;
-    let count = requested.num_elements().ok_or(Stop::TooLarge)?;
-    let length = count.checked_mul(size).ok_or(Stop::TooLarge)?;
-    room.resize(length as usize, 0)?;
-    read_into(array, requested, room.as_mut_slice())
 }

@@ -1,14 +1,12 @@
-// What reading an array on disk gives: the elements of a subset, what is sound of one where a shard or a subchunk is refused, the chunks
-// of another shape that have elements; and whether each shard is sound.
+// What reading an array on disk gives: the elements of a subset, what is sound of one where a shard or a subchunk is refused, and the chunks
+// of another shape that have elements.
 #![tactic(auto)]
 
-mod check_pieces;
-mod checked;
-mod checking;
 mod chunks;
 mod read;
 mod sound;
+mod stored;
 
-pub use checking::check;
-pub use chunks::{chunks_of, read_into_room, read_silently};
+pub use chunks::chunks_of;
 pub use read::read_array;
+pub use stored::{ArrayOfFiles, files_of, read_into_cells, read_silently, why_refused};

@@ -5,7 +5,7 @@ use array_cli::{
     shards_of,
 };
 use array_grid::{ShardGrid, ShardPart, ShardParts, SubsetElements, shared_elements};
-use parts_arrays::{ArrayBytes, FixedTarget};
+use parts_arrays::ArrayBytes;
 use parts_errors::CodecError;
 use parts_row_major::unravel_index;
 use parts_subsets::ArraySubset;
@@ -157,29 +157,6 @@ fn read_shard<'a, 'e>(
     let mut opened = array.opened(shard, file_of(array, part, shard)?)?;
     let read = opened.read_subset(array.alloc(), array.metadata, &part.in_shard);
     closed(array, part, shard, opened, read)
-}
-
-// Reads a part of a subset, which lies in a shard, into a target.
-fn read_shard_into(
-    array: &Array<'_>,
-    part: &ShardPart,
-    shard: &Shard<'_>,
-    target: &mut FixedTarget,
-) -> Result<(), Stop> {
-    let mut opened = array.opened(shard, file_of(array, part, shard)?)?;
-    let read = opened.read_subset_into(array.alloc(), array.metadata, &part.in_shard, target);
-    closed(array, part, shard, opened, read)
-}
-
-/// Reads a part of a subset, whose elements have one size, into a target. Where that is refused, the target's subset may have any elements.
-pub fn read_part_into(
-    array: &Array<'_>,
-    grid: &ShardGrid,
-    part: &ShardPart,
-    target: &mut FixedTarget,
-) -> Result<(), Stop> {
-    let shard = shard_of_grid(array, grid, part.shard)?;
-    read_shard_into(array, part, &shard.shard(), target)
 }
 
 // Reads a part of a subset, which lies in a shard; `None` where it is refused and is to be filled.

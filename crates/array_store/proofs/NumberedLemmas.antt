@@ -41,14 +41,14 @@ module _ (contents : Bytes → Option Bytes) (format : ArrayFormat) (cells : Cel
 
   pub numbered : (number count : ℕ) (part : ShardPart) (old new : CellsOfSubset) (touched : List ℕ) → number < count → old.shape ≡ subset.shape
       → IsPartAt (record { shape = format.shape.now; shard = format.chunk.now }) subset count number part → AreTouched whole format.chunk.now subset touched
-      → IsPartPut cells (object_of contents format part.coordinates.items) format.chunk.now part.in_shard part.in_subset old new
-      → IsChunkRead (λ q. element_at contents format cells (point_in subset q)) (chunk_at whole format.chunk.now subset) format.fill_value.now (count_of subset.shape) (get_or touched number 0)
+      → IsPartPut (cell_of cells format.fill_value.now (object_of contents format part.coordinates.items)) format.chunk.now part.in_shard part.in_subset old new
+      → IsChunkRead (λ q. element_at contents format cells (point_in subset q)) (chunk_at whole format.chunk.now subset) (count_of subset.shape) (get_or touched number 0)
       (piece old.element_size old.bytes) (piece old.element_size new.bytes)
   numbered number count part old new touched below around at are put =
       let one : at.shards ≡ touched = touched_same whole format.chunk.now subset at.shards touched at.touched are in
       let here : part.shard ≡ get_or touched number 0 = sym at.here ∙ ap (λ xs. get_or xs number 0) one in
-      let read = chunk_read cells format.fill_value.now whole format.chunk.now subset part.shard part.in_shard part.in_subset old new divides inside at.coordinates.0.0 at.meets around
-      (object_of contents format (point_of part.shard (grid_of whole format.chunk.now))) (λ q. element_at contents format cells (point_in subset q))
-      (piece old.element_size old.bytes) (piece old.element_size new.bytes) (rw (at.coordinates.1) at put) (element_of_chunk part.shard) (λ q. refl) (λ q. refl) in
-      subst (λ k. IsChunkRead (λ q. element_at contents format cells (point_in subset q)) (chunk_at whole format.chunk.now subset) format.fill_value.now (count_of subset.shape) k
+      let read = chunk_read (cell_of cells format.fill_value.now (object_of contents format (point_of part.shard (grid_of whole format.chunk.now))))
+      whole format.chunk.now subset part.shard part.in_shard part.in_subset old new divides inside at.coordinates.0.0 at.meets around
+      (rw (at.coordinates.1) at put) (λ q. element_at contents format cells (point_in subset q)) (element_of_chunk part.shard) in
+      subst (λ k. IsChunkRead (λ q. element_at contents format cells (point_in subset q)) (chunk_at whole format.chunk.now subset) (count_of subset.shape) k
       (piece old.element_size old.bytes) (piece old.element_size new.bytes)) here read

@@ -1,27 +1,24 @@
 -- A chunk whose elements are read, changed in a subset, and encoded.
-use Rattle.std.proofs.Common.{◌≡◌, ℕ, ◌<◌, List, Option, Some, None, length, get_or, replicate, sym, subst, ap, ◌∙◌, arith}
-use Rattle.parts_errors.specs.Words.{Bytes, CellsOf, Elements}
+use Rattle.std.proofs.Common.{◌≡◌, ℕ, ◌<◌, List, Option, Some, length, replicate, sym, subst, ap, ◌∙◌, arith}
+use Rattle.parts_errors.specs.Words.{Bytes, Elements}
 use Rattle.parts_row_major.specs.Numbering.{count_of}
 use Rattle.parts_row_major.specs.Pieces.{piece, pieces, IsUpdated}
 use Rattle.parts_row_major.specs.Subsets.{Subset, LiesIn, number_in}
 use Rattle.parts_row_major.proofs.PieceLaws.{length-pieces, number_in_below, piece_of-pieces}
 use Rattle.sharding_gather.proofs.PlacingLemmas.{number_in-whole}
 use Rattle.array_grid.specs.Cells.{CellsOfSubset}
-use Rattle.array_store.specs.ArrayElements.{cell_of}
 use Rattle.array_store.specs.ChunkWrites.{AreUpdated}
 use Rattle.array_store.specs.steps.Reading.{IsPartPut}
 
--- the elements of a chunk that has been read as a whole, where the fill value stood
-pub whole_read : (cells : CellsOf) (fill : Bytes) (object : Option Bytes) (chunk : List ℕ) (old new : CellsOfSubset) → old.shape ≡ chunk
-    → ((p : ℕ) → p < count_of chunk → piece old.element_size old.bytes p ≡ fill)
-    → IsPartPut cells object chunk (record { start = replicate (length chunk) 0; shape = chunk }) (record { start = replicate (length chunk) 0; shape = chunk }) old new
-    → (p : ℕ) → p < count_of chunk → cell_of cells fill object p ≡ Some (piece old.element_size new.bytes p)
-whole_read cells fill None chunk old new around blank same p below = ap Some (sym (blank p below) ∙ ap (λ c. piece old.element_size c.bytes p) (sym same))
-whole_read cells fill (Some bytes) chunk old new around blank put p below =
+-- the elements of a chunk that has been read as a whole
+pub whole_read : (cell : ℕ → Option Bytes) (chunk : List ℕ) (old new : CellsOfSubset) → old.shape ≡ chunk
+    → IsPartPut cell chunk (record { start = replicate (length chunk) 0; shape = chunk }) (record { start = replicate (length chunk) 0; shape = chunk }) old new
+    → (p : ℕ) → p < count_of chunk → cell p ≡ Some (piece old.element_size new.bytes p)
+whole_read cell chunk old new around put p below =
     let own = number_in-whole chunk p below in
     let there : number_in (record { start = replicate (length chunk) 0; shape = chunk }) old.shape p ≡ p =
     ap (λ shape. number_in (record { start = replicate (length chunk) 0; shape = chunk }) shape p) around ∙ own in
-    ap (λ n. get_or (cells bytes) n None) (sym own) ∙ sym (put.inside p below) ∙ ap (λ n. Some (piece old.element_size new.bytes n)) there
+    ap cell (sym own) ∙ sym (put.inside p below) ∙ ap (λ n. Some (piece old.element_size new.bytes n)) there
 
 -- the elements of a chunk that are changed in a subset of it
 pub updated_elements : (chunk : List ℕ) (in_chunk : Subset) (update : ℕ → Bytes) (before : ℕ → Option Bytes) (size many : ℕ) (old new : Bytes)

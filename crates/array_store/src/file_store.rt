@@ -10,6 +10,9 @@ use std::rt::Files;
 use storage_files::FileHandle;
 use storage_handles::BytesPartialEncoderTraits;
 
+// How many bytes of a file are read at once at most, where all of it is to be read and its slices are small.
+const READ_AHEAD: usize = 65_536;
+
 /// Objects that are the files of a folder: the key is the path from there (Zarr V3, "File system store"). It is not transparent. Files
 /// are read, replaced and removed as `FileHandle` says: whoever reads a file meanwhile finds the old object or the new one.
 #[derive(Drop)]
@@ -41,6 +44,12 @@ impl<'a, R: Files> Store for FileStore<'a, R> {
 
     fn open(&self, alloc: Global, key: &str) -> Result<FileHandle<&'a R>, CodecError> {
         Ok(self.handle(alloc, key)?)
+    }
+
+    fn open_whole(&self, alloc: Global, key: &str) -> Result<FileHandle<&'a R>, CodecError> {
+        let mut handle = self.handle(alloc, key)?;
+        handle.read_ahead(alloc, READ_AHEAD);
+        Ok(handle)
     }
 
     fn put(&mut self, alloc: Global, key: &str, bytes: Vec<u8>) -> Result<(), CodecError> {

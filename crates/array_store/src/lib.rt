@@ -9,7 +9,6 @@ mod file_store;
 mod format;
 mod memory_store;
 mod opening;
-mod part;
 mod read;
 mod store;
 mod updates;

@@ -10,25 +10,37 @@ ghost use Rattle.parts_arrays.specs.Types.{size_of};
 ghost use Rattle.parts_arrays.specs.declared.data_type.DataTypeSize.TheVariants.{Fixed};
 ghost use Rattle.sharding_plans.specs.Chunks.{whole_chunks};
 ghost use Rattle.array_grid.specs.Parts.{IsPartAt};
-ghost use Rattle.array_store.specs.ArrayElements.{AreElementsAt, chunk_spec, element_at, object_of};
+ghost use Rattle.array_store.specs.ArrayElements.{AreElementsAt, cell_of, chunk_spec, element_at, object_of};
 ghost use Rattle.array_grid.specs.ChunkKeys.{chunk_key};
+ghost use Rattle.array_store.specs.Stores.{IsOpened};
 ghost use Rattle.array_store.specs.ReadRefusals.{IsReadRefusal, IsRefusalIn};
 ghost use Rattle.array_store.specs.steps.Reading.{IsPartPut, IsChunkRead, IsRefusalAt, AreReadTo, chunk_at};
 ghost use Rattle.array_store.specs.steps.Writing.{ArePartsOf};
 
 use crate::array::Array;
 use crate::error::ArrayError;
-use crate::part::read_part;
 use crate::store::Store;
 use array_grid::{ShardGrid, ShardPart, ShardParts, SubsetCells};
-use codec_traits::ArrayToBytesCodecTraits;
-use parts_arrays::DataTypeSize;
+use codec_traits::{ArrayToBytesCodecTraits, StoredArray};
 use parts_errors::CodecError;
 use parts_subsets::ArraySubset;
 use std::alloc::Global;
+use storage_handles::{BytesPartialDecoderTraits, Interval};
 
 impl<S: Store, C: ArrayToBytesCodecTraits> Array<'_, S, C> {
-    // Reads the part of a subset that lies in the chunk of a key, and puts its elements among those of the subset.
+    // A handle over the chunk of a key, of which a part is to be read.
+    fn opened(&self, alloc: Global, key: &str, part: &ArraySubset) -> Result<S::Handle, CodecError>
+        ensures opened { IfOk result (λ handle. IsOpened (S.state self.now.store) key.now (S.Handle.state handle)) }
+    {
+        if part.shape() == self.format.chunk.as_slice() {
+            self.store.open_whole(alloc, key)
+        } else {
+            self.store.open(alloc, key)
+        }
+    }
+
+    // Puts the part of a subset that lies in the chunk of a key among the elements of the subset: what is read of the chunk's object, and
+    // the fill value where there is none.
     pub(crate) fn put_part(
         &self,
         alloc: Global,
@@ -39,15 +51,22 @@ impl<S: Store, C: ArrayToBytesCodecTraits> Array<'_, S, C> {
     ) -> Result<(), CodecError>
         ensures same_size { cells.new.element_size ≡ cells.old.element_size }
         ensures same_shape { cells.new.shape ≡ cells.old.shape }
-        ensures put { let m = C.meaning self.now.codec.now (chunk_spec self.now.format) in
+        ensures put { let f = self.now.format in let m = C.meaning self.now.codec.now (chunk_spec f) in
             OnOk result (IsTrue (S.state self.now.store).transparent
-            → IsPartPut m.cells ((S.state self.now.store).contents key.now) self.now.format.chunk.now in_chunk.now in_subset.now cells.old cells.new) }
+            → IsPartPut (cell_of m.cells f.fill_value.now ((S.state self.now.store).contents key.now)) f.chunk.now in_chunk.now in_subset.now cells.old cells.new) }
     {
-        let mut handle = self.store.open(alloc, key)?;
-        match read_part(alloc, self.codec, &mut handle, &self.format, in_chunk)? {
-            Some(found) => cells.put(in_subset, &found),
-            None => Ok(()),
-        }
+        let format = &self.format;
+        let mut handle = self.opened(alloc, key, in_chunk)?;
+        let Some(size) = handle.len()? else {
+            return cells.fill_part(in_subset, format.fill_value);
+        };
+        let stored = StoredArray {
+            interval: Interval { offset: 0, size },
+            shape: format.chunk,
+            data_type: format.data_type,
+            fill_value: format.fill_value,
+        };
+        cells.read_part(alloc, self.codec, &mut handle, &stored, in_chunk, in_subset)
     }
 
     // Reads the part of a subset that lies in a chunk of a grid.
@@ -59,9 +78,9 @@ impl<S: Store, C: ArrayToBytesCodecTraits> Array<'_, S, C> {
     ) -> Result<(), ArrayError>
         ensures same_size { cells.new.element_size ≡ cells.old.element_size }
         ensures same_shape { cells.new.shape ≡ cells.old.shape }
-        ensures read { let m = C.meaning self.now.codec.now (chunk_spec self.now.format) in
+        ensures read { let f = self.now.format in let m = C.meaning self.now.codec.now (chunk_spec f) in
             OnOk result (IsTrue (S.state self.now.store).transparent
-            → IsPartPut m.cells (object_of (S.state self.now.store).contents self.now.format part.now.coordinates.items) self.now.format.chunk.now part.now.in_shard part.now.in_subset cells.old cells.new) }
+            → IsPartPut (cell_of m.cells f.fill_value.now (object_of (S.state self.now.store).contents f part.now.coordinates.items)) f.chunk.now part.now.in_shard part.now.in_subset cells.old cells.new) }
         ensures refused { IfErr result (IsRefusalAt (chunk_key self.now.format.keys part.now.coordinates.items)) }
     {
         let key = self.format.keys.key_of(alloc, &part.coordinates)?;
@@ -87,7 +106,7 @@ impl<S: Store, C: ArrayToBytesCodecTraits> Array<'_, S, C> {
         ensures read { let f = self.now.format in let subset = parts.now.subset in let whole = whole_chunks f.shape.now f.chunk.now in
             OnOk result (IsTrue (S.state self.now.store).transparent → (touched : List ℕ) → AreTouched whole f.chunk.now subset touched
             → IsChunkRead (λ q. element_at (S.state self.now.store).contents f (C.meaning self.now.codec.now (chunk_spec f)).cells (point_in subset q)) (chunk_at whole f.chunk.now subset)
-            f.fill_value.now (count_of subset.shape) (slice_index touched number) (piece cells.old.element_size cells.old.bytes) (piece cells.old.element_size cells.new.bytes)) }
+            (count_of subset.shape) (slice_index touched number) (piece cells.old.element_size cells.old.bytes) (piece cells.old.element_size cells.new.bytes)) }
         ensures refused { IfErr result (IsRefusalIn self.now.format parts.now.subset) }
     {
         let Some(part) = parts.part(alloc, number)? else {
@@ -97,7 +116,7 @@ impl<S: Store, C: ArrayToBytesCodecTraits> Array<'_, S, C> {
         Ok(())
     }
 
-    // Reads the parts of a subset, among elements that are all the fill value.
+    // Reads the parts of a subset.
     fn read_parts(
         &self,
         alloc: Global,
@@ -106,13 +125,12 @@ impl<S: Store, C: ArrayToBytesCodecTraits> Array<'_, S, C> {
     ) -> Result<(), ArrayError>
         requires parts { ArePartsOf self.now.format parts.now.subset parts.now }
         requires around { cells.old.shape ≡ parts.now.subset.shape }
-        requires blank { (q : ℕ) → q < count_of parts.now.subset.shape → piece cells.old.element_size cells.old.bytes q ≡ self.now.format.fill_value.now }
         ensures same_size { cells.new.element_size ≡ cells.old.element_size }
         ensures same_shape { cells.new.shape ≡ cells.old.shape }
         ensures read { let f = self.now.format in let subset = parts.now.subset in let whole = whole_chunks f.shape.now f.chunk.now in
             OnOk result (IsTrue (S.state self.now.store).transparent → (touched : List ℕ) → AreTouched whole f.chunk.now subset touched → length touched ≡ parts.now.count
             → AreReadTo (λ q. element_at (S.state self.now.store).contents f (C.meaning self.now.codec.now (chunk_spec f)).cells (point_in subset q)) (chunk_at whole f.chunk.now subset)
-            f.fill_value.now (count_of subset.shape) touched parts.now.count (piece cells.old.element_size cells.new.bytes)) }
+            (count_of subset.shape) touched parts.now.count (piece cells.old.element_size cells.new.bytes)) }
         ensures refused { IfErr result (IsRefusalIn self.now.format parts.now.subset) }
     {
         for number in 0..parts.len() {
@@ -161,7 +179,7 @@ impl<S: Store, C: ArrayToBytesCodecTraits> Array<'_, S, C> {
         let _axes = self.format.chunk.as_slice();
         let grid = ShardGrid::new(alloc, self.format.shape, self.format.chunk)?;
         let parts = grid.parts(alloc, subset)?;
-        cells.refill(alloc, subset, self.format.fill_value)?;
+        cells.resize(alloc, subset, self.format.fill_value)?;
         self.read_parts(alloc, &parts, cells)?;
         Ok(())
     }

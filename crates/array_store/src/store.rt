@@ -21,6 +21,14 @@ pub trait Store {
         ensures opened { IfOk result (λ handle. IsOpened (state self.now) key.now (Self.Handle.state handle)) }
         ensures refused { IfErr result (λ e. e ≡ OutOfMemory) };
 
+    /// As `open`, where the whole object is to be read. By default `open`.
+    fn open_whole(&self, alloc: Global, key: &str) -> Result<Self::Handle, CodecError>
+        ensures opened { IfOk result (λ handle. IsOpened (state self.now) key.now (Self.Handle.state handle)) }
+        ensures refused { IfErr result (λ e. e ≡ OutOfMemory) }
+    {
+        self.open(alloc, key)
+    }
+
     /// Makes the object of a key these bytes. Refused as `OutOfMemory`, as `TooLarge` where the store takes no object of this
     /// length, or as `Fault`; a refusal that is no fault leaves the object.
     fn put(&mut self, alloc: Global, key: &str, bytes: Vec<u8>) -> Result<(), CodecError>

@@ -21,5 +21,5 @@ returns-clause-elements g c = λ t.
     let known = rw (c.in_ok-parts.ensures.same_subset, ← c.in_ok-read_parts.ensures.same_size) at (c.in_ok-read_parts.ensures.read t) in
     read_all (whole_chunks f.shape.now f.chunk.now) f.chunk.now c.args.subset.now
     (λ q. element_at (g.S.Store.state c.args.self.now.store).contents f (g.C.ArrayToBytesCodecTraits.meaning c.args.self.now.codec.now (chunk_spec f)).cells (point_in c.args.subset.now q))
-    f.fill_value.now meets.shards c.in_ok-parts.parts.count (piece c.read_parts.new.cells.element_size c.read_parts.new.cells.bytes) meets.touched meets.counted
+    meets.shards c.in_ok-parts.parts.count (piece c.read_parts.new.cells.element_size c.read_parts.new.cells.bytes) meets.touched meets.counted
     (known meets.shards meets.touched meets.counted)

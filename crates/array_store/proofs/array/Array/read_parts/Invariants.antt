@@ -16,5 +16,5 @@ invariant-loop-number g l = record {
       → AreTouched (whole_chunks l.self.format.shape.now l.self.format.chunk.now) l.self.format.chunk.now l.parts.subset touched → length touched ≡ l.parts.count
       → AreReadTo (λ q. element_at (g.S.Store.state l.self.store).contents l.self.format (g.C.ArrayToBytesCodecTraits.meaning l.self.codec.now (chunk_spec l.self.format)).cells (point_in l.parts.subset q))
       (chunk_at (whole_chunks l.self.format.shape.now l.self.format.chunk.now) l.self.format.chunk.now l.parts.subset)
-      l.self.format.fill_value.now (count_of l.parts.subset.shape) touched l.number (piece l.fn.cells.element_size l.cells.bytes);
+      (count_of l.parts.subset.shape) touched l.number (piece l.fn.cells.element_size l.cells.bytes);
 }

@@ -1,0 +1,16 @@
+-- A chunk of a new array that has elements of an old one.
+use Rattle.std.specs.Prelude.{ℕ, List, Option}
+use Rattle.parts_errors.specs.Words.{Bytes}
+use Rattle.parts_row_major.specs.Subsets.{Subset}
+use Rattle.parts_arrays.specs.Arrays.{fixed_array}
+use Rattle.array_grid.specs.Cells.{CellsOfSubset}
+use Rattle.array_cli.specs.NewChunks.{IsStoredChunk}
+use Rattle.array_store.specs.ArrayElements.{AreElementsAt}
+
+-- what is stored of a chunk: its elements are those of a subset of an array, which stand at its start, and the fill value behind them
+pub record IsChunkOfSubset
+    (element : List ℕ → Option Bytes) (subset : Subset) (encodings : List Bytes → Bytes → Type 0) (fill : Bytes) (chunk : List ℕ)
+    (object : Option Bytes) : Type 0 where
+  pub cells : CellsOfSubset
+  pub read : AreElementsAt element subset cells
+  pub stored : IsStoredChunk encodings fill subset.shape chunk (fixed_array cells.element_size cells.bytes) object

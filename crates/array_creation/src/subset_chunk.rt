@@ -1,0 +1,40 @@
+// The chunk of a new array that has elements of an old one.
+ghost use Rattle.std.specs.Prelude.{IfOk, IsTrue, OnOk};
+ghost use Rattle.parts_row_major.specs.Subsets.{LiesIn};
+ghost use Rattle.parts_arrays.specs.ArraySpec.{array_spec};
+ghost use Rattle.storage_handles.specs.Handles.{seen};
+ghost use Rattle.array_metadata.specs.CodecMeanings.{chunk_meaning};
+ghost use Rattle.array_store.specs.ArrayElements.{chunk_spec, element_at};
+ghost use Rattle.array_creation.specs.NewChunks.{IsChunkOfSubset};
+
+use array_cli::encode_padded;
+use array_grid::SubsetCells;
+use array_metadata::ArrayMetadata;
+use array_store::{Array, ArrayError, Store};
+use codec_traits::ArrayToBytesCodecTraits;
+use parts_subsets::ArraySubset;
+use std::alloc::Global;
+
+/// The bytes of a chunk of a new array with this metadata, at whose start the elements of a subset of an old array stand, in row-major order
+/// of the subset, and which has fill values behind them, as a chunk that reaches past the end of the array (Zarr V3 core, "Regular grids");
+/// `None` where each of its elements is the fill value: then it has no file ("Chunk keys"). The elements are read into cells that are
+/// there. Refused as `Array::read_into` refuses, and then as `encode_padded`.
+pub fn chunk_of_subset<S: Store, C: ArrayToBytesCodecTraits>(
+    alloc: Global,
+    old: &Array<'_, S, C>,
+    subset: &ArraySubset,
+    new: &ArrayMetadata,
+    cells: &mut SubsetCells,
+) -> Result<Option<Vec<u8>>, ArrayError>
+    ensures inside { OnOk result (LiesIn subset.now old.now.format.shape.now) }
+    ensures chunk { let f = old.now.format in
+        let m = chunk_meaning new.now.codec (array_spec new.now.shard new.now.data_type new.now.fill_value) in
+        IfOk result (λ chunk. IsTrue (S.state old.now.store).transparent
+        → IsChunkOfSubset (element_at (S.state old.now.store).contents f (C.meaning old.now.codec.now (chunk_spec f)).cells) subset.now
+        m.written new.now.fill_value new.now.shard (seen (λ bytes. bytes.items) chunk)) }
+{
+    old.read_into(alloc, subset, cells)?;
+    let elements = cells.array();
+    let chunk = encode_padded(alloc, &new.codec, subset.shape(), &elements, new)?;
+    Ok(chunk)
+}
