@@ -19,7 +19,7 @@ TOP = os.path.dirname(os.path.dirname(os.path.abspath(__file__)))
 BUILT = f"{TOP}/crates/zarr_shard/out/zarr_shard"
 ARRAYS = f"{TOP}/tests/arrays"
 MOST = 60  # seconds
-SERVED = [["bytes"], ["bytes", "crc32c"], ["bytes", "gzip"], ["bytes", "zstd"], ["bytes", "zstd", "crc32c"], ["transpose", "bytes", "gzip"],
+SERVED = [["bytes"], ["bytes", "crc32c"], ["bytes", "gzip"], ["bytes", "zstd"], ["bytes", "zstd", "crc32c"], ["transpose", "bytes"], ["transpose", "bytes", "gzip"],
           ["bytes", "numcodecs.zlib"], ["bytes", "crc32c", "gzip", "zstd"], ["vlen-utf8", "zstd"], ["vlen-bytes", "gzip"], ["vlen-utf8"],
           ["sharding_indexed"]]
 VARYING = ("string", "bytes")  # types whose elements have lengths of their own

@@ -53,7 +53,8 @@ PutRefusals size shape in_subset part = PartRefusals shape in_subset (
 
 -- the cells of a part of an array are all there, and stand where the part lies in a subset of a shape, whose cells have bytes of a size;
 -- all other cells of the subset are as they were
-pub record IsPartDecoded (cells : CellList) (stored_shape : List ℕ) (in_stored in_subset : Subset) (size : ℕ) (shape old new : List ℕ) : Type 0 where
+pub record IsPartDecoded
+    (cells : CellList) (stored_shape : List ℕ) (in_stored in_subset : Subset) (size : ℕ) (shape old new : List ℕ) : Type 0 where
   pub elements : Elements
   pub there : cells_at cells stored_shape (points_of in_stored) ≡ map Some elements
   pub written : IsUpdated (count_of in_subset.shape) (number_in in_subset shape) (piece size old) (λ k. slice_index_or elements k [])

@@ -53,59 +53,47 @@ impl Model for SubsetCells {
     ghost invariant = { λ cells. AreWhole cells.bytes.items cells.element_size cells.shape.items };
 }
 
-// Writes the cells of a part where it lies in a subset whose cells have these bytes.
-fn put_into(
-    bytes: &mut [u8],
-    element_size: usize,
-    shape: &[u64],
-    in_subset: &ArraySubset,
-    part: &ArrayBytes,
-) -> Result<(), CodecError>
-    requires whole { AreWhole bytes.old element_size shape.now }
-    ensures length { length bytes.new ≡ length bytes.old }
-    ensures written { OnOk result (IsUpdated (count_of in_subset.now.shape) (number_in in_subset.now shape.now)
-        (piece element_size bytes.old) (element_of part.now) (piece element_size bytes.new)) }
-    ensures served { OnOk result (IsServed in_subset.now shape.now) }
-    ensures kind { OnOk result (part.now.kind ≡ Fixed element_size) }
-    ensures counted { OnOk result (count_of in_subset.now.shape ≡ length part.now.elements) }
-    ensures kept { OnErr result (bytes.new ≡ bytes.old) }
-    ensures refused { IfErr result (PutRefusals element_size shape.now in_subset.now part.now) }
-{
-    let _axes = in_subset.start();
-    check_subset(in_subset, shape)?;
-    let mut target = FixedTarget::over(bytes, element_size, shape, in_subset);
-    target.copy_from(part)
-}
-
-// Writes an element at each point of a part where it lies in a subset whose cells have these bytes.
-fn fill_in(
-    bytes: &mut [u8],
-    element_size: usize,
-    shape: &[u64],
-    in_subset: &ArraySubset,
-    fill_value: &FillValue,
-) -> Result<(), CodecError>
-    requires whole { AreWhole bytes.old element_size shape.now }
-    ensures length { length bytes.new ≡ length bytes.old }
-    ensures written { OnOk result (IsUpdated (count_of in_subset.now.shape) (number_in in_subset.now shape.now)
-        (piece element_size bytes.old) (λ k. fill_value.now) (piece element_size bytes.new)) }
-    ensures served { OnOk result (IsServed in_subset.now shape.now) }
-    ensures size { OnOk result (length fill_value.now ≡ element_size) }
-    ensures kept { OnErr result (bytes.new ≡ bytes.old) }
-    ensures refused { IfErr result (PartRefusals shape.now in_subset.now (length fill_value.now ≡ element_size or WrongElementKind then done)) }
-{
-    let _axes = in_subset.start();
-    check_subset(in_subset, shape)?;
-    let mut target = FixedTarget::over(bytes, element_size, shape, in_subset);
-    target.fill(fill_value)
-}
-
 // Where a part lies in a subset of a shape, whose cells have a size.
 #[derive(Clone, Copy)]
 struct PartPlace<'p> {
     element_size: usize,
     shape: &'p [u64],
     in_subset: &'p ArraySubset,
+}
+
+// Writes the cells of a part where it lies in a subset whose cells have these bytes.
+fn put_into(bytes: &mut [u8], place: &PartPlace, part: &ArrayBytes) -> Result<(), CodecError>
+    requires whole { AreWhole bytes.old place.now.element_size place.now.shape.now }
+    ensures length { length bytes.new ≡ length bytes.old }
+    ensures written { OnOk result (IsUpdated (count_of place.now.in_subset.now.shape) (number_in place.now.in_subset.now place.now.shape.now)
+        (piece place.now.element_size bytes.old) (element_of part.now) (piece place.now.element_size bytes.new)) }
+    ensures served { OnOk result (IsServed place.now.in_subset.now place.now.shape.now) }
+    ensures kind { OnOk result (part.now.kind ≡ Fixed place.now.element_size) }
+    ensures counted { OnOk result (count_of place.now.in_subset.now.shape ≡ length part.now.elements) }
+    ensures kept { OnErr result (bytes.new ≡ bytes.old) }
+    ensures refused { IfErr result (PutRefusals place.now.element_size place.now.shape.now place.now.in_subset.now part.now) }
+{
+    let _axes = place.in_subset.start();
+    check_subset(place.in_subset, place.shape)?;
+    let mut target = FixedTarget::over(bytes, place.element_size, place.shape, place.in_subset);
+    target.copy_from(part)
+}
+
+// Writes an element at each point of a part where it lies in a subset whose cells have these bytes.
+fn fill_in(bytes: &mut [u8], place: &PartPlace, fill_value: &FillValue) -> Result<(), CodecError>
+    requires whole { AreWhole bytes.old place.now.element_size place.now.shape.now }
+    ensures length { length bytes.new ≡ length bytes.old }
+    ensures written { OnOk result (IsUpdated (count_of place.now.in_subset.now.shape) (number_in place.now.in_subset.now place.now.shape.now)
+        (piece place.now.element_size bytes.old) (λ k. fill_value.now) (piece place.now.element_size bytes.new)) }
+    ensures served { OnOk result (IsServed place.now.in_subset.now place.now.shape.now) }
+    ensures size { OnOk result (length fill_value.now ≡ place.now.element_size) }
+    ensures kept { OnErr result (bytes.new ≡ bytes.old) }
+    ensures refused { IfErr result (PartRefusals place.now.shape.now place.now.in_subset.now (length fill_value.now ≡ place.now.element_size or WrongElementKind then done)) }
+{
+    let _axes = place.in_subset.start();
+    check_subset(place.in_subset, place.shape)?;
+    let mut target = FixedTarget::over(bytes, place.element_size, place.shape, place.in_subset);
+    target.fill(fill_value)
 }
 
 // Reads the cells of a part of an array that stands in an interval of an object to their place in a subset whose cells have these bytes.
@@ -235,8 +223,12 @@ impl SubsetCells {
         ensures kept { OnErr result (self.new ≡ self.old) }
         ensures refused { IfErr result (PutRefusals self.old.element_size self.old.shape in_subset.now part.now) }
     {
-        let bytes = self.bytes.as_mut_slice();
-        put_into(bytes, self.element_size, &self.shape, in_subset, part)
+        let place = PartPlace {
+            element_size: self.element_size,
+            shape: &self.shape,
+            in_subset,
+        };
+        put_into(self.bytes.as_mut_slice(), &place, part)
     }
 
     /// Writes the fill value at each point of a part, where it lies in the subset. Refused, in this order, as `IncompatibleDimensionality`
@@ -257,8 +249,12 @@ impl SubsetCells {
         ensures kept { OnErr result (self.new ≡ self.old) }
         ensures refused { IfErr result (PartRefusals self.old.shape in_subset.now (length fill_value.now ≡ self.old.element_size or WrongElementKind then done)) }
     {
-        let bytes = self.bytes.as_mut_slice();
-        fill_in(bytes, self.element_size, &self.shape, in_subset, fill_value)
+        let place = PartPlace {
+            element_size: self.element_size,
+            shape: &self.shape,
+            in_subset,
+        };
+        fill_in(self.bytes.as_mut_slice(), &place, fill_value)
     }
 
     /// Reads the cells of a part of an array that stands in an interval of an object, and writes them, in row-major order of the part, where

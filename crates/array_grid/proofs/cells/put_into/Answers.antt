@@ -7,7 +7,7 @@ use Rattle.array_grid.proofs.cells.put_into.Goals as goal
 pub returns-clause-refused : goal.returns-clause-refused
 returns-clause-refused c =
     let a = c.args in
-    let subset = a.in_subset.now in
+    let subset = a.place.now.in_subset.now in
     let lies = c.in_ok-check_subset.ensures.served.0 in
-    let same = lies_in_length subset.start subset.shape a.shape.now (length_all_zip (λ first len. first + len < 2 ^ 64) subset.start subset.shape c.start-axes.ensures.well_formed) lies in
-    put_refused c.copy_from.result _ a.element_size _ subset a.shape.now a.part.now c.over-target.ensures.element_size c.over-target.ensures.subset same lies c.copy_from.ensures.refused
+    let same = lies_in_length subset.start subset.shape a.place.now.shape.now (length_all_zip (λ first len. first + len < 2 ^ 64) subset.start subset.shape c.start-axes.ensures.well_formed) lies in
+    put_refused c.copy_from.result _ a.place.now.element_size _ subset a.place.now.shape.now a.part.now c.over-target.ensures.element_size c.over-target.ensures.subset same lies c.copy_from.ensures.refused
