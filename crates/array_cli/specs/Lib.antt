@@ -1,3 +1,4 @@
 pub mod Statuses
 pub mod Padded
 pub mod NewChunks
+pub mod ChunkParts

@@ -1,5 +1,6 @@
 // The shards of an array's grid, and subsets that are whole.
-ghost use Rattle.std.specs.Prelude.{◌≡◌, IfOk};
+ghost use Rattle.std.specs.Prelude.{◌≡◌, ◌<◌, ◌*◌, IfOk, MatchOption};
+ghost use Rattle.array_cli.specs.ChunkParts.{IsBehind, IsClipped, LiesInChunk};
 ghost use Rattle.array_cli.specs.Padded.{at_start};
 
 use crate::arrays::{Array, Shard};
@@ -26,24 +27,43 @@ pub fn chunk_of_fill_values(
     SubsetCells::new(alloc, &whole, &metadata.fill_value)
 }
 
-/// The elements of an array that lie in a chunk of a shape, by its coordinates: the subset that they are, which ends where the array
-/// does. `None` where there are none.
+// Along an axis: where the chunk with a coordinate begins whose size this is, and how many of its elements an array has that ends there.
+// `None` where it begins behind that end.
+fn clipped(coordinate: u64, size: u64, end: u64) -> Option<(u64, u64)>
+    ensures { MatchOption result (end < coordinate * size) (λ found. IsClipped coordinate size end found.0 found.1) }
+{
+    let start = coordinate.checked_mul(size)?;
+    let left = end.checked_sub(start)?;
+    Some((start, if left < size { left } else { size }))
+}
+
+/// The part of an array of a shape that lies in the chunk at some coordinates of the chunk grid: it begins where the chunk does, and ends where
+/// the chunk does or the array, whichever comes first (Zarr V3 core, "Regular grids"). `None` where the chunk begins behind the end of
+/// the array, or has other axes.
 pub fn elements_of(
     alloc: Global,
     coordinates: &[u64],
     chunk: &ChunkShape,
     shape: &[u64],
-) -> Result<Option<ArraySubset>, AllocError> {
+) -> Result<Option<ArraySubset>, AllocError>
+    ensures { IfOk result (λ found. MatchOption found (IsBehind coordinates.now chunk.now shape.now) (LiesInChunk coordinates.now chunk.now shape.now)) }
+{
+    let sizes = chunk.as_slice();
+    if coordinates.len() != shape.len() || sizes.len() != shape.len() {
+        return Ok(None);
+    }
     let (mut starts, mut counts) = (Vec::new(alloc), Vec::new(alloc));
-    for ((place, size), end) in coordinates.iter().zip(chunk.as_slice()).zip(shape) {
-        let start = place.saturating_mul(*size);
-        let Some(left) = end.checked_sub(start) else {
+    for axis in 0..shape.len() {
+        let Some((start, count)) = clipped(coordinates[axis], sizes[axis], shape[axis]) else {
             return Ok(None);
         };
         starts.push(start)?;
-        counts.push(left.min(*size))?;
+        counts.push(count)?;
     }
-    Ok(ArraySubset::new_with_start_shape(starts, counts))
+    let Some(part) = ArraySubset::new_with_start_shape(starts, counts) else {
+        unreachable!()
+    };
+    Ok(Some(part))
 }
 
 /// A shard of a grid: its key and its coordinates.

@@ -11,4 +11,4 @@ mod subset_chunk;
 pub use creating::{ArrayWords, create};
 pub use layout::LayoutWords;
 pub use new_array::reshard;
-pub use subset_chunk::chunk_of_subset;
+pub use subset_chunk::{chunk_of_array, chunk_of_subset};

@@ -2,7 +2,7 @@
 use crate::chunk_elements::encoded_varying;
 use crate::layout::{LayoutWords, new_document, order_of};
 use crate::new_folder::{begin_folder, end_folder, put, test_served};
-use crate::subset_chunk::chunk_of_subset;
+use crate::subset_chunk::chunk_of_array;
 use array_cli::{Array, Ending, Output, Progress, Stop, Workers, described, elements_of, written};
 use array_folder::Counted;
 use array_grid::{ShardWork, SubsetCells, SubsetElements, piece_length, piece_of, run_in_parallel};
@@ -10,7 +10,6 @@ use array_metadata::ArrayMetadata;
 use array_reading::{chunks_of, files_of, read_silently, why_refused};
 use parts_arrays::DataTypeSize;
 use parts_errors::CodecError;
-use parts_subsets::ArraySubset;
 use sharding_format::SubchunkWriteOrder;
 use std::fs;
 use std::io::Write;
@@ -49,31 +48,35 @@ impl Written {
     }
 }
 
-// The bytes of the chunk of a new array whose elements lie in a subset of the old one, have one size, and are read into cells that are there.
-// Both arrays have elements in one byte order: `new_document` keeps it where the codecs do not turn them.
+// The bytes of the chunk at these coordinates of a new array, whose elements have one size and are read into cells that are there; `None`
+// where it has no file. Both arrays have elements in one byte order: `new_document` keeps it where the codecs do not turn them.
 fn encoded_sized(
     old: &Array<'_>,
-    requested: &ArraySubset,
     new: &ArrayMetadata,
+    coordinates: &[u64],
     cells: &mut SubsetCells,
 ) -> Result<Option<Vec<u8>>, Stop> {
-    match chunk_of_subset(old.alloc(), &files_of(old)?, requested, new, cells) {
-        Ok(chunk) => Ok(chunk),
-        Err(error) => Err(why_refused(old, requested, error)),
+    let alloc = old.alloc();
+    let error = match chunk_of_array(alloc, &files_of(old)?, coordinates, new, cells) {
+        Ok(chunk) => return Ok(chunk),
+        Err(error) => error,
+    };
+    match elements_of(alloc, coordinates, &new.shard, &new.shape)? {
+        Some(requested) => Err(why_refused(old, &requested, error)),
+        None => Ok(None),
     }
 }
 
-// The bytes of the chunk of a new array whose elements lie in a subset of the old one; `None` where it has no file.
-fn encoded_subset(
+// The bytes of the chunk at these coordinates of a new array, whose elements have lengths of their own; `None` where it has no file.
+fn encoded_varying_at(
     old: &Array<'_>,
-    requested: &ArraySubset,
     new: &ArrayMetadata,
-    cells: &mut SubsetCells,
+    coordinates: &[u64],
 ) -> Result<Option<Vec<u8>>, Stop> {
-    if let DataTypeSize::Fixed(_) = new.data_type.size() {
-        return encoded_sized(old, requested, new, cells);
-    }
-    match read_silently(old, requested)? {
+    let Some(requested) = elements_of(old.alloc(), coordinates, &new.shard, &new.shape)? else {
+        return Ok(None);
+    };
+    match read_silently(old, &requested)? {
         SubsetElements::Varying(found) => {
             Ok(encoded_varying(old.rt, requested.shape(), &found, new)?)
         }
@@ -84,14 +87,13 @@ fn encoded_subset(
 // The bytes of the chunk at these coordinates of a new array, with the elements that the old one has there; `None` where it has no file.
 fn new_chunk(
     old: &Array<'_>,
-    new: &NewArray<'_>,
+    new: &ArrayMetadata,
     coordinates: &[u64],
     cells: &mut SubsetCells,
 ) -> Result<Option<Vec<u8>>, Stop> {
-    let metadata = new.metadata;
-    match elements_of(old.alloc(), coordinates, &metadata.shard, &metadata.shape)? {
-        Some(requested) => encoded_subset(old, &requested, metadata, cells),
-        None => Ok(None),
+    match new.data_type.size() {
+        DataTypeSize::Fixed(_) => encoded_sized(old, new, coordinates, cells),
+        DataTypeSize::Variable => encoded_varying_at(old, new, coordinates),
     }
 }
 
@@ -102,7 +104,7 @@ fn put_chunk(
     coordinates: &[u64],
     cells: &mut SubsetCells,
 ) -> Result<Option<u64>, Stop> {
-    let Some(bytes) = new_chunk(old, new, coordinates, cells)? else {
+    let Some(bytes) = new_chunk(old, new.metadata, coordinates, cells)? else {
         return Ok(None);
     };
     let key = new.metadata.keys.key_of(old.alloc(), coordinates)?;

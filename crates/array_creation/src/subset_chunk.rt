@@ -5,9 +5,9 @@ ghost use Rattle.parts_arrays.specs.ArraySpec.{array_spec};
 ghost use Rattle.storage_handles.specs.Handles.{seen};
 ghost use Rattle.array_metadata.specs.CodecMeanings.{chunk_meaning};
 ghost use Rattle.array_store.specs.ArrayElements.{chunk_spec, element_at};
-ghost use Rattle.array_creation.specs.NewChunks.{IsChunkOfSubset};
+ghost use Rattle.array_creation.specs.NewChunks.{IsChunkOfArray, IsChunkOfSubset};
 
-use array_cli::encode_padded;
+use array_cli::{elements_of, encode_padded};
 use array_grid::SubsetCells;
 use array_metadata::ArrayMetadata;
 use array_store::{Array, ArrayError, Store};
@@ -36,5 +36,28 @@ pub fn chunk_of_subset<S: Store, C: ArrayToBytesCodecTraits>(
     old.read_into(alloc, subset, cells)?;
     let elements = cells.array();
     let chunk = encode_padded(alloc, &new.codec, subset.shape(), &elements, new)?;
+    Ok(chunk)
+}
+
+/// The bytes of the chunk at some coordinates of the chunk grid of a new array with this metadata: as `chunk_of_subset` of the part of an old
+/// array that lies in the chunk, which is the same part of the new one, since both have one shape. `None` also where the chunk begins
+/// behind the end of the array. Refused as `chunk_of_subset`.
+pub fn chunk_of_array<S: Store, C: ArrayToBytesCodecTraits>(
+    alloc: Global,
+    old: &Array<'_, S, C>,
+    coordinates: &[u64],
+    new: &ArrayMetadata,
+    cells: &mut SubsetCells,
+) -> Result<Option<Vec<u8>>, ArrayError>
+    ensures { let f = old.now.format in
+        let m = chunk_meaning new.now.codec (array_spec new.now.shard new.now.data_type new.now.fill_value) in
+        IfOk result (λ chunk. IsTrue (S.state old.now.store).transparent
+        → IsChunkOfArray (element_at (S.state old.now.store).contents f (C.meaning old.now.codec.now (chunk_spec f)).cells) new.now.shape.items coordinates.now
+        m.written new.now.fill_value new.now.shard (seen (λ bytes. bytes.items) chunk)) }
+{
+    let Some(part) = elements_of(alloc, coordinates, &new.shard, &new.shape)? else {
+        return Ok(None);
+    };
+    let chunk = chunk_of_subset(alloc, old, &part, new, cells)?;
     Ok(chunk)
 }

@@ -1,0 +1,9 @@
+use Rattle.std.proofs.Common.{inl}
+use Rattle.array_creation.proofs.subset_chunk.chunk_of_array.Goals as goal
+
+pub returns : goal.returns
+returns g c = λ t. inl (record {
+  part = c.in-Some.part;
+  lies = rw c.in-Some.is at c.in_ok-elements_of.ensures;
+  stored = c.in_ok-chunk.ensures.chunk t;
+})
