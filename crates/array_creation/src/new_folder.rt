@@ -19,7 +19,7 @@ fn save(rt: &HostRuntime, path: &str, bytes: &[u8]) -> io::Result<()> {
 }
 
 /// Makes a file of bytes under a key of a folder.
-pub fn put(rt: &HostRuntime, folder: &str, key: &str, bytes: &[u8]) -> Result<(), Stop> {
+pub fn put_file(rt: &HostRuntime, folder: &str, key: &str, bytes: &[u8]) -> Result<(), Stop> {
     let path = format!(in rt.alloc(); "{folder}/{key}")?;
     match save(rt, &path, bytes) {
         Ok(()) => Ok(()),
@@ -47,7 +47,7 @@ pub fn begin_folder(rt: &HostRuntime, path: &str, beside: &str) -> Result<(), St
 
 /// Puts the folder of a new array at its path, with its `zarr.json`, which is the last file.
 pub fn end_folder(rt: &HostRuntime, path: &str, beside: &str, document: &str) -> Result<(), Stop> {
-    put(rt, beside, "zarr.json", document.as_bytes())?;
+    put_file(rt, beside, "zarr.json", document.as_bytes())?;
     match rt.rename(beside, path) {
         Ok(()) => Ok(()),
         Err(error) => Err(Stop::system(rt.alloc(), path, error)),

@@ -5,7 +5,7 @@ use Rattle.serde_json.specs.Find.{get, as_array, as_object}
 use Rattle.parts_errors.specs.Words.{Bytes}
 use Rattle.codec_metadata.specs.CreateErrors.{Reading, Refusal, or_refused, and_then, missing_field, bad_field}
 use Rattle.codec_metadata.specs.Metadata.{first_refused, unless_refused}
-use Rattle.sharding_codec.specs.Configuration.{Configuration, configuration_in, is_configuration_member, field, shape_in}
+use Rattle.sharding_configuration.specs.Configuration.{Configuration, configuration_in, is_configuration_member, field, shape_in}
 use Rattle.array_fields.specs.MetadataFields.{configured_in}
 
 ok_same : {A : Type 0} (a b : A) → let first : Reading A = Ok a in first ≡ Ok b → a ≡ b

@@ -4,7 +4,7 @@ use Rattle.serde_json.specs.Data.{Data, Items}
 use Rattle.serde_json.specs.Find.{get}
 use Rattle.codec_metadata.specs.CreateErrors.{Reading}
 use Rattle.sharding_format.specs.declared.order.SubchunkWriteOrder.TheVariants.{Unordered}
-use Rattle.sharding_codec.specs.Configuration.{Configuration, configuration_in}
+use Rattle.sharding_configuration.specs.Configuration.{Configuration, configuration_in}
 use Rattle.sharding_codec.specs.ShardMetadata.{shard_of, shard_configured}
 use Rattle.array_codecs.specs.declared.element_codec.ElementCodec.{ElementCodec}
 use Rattle.array_codecs.specs.ElementCodecsMetadata.{elements_in}

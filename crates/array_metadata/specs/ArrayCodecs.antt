@@ -6,7 +6,7 @@ use Rattle.codec_metadata.specs.CreateErrors.{Reading, and_then, bad_field}
 use Rattle.codec_metadata.specs.Metadata.{codec_of}
 use Rattle.sharding_codec.specs.declared.codec.ShardingCodec.{ShardingCodec}
 use Rattle.sharding_codec.specs.ShardMetadata.{shard_configured}
-use Rattle.sharding_codec.specs.Configuration.{shape_in}
+use Rattle.sharding_configuration.specs.Configuration.{shape_in}
 use Rattle.array_codecs.specs.AxisOrders.{permuted}
 use Rattle.array_codecs.specs.declared.element_codec.ElementCodec.{ElementCodec}
 use Rattle.array_codecs.specs.ElementCodecsMetadata.{Arranged, arranged_in, elements_in}

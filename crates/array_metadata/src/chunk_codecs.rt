@@ -4,8 +4,8 @@ ghost use Rattle.serde_json.specs.Find.{as_array, get};
 ghost use Rattle.serde_json.specs.View.{view, items_view};
 ghost use Rattle.codec_metadata.specs.Metadata.{name_in};
 ghost use Rattle.sharding_format.specs.declared.order.SubchunkWriteOrder.TheVariants.{Unordered};
-ghost use Rattle.sharding_codec.specs.Configuration.{configuration_in, shape_in};
-ghost use Rattle.sharding_codec.specs.Configurations.{configuration_of};
+ghost use Rattle.sharding_configuration.specs.Configuration.{configuration_in, shape_in};
+ghost use Rattle.sharding_configuration.specs.Configurations.{configuration_of};
 ghost use Rattle.array_fields.specs.MetadataFields.{configured_in};
 ghost use Rattle.array_codecs.specs.ElementCodecsMetadata.{elements_in, arranged_in};
 ghost use Rattle.array_metadata.specs.ArrayCodecs.{shards_in, served_in, subchunks_in, opaque_in, chunk_shards_or, array_codec_in, subchunk_in, subchunk_of, HasAxes};
@@ -24,7 +24,8 @@ use array_fields::{MetadataError, Placed};
 use codec_metadata::PluginCreateError;
 use parts_arrays::DataType;
 use serde_json::Value;
-use sharding_codec::{ShardingCodec, ShardingCodecConfiguration, ShardingCodecConfigurationV1};
+use sharding_codec::ShardingCodec;
+use sharding_configuration::{ShardingCodecConfiguration, ShardingCodecConfigurationV1};
 use std::alloc::Global;
 
 // What a shard's configuration says, where the metadata of the codecs of subchunks stands, and the codec of the index.

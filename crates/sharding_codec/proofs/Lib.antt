@@ -1,4 +1,3 @@
-pub mod ValueLists
 pub mod AnswerLemmas
 pub mod SessionLemmas
 pub mod WriteLemmas

@@ -1,13 +1,8 @@
-pub mod Configuration
-pub mod Configurations
-pub mod CodecLists
 pub mod Meanings
 pub mod ShardLaws
 pub mod Decoders
 pub mod Sessions
 pub mod SessionWrites
 pub mod LockedSessions
-pub mod ConfigurationLaws
-pub mod CodecListLaws
 pub mod ShardMetadata
 pub mod ShardMetadataLaws

@@ -3,7 +3,7 @@ use Rattle.std.specs.Prelude.{Option, Some, None, Ok, Err, codes}
 use Rattle.serde_json.specs.Data.{Data, Items, Members, item, no_items}
 use Rattle.codec_metadata.specs.CreateErrors.{Reading, and_then, missing_field}
 use Rattle.sharding_format.specs.declared.order.SubchunkWriteOrder.TheVariants.{Unordered}
-use Rattle.sharding_codec.specs.Configuration.{Configuration, configuration_in, configuration_written}
+use Rattle.sharding_configuration.specs.Configuration.{Configuration, configuration_in, configuration_written}
 use Rattle.sharding_codec.specs.declared.codec.ShardingCodec.{ShardingCodec}
 
 -- the codec of a configuration: its inner codec is read first, and then its index codec

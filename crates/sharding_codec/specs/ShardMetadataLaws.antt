@@ -5,9 +5,9 @@ use Rattle.parts_row_major.specs.Numbering.{AllPositive}
 use Rattle.serde_json.specs.Data.{Data, Members, object}
 use Rattle.codec_metadata.specs.CreateErrors.{Reading}
 use Rattle.codec_metadata.specs.Metadata.{metadata_of}
-use Rattle.sharding_codec.specs.CodecLists.{codec_in_list}
-use Rattle.sharding_codec.specs.ConfigurationLaws.{configuration_in-written}
-use Rattle.sharding_codec.specs.CodecListLaws.{codec_in_list-written}
+use Rattle.sharding_configuration.specs.CodecLists.{codec_in_list}
+use Rattle.sharding_configuration.specs.ConfigurationLaws.{configuration_in-written}
+use Rattle.sharding_configuration.specs.CodecListLaws.{codec_in_list-written}
 use Rattle.sharding_codec.specs.declared.codec.ShardingCodec.{ShardingCodec}
 use Rattle.sharding_codec.specs.ShardMetadata.{shard_configured, configured_by, shard_written, shard_told}
 

@@ -6,16 +6,16 @@ ghost use Rattle.serde_json.specs.View.{view, members_view};
 ghost use Rattle.codec_metadata.specs.CreateErrors.{RefusedAs};
 ghost use Rattle.codec_metadata.specs.Metadata.{metadata_of};
 ghost use Rattle.codec_metadata.specs.declared.error.PluginCreateError.TheVariants.{OutOfMemory};
-ghost use Rattle.sharding_codec.specs.CodecLists.{codec_in_list};
-ghost use Rattle.sharding_codec.specs.Configurations.{configuration_of};
+ghost use Rattle.sharding_configuration.specs.CodecLists.{codec_in_list};
+ghost use Rattle.sharding_configuration.specs.Configurations.{configuration_of};
 ghost use Rattle.sharding_codec.specs.ShardMetadata.{shard_of, shard_configured, shard_written, shard_told};
 
 use crate::codec::ShardingCodec;
-use crate::codec_list::sole_codec;
-use crate::configuration::ShardingCodecConfiguration;
-use crate::configuration_members::{codec_list_of, written_members};
 use codec_metadata::{CodecTraitsV3, PluginCreateError};
 use serde_json::{Map, Value};
+use sharding_configuration::{
+    ShardingCodecConfiguration, codec_list_of, sole_codec, written_members,
+};
 use std::alloc::{AllocError, Global};
 
 impl<I: CodecTraitsV3 + Drop, X: CodecTraitsV3 + Drop> ShardingCodec<I, X> {

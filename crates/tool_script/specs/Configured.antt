@@ -6,8 +6,8 @@ use Rattle.serde_json.specs.Read.{read as read_text}
 use Rattle.codec_metadata.specs.CreateErrors.{Reading, RefusedAs, or_refused, and_then, bad_field}
 use Rattle.codec_metadata.specs.BytesMetadata.{is_bytes_name, bytes_configured}
 use Rattle.codec_vlen.specs.DefaultMetadata.{is_default_name, default_configured}
-use Rattle.sharding_codec.specs.CodecLists.{codec_in_list}
-use Rattle.sharding_codec.specs.Configuration.{configuration_in}
+use Rattle.sharding_configuration.specs.CodecLists.{codec_in_list}
+use Rattle.sharding_configuration.specs.Configuration.{configuration_in}
 use Rattle.sharding_codec.specs.ShardMetadata.{shard_of}
 use Rattle.sharding_format.specs.declared.order.SubchunkWriteOrder.{SubchunkWriteOrder}
 use Rattle.tool_script.specs.Shards.{ScriptCodec}

@@ -2,7 +2,11 @@
 // terminal its messages show how far it is.
 #![tactic(auto)]
 
-use array_commands::run_command;
+mod command;
+mod command_line;
+mod usages;
+
+use crate::command::run_command;
 use std::io::{ErrorKind, IsTerminal, Write};
 use std::process::ExitCode;
 use std::{env, io};

@@ -33,8 +33,8 @@ pub use Rattle.sharding_layout.specs.declared.plan.CompactionPlan
 pub use Rattle.sharding_codec.specs.ShardMetadata
 pub use Rattle.sharding_codec.specs.ShardMetadataLaws
 pub use Rattle.sharding_codec.specs.declared.codec.ShardingCodec
-pub use Rattle.sharding_codec.specs.Configuration
-pub use Rattle.sharding_codec.specs.Configurations
-pub use Rattle.sharding_codec.specs.CodecLists
+pub use Rattle.sharding_configuration.specs.Configuration
+pub use Rattle.sharding_configuration.specs.Configurations
+pub use Rattle.sharding_configuration.specs.CodecLists
 pub use Rattle.sharding_gather.specs.Updates
 pub mod Resharding

@@ -8,7 +8,8 @@ ghost use Rattle.sharding_codec.specs.ShardMetadata.{shard_written, shard_told};
 
 use codec_metadata::{CodecTraitsV3, PluginCreateError};
 use serde_json::Value;
-use sharding_codec::{ShardingCodec, ShardingCodecConfiguration};
+use sharding_codec::ShardingCodec;
+use sharding_configuration::ShardingCodecConfiguration;
 use std::alloc::Global;
 
 /// The codec of the configuration that `configuration` gave of a codec: the same codec, but for what the metadata of its codecs

@@ -16,9 +16,9 @@ pub use laws::{
 };
 pub use reshard_laws::{decode_after_reshard, reshard_functional};
 pub use sharding_codec::{
-    ShardState, ShardingCodec, ShardingCodecConfiguration, ShardingCodecConfigurationV1,
-    ShardingPartialDecoder, ShardingPartialEncoder,
+    ShardState, ShardingCodec, ShardingPartialDecoder, ShardingPartialEncoder,
 };
+pub use sharding_configuration::{ShardingCodecConfiguration, ShardingCodecConfigurationV1};
 pub use sharding_format::{
     ArraySpecRef, PartialDecoderCapability, PartialEncoderCapability, ShardIndex,
     ShardingCodecOptions, ShardingIndexLocation, SubchunkWriteOrder, calculate_chunks_per_shard,

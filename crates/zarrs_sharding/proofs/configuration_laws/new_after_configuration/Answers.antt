@@ -2,9 +2,9 @@ use Rattle.std.proofs.Common.{codes, ◌∙◌}
 use Rattle.std.proofs.lemmas.Result.{IfOk-weaker, IfErr-weaker}
 use Rattle.serde_json.specs.Data.{object}
 use Rattle.codec_metadata.specs.Metadata.{metadata_of}
-use Rattle.sharding_codec.specs.CodecLists.{codec_in_list}
-use Rattle.sharding_codec.specs.Configuration.{configuration_in}
-use Rattle.sharding_codec.specs.Configurations.{configuration_of}
+use Rattle.sharding_configuration.specs.CodecLists.{codec_in_list}
+use Rattle.sharding_configuration.specs.Configuration.{configuration_in}
+use Rattle.sharding_configuration.specs.Configurations.{configuration_of}
 use Rattle.sharding_codec.specs.ShardMetadata.{shard_of, shard_written, shard_told}
 use Rattle.sharding_codec.specs.ShardMetadataLaws.{shard_remembers}
 use Rattle.zarrs_sharding.proofs.ReadingLemmas.{read_later, first_unrefused, unrefused, read_same, passes_on, written_again}

@@ -1,4 +1,5 @@
 use Rattle.std.proofs.Common.{◌≡◌, ◌+◌, ◌-◌, ◌*◌, length, drop, length-drop, refl, arith}
+use Rattle.std.proofs.lemmas.Nat.{row_fits}
 use Rattle.sharding_subchunks.specs.steps.Inner.{inner_meaning}
 use Rattle.sharding_subchunks.proofs.AppendLemmas.{stay_themselves, nothing_after, old_within, stay_before, more_after}
 use Rattle.sharding_subchunks.proofs.PlainRowLemmas.{no_rows, row_stored, row_blank, all_rows}
@@ -18,6 +19,33 @@ overflow_sub-len g c =
     let old = c.args.slices.now in
     let now = c.loop-k.slices in
     omega (arith, c.len-start.ensures, old.ok.0, c.len.ensures, now.ok.0, old_within old.items now.items c.loop-k.invariant.0)
+
+pub overflow_mul-first : goal.overflow_mul-first
+overflow_mul-first g c =
+    let a = c.args in
+    omega (arith, row_fits c.loop-k.k a.size a.rows a.size c.loop-k-test.true (omega arith), c.requires.rows.counted)
+
+pub overflow_add-first : goal.overflow_add-first
+overflow_add-first g c =
+    let a = c.args in
+    omega (arith, row_fits c.loop-k.k a.size a.rows a.size c.loop-k-test.true (omega arith), c.requires.rows.counted)
+
+pub slice_bounds-is_blank-end : goal.slice_bounds-is_blank-end
+slice_bounds-is_blank-end g c =
+    let a = c.args in
+    omega (arith, row_fits c.loop-k.k a.size a.rows a.size c.loop-k-test.true (omega arith), c.requires.rows.counted)
+
+pub overflow_sub-first : goal.overflow_sub-first
+overflow_sub-first g c = omega (arith, c.loop-k.invariant.1.appended)
+
+pub overflow_add-len : goal.overflow_add-len
+overflow_add-len g c =
+    let a = c.args in
+    let l = c.loop-k in
+    let old = a.slices.now.items in
+    let long : c.len.result - c.len-start.result ≡ length (drop (length old) l.slices.items) =
+    omega (arith, c.len-start.ensures, a.slices.now.ok.0, c.len.ensures, l.slices.ok.0, length-drop (length old) l.slices.items) in
+    omega (arith, long, l.invariant.1.short, l.invariant.1.appended, row_fits l.k a.size a.rows a.size c.loop-k-test.true (omega arith), c.requires.rows.counted)
 
 pub loop-k-preserved-then-not-is_blank : goal.loop-k-preserved-then-not-is_blank
 loop-k-preserved-then-not-is_blank g c =

@@ -1,0 +1,5 @@
+pub mod Configuration
+pub mod Configurations
+pub mod CodecLists
+pub mod ConfigurationLaws
+pub mod CodecListLaws
