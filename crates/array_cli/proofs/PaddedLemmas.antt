@@ -1,5 +1,5 @@
 -- A chunk of fill values at whose start elements are put, and how it is stored.
-use Rattle.std.proofs.Common.{◌≡◌, ◌∙◌, ℕ, ◌*◌, ◌<◌, List, Option, Some, None, MatchOption, length, ap}
+use Rattle.std.proofs.Common.{◌≡◌, ◌∙◌, ℕ, ◌*◌, ◌<◌, List, length, ap}
 use Rattle.std.proofs.Math.Nat.{div-eq_of_eq-mul_left}
 use Rattle.parts_errors.specs.Words.{Bytes}
 use Rattle.parts_row_major.specs.Numbering.{count_of}
@@ -8,7 +8,6 @@ use Rattle.parts_row_major.specs.Pieces.{piece, IsUpdated}
 use Rattle.parts_arrays.specs.Arrays.{Array, element_of, fixed_array, IsWhole}
 use Rattle.parts_arrays.specs.declared.data_type.DataTypeSize.TheVariants.{Fixed}
 use Rattle.parts_arrays.proofs.ArrayLaws.{element_is_piece, length-fixed_array, whole_from_length}
-use Rattle.storage_handles.specs.Handles.{seen}
 use Rattle.array_grid.specs.Cells.{CellsOfSubset, AreFilled, AreWhole}
 use Rattle.array_cli.specs.Padded.{at_start, ArePadded}
 
@@ -31,7 +30,3 @@ padded fill shape chunk elements part old new start filled size around whole put
       in_array = λ k lt. element_is_piece n b (number_in (at_start shape) chunk k) wholes ∙ placed.inside k lt;
       behind = λ i lt none. element_is_piece n b i wholes ∙ (placed.outside i none ∙ blank i lt);
     }
-
-pub match_seen : {T U : Type 0} (P : Type 0) (Q : U → Type 0) (f : T → U) (o : Option T) → MatchOption o P (λ x. Q (f x)) → MatchOption (seen f o) P Q
-match_seen P Q f None h = h
-match_seen P Q f (Some x) h = h

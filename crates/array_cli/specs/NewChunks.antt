@@ -1,13 +1,14 @@
 -- How a chunk is stored (Zarr V3 core, "Regular grids" and "Chunk keys").
 use Rattle.std.specs.Prelude.{◌≡◌, ◌⊎◌, ℕ, List, Option, MatchOption}
-use Rattle.std.specs.List.{All}
 use Rattle.parts_errors.specs.Words.{Bytes}
 use Rattle.parts_arrays.specs.Arrays.{Array}
+use Rattle.sharding_format.specs.Encoding.{IsAllFill}
 use Rattle.array_cli.specs.Padded.{ArePadded}
 
--- elements are stored as one of their encodings, or as no object where each of them is the fill value
+-- elements are stored as one of their encodings, and as no object exactly where each of them is the fill value
 abbrev pub IsStored : (List Bytes → Bytes → Type 0) → Bytes → List Bytes → Option Bytes → Type 0
-IsStored encodings fill elements object = MatchOption object (All (λ element. element ≡ fill) elements) (encodings elements)
+IsStored encodings fill elements object =
+    MatchOption object (IsAllFill fill elements) (λ bytes. (¬ (IsAllFill fill elements)) × encodings elements bytes)
 
 -- elements that have a shape are stored with the fill values that a chunk has behind them
 pub record IsStoredPadded

@@ -1,9 +1,10 @@
 // Chunks that are encoded.
-ghost use Rattle.std.specs.Prelude.{◌≡◌, IfOk, MatchOption};
-ghost use Rattle.std.specs.List.{All};
+ghost use Rattle.std.specs.Prelude.{IfOk, IfErr, IfSome};
+ghost use Rattle.parts_errors.specs.Order.{◌or_as◌then◌, RefusedBy};
 ghost use Rattle.parts_arrays.specs.ArraySpec.{array_spec};
 ghost use Rattle.storage_handles.specs.Handles.{seen};
-ghost use Rattle.array_cli.specs.NewChunks.{IsStoredChunk};
+ghost use Rattle.codec_traits.specs.Refusals.{RefusesUnserved};
+ghost use Rattle.array_cli.specs.NewChunks.{IsStored, IsStoredChunk};
 
 use crate::padded::padded_chunk;
 use array_metadata::ArrayMetadata;
@@ -12,17 +13,22 @@ use parts_arrays::ArrayBytes;
 use parts_errors::{CodecError, CodecOptions};
 use std::alloc::Global;
 
-/// The bytes of a chunk that has these elements, in row-major order, or `None` where each of them is the fill value: then it has no file
-/// (Zarr V3 core, "Chunk keys"). Refused as the codec's `encode` refuses.
+/// The bytes of a chunk that has these elements, in row-major order, or `None` exactly where each of them is the fill value: then it has no
+/// file (Zarr V3 core, "Chunk keys"). Refused as the codec's `encode` refuses, where not all are.
 pub fn encode_chunk<C: ArrayToBytesCodecTraits>(
     alloc: Global,
     codec: &C,
     elements: &ArrayBytes,
     metadata: &ArrayMetadata,
 ) -> Result<Option<Vec<u8>>, CodecError>
-    ensures { let m = C.meaning codec.now (array_spec metadata.now.shard metadata.now.data_type metadata.now.fill_value) in
-        IfOk result (λ chunk. MatchOption chunk (All (λ element. element ≡ metadata.now.fill_value) elements.now.elements)
-        (λ bytes. m.written elements.now.elements bytes.items)) }
+    ensures stored { let m = C.meaning codec.now (array_spec metadata.now.shard metadata.now.data_type metadata.now.fill_value) in
+        IfOk result (λ chunk. IsStored m.written metadata.now.fill_value elements.now.elements (seen (λ bytes. bytes.items) chunk)) }
+    ensures serves { let m = C.meaning codec.now (array_spec metadata.now.shard metadata.now.data_type metadata.now.fill_value) in
+        IfOk result (λ chunk. IfSome chunk (λ bytes. m.serves)) }
+    ensures refused { let m = C.meaning codec.now (array_spec metadata.now.shard metadata.now.data_type metadata.now.fill_value) in
+        IfErr result (RefusedBy (
+        m.serves or_as RefusesUnserved m then
+        m.encode_refusals elements.now)) }
 {
     if elements.is_fill_value(&metadata.fill_value) {
         return Ok(None);

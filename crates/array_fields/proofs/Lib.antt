@@ -1,3 +1,4 @@
+pub mod KeyLemmas
 mod ShownLemmas
 mod SaidRawBits
 mod Elements

@@ -4,3 +4,5 @@ pub mod RawBits
 pub mod ElementTypes
 pub mod Floats
 pub mod FillValues
+pub mod ChunkKeys
+pub mod KeyEncodings

@@ -1,5 +1,5 @@
-// The values of an array's metadata: what stands under which key of a JSON text, where, and why metadata is refused; and a
-// stranger's text on a terminal, which is short, and nothing in it acts; and lines of JSON that are written.
+// The values of an array's metadata: what stands under which key of a JSON text, where, and why metadata is refused; the keys of chunks;
+// a stranger's text on a terminal, which is short, and nothing in it acts; and lines of JSON that are written.
 #![tactic(auto)]
 
 mod element_types;
@@ -12,6 +12,8 @@ mod floats;
 mod json;
 mod json_line;
 mod kept;
+mod key_encodings;
+mod keys;
 mod members;
 mod printed;
 mod raw_bits;
@@ -25,6 +27,8 @@ pub use floats::{FloatFormat, half_to_f32};
 pub use json::value_in;
 pub use json_line::{JsonLine, write_json_character, write_json_numbers, write_json_text};
 pub use kept::{KeptText, TypeText, kept_text};
+pub use key_encodings::keys_in;
+pub use keys::{ChunkKeys, KeyEncoding};
 pub use members::{MOST_AXES, axes_in, test_array, test_understood};
 pub use printed::is_printed;
 pub use raw_bits::raw_bytes;

@@ -2,7 +2,7 @@
 use crate::chunk_grid::ChunkGrid;
 use crate::folder_error::FolderError;
 use crate::names::{Level, levels_of};
-use array_grid::ChunkKeys;
+use array_fields::ChunkKeys;
 use std::alloc::{AllocError, Global};
 use std::io::Read;
 use std::rt::Files;

@@ -1,5 +1,5 @@
 // The names of the files of chunks, and of the folders that they lie in.
-use array_grid::{ChunkKeys, KeyEncoding};
+use array_fields::{ChunkKeys, KeyEncoding};
 use std::alloc::{AllocError, Global};
 
 // The names in a folder that are parts of keys: so much text, and behind it a coordinate for each count, which it is below,

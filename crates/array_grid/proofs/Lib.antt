@@ -2,4 +2,3 @@ pub mod RoundingLemmas
 pub mod PutLemmas
 pub mod PartLemmas
 pub mod PickLemmas
-pub mod KeyLemmas

@@ -3,5 +3,3 @@ pub mod Parts
 pub mod Cells
 pub mod Subsets
 pub mod ListParts
-pub mod ChunkKeys
-pub mod KeyEncodings

@@ -5,8 +5,6 @@
 mod bands;
 mod cells;
 mod grid;
-mod key_encodings;
-mod keys;
 mod list_part;
 mod parallel;
 mod parsing;
@@ -23,8 +21,6 @@ mod words;
 pub use bands::Bands;
 pub use cells::SubsetCells;
 pub use grid::ShardGrid;
-pub use key_encodings::keys_in;
-pub use keys::{ChunkKeys, KeyEncoding};
 pub use list_part::ListPart;
 pub use parallel::{ShardWork, piece_length, piece_of, run_in_parallel, threads_of};
 pub use parsing::parse;

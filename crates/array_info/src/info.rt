@@ -6,8 +6,9 @@ use array_cli::{
     Array, Ending, IndexDecoder, Output, Place, Progress, Refusal, Shard, ShardFile, Stop, Workers,
     write_folder, write_folder_lines, written,
 };
+use array_fields::{ChunkKeys, KeyEncoding};
 use array_folder::{ChunkFile, ChunkFiles, Counted, FolderFiles, IndexInfo, Listing, info_of};
-use array_grid::{ChunkKeys, KeyEncoding, write_cell_line, write_numbers};
+use array_grid::{write_cell_line, write_numbers};
 use array_metadata::{ArrayCodec, ArrayMetadata};
 use parts_errors::CodecError;
 use std::alloc::{AllocError, Global};

@@ -8,8 +8,8 @@ use Rattle.codec_metadata.specs.Metadata.{name_in, first_refused, members_in}
 use Rattle.parts_subsets.specs.Grid.{Divides}
 use Rattle.parts_arrays.specs.Types.{size_of, FitsKind, HasElements}
 use Rattle.array_fields.specs.MetadataFields.{member_in, configured_in, whole_number_in, whole_numbers_in, is_understood}
-use Rattle.array_grid.specs.ChunkKeys.{separator_of}
-use Rattle.array_grid.specs.KeyEncodings.{encoding_name, default_separator}
+use Rattle.array_fields.specs.ChunkKeys.{separator_of}
+use Rattle.array_fields.specs.KeyEncodings.{encoding_name, default_separator}
 use Rattle.array_fields.specs.FillValues.{IsFillIn}
 use Rattle.array_metadata.specs.ArrayCodecs.{array_codec_in, encoded_of, subchunk_in, subchunk_of}
 use Rattle.array_fields.specs.ElementTypes.{IsTypeIn, carrier}

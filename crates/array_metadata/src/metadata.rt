@@ -8,8 +8,8 @@ ghost use Rattle.codec_metadata.specs.Metadata.{name_in};
 ghost use Rattle.array_metadata.specs.AcceptedMetadata.{IsServedText, IsReadAs, FitsTogether};
 ghost use Rattle.array_fields.specs.MetadataFields.{configured_in, whole_numbers_in};
 ghost use Rattle.array_fields.specs.FillValues.{IsFillIn};
-ghost use Rattle.array_grid.specs.ChunkKeys.{separator_of};
-ghost use Rattle.array_grid.specs.KeyEncodings.{encoding_name, default_separator};
+ghost use Rattle.array_fields.specs.ChunkKeys.{separator_of};
+ghost use Rattle.array_fields.specs.KeyEncodings.{encoding_name, default_separator};
 ghost use Rattle.array_metadata.specs.ArrayCodecs.{array_codec_in, encoded_of, subchunk_in, subchunk_of, HasAxes, are_transposed};
 ghost use Rattle.array_codecs.specs.UnreadCodecs.{chunks_in, unread_codec_in};
 ghost use Rattle.array_fields.specs.ElementTypes.{IsTypeIn, IsRead, carrier};
@@ -21,10 +21,10 @@ use crate::chunk_codecs::array_codec;
 use crate::chunk_cuts::cut_of;
 use array_codecs::{unread_codec, unserved};
 use array_fields::{
-    ElementType, KeptText, MetadataError, Placed, TypeText, axes_in, element_type_in, escaped,
-    escaped_whole, fill_value_in, kept_text, test_array, test_understood, unread_type, value_in,
+    ChunkKeys, ElementType, KeptText, MetadataError, Placed, TypeText, axes_in, element_type_in,
+    escaped, escaped_whole, fill_value_in, kept_text, keys_in, test_array, test_understood,
+    unread_type, value_in,
 };
-use array_grid::{ChunkKeys, keys_in};
 use codec_metadata::PluginCreateError;
 use parts_arrays::{DataType, FillValue};
 use parts_subsets::ChunkShape;

@@ -11,7 +11,7 @@ use Rattle.parts_subsets.specs.Grid.{grid_of}
 use Rattle.parts_subsets.specs.Touched.{AreTouched}
 use Rattle.parts_arrays.specs.Arrays.{Array, element_of, extracted}
 use Rattle.codec_traits.specs.Meanings.{Meaning}
-use Rattle.array_grid.specs.ChunkKeys.{chunk_key}
+use Rattle.array_fields.specs.ChunkKeys.{chunk_key}
 use Rattle.array_grid.specs.Parts.{IsPartAt, SubsetInArray}
 use Rattle.array_grid.specs.declared.parts.ShardPart.{ShardPart}
 use Rattle.array_store.specs.ArrayElements.{cell_of, element_at}

@@ -15,7 +15,7 @@ use Rattle.parts_subsets.specs.Grid.{grid_of}
 use Rattle.parts_subsets.specs.Touched.{AreTouched}
 use Rattle.parts_subsets.proofs.GridLaws.{subchunk_number-below}
 use Rattle.codec_traits.specs.Meanings.{Meaning}
-use Rattle.array_grid.specs.ChunkKeys.{chunk_key}
+use Rattle.array_fields.specs.ChunkKeys.{chunk_key}
 use Rattle.array_grid.proofs.RoundingLemmas.{inside_whole}
 use Rattle.array_store.specs.ArrayElements.{element_at}
 use Rattle.array_store.specs.ArrayWrites.{IsArrayWritten, IsFaultAt, IsWriteStopped, key_at, chunk_number}

@@ -1,10 +1,13 @@
 -- A chunk whose elements are read, changed in a subset, and encoded.
-use Rattle.std.proofs.Common.{◌≡◌, ℕ, ◌<◌, List, Option, Some, length, replicate, sym, subst, ap, ◌∙◌, arith}
+use Rattle.std.proofs.Common.{◌≡◌, ℕ, ◌<◌, List, [], ◌∷◌, Option, Some, length, replicate, refl, sym, subst, ap, ap₂, ◌∙◌, absurd, arith}
+use Rattle.std.specs.List.{All}
+use Rattle.std.proofs.lemmas.List.Elements.{length_all_zip}
 use Rattle.parts_errors.specs.Words.{Bytes, Elements}
 use Rattle.parts_row_major.specs.Numbering.{count_of}
 use Rattle.parts_row_major.specs.Pieces.{piece, pieces, IsUpdated}
-use Rattle.parts_row_major.specs.Subsets.{Subset, LiesIn, number_in}
+use Rattle.parts_row_major.specs.Subsets.{Subset, IsSubset, LiesIn, number_in}
 use Rattle.parts_row_major.proofs.PieceLaws.{length-pieces, number_in_below, piece_of-pieces}
+use Rattle.parts_arrays.specs.Arrays.{Array, element_of}
 use Rattle.sharding_gather.proofs.PlacingLemmas.{number_in-whole}
 use Rattle.array_grid.specs.Cells.{CellsOfSubset}
 use Rattle.array_store.specs.ChunkWrites.{AreUpdated}
@@ -19,6 +22,27 @@ whole_read cell chunk old new around put p below =
     let there : number_in (record { start = replicate (length chunk) 0; shape = chunk }) old.shape p ≡ p =
     ap (λ shape. number_in (record { start = replicate (length chunk) 0; shape = chunk }) shape p) around ∙ own in
     ap cell (sym own) ∙ sym (put.inside p below) ∙ ap (λ n. Some (piece old.element_size new.bytes n)) there
+
+zeros : (xs : List ℕ) → All (λ x. x ≡ 0) xs → xs ≡ replicate (length xs) 0
+zeros [] all = refl
+zeros (x ∷ xs) all = ap₂ (λ y ys. y ∷ ys) all.0 (zeros xs all.1)
+
+-- the subset of a chunk that has its shape and begins where it does
+pub all_of : (subset : Subset) (chunk : List ℕ) → IsSubset subset.start subset.shape → subset.shape ≡ chunk → All (λ s. s ≡ 0) subset.start
+    → subset ≡ record { start = replicate (length chunk) 0; shape = chunk }
+all_of subset chunk formed same first =
+    let long : length subset.start ≡ length chunk = length_all_zip _ subset.start subset.shape formed ∙ ap length same in
+    ap₂ (λ (start shape : List ℕ). record { start = start; shape = shape }) (zeros subset.start first ∙ ap (λ n. replicate n 0) long) same
+
+-- the elements of a chunk all of which are written
+pub all_updated : (chunk : List ℕ) (in_chunk : Subset) (before : ℕ → Option Bytes) (update : Array)
+    → in_chunk ≡ record { start = replicate (length chunk) 0; shape = chunk } → length update.elements ≡ count_of chunk
+    → AreUpdated chunk in_chunk (element_of update) before update.elements
+all_updated chunk in_chunk before update whole counted = subst (λ (s : Subset). AreUpdated chunk s (element_of update) before update.elements) (sym whole) (record {
+  counted = counted;
+  inside = λ r few. ap (element_of update) (number_in-whole chunk r few);
+  outside = λ p few off. absurd (off p few (number_in-whole chunk p few));
+})
 
 -- the elements of a chunk that are changed in a subset of it
 pub updated_elements : (chunk : List ℕ) (in_chunk : Subset) (update : ℕ → Bytes) (before : ℕ → Option Bytes) (size many : ℕ) (old new : Bytes)

@@ -16,8 +16,8 @@ use Rattle.parts_subsets.proofs.GridLaws.{subchunk_of_inside, position_of_inside
 use Rattle.codec_traits.specs.Meanings.{Meaning}
 use Rattle.sharding_gather.specs.SubchunkOverlaps.{IsSubchunkOverlap}
 use Rattle.sharding_plans.proofs.RoundingLemmas.{lies_in_whole, whole_divided}
-use Rattle.array_grid.specs.ChunkKeys.{chunk_key}
-use Rattle.array_grid.proofs.KeyLemmas.{key_once}
+use Rattle.array_fields.specs.ChunkKeys.{chunk_key}
+use Rattle.array_fields.proofs.KeyLemmas.{key_once}
 use Rattle.array_store.specs.ArrayElements.{cell_of, element_at}
 use Rattle.array_store.specs.ArrayWrites.{key_at, chunk_number}
 use Rattle.array_store.specs.ChunkWrites.{HoldsEncoding, IsUpdatedObject}

@@ -7,7 +7,7 @@ use Rattle.parts_row_major.specs.Subsets.{Subset, point_in}
 use Rattle.parts_subsets.specs.Grid.{subchunk_of, position_of}
 use Rattle.parts_arrays.specs.ArraySpec.{ArraySpec, array_spec}
 use Rattle.array_grid.specs.Cells.{CellsOfSubset}
-use Rattle.array_grid.specs.ChunkKeys.{chunk_key}
+use Rattle.array_fields.specs.ChunkKeys.{chunk_key}
 use Rattle.array_store.specs.declared.format.ArrayFormat.{ArrayFormat}
 
 -- what the codec of an array is asked to serve: its chunks

@@ -8,7 +8,7 @@ use Rattle.parts_row_major.specs.Subsets.{Subset, point_in}
 use Rattle.parts_subsets.specs.Grid.{grid_of, subchunk_of}
 use Rattle.parts_subsets.specs.Touched.{AreTouched}
 use Rattle.sharding_plans.specs.Chunks.{whole_chunks}
-use Rattle.array_grid.specs.ChunkKeys.{chunk_key}
+use Rattle.array_fields.specs.ChunkKeys.{chunk_key}
 use Rattle.array_store.specs.ArrayElements.{element_at}
 use Rattle.array_store.specs.Stores.{StoreState}
 use Rattle.array_store.specs.declared.error.ArrayError.{ArrayError}

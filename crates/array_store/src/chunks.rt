@@ -2,7 +2,7 @@
 ghost use Rattle.std.specs.Prelude.{◌≡◌, None, IsTrue, IfErr, OnOk};
 ghost use Rattle.parts_arrays.specs.ArraySpec.{IsArrayOf};
 ghost use Rattle.array_store.specs.ArrayElements.{chunk_spec};
-ghost use Rattle.array_grid.specs.ChunkKeys.{chunk_key};
+ghost use Rattle.array_fields.specs.ChunkKeys.{chunk_key};
 ghost use Rattle.array_store.specs.ChunkWrites.{HoldsEncoding, IsKeptUnlessFault, IsChunkRefusal};
 ghost use Rattle.array_store.specs.Stores.{AreKept};
 

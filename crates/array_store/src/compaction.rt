@@ -1,6 +1,6 @@
 // Chunks of an array, compacted.
 ghost use Rattle.std.specs.Prelude.{◌≡◌, ℕ, IsTrue, IfOk, IfErr, option_map};
-ghost use Rattle.array_grid.specs.ChunkKeys.{chunk_key};
+ghost use Rattle.array_fields.specs.ChunkKeys.{chunk_key};
 ghost use Rattle.array_store.specs.ArrayElements.{cell_of, chunk_spec};
 ghost use Rattle.array_store.specs.ChunkWrites.{IsChunkRefusal, IsCompacted, IsKeptUnlessFault};
 ghost use Rattle.array_store.specs.Stores.{AreKept};

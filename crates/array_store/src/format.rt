@@ -1,7 +1,7 @@
 // What the metadata of an array says of its elements and its chunks.
 ghost use Rattle.std.specs.Prelude.{◌≡◌};
 
-use array_grid::ChunkKeys;
+use array_fields::ChunkKeys;
 use array_metadata::ArrayMetadata;
 use parts_arrays::{DataType, FillValue};
 use parts_subsets::ChunkShape;

@@ -11,7 +11,7 @@ ghost use Rattle.parts_arrays.specs.declared.data_type.DataTypeSize.TheVariants.
 ghost use Rattle.sharding_plans.specs.Chunks.{whole_chunks};
 ghost use Rattle.array_grid.specs.Parts.{IsPartAt};
 ghost use Rattle.array_store.specs.ArrayElements.{AreElementsAt, cell_of, chunk_spec, element_at, object_of};
-ghost use Rattle.array_grid.specs.ChunkKeys.{chunk_key};
+ghost use Rattle.array_fields.specs.ChunkKeys.{chunk_key};
 ghost use Rattle.array_store.specs.Stores.{IsOpened};
 ghost use Rattle.array_store.specs.ReadRefusals.{IsReadRefusal, IsRefusalIn};
 ghost use Rattle.array_store.specs.steps.Reading.{IsPartPut, IsChunkRead, IsRefusalAt, AreReadTo, chunk_at};

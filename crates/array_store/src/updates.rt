@@ -5,7 +5,7 @@ ghost use Rattle.parts_row_major.specs.Pieces.{piece};
 ghost use Rattle.parts_row_major.specs.Subsets.{LiesIn};
 ghost use Rattle.parts_arrays.specs.Arrays.{element_of};
 ghost use Rattle.array_store.specs.ArrayElements.{cell_of, chunk_spec};
-ghost use Rattle.array_grid.specs.ChunkKeys.{chunk_key};
+ghost use Rattle.array_fields.specs.ChunkKeys.{chunk_key};
 ghost use Rattle.array_store.specs.ChunkWrites.{IsUpdatedObject, IsKeptUnlessFault, IsChunkRefusal};
 ghost use Rattle.array_store.specs.Stores.{AreKept};
 
@@ -16,8 +16,16 @@ use array_grid::SubsetCells;
 use codec_traits::ArrayToBytesCodecTraits;
 use parts_arrays::ArrayBytes;
 use parts_errors::CodecError;
-use parts_subsets::ArraySubset;
+use parts_subsets::{ArraySubset, ChunkShape};
 use std::alloc::Global;
+
+// Whether a subset of a chunk has all of its elements.
+fn has_all(in_chunk: &ArraySubset, chunk: &ChunkShape) -> bool
+    ensures { IsTrue result → in_chunk.now ≡ record { start = replicate (length chunk.now) 0; shape = chunk.now } }
+{
+    let starts = in_chunk.start();
+    in_chunk.shape() == chunk.as_slice() && starts.iter().all(|start| *start == 0)
+}
 
 impl<S: Store, C: ArrayToBytesCodecTraits> Array<'_, S, C> {
     // The elements of the chunk of a key: those that its object has, and fill values where there is no object.
@@ -35,7 +43,7 @@ impl<S: Store, C: ArrayToBytesCodecTraits> Array<'_, S, C> {
         Ok(cells)
     }
 
-    // Writes elements into a subset of the chunk of a key.
+    // Writes elements into a subset of the chunk of a key. Where it is all of the chunk, no old element is read.
     fn update_elements(
         &mut self,
         alloc: Global,
@@ -51,6 +59,9 @@ impl<S: Store, C: ArrayToBytesCodecTraits> Array<'_, S, C> {
             → IsUpdatedObject m f.chunk.now in_chunk.now (element_of elements.now) (cell_of m.cells f.fill_value.now ((S.state self.old.store).contents key.now)) ((S.state self.new.store).contents key.now)) }
         ensures kept { IfErr result (IsKeptUnlessFault (S.state self.old.store) (S.state self.new.store) key.now) }
     {
+        if has_all(in_chunk, self.format.chunk) {
+            return self.put_elements(alloc, key, elements);
+        }
         let mut cells = self.old_elements(alloc, key)?;
         cells.put(in_chunk, elements)?;
         let updated = cells.array();
@@ -62,7 +73,8 @@ impl<S: Store, C: ArrayToBytesCodecTraits> Array<'_, S, C> {
     /// store holds, under the chunk's key, an encoding of these where the subset is and of what the chunk had elsewhere, fill values
     /// where there was no object; and under each other key what it held. Refused with the chunk's key, in this order, as the old elements
     /// are read, as the subset does not lie in the chunk, as the elements are not of its kind and number, and as `encode` and `put`
-    /// refuse; a refusal that is no fault changes nothing.
+    /// refuse; a subset that is all of the chunk is written as by `write_chunk`, and nothing is read. A refusal that is no fault changes
+    /// nothing.
     pub fn write_in_chunk(
         &mut self,
         alloc: Global,

@@ -1,7 +1,8 @@
 // A subset that lies in four chunks, of which two are there: three rows of four elements of one byte, in chunks of two rows of two. The
 // sharding codec encodes them, by subchunks of one row; the fill value is 9.
 use crate::compared::same;
-use array_grid::{ChunkKeys, KeyEncoding, SubsetCells};
+use array_fields::{ChunkKeys, KeyEncoding};
+use array_grid::SubsetCells;
 use array_metadata::ArrayMetadata;
 use array_store::{
     Array, ArrayError, ArrayFormat, MemoryStore, OpenError, Store, WriteError, create_metadata,

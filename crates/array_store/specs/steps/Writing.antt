@@ -7,7 +7,7 @@ use Rattle.parts_row_major.specs.Subsets.{Subset, LiesIn, point_in}
 use Rattle.parts_subsets.specs.Grid.{grid_of}
 use Rattle.parts_subsets.specs.Touched.{AreTouched}
 use Rattle.sharding_plans.specs.Chunks.{whole_chunks}
-use Rattle.array_grid.specs.ChunkKeys.{chunk_key}
+use Rattle.array_fields.specs.ChunkKeys.{chunk_key}
 use Rattle.array_grid.specs.Parts.{MeetsShards, SubsetInArray}
 use Rattle.array_store.specs.ArrayWrites.{IsFaultAt, key_at, chunk_number}
 use Rattle.array_store.specs.declared.error.ArrayError.{ArrayError}

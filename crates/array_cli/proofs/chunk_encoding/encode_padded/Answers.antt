@@ -1,9 +1,6 @@
 use Rattle.std.proofs.Common.{◌≡◌, subst, sym, inr}
-use Rattle.std.specs.List.{All}
-use Rattle.parts_arrays.specs.ArraySpec.{array_spec}
 use Rattle.parts_arrays.specs.Arrays.{Array}
 use Rattle.array_cli.specs.Padded.{ArePadded}
-use Rattle.array_cli.proofs.PaddedLemmas.{match_seen}
 use Rattle.array_cli.proofs.chunk_encoding.encode_padded.Goals as goal
 
 pub returns : goal.returns
@@ -11,10 +8,9 @@ returns g c =
     let a = c.args in
     let metadata = a.metadata.now in
     let fill = metadata.fill_value in
-    let m = g.C.ArrayToBytesCodecTraits.meaning a.codec.now (array_spec metadata.shard metadata.data_type fill) in
     let padded = c.array-padded.result in
     inr (record {
       padded = padded;
       are_padded = subst (λ (p : Array). ArePadded fill a.shape.now metadata.shard a.elements.now p) (sym c.array-padded.ensures) (rw c.as_slice-whole.ensures.value at c.in_ok-cells.ensures);
-      stored = match_seen (All (λ element. element ≡ fill) padded.elements) (m.written padded.elements) (λ bytes. bytes.items) c.in_ok-chunk-2.chunk c.in_ok-chunk-2.ensures;
+      stored = c.in_ok-chunk-2.ensures.stored;
     })

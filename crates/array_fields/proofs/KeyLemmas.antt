@@ -7,10 +7,10 @@ use Rattle.std.specs.Fmt.{decimal}
 use Rattle.std.specs.List.{All}
 use Rattle.std.specs.Str.Parse.{AllDigits}
 use Rattle.parts_errors.specs.Words.{Bytes}
-use Rattle.array_grid.specs.ChunkKeys.{behind_separators, separator_of, key_with, chunk_key}
-use Rattle.array_grid.specs.declared.keys.ChunkKeys.{ChunkKeys}
-use Rattle.array_grid.specs.declared.keys.KeyEncoding.{KeyEncoding}
-use Rattle.array_grid.specs.declared.keys.KeyEncoding.TheVariants.{Default, V2}
+use Rattle.array_fields.specs.ChunkKeys.{behind_separators, separator_of, key_with, chunk_key}
+use Rattle.array_fields.specs.declared.keys.ChunkKeys.{ChunkKeys}
+use Rattle.array_fields.specs.declared.keys.KeyEncoding.{KeyEncoding}
+use Rattle.array_fields.specs.declared.keys.KeyEncoding.TheVariants.{Default, V2}
 
 -- a text is empty, or begins with a byte below the digits
 abbrev BeginsBelowDigits : Bytes → Type 0

@@ -2,9 +2,9 @@
 use Rattle.std.specs.Prelude.{ℕ, Bool, true, false, List, [], ◌∷◌, ◌++◌, codes}
 use Rattle.std.specs.Fmt.{decimal}
 use Rattle.parts_errors.specs.Words.{Bytes}
-use Rattle.array_grid.specs.declared.keys.ChunkKeys.{ChunkKeys}
-use Rattle.array_grid.specs.declared.keys.KeyEncoding.{KeyEncoding}
-use Rattle.array_grid.specs.declared.keys.KeyEncoding.TheVariants.{Default, V2}
+use Rattle.array_fields.specs.declared.keys.ChunkKeys.{ChunkKeys}
+use Rattle.array_fields.specs.declared.keys.KeyEncoding.{KeyEncoding}
+use Rattle.array_fields.specs.declared.keys.KeyEncoding.TheVariants.{Default, V2}
 
 -- numbers, each behind a separator
 abbrev pub behind_separators : Bytes → List ℕ → Bytes

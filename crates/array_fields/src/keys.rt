@@ -1,6 +1,6 @@
 // The keys of the chunks of an array.
 ghost use Rattle.std.specs.Prelude.{◌≡◌, ◌++◌, IfOk, OnOk, string_bytes};
-ghost use Rattle.array_grid.specs.ChunkKeys.{chunk_key, key_with, behind_separators, separator_of};
+ghost use Rattle.array_fields.specs.ChunkKeys.{chunk_key, key_with, behind_separators, separator_of};
 ghost use Rattle.parts_errors.specs.Words.{Bytes};
 
 use std::alloc::{AllocError, Global};

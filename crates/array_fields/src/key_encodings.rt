@@ -4,11 +4,13 @@ ghost use Rattle.serde_json.specs.Find.{as_str};
 ghost use Rattle.serde_json.specs.View.{view};
 ghost use Rattle.codec_metadata.specs.Metadata.{name_in};
 ghost use Rattle.array_fields.specs.MetadataFields.{configured_in};
-ghost use Rattle.array_grid.specs.ChunkKeys.{separator_of};
-ghost use Rattle.array_grid.specs.KeyEncodings.{encoding_name, default_separator};
+ghost use Rattle.array_fields.specs.ChunkKeys.{separator_of};
+ghost use Rattle.array_fields.specs.KeyEncodings.{encoding_name, default_separator};
 
+use crate::error::MetadataError;
+use crate::escape::escaped;
+use crate::fields::Placed;
 use crate::keys::{ChunkKeys, KeyEncoding};
-use array_fields::{MetadataError, Placed, escaped};
 use std::alloc::Global;
 
 /// The keys that the metadata of a chunk key encoding names, `default` or `v2`, by the separator that it gives (Zarr V3 core, "Chunk key

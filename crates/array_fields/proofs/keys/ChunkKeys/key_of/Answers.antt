@@ -1,6 +1,6 @@
 use Rattle.std.proofs.Common.{◌∙◌, ap}
-use Rattle.array_grid.specs.ChunkKeys.{chunk_key, key_with}
-use Rattle.array_grid.proofs.keys.ChunkKeys.key_of.Goals as goal
+use Rattle.array_fields.specs.ChunkKeys.{chunk_key, key_with}
+use Rattle.array_fields.proofs.keys.ChunkKeys.key_of.Goals as goal
 
 pub returns : goal.returns
 unfolding chunk_key

@@ -1,8 +1,8 @@
 -- What the metadata says of the keys of chunks.
 use Rattle.std.specs.Prelude.{codes}
 use Rattle.parts_errors.specs.Words.{Bytes}
-use Rattle.array_grid.specs.declared.keys.KeyEncoding.{KeyEncoding}
-use Rattle.array_grid.specs.declared.keys.KeyEncoding.TheVariants.{Default, V2}
+use Rattle.array_fields.specs.declared.keys.KeyEncoding.{KeyEncoding}
+use Rattle.array_fields.specs.declared.keys.KeyEncoding.TheVariants.{Default, V2}
 
 -- the name of an encoding
 abbrev pub encoding_name : KeyEncoding → Bytes

@@ -1,6 +1,6 @@
 use Rattle.std.proofs.Common.{◌≡◌, ◌++◌, drop, string_bytes}
-use Rattle.array_grid.specs.ChunkKeys.{behind_separators}
-use Rattle.array_grid.proofs.keys.push_numbers.Given as goal
+use Rattle.array_fields.specs.ChunkKeys.{behind_separators}
+use Rattle.array_fields.proofs.keys.push_numbers.Given as goal
 
 abbrev pub invariant-loop-number : goal.invariant-loop-number
 invariant-loop-number l =
