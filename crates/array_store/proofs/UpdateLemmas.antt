@@ -1,5 +1,5 @@
 -- A chunk whose elements are read, changed in a subset, and encoded.
-use Rattle.std.proofs.Common.{◌≡◌, ℕ, ◌<◌, List, [], ◌∷◌, Option, Some, length, replicate, refl, sym, subst, ap, ap₂, ◌∙◌, absurd, arith}
+use Rattle.std.proofs.Common.{◌≡◌, ℕ, suc, ◌<◌, List, [], ◌∷◌, Option, Some, length, replicate, refl, sym, subst, ap, ap₂, ◌∙◌, arith}
 use Rattle.std.specs.List.{All}
 use Rattle.std.proofs.lemmas.List.Elements.{length_all_zip}
 use Rattle.parts_errors.specs.Words.{Bytes, Elements}
@@ -25,7 +25,7 @@ whole_read cell chunk old new around put p below =
 
 zeros : (xs : List ℕ) → All (λ x. x ≡ 0) xs → xs ≡ replicate (length xs) 0
 zeros [] all = refl
-zeros (x ∷ xs) all = ap₂ (λ y ys. y ∷ ys) all.0 (zeros xs all.1)
+zeros (x ∷ xs) all = ap₂ (λ (y : ℕ) (ys : List ℕ). y ∷ ys) (all 0 0 (omega arith)) (zeros xs (λ k d lt. all (suc k) d (omega (arith, lt))))
 
 -- the subset of a chunk that has its shape and begins where it does
 pub all_of : (subset : Subset) (chunk : List ℕ) → IsSubset subset.start subset.shape → subset.shape ≡ chunk → All (λ s. s ≡ 0) subset.start

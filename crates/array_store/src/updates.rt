@@ -1,5 +1,5 @@
 // Elements that are written into a subset of a chunk.
-ghost use Rattle.std.specs.Prelude.{◌≡◌, ◌<◌, ℕ, Some, IsTrue, IfOk, IfErr, OnOk, length, replicate};
+ghost use Rattle.std.specs.Prelude.{◌≡◌, ◌<◌, ℕ, Some, IsTrue, IfOk, IfErr, OnOk, All, length, replicate};
 ghost use Rattle.parts_row_major.specs.Numbering.{count_of};
 ghost use Rattle.parts_row_major.specs.Pieces.{piece};
 ghost use Rattle.parts_row_major.specs.Subsets.{LiesIn};
@@ -19,12 +19,18 @@ use parts_errors::CodecError;
 use parts_subsets::{ArraySubset, ChunkShape};
 use std::alloc::Global;
 
+// Whether each number is 0.
+fn are_zero(numbers: &[u64]) -> bool
+    ensures { IsTrue result → All (λ number. number ≡ 0) numbers.now }
+{
+    numbers.iter().all(|number| *number == 0)
+}
+
 // Whether a subset of a chunk has all of its elements.
 fn has_all(in_chunk: &ArraySubset, chunk: &ChunkShape) -> bool
     ensures { IsTrue result → in_chunk.now ≡ record { start = replicate (length chunk.now) 0; shape = chunk.now } }
 {
-    let starts = in_chunk.start();
-    in_chunk.shape() == chunk.as_slice() && starts.iter().all(|start| *start == 0)
+    in_chunk.shape() == chunk.as_slice() && are_zero(in_chunk.start())
 }
 
 impl<S: Store, C: ArrayToBytesCodecTraits> Array<'_, S, C> {
@@ -60,7 +66,8 @@ impl<S: Store, C: ArrayToBytesCodecTraits> Array<'_, S, C> {
         ensures kept { IfErr result (IsKeptUnlessFault (S.state self.old.store) (S.state self.new.store) key.now) }
     {
         if has_all(in_chunk, self.format.chunk) {
-            return self.put_elements(alloc, key, elements);
+            self.put_elements(alloc, key, elements)?;
+            return Ok(());
         }
         let mut cells = self.old_elements(alloc, key)?;
         cells.put(in_chunk, elements)?;
