@@ -151,15 +151,16 @@ fn a_subset_is_read_from_each_chunk_that_it_meets(rt: HostRuntime) {
     read_and_erase(&rt, rt.alloc(), &mut scene.array(rt.alloc()));
 }
 
-// Writes four elements into the subset, as an array answers.
-fn write_middle<R: Abort>(
+// Writes four elements into a subset, as an array answers.
+fn write_four<R: Abort>(
     rt: &R,
     alloc: Global,
     array: &mut Array<'_, MemoryStore, Codec>,
+    subset: &ArraySubset,
 ) -> Result<(), WriteError> {
     let new = [10u8, 11, 12, 13];
     let elements = ArrayBytes::new_flen(CowSlice::Borrowed(&new), 1).expect(rt, "one byte each");
-    array.write(alloc, &middle(rt, alloc), &elements)
+    array.write(alloc, subset, &elements)
 }
 
 // Ends the test where the elements of a subset, by its ranges, are others.
@@ -177,7 +178,11 @@ fn check_range<R: Abort>(
 // Writes a subset, and reads all.
 fn write_and_read<R: Abort>(rt: &R, alloc: Global, array: &mut Array<'_, MemoryStore, Codec>) {
     write_two(rt, alloc, array);
-    same(rt, write_middle(rt, alloc, array).is_ok(), true);
+    same(
+        rt,
+        write_four(rt, alloc, array, &middle(rt, alloc)).is_ok(),
+        true,
+    );
     let want = [1, 2, 9, 9, 3, 10, 11, 9, 9, 12, 13, 6];
     check_range(rt, alloc, array, &[0..3, 0..4], &want);
 }
@@ -211,10 +216,34 @@ fn check_refused<R: Abort>(rt: &R, wrote: Result<(), WriteError>) {
 fn write_over_damage<R: Abort>(rt: &R, alloc: Global, array: &mut Array<'_, MemoryStore, Codec>) {
     write_two(rt, alloc, array);
     put(rt, alloc, array, "c/1/0", &[0]);
-    check_refused(rt, write_middle(rt, alloc, array));
+    check_refused(rt, write_four(rt, alloc, array, &middle(rt, alloc)));
     let first = [1, 2, 9, 9, 3, 10, 11, 9];
     check_range(rt, alloc, array, &[0..2, 0..4], &first);
     check_range(rt, alloc, array, &[2..3, 2..4], &[5, 6]);
+}
+
+// Writes all of a chunk that is damaged, and reads it with the chunk behind it.
+fn write_all_of_damaged<R: Abort>(
+    rt: &R,
+    alloc: Global,
+    array: &mut Array<'_, MemoryStore, Codec>,
+) {
+    put(rt, alloc, array, "c/0/0", &[0]);
+    let whole = ArraySubset::from_ranges(alloc, &[0..2, 0..2]).expect(rt, "refused");
+    same(rt, write_four(rt, alloc, array, &whole).is_ok(), true);
+    check_range(
+        rt,
+        alloc,
+        array,
+        &[0..2, 0..4],
+        &[10, 11, 9, 9, 12, 13, 9, 9],
+    );
+}
+
+#[test]
+fn all_of_a_damaged_chunk_is_written_anew(rt: HostRuntime) {
+    let scene = scene_of(&rt, rt.alloc());
+    write_all_of_damaged(&rt, rt.alloc(), &mut scene.array(rt.alloc()));
 }
 
 #[test]
