@@ -76,7 +76,8 @@ const INNER: Argument = (
 
 const NEW_FOLDER: &str = "The folder of the new array, which is not there yet";
 
-const USAGES: &[Usage] = &[
+// What is said of an array and its shards.
+const LOOKING: &[Usage] = &[
     (
         "list",
         "Says what arrays lie below a group, and of each its data type, its shape, and whether it is read",
@@ -130,6 +131,10 @@ const USAGES: &[Usage] = &[
             JOBS_OF_ALL,
         ],
     ),
+];
+
+// What gives elements and bytes.
+const READING: &[Usage] = &[
     (
         "read",
         "Writes the cells of a box in row-major order, a row of the last axis a line",
@@ -174,6 +179,10 @@ const USAGES: &[Usage] = &[
             ),
         ],
     ),
+];
+
+// What writes files.
+const WRITING: &[Usage] = &[
     (
         "compact",
         "Puts a compact shard in the place of each that has dead bytes",
@@ -257,13 +266,15 @@ const USAGES: &[Usage] = &[
             JOBS,
         ],
     ),
-    (
-        "compare",
-        "Says how many elements of two arrays differ, and the first one; status 1 where one does",
-        "Example: zarr_shard compare weather/temperature new",
-        &[PATH, ("<OTHER>", "The folder of the other array", &[])],
-    ),
 ];
+
+// What compares arrays.
+const COMPARING: &[Usage] = &[(
+    "compare",
+    "Says how many elements of two arrays differ, and the first one; status 1 where one does",
+    "Example: zarr_shard compare weather/temperature new",
+    &[PATH, ("<OTHER>", "The folder of the other array", &[])],
+)];
 
 // The argument of a form without brackets.
 fn named<'a>(alloc: Global, form: &'static str) -> Arg<'a> {
@@ -313,18 +324,53 @@ fn command_of<'a>(alloc: Global, usage: &Usage) -> Result<Command<'a>, AllocErro
 // The version of the program, and the logic in which it is proved.
 const VERSION: &str = "0.1.0 (logic dac8208d650f15bf)";
 
-/// The program's command line.
-pub fn program<'a>(alloc: Global) -> Result<Command<'a>, AllocError> {
-    let mut program = Command::new(alloc, "zarr_shard")
+// Adds commands to a command line.
+fn with_commands<'a>(
+    alloc: Global,
+    program: Command<'a>,
+    usages: &[Usage],
+) -> Result<Command<'a>, AllocError> {
+    let mut program = program;
+    for usage in usages {
+        program = program.subcommand(command_of(alloc, usage)?)?;
+    }
+    Ok(program)
+}
+
+// The command line with the commands of a table. Each table is named by a function of its own: the proof of one that names all of them
+// costs by the square of their length.
+fn looking<'a>(alloc: Global, program: Command<'a>) -> Result<Command<'a>, AllocError> {
+    with_commands(alloc, program, LOOKING)
+}
+
+fn reading<'a>(alloc: Global, program: Command<'a>) -> Result<Command<'a>, AllocError> {
+    with_commands(alloc, program, READING)
+}
+
+fn writing<'a>(alloc: Global, program: Command<'a>) -> Result<Command<'a>, AllocError> {
+    with_commands(alloc, program, WRITING)
+}
+
+fn comparing<'a>(alloc: Global, program: Command<'a>) -> Result<Command<'a>, AllocError> {
+    with_commands(alloc, program, COMPARING)
+}
+
+// The program's command line without its commands.
+fn without_commands<'a>(alloc: Global) -> Command<'a> {
+    Command::new(alloc, "zarr_shard")
         .about("Works on an array on disk whose chunks are shards (Zarr V3, sharding_indexed)")
         .version(VERSION)
         .after_help(
             "Example: zarr_shard read weather/temperature 0..2,3..5\nStatus: 0 done; 1 a shard is refused; 2 it, or a part of it, could not be done.",
         )
         .subcommand_required(true)
-        .arg_required_else_help(true);
-    for usage in USAGES {
-        program = program.subcommand(command_of(alloc, usage)?)?;
-    }
-    Ok(program)
+        .arg_required_else_help(true)
+}
+
+/// The program's command line.
+pub fn program<'a>(alloc: Global) -> Result<Command<'a>, AllocError> {
+    let program = looking(alloc, without_commands(alloc))?;
+    let program = reading(alloc, program)?;
+    let program = writing(alloc, program)?;
+    comparing(alloc, program)
 }
