@@ -1,5 +1,5 @@
-// Tests of arrays: of what they are made of in memory, and of those on disk, their metadata and their shards, of subsets on a command
-// line, and of files of NumPy's format.
+// Tests of arrays on disk: their metadata and their shards, subsets on a command line, and files of NumPy's format; and of arrays over a
+// store.
 #![tactic(auto)]
 
 #[cfg(test)]
@@ -20,8 +20,6 @@ mod list_parts;
 mod metadata;
 #[cfg(test)]
 mod npy;
-#[cfg(test)]
-mod parts;
 #[cfg(test)]
 mod refused;
 #[cfg(test)]

@@ -5,13 +5,12 @@ use crate::command_line::{ArrayWork, Scope, SharedWork, Target, Work, array_word
 use crate::usages::program;
 use array_cli::{Array, Ending, Output, Progress, Stop, Workers, metadata_of};
 use array_creation::create;
-use array_elements::{Form, Reading, compare, print_subset, save_subset};
+use array_elements::{Form, Reading, compare, print_subset, reshard, save_subset};
 use array_fields::escaped;
 use array_folder::Listing;
 use array_grid::{ListPart, subset_of, threads_of};
 use array_info::{check, extract, info_of_array, info_of_shard, list_nodes, map_array, map_shard};
 use array_metadata::ArrayMetadata;
-use array_resharding::reshard;
 use array_updates::{Way, compact, write_subset};
 use clap::ArgMatches;
 use std::alloc::Global;

@@ -1,6 +1,6 @@
 // Shapes whose axes are at least 1.
 use crate::compared::same;
-use crate::parts::examples::shape;
+use crate::examples::shape;
 use std::alloc::Global;
 use std::process::Abort;
 use zarr_parts::{ArraySubset, Axes, ChunkShape, CodecError};

@@ -1,6 +1,6 @@
 // Coordinates that are asked, given one number at a time.
 use crate::compared::same;
-use crate::parts::examples::{listed, subset};
+use crate::examples::{listed, subset};
 use std::alloc::Global;
 use std::process::Abort;
 use zarr_parts::{CodecError, Indexer};

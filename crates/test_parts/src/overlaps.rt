@@ -1,6 +1,6 @@
 // Where two subsets meet, subsets seen from another origin, and the law of overlaps.
 use crate::compared::{same, same_at};
-use crate::parts::examples::{is_subset, subset};
+use crate::examples::{is_subset, subset};
 use std::alloc::Global;
 use std::ops::Range;
 use zarr_parts::{ArraySubset, CodecError, overlap_law};

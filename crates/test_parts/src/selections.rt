@@ -1,6 +1,6 @@
 // What is asked of an array, tested against its shape and numbered in it.
 use crate::compared::same;
-use crate::parts::examples::{listed, shape, subset};
+use crate::examples::{listed, shape, subset};
 use std::alloc::Global;
 use std::ops::Range;
 use std::process::Abort;

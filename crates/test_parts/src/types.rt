@@ -1,6 +1,6 @@
 // Data types and fill values.
 use crate::compared::same_at;
-use crate::parts::examples::fill;
+use crate::examples::fill;
 use std::alloc::Global;
 use std::process::Abort;
 use zarr_parts::{DataType, DataTypeSize};

@@ -1,6 +1,6 @@
 // Runs of neighbouring elements in subsets.
 use crate::compared::same;
-use crate::parts::examples::subset;
+use crate::examples::subset;
 use std::alloc::Global;
 use std::ops::Range;
 use zarr_parts::{ArraySubset, CodecError};

@@ -1,6 +1,6 @@
 // Subsets of coordinates, and their law.
 use crate::compared::same;
-use crate::parts::examples::{is_subset, subset};
+use crate::examples::{is_subset, subset};
 use std::alloc::{AllocError, Global};
 use std::ops::Range;
 use std::process::Abort;

@@ -1,7 +1,7 @@
 // Arrays made, read and changed, on small arrays worked by hand.
 use crate::compared::{same, same_at};
-use crate::parts::examples::Elements::{Fixed, Variable};
-use crate::parts::examples::{Elements, array_of, fill, has, subset};
+use crate::examples::Elements::{Fixed, Variable};
+use crate::examples::{Elements, array_of, fill, has, subset};
 use parts_arrays::push_part;
 use std::alloc::Global;
 use std::borrow::CowSlice;

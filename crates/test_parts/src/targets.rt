@@ -1,6 +1,6 @@
 // Elements written into subsets of borrowed bytes, worked by hand.
 use crate::compared::{same, same_at};
-use crate::parts::examples::{fill, fixed, subset};
+use crate::examples::{fill, fixed, subset};
 use std::alloc::Global;
 use std::ops::Range;
 use std::process::Abort;
