@@ -337,8 +337,8 @@ fn with_commands<'a>(
     Ok(program)
 }
 
-// The command line with the commands of a table. Each table is named by a function of its own: the proof of one that names all of them
-// costs by the square of their length.
+// The command line with the commands of a table. Each table is named by a function of its own, since the proof of one that names them all
+// takes more memory.
 fn looking<'a>(alloc: Global, program: Command<'a>) -> Result<Command<'a>, AllocError> {
     with_commands(alloc, program, LOOKING)
 }
