@@ -1,4 +1,5 @@
 pub mod Statuses
+pub mod ChunkRefusals
 pub mod Padded
 pub mod NewChunks
 pub mod ChunkParts

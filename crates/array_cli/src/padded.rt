@@ -1,6 +1,7 @@
 // The elements of a chunk that reaches past the end of the array.
-ghost use Rattle.std.specs.Prelude.{◌≡◌, IfOk};
+ghost use Rattle.std.specs.Prelude.{◌≡◌, IfOk, IfErr, OnOk};
 ghost use Rattle.parts_arrays.specs.Arrays.{fixed_array};
+ghost use Rattle.array_cli.specs.ChunkRefusals.{HasRoom, FitAtStart, IsPaddedRefusal};
 ghost use Rattle.array_cli.specs.Padded.{at_start, ArePadded};
 
 use crate::grid_shards::whole_of;
@@ -19,7 +20,9 @@ fn filled_around(
     elements: &ArrayBytes,
 ) -> Result<SubsetCells, CodecError>
     requires start { part.now ≡ at_start part.now.shape }
-    ensures { IfOk result (λ cells. ArePadded fill_value.now part.now.shape chunk.now.shape elements.now (fixed_array cells.element_size cells.bytes)) }
+    ensures padded { IfOk result (λ cells. ArePadded fill_value.now part.now.shape chunk.now.shape elements.now (fixed_array cells.element_size cells.bytes)) }
+    ensures passed { OnOk result (HasRoom chunk.now.shape fill_value.now × FitAtStart fill_value.now part.now.shape chunk.now.shape elements.now) }
+    ensures refused { IfErr result (IsPaddedRefusal fill_value.now part.now.shape chunk.now.shape elements.now) }
 {
     let mut cells = SubsetCells::new(alloc, chunk, fill_value)?;
     cells.put(part, elements)?;
@@ -36,7 +39,9 @@ pub fn padded_chunk(
     shape: &[u64],
     elements: &ArrayBytes,
 ) -> Result<SubsetCells, CodecError>
-    ensures { IfOk result (λ cells. ArePadded fill_value.now shape.now chunk.now elements.now (fixed_array cells.element_size cells.bytes)) }
+    ensures padded { IfOk result (λ cells. ArePadded fill_value.now shape.now chunk.now elements.now (fixed_array cells.element_size cells.bytes)) }
+    ensures passed { OnOk result (HasRoom chunk.now fill_value.now × FitAtStart fill_value.now shape.now chunk.now elements.now) }
+    ensures refused { IfErr result (IsPaddedRefusal fill_value.now shape.now chunk.now elements.now) }
 {
     let whole = whole_of(alloc, chunk)?;
     let part = whole_of(alloc, shape)?;

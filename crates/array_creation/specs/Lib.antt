@@ -1,1 +1,2 @@
 pub mod NewChunks
+pub mod NewChunkRefusals

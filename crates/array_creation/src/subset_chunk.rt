@@ -1,10 +1,12 @@
 // The chunk of a new array that has elements of an old one.
-ghost use Rattle.std.specs.Prelude.{IfOk, IsTrue, OnOk};
+ghost use Rattle.std.specs.Prelude.{◌⊎◌, IfOk, IfErr, IfSome, IsTrue, OnOk};
 ghost use Rattle.parts_row_major.specs.Subsets.{LiesIn};
 ghost use Rattle.parts_arrays.specs.ArraySpec.{array_spec};
 ghost use Rattle.storage_handles.specs.Handles.{seen};
 ghost use Rattle.array_metadata.specs.CodecMeanings.{chunk_meaning};
 ghost use Rattle.array_store.specs.ArrayElements.{chunk_spec, element_at};
+ghost use Rattle.array_store.specs.ReadRefusals.{IsReadRefusal};
+ghost use Rattle.array_creation.specs.NewChunkRefusals.{RefusesElements, IsRefusalOfPart};
 ghost use Rattle.array_creation.specs.NewChunks.{IsChunkOfArray, IsChunkOfSubset};
 
 use array_cli::{elements_of, encode_padded};
@@ -32,6 +34,12 @@ pub fn chunk_of_subset<S: Store, C: ArrayToBytesCodecTraits>(
         IfOk result (λ chunk. IsTrue (S.state old.now.store).transparent
         → IsChunkOfSubset (element_at (S.state old.now.store).contents f (C.meaning old.now.codec.now (chunk_spec f)).cells) subset.now
         m.written new.now.fill_value new.now.shard (seen (λ bytes. bytes.items) chunk)) }
+    ensures serves { let m = chunk_meaning new.now.codec (array_spec new.now.shard new.now.data_type new.now.fill_value) in
+        IfOk result (λ chunk. IfSome chunk (λ bytes. m.serves)) }
+    ensures refused { let f = old.now.format in let store = S.state old.now.store in
+        let m = chunk_meaning new.now.codec (array_spec new.now.shard new.now.data_type new.now.fill_value) in
+        IfErr result (λ error. IsReadRefusal f subset.now error
+        ⊎ RefusesElements store.transparent (element_at store.contents f (C.meaning old.now.codec.now (chunk_spec f)).cells) subset.now m new.now.fill_value new.now.shard error) }
 {
     old.read_into(alloc, subset, cells)?;
     let elements = cells.array();
@@ -49,11 +57,18 @@ pub fn chunk_of_array<S: Store, C: ArrayToBytesCodecTraits>(
     new: &ArrayMetadata,
     cells: &mut SubsetCells,
 ) -> Result<Option<Vec<u8>>, ArrayError>
-    ensures { let f = old.now.format in
+    ensures chunk { let f = old.now.format in
         let m = chunk_meaning new.now.codec (array_spec new.now.shard new.now.data_type new.now.fill_value) in
         IfOk result (λ chunk. IsTrue (S.state old.now.store).transparent
         → IsChunkOfArray (element_at (S.state old.now.store).contents f (C.meaning old.now.codec.now (chunk_spec f)).cells) new.now.shape.items coordinates.now
         m.written new.now.fill_value new.now.shard (seen (λ bytes. bytes.items) chunk)) }
+    ensures serves { let m = chunk_meaning new.now.codec (array_spec new.now.shard new.now.data_type new.now.fill_value) in
+        IfOk result (λ chunk. IfSome chunk (λ bytes. m.serves)) }
+    ensures refused { let f = old.now.format in let store = S.state old.now.store in
+        let m = chunk_meaning new.now.codec (array_spec new.now.shard new.now.data_type new.now.fill_value) in
+        IfErr result (IsRefusalOfPart (λ part error. IsReadRefusal f part error
+        ⊎ RefusesElements store.transparent (element_at store.contents f (C.meaning old.now.codec.now (chunk_spec f)).cells) part m new.now.fill_value new.now.shard error)
+        new.now.shape.items coordinates.now new.now.shard) }
 {
     let Some(part) = elements_of(alloc, coordinates, &new.shard, &new.shape)? else {
         return Ok(None);

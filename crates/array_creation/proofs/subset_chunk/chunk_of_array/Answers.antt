@@ -1,8 +1,8 @@
 use Rattle.std.proofs.Common.{inl}
 use Rattle.array_creation.proofs.subset_chunk.chunk_of_array.Goals as goal
 
-pub returns : goal.returns
-returns g c = λ t. inl (record {
+pub returns-clause-chunk : goal.returns-clause-chunk
+returns-clause-chunk g c = λ t. inl (record {
   part = c.in-Some.part;
   lies = rw (c.in-Some.is, c.deref.ensures.value) at c.in_ok-part.ensures;
   stored = c.in_ok-chunk.ensures.chunk t;
