@@ -90,8 +90,23 @@ pub(crate) fn numbers_of_slots(
     Ok(numbers)
 }
 
-// Writes numbers over bytes, eight for each.
-fn write_numbers(bytes: &mut [u8], numbers: &[u64])
+// How many numbers are written at a time, by one copy of memory.
+const BLOCK: usize = 256;
+
+// The bytes of each number of a block.
+fn elements_of(numbers: &[u64]) -> [[u8; 8]; BLOCK]
+    requires { length numbers.now ≡ 256 }
+    ensures { result ≡ map element_of_number numbers.now }
+{
+    let mut elements = [[0; 8]; BLOCK];
+    for k in 0..BLOCK {
+        elements[k] = numbers[k].to_le_bytes();
+    }
+    elements
+}
+
+// Writes numbers over bytes, eight for each, one by one.
+fn write_each(bytes: &mut [u8], numbers: &[u64])
     requires { length bytes.old ≡ length numbers.now * 8 }
     ensures { bytes.new ≡ concat (map element_of_number numbers.now) }
 {
@@ -99,6 +114,21 @@ fn write_numbers(bytes: &mut [u8], numbers: &[u64])
         let from = k * 8;
         bytes[from..from + 8].copy_from_slice(&numbers[k].to_le_bytes());
     }
+}
+
+// Writes numbers over bytes, eight for each.
+fn write_numbers(bytes: &mut [u8], numbers: &[u64])
+    requires { length bytes.old ≡ length numbers.now * 8 }
+    ensures { bytes.new ≡ concat (map element_of_number numbers.now) }
+{
+    let count = numbers.len() / BLOCK;
+    for k in 0..count {
+        let first = k * BLOCK;
+        let elements = elements_of(&numbers[first..first + BLOCK]);
+        bytes[first * 8..(first + BLOCK) * 8].copy_from_slice(elements.as_flattened());
+    }
+    let done = count * BLOCK;
+    write_each(&mut bytes[done * 8..], &numbers[done..]);
 }
 
 // The bytes of these numbers, eight of each, one after the other.
