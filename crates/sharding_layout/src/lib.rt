@@ -23,4 +23,4 @@ pub use packing::{compact_size, packed_numbers, push_slices};
 pub use plan::{CompactionPlan, plan_compaction, plan_compaction_of_index};
 pub use runs::elements_in_run;
 pub use sequence::SubchunkSequence;
-pub use storing::{is_blank, slot_after, store_after, zeros_after};
+pub use storing::{is_blank, push_rows, slot_after, store_after, stored_row, zeros_after};

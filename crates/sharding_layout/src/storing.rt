@@ -1,5 +1,5 @@
-// One array, stored behind bytes that are there, unless it is all fill.
-ghost use Rattle.std.specs.Prelude.{◌≡◌, ◌≤◌, ◌++◌, IsTrue, ◌↔◌, IfOk, IfErr, OnOk, OnErr, length, take, drop, replicate};
+// One array, or rows of one, stored behind bytes that are there, unless it is all fill.
+ghost use Rattle.std.specs.Prelude.{◌≡◌, ◌<◌, ◌≤◌, ◌++◌, ◌⊎◌, [], IsTrue, ◌↔◌, IfOk, IfErr, OnOk, OnErr, length, take, drop, replicate};
 ghost use Rattle.std.specs.List.{concat};
 ghost use Rattle.parts_errors.specs.Order.{RefusedBy};
 ghost use Rattle.parts_arrays.specs.ArraySpec.{IsArrayOf};
@@ -11,11 +11,12 @@ ghost use Rattle.sharding_format.specs.Laying.{IsStoredAfter};
 ghost use Rattle.sharding_format.specs.EncodeRefusals.{RefusesToStore};
 ghost use Rattle.sharding_index.specs.steps.Plans.{spec_of};
 
+use crate::laying::room_for_next;
 use codec_traits::ArrayToBytesCodecTraits;
 use parts_arrays::{ArrayBytes, FillValue};
 use parts_errors::{CodecError, CodecOptions};
 use sharding_format::{ArraySpecRef, Slot};
-use std::alloc::Global;
+use std::alloc::{AllocError, Global};
 use std::borrow::CowSlice;
 
 /// Puts the encoding of an array that isn't all fill behind the slices that are there, and tells where it stands. A refusal leaves
@@ -104,4 +105,36 @@ pub fn slot_after(slices: &mut Vec<u8>, from: usize, fill_value: &FillValue) -> 
         offset: from as u64,
         size: (slices.len() - from) as u64,
     }
+}
+
+/// What is to be stored of a row: nothing where each element is the fill value.
+pub fn stored_row<'a>(row: &'a [u8], fill_value: &FillValue) -> &'a [u8]
+    requires whole { IsWhole (length fill_value.now) row.now }
+    requires some { 0 < length row.now }
+    ensures { let elements = (fixed_array (length fill_value.now) row.now).elements in
+        (IsAllFill fill_value.now elements × (result.now ≡ [])) ⊎ ((¬ (IsAllFill fill_value.now elements)) × (result.now ≡ row.now)) }
+{
+    if is_blank(row, fill_value) {
+        return &row[..0];
+    }
+    row
+}
+
+/// Puts a run of rows behind the others, which begin at `start`, where some rows are laid out and some are left; one of none takes
+/// no call. A refusal leaves them.
+pub fn push_rows(
+    slices: &mut Vec<u8>,
+    start: usize,
+    stored_slices: usize,
+    left: usize,
+    run: &[u8],
+) -> Result<(), AllocError>
+    ensures appended { OnOk result (slices.new.items ≡ slices.old.items ++ run.now) }
+    ensures kept { OnErr result (slices.new.items ≡ slices.old.items) }
+{
+    if run.len() == 0 {
+        return Ok(());
+    }
+    room_for_next(slices, start, stored_slices, left, run.len())?;
+    slices.extend_from_slice(run)
 }

@@ -2,6 +2,7 @@ pub mod AppendLemmas
 pub mod PlainRowLemmas
 pub mod PlainSubchunkLemmas
 pub mod TargetLemmas
+mod OneCell
 pub mod PlainLemmas
 pub mod DecodedRowLemmas
 pub mod WholeLemmas

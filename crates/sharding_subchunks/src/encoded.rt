@@ -152,9 +152,8 @@ impl<I: ArrayToBytesCodecTraits> Subchunks<'_, I> {
         refusal
     }
 
-    // Puts the encoding of a subchunk that isn't all fill behind bytes that are there, and tells where it stands: its elements, where
-    // the inner codec stores these as they are in memory. A refusal leaves the bytes, and is that of the lowest subchunk that is
-    // refused.
+    // Puts the encoding of a subchunk that isn't all fill behind bytes that are there, and tells where it stands: its elements, where the
+    // inner codec stores these as they are in memory. A refusal leaves the bytes, and is that of the lowest subchunk that is refused.
     fn store_number(
         &self,
         alloc: Global,

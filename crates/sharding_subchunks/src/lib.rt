@@ -1,7 +1,6 @@
 // The subchunks of a shard, by its inner codec: decoded, read in part, encoded.
 #![tactic(auto)]
 
-mod cells;
 mod decoded;
 mod encoded;
 mod held_shard;

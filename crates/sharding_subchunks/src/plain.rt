@@ -4,6 +4,7 @@ ghost use Rattle.std.specs.List.{All};
 ghost use Rattle.parts_errors.specs.Order.{done, RefusedBy};
 ghost use Rattle.parts_row_major.specs.Numbering.{count_of};
 ghost use Rattle.parts_row_major.specs.Pieces.{pieces};
+ghost use Rattle.parts_row_major.specs.Subsets.{numbers_in};
 ghost use Rattle.storage_handles.specs.Handles.{IsRead, IsCounted};
 ghost use Rattle.storage_handles.specs.Objects.{interval_part, HasInterval, ObjectRefusals};
 ghost use Rattle.codec_traits.specs.Encodings.{IsPlain};
@@ -16,7 +17,8 @@ ghost use Rattle.sharding_subchunks.specs.Reads.{IsAppended};
 use crate::stored_shard::StoredShard;
 use codec_traits::ArrayToBytesCodecTraits;
 use parts_errors::CodecError;
-use parts_subsets::Located;
+use parts_row_major::ravel_indices;
+use parts_subsets::{ArraySubset, Located};
 use sharding_format::Slot;
 use sharding_gather::located;
 use std::alloc::Global;
@@ -143,5 +145,33 @@ impl<I: ArrayToBytesCodecTraits> StoredShard<'_, I> {
             return Ok(None);
         }
         self.plain_cells(alloc, handle, numbers, size)
+    }
+
+    // The bytes of the cell of a subset that has one, as `read_plain`. `None` where that is none, or the cell is outside the shard.
+    pub(crate) fn plain_cell<H: BytesPartialDecoderTraits>(
+        &self,
+        alloc: Global,
+        handle: &mut H,
+        subset: &ArraySubset,
+    ) -> Result<Option<Vec<u8>>, CodecError>
+        requires inside { IsTrue (H.state handle.old).transparent → HasInterval self.now.interval (H.state handle.old).contents }
+        requires one { count_of subset.now.shape ≡ 1 }
+        requires whole { length self.now.subchunks.fill_value.now < 2 ^ 64 }
+        ensures read { IsRead (H.state handle.old) (H.state handle.new) }
+        ensures counted { IfOk result (λ found. IfSome found (λ read. length read.items ≡ length self.now.subchunks.fill_value.now)) }
+        ensures cells { let s = self.now.subchunks in let inner = inner_meaning I.meaning s in let bytes = interval_part self.now.interval (H.state handle.old).contents in
+            IfOk result (λ found. IfSome found (λ read. IsTrue (H.state handle.old).transparent
+            → map (indexed_cell inner.cells self.now.shape.now s.shape.now s.fill_value.now bytes self.now.index.now.numbers.items) (numbers_in subset.now self.now.shape.now)
+            ≡ map Some (pieces (length s.fill_value.now) 1 read.items))) }
+        ensures fault { IfErr result (IsCounted (H.state handle.old) (H.state handle.new)) }
+        ensures refused { let s = self.now.subchunks in let inner = inner_meaning I.meaning s in let bytes = interval_part self.now.interval (H.state handle.old).contents in
+            IfErr result (RefusedBy (ObjectRefusals (H.state handle.old) (H.state handle.new) (
+            ReadByRefusals inner self.now.shape.now s.shape.now s.fill_value.now bytes self.now.index.now.numbers.items (numbers_in subset.now self.now.shape.now)))) }
+    {
+        let Some(number) = ravel_indices(subset.start(), self.shape.as_slice()) else {
+            return Ok(None);
+        };
+        let read = self.read_plain(alloc, handle, &[number])?;
+        Ok(read)
     }
 }

@@ -1,9 +1,7 @@
 // Subchunks that are rows of an array's bytes, laid end to end where the inner codec stores elements as they are in memory.
-ghost use Rattle.std.specs.Prelude.{◌≡◌, ◌<◌, ◌++◌, ◌⊎◌, [], OnOk, OnErr, IfOk, IfSome, IfNone, IsPermutation, length, take, drop};
+ghost use Rattle.std.specs.Prelude.{◌≡◌, IfOk, IfSome, IfNone, IsPermutation, length, take, drop};
 ghost use Rattle.std.specs.List.{range_with_len};
 ghost use Rattle.parts_row_major.specs.Numbering.{count_of};
-ghost use Rattle.parts_arrays.specs.Arrays.{IsWhole, fixed_array};
-ghost use Rattle.sharding_format.specs.Encoding.{IsAllFill};
 ghost use Rattle.sharding_format.specs.Laying.{IsStoredInOrder};
 ghost use Rattle.sharding_layout.specs.steps.Cutting.{CanBeCut};
 ghost use Rattle.sharding_subchunks.specs.steps.Inner.{spec_of_subchunks, inner_meaning};
@@ -11,44 +9,12 @@ ghost use Rattle.sharding_subchunks.specs.PlainRows.{ArePlainRows};
 
 use crate::subchunks::Subchunks;
 use codec_traits::ArrayToBytesCodecTraits;
-use parts_arrays::FillValue;
 use sharding_format::Slot;
 use sharding_layout::{
-    CutArray, SubchunkSequence, absent_slots, elements_in_run, is_blank, placed, room_for_next,
+    CutArray, SubchunkSequence, absent_slots, elements_in_run, is_blank, placed, push_rows,
+    stored_row,
 };
 use std::alloc::{AllocError, Global};
-
-// What is to be stored of a row: nothing where each element is the fill value.
-fn stored_row<'a>(row: &'a [u8], fill_value: &FillValue) -> &'a [u8]
-    requires whole { IsWhole (length fill_value.now) row.now }
-    requires some { 0 < length row.now }
-    ensures { let elements = (fixed_array (length fill_value.now) row.now).elements in
-        (IsAllFill fill_value.now elements × (result.now ≡ [])) ⊎ ((¬ (IsAllFill fill_value.now elements)) × (result.now ≡ row.now)) }
-{
-    if is_blank(row, fill_value) {
-        return &row[..0];
-    }
-    row
-}
-
-// Puts a run of rows behind the others, which begin at `start`, where some rows are laid out and some are left; one of none takes
-// no call. A refusal leaves them.
-fn push_rows(
-    slices: &mut Vec<u8>,
-    start: usize,
-    stored_slices: usize,
-    left: usize,
-    run: &[u8],
-) -> Result<(), AllocError>
-    ensures appended { OnOk result (slices.new.items ≡ slices.old.items ++ run.now) }
-    ensures kept { OnErr result (slices.new.items ≡ slices.old.items) }
-{
-    if run.len() == 0 {
-        return Ok(());
-    }
-    room_for_next(slices, start, stored_slices, left, run.len())?;
-    slices.extend_from_slice(run)
-}
 
 impl<I: ArrayToBytesCodecTraits> Subchunks<'_, I> {
     // The rows that aren't all fill, one after the other behind the slices that are there, which stay; neighbours are copied
@@ -122,9 +88,8 @@ impl<I: ArrayToBytesCodecTraits> Subchunks<'_, I> {
         Ok(slots)
     }
 
-    /// The subchunks laid out as `store_all_after` does, where they follow one another in the array, as `elements_in_run` tells, and
-    /// the inner codec stores their elements as they are in memory. Else `None`, and nothing is put there. Refused only as out of
-    /// memory.
+    /// The subchunks laid out as `store_all_after` does, where they follow one another in the array, as `elements_in_run` tells, and the
+    /// inner codec stores their elements as they are in memory. Else `None`, and nothing is put there. Refused only as out of memory.
     pub(crate) fn lay_out_rows(
         &self,
         alloc: Global,

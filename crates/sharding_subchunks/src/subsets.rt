@@ -133,6 +133,39 @@ impl<I: ArrayToBytesCodecTraits> StoredShard<'_, I> {
         Ok(bytes)
     }
 
+    // The same. One cell alone is read where it stands, if it can be.
+    fn cell_or_subset_bytes<H: BytesPartialDecoderTraits>(
+        &self,
+        alloc: Global,
+        handle: &mut H,
+        subset: &ArraySubset,
+        count: u64,
+    ) -> Result<Vec<u8>, CodecError>
+        requires inside { IsTrue (H.state handle.old).transparent → HasInterval self.now.interval (H.state handle.old).contents }
+        requires serves { (inner_meaning I.meaning self.now.subchunks).serves }
+        requires lies { LiesIn subset.now self.now.shape.now }
+        requires fixed { size_of self.now.subchunks.data_type.now ≡ Fixed (length self.now.subchunks.fill_value.now) }
+        requires count { count ≡ count_of subset.now.shape }
+        requires whole { count * length self.now.subchunks.fill_value.now < 2 ^ 64 }
+        ensures read { IsRead (H.state handle.old) (H.state handle.new) }
+        ensures counted { IfOk result (λ bytes. length bytes.items ≡ count * length self.now.subchunks.fill_value.now) }
+        ensures cells { let s = self.now.subchunks in let inner = inner_meaning I.meaning s in let bytes = interval_part self.now.interval (H.state handle.old).contents in
+            IfOk result (λ read. IsTrue (H.state handle.old).transparent
+            → map (indexed_cell inner.cells self.now.shape.now s.shape.now s.fill_value.now bytes self.now.index.now.numbers.items) (numbers_in subset.now self.now.shape.now)
+            ≡ map Some (pieces (length s.fill_value.now) count read.items)) }
+        ensures fault { IfErr result (IsCounted (H.state handle.old) (H.state handle.new)) }
+        ensures refused { let s = self.now.subchunks in let inner = inner_meaning I.meaning s in let bytes = interval_part self.now.interval (H.state handle.old).contents in
+            IfErr result (RefusedBy (ObjectRefusals (H.state handle.old) (H.state handle.new) (
+            ReadByRefusals inner self.now.shape.now s.shape.now s.fill_value.now bytes self.now.index.now.numbers.items (numbers_in subset.now self.now.shape.now)))) }
+    {
+        if count == 1 {
+            if let Some(bytes) = self.plain_cell(alloc, handle, subset)? {
+                return Ok(bytes);
+            }
+        }
+        self.subset_bytes(alloc, handle, subset, count)
+    }
+
     /// The cells of a subset, in row-major order of it; their elements have one size. The count is that of the subset's cells,
     /// whose bytes a number can say. Of each subchunk that the subset touches the inner codec reads the subset where both meet;
     /// nothing is kept for each cell. Refused as the lowest such subchunk is (`BadIndexEntry` with its number, `Damaged`,
@@ -161,7 +194,7 @@ impl<I: ArrayToBytesCodecTraits> StoredShard<'_, I> {
             ReadByRefusals inner self.now.shape.now s.shape.now s.fill_value.now bytes self.now.index.now.numbers.items (numbers_in subset.now self.now.shape.now)))) }
     {
         let fill = self.subchunks.fill_value.as_ne_bytes();
-        let bytes = self.subset_bytes(alloc, handle, subset, count)?;
+        let bytes = self.cell_or_subset_bytes(alloc, handle, subset, count)?;
         match ArrayBytes::new_flen(CowSlice::Owned(bytes), fill.len()) {
             Some(array) => Ok(array),
             None => unreachable!(),
