@@ -1,5 +1,5 @@
 -- The one cell of a subset that has one.
-use Rattle.std.proofs.Common.{◌≡◌, ◌∙◌, ◌<◌, ℕ, zero, suc, List, [], ◌∷◌, length, map, ap, arith}
+use Rattle.std.proofs.Common.{◌≡◌, ◌∙◌, ℕ, zero, suc, List, [], ◌∷◌, length, map, ap, arith}
 use Rattle.std.specs.List.{All, range_with_len}
 use Rattle.parts_row_major.specs.Numbering.{count_of, number_of}
 use Rattle.parts_row_major.specs.Subsets.{Subset, number_in, numbers_in}

@@ -1,5 +1,4 @@
 use Rattle.std.proofs.Common.{◌≡◌, ◌∙◌, ◌<◌, IsTrue, get_or, length, ap, sym, subst, refl, rules, arith}
-use Rattle.std.proofs.lemmas.List.{get_or_read}
 use Rattle.parts_errors.specs.Order.{done}
 use Rattle.parts_row_major.specs.Numbering.{count_of}
 use Rattle.parts_row_major.specs.Subsets.{Subset}
@@ -8,7 +7,6 @@ use Rattle.parts_arrays.specs.declared.target.FixedTarget.{FixedTarget}
 use Rattle.storage_handles.specs.Objects.{interval_part}
 use Rattle.codec_traits.specs.Reads.{IsOverwritten}
 use Rattle.codec_traits.specs.RefusalLaws.{passed_on}
-use Rattle.codec_traits.proofs.OverwriteLemmas.{untouched}
 use Rattle.codec_traits.proofs.ReadLemmas.{length-interval_part}
 use Rattle.sharding_format.specs.Index.{slot_at}
 use Rattle.sharding_gather.specs.steps.Placings.{shifted_subset}
