@@ -1,10 +1,7 @@
-// What an array on disk holds: its shards, and whether they are sound; where in its file each subchunk of a shard lies, and its bytes; what
-// else stands in its folder; maps of which shards are there, and which subchunks; and the arrays below a group.
+// What an array on disk holds: its shards; where in its file each subchunk of a shard lies, and its bytes; what else stands in its folder;
+// maps of which shards are there, and which subchunks; and the arrays below a group.
 #![tactic(auto)]
 
-mod checked;
-mod checking;
-mod checking_pieces;
 mod extraction;
 mod index_info;
 mod info;
@@ -14,7 +11,6 @@ mod list;
 mod map;
 mod shard_info;
 
-pub use checking::check;
 pub use extraction::extract;
 pub use info::info_of_array;
 pub use list::list_nodes;

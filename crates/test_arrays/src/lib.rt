@@ -1,5 +1,5 @@
-// Tests of arrays on disk: their metadata and their shards, subsets on a command line, and files of NumPy's format; and of arrays over a
-// store.
+// Tests of arrays on disk: their metadata and their shards, subsets on a command line, and files of NumPy's format; of arrays over a
+// store; and of scripts: what is said of lines that are refused, and readers and writers that fail.
 #![tactic(auto)]
 
 #[cfg(test)]
@@ -22,6 +22,10 @@ mod metadata;
 mod npy;
 #[cfg(test)]
 mod refused;
+#[cfg(test)]
+mod script_faults;
+#[cfg(test)]
+mod script_messages;
 #[cfg(test)]
 mod shards;
 #[cfg(test)]

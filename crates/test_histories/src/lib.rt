@@ -1,4 +1,4 @@
-// Tests of runs of commands, of recorded sessions and of scripts, over their public calls alone.
+// Tests of runs of commands and of recorded sessions, over their public calls alone.
 #![tactic(auto)]
 
 #[cfg(test)]
@@ -19,10 +19,6 @@ mod orders;
 mod rows;
 #[cfg(test)]
 mod run_faults;
-#[cfg(test)]
-mod script_faults;
-#[cfg(test)]
-mod script_messages;
 #[cfg(test)]
 mod shards;
 #[cfg(test)]

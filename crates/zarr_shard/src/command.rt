@@ -9,8 +9,9 @@ use array_elements::{Form, Reading, compare, print_subset, reshard, save_subset}
 use array_fields::escaped;
 use array_folder::Listing;
 use array_grid::{ListPart, subset_of, threads_of};
-use array_info::{check, extract, info_of_array, info_of_shard, list_nodes, map_array, map_shard};
+use array_info::{extract, info_of_array, info_of_shard, list_nodes, map_array, map_shard};
 use array_metadata::ArrayMetadata;
+use array_reading::check;
 use array_updates::{Way, compact, write_subset};
 use clap::ArgMatches;
 use std::alloc::Global;
