@@ -124,6 +124,15 @@ def check_promises():
                     say("docs/PROOFS.md", number, f"no call here has a clause {clause}")
 
 
+def check_places():
+    """docs/FORMAT.md names files in the crates where they stand."""
+    for number, text in paragraphs("docs/FORMAT.md"):
+        for crate, name in re.findall(r"\b([a-z]+_[a-z_]+) ((?:[a-z_]+/)*[a-z_]+\.rt|[A-Z]\w+)\b", text):
+            folder, name = ("src", name) if name.endswith(".rt") else ("specs", f"{name}.antt")
+            if os.path.isdir(f"{TOP}/crates/{crate}") and not os.path.exists(f"{TOP}/crates/{crate}/{folder}/{name}"):
+                say("docs/FORMAT.md", number, f"no {name} stands in {folder} of {crate}")
+
+
 def check_excerpt():
     """The code in README.md stands so in crates/example_library, which the gate proves and runs."""
     source = read(f"{TOP}/crates/example_library/src/read_elements.rt")
@@ -242,6 +251,7 @@ def main():
     check_lines()
     check_links()
     check_promises()
+    check_places()
     check_crates()
     check_sizes()
     check_imports()
