@@ -444,7 +444,7 @@ def joined(program, top):
     os.truncate(f"{path}/5.0", 100)
     alike(program, path)
     array(f"{top}/boundless", [2**62], [1], [1])
-    expect([program, "read", f"{top}/boundless"], 2, "the box has more elements than this program can hold")
+    expect([program, "read", f"{top}/boundless"], 2, "the subset has more elements than this program can hold")
 
 
 def indexed(program, top):

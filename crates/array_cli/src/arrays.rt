@@ -6,7 +6,9 @@ use crate::shard_codec::{ShardCodec, ShardFile};
 use crate::stop::Stop;
 use array_codecs::reversed_parts;
 use array_fields::{LONGEST_TEXT, MetadataError, escaped};
-use array_folder::{ChunkFile, ChunkFiles, ChunkGrid, document_length, list_chunks, read_document};
+use array_folder::{
+    ChunkFile, ChunkFiles, ChunkGrid, FolderError, document_length, list_chunks, read_document,
+};
 use array_grid::ListPart;
 use array_metadata::{ArrayCodec, ArrayMetadata, Obstacles, reversed_size};
 use parts_arrays::{DataTypeSize, FillValue};
@@ -15,7 +17,8 @@ use parts_subsets::ChunkShape;
 use sharding_format::SubchunkWriteOrder;
 use std::alloc::{AllocError, Global};
 use std::borrow::CowSlice;
-use storage_files::HostFile;
+use std::io;
+use storage_files::{HostFile, file_length};
 
 // How many bytes of a file are read at once at most, where its slices are small.
 const READ_AHEAD: usize = 65_536;
@@ -112,9 +115,43 @@ pub fn described(
     }
 }
 
+// Whether a folder has metadata of Zarr V2: of an array, or of a group.
+fn is_of_v2(rt: &HostRuntime, path: &str) -> Result<bool, AllocError> {
+    for name in [".zarray", ".zgroup"] {
+        let document = format!(in rt.alloc(); "{path}/{name}")?;
+        if let Ok(Some(_)) = file_length(rt, &document) {
+            return Ok(true);
+        }
+    }
+    Ok(false)
+}
+
+// Why the document of a folder is not read, where the system said so.
+fn unread_document(rt: &HostRuntime, path: &str, document: &str, error: FolderError) -> Stop {
+    let is_absent = match &error {
+        FolderError::System { error, .. } => error.kind() == io::ErrorKind::NotFound,
+        _ => false,
+    };
+    if !is_absent {
+        return error.into();
+    }
+    match is_of_v2(rt, path) {
+        Ok(true) => {
+            let said = "is not there: this is Zarr V2, only V3 is read";
+            let error = io::Error::new(io::ErrorKind::NotFound, said);
+            Stop::system(rt.alloc(), document, error)
+        }
+        Ok(false) => error.into(),
+        Err(_) => Stop::OutOfMemory,
+    }
+}
+
 // Tests how long the document of a folder is.
 fn test_document(rt: &HostRuntime, path: &str, document: &str) -> Result<(), Stop> {
-    let length = document_length(rt, path, document)?;
+    let length = match document_length(rt, path, document) {
+        Ok(length) => length,
+        Err(error) => return Err(unread_document(rt, path, document, error)),
+    };
     match MetadataError::test_length(length) {
         Ok(()) => Ok(()),
         Err(error) => Err(Stop::Metadata(Obstacles::one(rt.alloc(), document, error)?)),

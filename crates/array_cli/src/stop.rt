@@ -120,7 +120,7 @@ pub enum Stop {
     },
     /// A subset that is refused.
     #[error("{0}")]
-    Box(SubsetError),
+    Subset(SubsetError),
     /// An array whose chunks have too many elements for their numbers to be told.
     #[error("the chunks of the array have 2^64 elements or more, and `read` serves fewer")]
     TooManyElements,
@@ -134,7 +134,7 @@ pub enum Stop {
     #[error("the element at {0} is no text: its bytes are not UTF-32")]
     NoUtf32(String),
     /// A size that no number here can say.
-    #[error("the box has more elements than this program can hold")]
+    #[error("the subset has more elements than this program can hold")]
     TooLarge,
 }
 
@@ -199,7 +199,7 @@ impl From<SubsetError> for Stop {
     fn from(error: SubsetError) -> Stop {
         match error {
             SubsetError::OutOfMemory => Stop::OutOfMemory,
-            _ => Stop::Box(error),
+            _ => Stop::Subset(error),
         }
     }
 }

@@ -56,7 +56,10 @@ pub fn test_array(alloc: Global, whole: &Placed) -> Result<(), MetadataError>
     let node_type = whole.required(alloc, "node_type")?;
     match node_type.value.as_str() {
         Some("array") => Ok(()),
-        Some("group") => Err(node_type.bad(alloc, "this is a group, not an array")),
+        Some("group") => Err(node_type.bad(
+            alloc,
+            "this is a group, not an array: `list` names the arrays below it",
+        )),
         _ => Err(node_type.bad(alloc, "this is not an array")),
     }
 }

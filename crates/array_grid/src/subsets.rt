@@ -16,16 +16,16 @@ pub enum SubsetError {
     #[error("out of memory")]
     OutOfMemory,
     /// A word is none: the word, escaped for a terminal, and its column in the text, of which the first character has column 1.
-    #[error("a box has a word for each axis, as in 0..2,3:5,-1, and \"{word}\" at column {column} is none")]
+    #[error("a subset has a word for each axis, as in 0..2,3:5,-1, and \"{word}\" at column {column} is none")]
     Malformed { word: String, column: usize },
     /// The ellipsis stands more than once.
     #[error("\"...\" stands more than once")]
     Ellipses,
     /// It names more axes than there are.
-    #[error("the box names {requested} axes, and the array has {axes}")]
+    #[error("the subset names {requested} axes, and the array has {axes}")]
     Axes { requested: usize, axes: usize },
     /// It passes the array of this shape.
-    #[error("the box passes the array, whose shape is {0:?}")]
+    #[error("the subset passes the array, whose shape is {0:?}")]
     Outside(Vec<u64>),
     /// A range starts past its end in the array of this shape.
     #[error("a range starts past its end, in an array whose shape is {0:?}")]

@@ -10,9 +10,7 @@ use std::io::Write;
 // Whether what is refused is the metadata of a group.
 fn is_group(obstacles: &Obstacles) -> bool {
     match &obstacles.first {
-        MetadataError::Refused { sentence, .. } => {
-            sentence.as_str() == "this is a group, not an array"
-        }
+        MetadataError::Refused { sentence, .. } => { sentence.starts_with("this is a group, ") }
         _ => false,
     }
 }

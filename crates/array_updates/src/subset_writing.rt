@@ -268,7 +268,7 @@ fn write_file(
 /// Writes the elements of a file into a subset of an array, which a text as `0..2,3` names, or into all of it. Each shard in which the
 /// subset lies is replaced as a whole once its new file is written, in the order of the grid, or its file is removed where all of its
 /// elements are the fill value then; a line tells of it. Refused, in this order, as `Stop::Metadata` where elements are not read, as
-/// `Stop::Box` where the text names no subset, as `elements_of_file` refuses, and as a shard is refused that is to keep some of its
+/// `Stop::Subset` where the text names no subset, as `elements_of_file` refuses, and as a shard is refused that is to keep some of its
 /// elements: those before it are written then, and none behind it.
 pub fn write_subset(
     array: &Array<'_>,

@@ -30,7 +30,7 @@ const TEXTS: &[(&str, &str)] = &[
     ),
     (
         r#"{"zarr_format": 3, "node_type": "group", "x": 1}"#,
-        "4 BadField node_type: in node_type: this is a group, not an array",
+        "4 BadField node_type: in node_type: this is a group, not an array: `list` names the arrays below it",
     ),
     (
         r#"{"zarr_format": 3, "node_type": "array", "shape": [1]}"#,

@@ -116,7 +116,7 @@ fn reading<'a>(matches: &ArgMatches<'a>) -> SharedWork<'a> {
         None => Target::Answer(form_of(matches)),
     };
     SharedWork::Read {
-        requested: matches.get_str("BOX"),
+        requested: matches.get_str("SUBSET"),
         target,
         fills: matches.get_flag("fill-damaged"),
     }
@@ -178,7 +178,7 @@ fn lone_work_of<'a>(name: &str, matches: &ArgMatches<'a>) -> Option<Work<'a>> {
             number: matches.get_str("NUMBER").unwrap_or(""),
         }),
         ("write", _) => Some(Work::Write {
-            requested: matches.get_str("BOX"),
+            requested: matches.get_str("SUBSET"),
             file: elements_file(matches),
         }),
         ("map", Some(key)) => Some(Work::MapOfShard {

@@ -15,7 +15,7 @@ type Usage = (
 );
 
 // The arguments that may begin with a hyphen: a subset from the end of an axis, as -1,0..2, and a fill value.
-const HYPHENS: &[&str] = &["BOX", "--fill <VALUE>"];
+const HYPHENS: &[&str] = &["SUBSET", "--fill <VALUE>"];
 
 const PATH: Argument = (
     "<PATH>",
@@ -25,8 +25,8 @@ const PATH: Argument = (
 
 const KEY: Argument = ("[KEY]", "The key of the shard, as c/0/3", &[]);
 
-const BOX: Argument = (
-    "[BOX]",
+const SUBSET: Argument = (
+    "[SUBSET]",
     "A word for each axis, with commas, as 0..2,3..5; without it the whole array",
     &[],
 );
@@ -137,11 +137,11 @@ const LOOKING: &[Usage] = &[
 const READING: &[Usage] = &[
     (
         "read",
-        "Writes the cells of a box in row-major order, a row of the last axis a line",
+        "Writes the cells of a subset in row-major order, a row of the last axis a line",
         "Example: zarr_shard read weather/temperature 0..2,3..5\nA word: 0..2 or 0:2 to before 2; 0..=2 to 2; 3.., :5 and : to an end of the axis; 7 one coordinate; -1 the last; ... the axes that are missing.\nA bool is 0 or 1 as text, and true or false in JSON.",
         &[
             PATH,
-            BOX,
+            SUBSET,
             (
                 "[--json]",
                 "An object of JSON with shape, data_type and cells",
@@ -236,7 +236,7 @@ const WRITING: &[Usage] = &[
         "Example: zarr_shard write weather/temperature 0..2,3..5 --npy new.npy\nA shard is replaced by a new file once that is whole; a line tells of each.",
         &[
             PATH,
-            BOX,
+            SUBSET,
             (
                 "[--npy <FILE>]",
                 "A file of NumPy's format with the elements; an axis named by one coordinate is none of its axes",
