@@ -82,22 +82,45 @@ fn first_too_deep(text: &str) -> Option<Position> {
     None
 }
 
-// Where nesting made a text be refused; `None` where the text was refused before it nested too deep.
-fn refused_as_too_deep(text: &str, refused: Position) -> Option<Position> {
-    let deep = first_too_deep(text)?;
-    let is_later = refused.line > deep.line;
-    let is_there = refused.line == deep.line && refused.column >= deep.column;
-    if is_later || is_there {
-        Some(deep)
-    } else {
-        None
+// The word that stands in front of a text, where it is one that Python writes for a float which JSON cannot say.
+fn word_of_float(rest: &[u8]) -> Option<&'static str> {
+    if rest.starts_with(b"NaN") {
+        return Some("NaN");
     }
+    if rest.starts_with(b"Infinity") {
+        return Some("Infinity");
+    }
+    None
+}
+
+// The first such word that stands in no string, and where.
+fn first_word_of_float(text: &str) -> Option<(&'static str, Position)> {
+    let bytes = text.as_bytes();
+    let mut scan = Scan::start();
+    for (at, byte) in bytes.iter().enumerate() {
+        let in_string = scan.in_string;
+        scan.step(*byte);
+        if !in_string {
+            if let Some(word) = word_of_float(bytes.get(at..).unwrap_or(&[])) {
+                return Some((word, scan.position));
+            }
+        }
+    }
+    None
+}
+
+// Whether a text that is refused at a place was read up to another one.
+fn reaches(refused: Position, position: Position) -> bool {
+    let is_later = refused.line > position.line;
+    let is_there = refused.line == position.line && refused.column >= position.column;
+    is_later || is_there
 }
 
 // What is wrong with a text that is no JSON, or none that is read.
 fn sentence_of(alloc: Global, text: &str, error: &Error) -> Result<String, AllocError> {
     let (line, column) = (error.line(), error.column());
-    if let Some(deep) = refused_as_too_deep(text, Position { line, column }) {
+    let refused = Position { line, column };
+    if let Some(deep) = first_too_deep(text).filter(|deep| reaches(refused, *deep)) {
         let Position { line, column } = deep;
         return format!(in alloc;
             "the text nests deeper than {MOST_BRACKETS} brackets, at line {line}, column {column}"
@@ -107,6 +130,12 @@ fn sentence_of(alloc: Global, text: &str, error: &Error) -> Result<String, Alloc
     if told.starts_with("number out of range") {
         return format!(in alloc;
             "a number near line {line}, column {column} is past the range of a 64-bit float"
+        );
+    }
+    let word = first_word_of_float(text).filter(|(_, position)| reaches(refused, *position));
+    if let Some((word, Position { line, column })) = word {
+        return format!(in alloc;
+            "the text is no JSON, which has no {word}, as at line {line}, column {column}"
         );
     }
     String::from_str(alloc, "the text is no JSON")

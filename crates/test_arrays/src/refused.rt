@@ -13,6 +13,22 @@ const TEXTS: &[(&str, &str)] = &[
         "4 BadField zarr.json: in zarr.json: the text is no JSON",
     ),
     (
+        "{\n  \"attributes\": {\"least\": NaN}}",
+        "4 BadField zarr.json: in zarr.json: the text is no JSON, which has no NaN, as at line 2, column 27",
+    ),
+    (
+        "[-Infinity]",
+        "4 BadField zarr.json: in zarr.json: the text is no JSON, which has no Infinity, as at line 1, column 3",
+    ),
+    (
+        r#"{"x": "NaN""#,
+        "4 BadField zarr.json: in zarr.json: the text is no JSON",
+    ),
+    (
+        "[x, NaN]",
+        "4 BadField zarr.json: in zarr.json: the text is no JSON",
+    ),
+    (
         "[]",
         "4 BadField zarr.json: in zarr.json: the text is JSON, but no object",
     ),
