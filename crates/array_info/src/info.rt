@@ -1,4 +1,5 @@
 // What an array on disk holds, and its shards.
+use crate::codec_lines::write_codecs;
 use crate::index_info::{index_info, index_range};
 use crate::info_pieces::{KnownShards, known_shards};
 use crate::json;
@@ -221,13 +222,13 @@ fn write_names(out: &mut Output, metadata: &ArrayMetadata) -> io::Result<()> {
 }
 
 // Writes what the metadata says.
-fn write_metadata(out: &mut Output, metadata: &ArrayMetadata) -> io::Result<()> {
+fn write_metadata(out: &mut Output, alloc: Global, metadata: &ArrayMetadata) -> io::Result<()> {
     write_numbers(out, "shape", &metadata.shape)?;
     write_names(out, metadata)?;
     write_numbers(out, "chunks", metadata.shard.as_slice())?;
     write_subchunk(out, metadata)?;
     write_type(out, metadata)?;
-    writeln!(out, "codecs: {}", metadata.codecs)
+    write_codecs(out, alloc, &metadata.codecs)
 }
 
 // Writes the codec for which no subchunk is looked into, if there is one.
@@ -334,7 +335,7 @@ fn write_info(
     shards: &[Option<ShardInfo>],
     sums: &Sums,
 ) -> io::Result<()> {
-    write_metadata(out, array.metadata)?;
+    write_metadata(out, array.alloc(), array.metadata)?;
     write_unread(out, array.unread()?)?;
     write_count(out, array, sums.shards)?;
     write_shards(out, array.alloc(), files, shards)?;

@@ -2,6 +2,7 @@
 // maps of which shards are there, and which subchunks; and the arrays below a group.
 #![tactic(auto)]
 
+mod codec_lines;
 mod extraction;
 mod index_info;
 mod info;
