@@ -1,12 +1,17 @@
 -- A chunk of a new array that has elements of an old one.
-use Rattle.std.specs.Prelude.{◌≡◌, ◌⊎◌, ℕ, List, Option, None}
+use Rattle.std.specs.Prelude.{◌≡◌, ◌+◌, ◌⊎◌, ℕ, List, Option, None}
 use Rattle.parts_errors.specs.Words.{Bytes}
+use Rattle.parts_row_major.specs.Numbering.{zip_with}
 use Rattle.parts_row_major.specs.Subsets.{Subset}
 use Rattle.parts_arrays.specs.Arrays.{fixed_array}
 use Rattle.array_grid.specs.Cells.{CellsOfSubset}
 use Rattle.array_cli.specs.ChunkParts.{IsBehind, LiesInChunk}
 use Rattle.array_cli.specs.NewChunks.{IsStoredChunk}
 use Rattle.array_store.specs.ArrayElements.{AreElementsAt}
+
+-- a part of the subset of an array that starts at an origin, as a subset of the array
+abbrev pub moved_by : List ℕ → Subset → Subset
+moved_by origin part = record { start = zip_with ◌+◌ origin part.start; shape = part.shape }
 
 -- what is stored of a chunk: its elements are those of a subset of an array, which stand at its start, and the fill value behind them
 pub record IsChunkOfSubset

@@ -107,7 +107,7 @@ fn plain_document(alloc: Global, words: &ArrayWords<'_>) -> Result<String, Stop>
 fn laid_out(alloc: Global, path: &str, words: &ArrayWords<'_>) -> Result<String, Stop> {
     let plain = plain_document(alloc, words)?;
     let metadata = described(alloc, path, &plain, SubchunkWriteOrder::C)?;
-    new_document(alloc, &words.layout, &plain, &metadata)
+    new_document(alloc, &words.layout, &plain, &metadata, &metadata.shape)
 }
 
 // Tests that the codecs serve an array with this document.

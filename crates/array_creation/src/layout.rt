@@ -230,17 +230,20 @@ fn new_shard_shape(
     parsed(alloc, &text)
 }
 
-/// The `zarr.json` of an array that is laid out anew, from the one of the array as it is: all other members stay. Refused as
-/// `Stop::BadWord` where a word is none of those that it may be.
+/// The `zarr.json` of an array that is laid out anew, or a subset of it that has this shape, from the one of the array as it is: all other
+/// members stay. Refused as `Stop::BadWord` where a word is none of those that it may be.
 pub fn new_document(
     alloc: Global,
     words: &LayoutWords<'_>,
     text: &str,
     metadata: &ArrayMetadata,
+    shape: &[u64],
 ) -> Result<String, Stop> {
     let mut document = parsed(alloc, text)?;
     let codecs = new_codecs(alloc, words, &document, metadata)?;
     let shard = new_shard_shape(alloc, words, metadata)?;
+    let shape = parsed(alloc, &shape_text(alloc, None, shape)?)?;
+    put(&mut document, "/shape", shape);
     put(&mut document, "/codecs", codecs);
     put(
         &mut document,

@@ -11,4 +11,4 @@ pub use chunk_elements::encoded_varying;
 pub use creating::{ArrayWords, create};
 pub use layout::{LayoutWords, new_document, order_of};
 pub use new_folder::{begin_folder, end_folder, put_file, test_served};
-pub use subset_chunk::{chunk_of_array, chunk_of_subset};
+pub use subset_chunk::{chunk_of_array, chunk_of_subset, moved_subset};

@@ -1,5 +1,5 @@
 // Two arrays, compared element by element.
-use array_cli::{Array, Ending, Output, Progress, Stop, elements_of, written};
+use array_cli::{Array, Ending, Output, Progress, Stop, elements_of, whole_of, written};
 use array_fields::ElementType;
 use array_grid::{SubsetCells, SubsetElements, VaryingCells, write_cell_line, write_numbers};
 use array_metadata::ArrayMetadata;
@@ -141,8 +141,9 @@ fn chunks_of_both(one: &Array<'_>, other: &Array<'_>) -> Result<Vec<Vec<u64>>, S
     if one.metadata.fill_value != other.metadata.fill_value {
         return all_chunks(one.alloc(), one.grid.counts());
     }
-    let mut chunks = chunks_of(one, chunk)?;
-    for coordinates in chunks_of(other, chunk)? {
+    let whole = whole_of(one.alloc(), &one.metadata.shape)?;
+    let mut chunks = chunks_of(one, &whole, chunk)?;
+    for coordinates in chunks_of(other, &whole, chunk)? {
         chunks.push(coordinates)?;
     }
     chunks.sort_unstable();

@@ -1,15 +1,18 @@
 // An array laid out anew in another folder.
 use array_cli::{Array, Ending, Output, Progress, Stop, Workers, described, elements_of, written};
 use array_creation::{
-    LayoutWords, begin_folder, chunk_of_array, encoded_varying, end_folder, new_document, order_of,
-    put_file, test_served,
+    LayoutWords, begin_folder, chunk_of_array, encoded_varying, end_folder, moved_subset,
+    new_document, order_of, put_file, test_served,
 };
 use array_folder::Counted;
-use array_grid::{ShardWork, SubsetCells, SubsetElements, piece_length, piece_of, run_in_parallel};
+use array_grid::{
+    ShardWork, SubsetCells, SubsetElements, piece_length, piece_of, run_in_parallel, subset_of,
+};
 use array_metadata::ArrayMetadata;
 use array_reading::{chunks_of, files_of, read_silently, why_refused};
 use parts_arrays::DataTypeSize;
 use parts_errors::CodecError;
+use parts_subsets::ArraySubset;
 use sharding_format::SubchunkWriteOrder;
 use std::fs;
 use std::io::Write;
@@ -18,11 +21,12 @@ use std::thread::Threads;
 // How many chunks a thread makes at a time at most: their elements are read into the same cells.
 const CHUNKS_OF_A_PIECE: usize = 4;
 
-// A new array: the folder in which its shards are made, and its metadata.
+// A new array: the folder in which its shards are made, its metadata, and where the subset of the old array starts whose elements it has.
 #[derive(Clone, Copy)]
 struct NewArray<'n> {
     folder: &'n str,
     metadata: &'n ArrayMetadata,
+    origin: &'n [u64],
 }
 
 // What was written.
@@ -48,20 +52,38 @@ impl Written {
     }
 }
 
+// The subset of the old array whose elements lie in the chunk at these coordinates of a new one; `None` where there is none.
+fn old_elements(
+    old: &Array<'_>,
+    new: &NewArray<'_>,
+    coordinates: &[u64],
+) -> Result<Option<ArraySubset>, Stop> {
+    let NewArray {
+        metadata,
+        origin,
+        ..
+    } = *new;
+    match elements_of(old.alloc(), coordinates, &metadata.shard, &metadata.shape)? {
+        Some(part) => Ok(moved_subset(old.alloc(), origin, &part)?),
+        None => Ok(None),
+    }
+}
+
 // The bytes of the chunk at these coordinates of a new array, whose elements have one size and are read into cells that are there; `None`
 // where it has no file. Both arrays have elements in one byte order: `new_document` keeps it where the codecs do not turn them.
 fn encoded_sized(
     old: &Array<'_>,
-    new: &ArrayMetadata,
+    new: &NewArray<'_>,
     coordinates: &[u64],
     cells: &mut SubsetCells,
 ) -> Result<Option<Vec<u8>>, Stop> {
-    let alloc = old.alloc();
-    let error = match chunk_of_array(alloc, &files_of(old)?, coordinates, new, cells) {
+    let (alloc, metadata) = (old.alloc(), new.metadata);
+    let files = files_of(old)?;
+    let error = match chunk_of_array(alloc, &files, new.origin, coordinates, metadata, cells) {
         Ok(chunk) => return Ok(chunk),
         Err(error) => error,
     };
-    match elements_of(alloc, coordinates, &new.shard, &new.shape)? {
+    match old_elements(old, new, coordinates)? {
         Some(requested) => Err(why_refused(old, &requested, error)),
         None => Ok(None),
     }
@@ -70,15 +92,15 @@ fn encoded_sized(
 // The bytes of the chunk at these coordinates of a new array, whose elements have lengths of their own; `None` where it has no file.
 fn encoded_varying_at(
     old: &Array<'_>,
-    new: &ArrayMetadata,
+    new: &NewArray<'_>,
     coordinates: &[u64],
 ) -> Result<Option<Vec<u8>>, Stop> {
-    let Some(requested) = elements_of(old.alloc(), coordinates, &new.shard, &new.shape)? else {
+    let Some(requested) = old_elements(old, new, coordinates)? else {
         return Ok(None);
     };
     match read_silently(old, &requested)? {
         SubsetElements::Varying(found) => {
-            Ok(encoded_varying(old.rt, requested.shape(), &found, new)?)
+            Ok(encoded_varying(old.rt, requested.shape(), &found, new.metadata)?)
         }
         SubsetElements::Sized(_) => Err(CodecError::WrongElementKind.into()),
     }
@@ -87,11 +109,11 @@ fn encoded_varying_at(
 // The bytes of the chunk at these coordinates of a new array, with the elements that the old one has there; `None` where it has no file.
 fn new_chunk(
     old: &Array<'_>,
-    new: &ArrayMetadata,
+    new: &NewArray<'_>,
     coordinates: &[u64],
     cells: &mut SubsetCells,
 ) -> Result<Option<Vec<u8>>, Stop> {
-    match new.data_type.size() {
+    match new.metadata.data_type.size() {
         DataTypeSize::Fixed(_) => encoded_sized(old, new, coordinates, cells),
         DataTypeSize::Variable => encoded_varying_at(old, new, coordinates),
     }
@@ -104,7 +126,7 @@ fn put_chunk(
     coordinates: &[u64],
     cells: &mut SubsetCells,
 ) -> Result<Option<u64>, Stop> {
-    let Some(bytes) = new_chunk(old, new.metadata, coordinates, cells)? else {
+    let Some(bytes) = new_chunk(old, new, coordinates, cells)? else {
         return Ok(None);
     };
     let key = new.metadata.keys.key_of(old.alloc(), coordinates)?;
@@ -183,23 +205,25 @@ fn put_all<'s, T: Threads + Sync>(
     Ok(sum)
 }
 
-// Makes a new array in the folder `beside`, which is there, and puts it at its path.
+// What a new array is to be: of which subset of the old one it has the elements, and its document.
+#[derive(Clone, Copy)]
+struct Planned<'p> {
+    subset: &'p ArraySubset,
+    document: &'p str,
+}
+
+// Makes a new array in its folder, which is there, and puts it at its path.
 fn make_in<T: Threads + Sync>(
     old: &Array<'_>,
-    paths: (&str, &str),
-    document: &str,
-    new: &ArrayMetadata,
+    path: &str,
+    new: &NewArray<'_>,
+    planned: &Planned<'_>,
     workers: &Workers<'_, T>,
     progress: &mut Progress,
 ) -> Result<Written, Stop> {
-    let (path, beside) = paths;
-    let chunks = chunks_of(old, &new.shard)?;
-    let array = NewArray {
-        folder: beside,
-        metadata: new,
-    };
-    let sum = put_all(&*old, &array, &chunks, workers, progress)?;
-    end_folder(old.rt, path, beside, document)?;
+    let chunks = chunks_of(old, planned.subset, &new.metadata.shard)?;
+    let sum = put_all(&*old, new, &chunks, workers, progress)?;
+    end_folder(old.rt, path, new.folder, planned.document)?;
     Ok(sum)
 }
 
@@ -207,14 +231,19 @@ fn make_in<T: Threads + Sync>(
 fn make<T: Threads + Sync>(
     old: &Array<'_>,
     path: &str,
-    document: &str,
-    new: &ArrayMetadata,
+    metadata: &ArrayMetadata,
+    planned: &Planned<'_>,
     workers: &Workers<'_, T>,
     progress: &mut Progress,
 ) -> Result<Written, Stop> {
     let beside = format!(in old.alloc(); "{path}.partial")?;
     begin_folder(old.rt, path, &beside)?;
-    let made = make_in(old, (path, &beside), document, new, workers, progress);
+    let new = NewArray {
+        folder: &beside,
+        metadata,
+        origin: planned.subset.start(),
+    };
+    let made = make_in(old, path, &new, planned, workers, progress);
     if made.is_err() {
         let _ = fs::remove_dir_all(old.rt, &beside);
     }
@@ -225,14 +254,14 @@ fn make<T: Threads + Sync>(
 fn make_described<T: Threads + Sync>(
     old: &Array<'_>,
     path: &str,
-    document: &str,
+    planned: &Planned<'_>,
     order: SubchunkWriteOrder,
     workers: &Workers<'_, T>,
     progress: &mut Progress,
 ) -> Result<Written, Stop> {
-    let new = described(old.alloc(), path, document, order)?;
+    let new = described(old.alloc(), path, planned.document, order)?;
     test_served(old.rt, path, &new)?;
-    make(old, path, document, &new, workers, progress)
+    make(old, path, &new, planned, workers, progress)
 }
 
 // Tells what was written.
@@ -242,22 +271,30 @@ fn tell(wrote: &Written, out: &mut Output) -> Result<Ending, Stop> {
     Ok(Ending::Done)
 }
 
-/// Makes a new array of the elements of an old one, laid out in another way, in a folder that is not there yet. It is written beside
+/// Makes a new array of the elements of an old one, or of the subset that a word names, laid out in another way, in a folder that is not
+/// there yet. It is written beside
 /// itself, with `.partial` behind its name, and renamed once it is whole; where anything is refused, nothing is left, and the refusal is
 /// that of the first new shard, in the order of their grid, that is refused. Each new shard is read from the old array as one subset, and
 /// made by one of the threads. Writes how many shards and bytes it has.
 pub fn reshard<T: Threads + Sync>(
     old: &Array<'_>,
     path: &str,
+    requested: Option<&str>,
     words: &LayoutWords<'_>,
     workers: &Workers<'_, T>,
     out: &mut Output,
     progress: &mut Progress,
 ) -> Result<Ending, Stop> {
     old.test_read()?;
-    let order = order_of(old.alloc(), words.order)?;
-    let document = new_document(old.alloc(), words, &old.metadata.text, old.metadata)?;
-    let wrote = make_described(old, path, &document, order, workers, progress)?;
+    let (alloc, metadata) = (old.alloc(), old.metadata);
+    let order = order_of(alloc, words.order)?;
+    let subset = subset_of(alloc, requested, &metadata.shape)?.subset;
+    let document = new_document(alloc, words, &metadata.text, metadata, subset.shape())?;
+    let planned = Planned {
+        subset: &subset,
+        document: &document,
+    };
+    let wrote = make_described(old, path, &planned, order, workers, progress)?;
     progress.clear();
     tell(&wrote, out)
 }

@@ -151,7 +151,11 @@ fn run_shared<T: Threads + Sync>(
             let reading = Reading { fills, workers };
             run_read(array, requested, target, &reading, out, progress)
         }
-        SharedWork::Reshard { path, words } => reshard(array, path, &words, workers, out, progress),
+        SharedWork::Reshard {
+            path,
+            requested,
+            words,
+        } => reshard(array, path, requested, &words, workers, out, progress),
     }
 }
 

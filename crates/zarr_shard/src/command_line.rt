@@ -66,6 +66,7 @@ pub enum SharedWork<'a> {
     },
     Reshard {
         path: &'a str,
+        requested: Option<&'a str>,
         words: LayoutWords<'a>,
     },
 }
@@ -158,6 +159,7 @@ fn shared_work_of<'a>(name: &str, matches: &ArgMatches<'a>) -> SharedWork<'a> {
         "read" => reading(matches),
         "reshard" => SharedWork::Reshard {
             path: matches.get_str("DST").unwrap_or(""),
+            requested: matches.get_str("subset"),
             words: layout_words(matches),
         },
         "compact" => compacting(matches),

@@ -15,7 +15,7 @@ type Usage = (
 );
 
 // The arguments that may begin with a hyphen: a subset from the end of an axis, as -1,0..2, and a fill value.
-const HYPHENS: &[&str] = &["SUBSET", "--fill <VALUE>"];
+const HYPHENS: &[&str] = &["SUBSET", "--subset <SUBSET>", "--fill <VALUE>"];
 
 const PATH: Argument = (
     "<PATH>",
@@ -256,6 +256,11 @@ const WRITING: &[Usage] = &[
         &[
             PATH,
             ("<DST>", NEW_FOLDER, &[]),
+            (
+                "[--subset <SUBSET>]",
+                "The elements of this subset alone, as 0..2,3..5",
+                &[],
+            ),
             ("[--shard <SHAPE>]", SHARD_HELP, &[]),
             ("[--subchunk <SHAPE>]", SUBCHUNK_HELP, &[]),
             INDEX,
