@@ -222,7 +222,7 @@ fn make_in<T: Threads + Sync>(
     progress: &mut Progress,
 ) -> Result<Written, Stop> {
     let chunks = chunks_of(old, planned.subset, &new.metadata.shard)?;
-    let sum = put_all(&*old, new, &chunks, workers, progress)?;
+    let sum = put_all(&*old, &*new, &chunks, workers, progress)?;
     end_folder(old.rt, path, new.folder, planned.document)?;
     Ok(sum)
 }
