@@ -64,29 +64,35 @@ const TEXTS: &[(&str, &str)] = &[
     // past the array
     (
         "0..9",
-        "the box passes the array, whose shape is [8, 12, 5]",
+        "the subset passes the array, whose shape is [8, 12, 5]",
     ),
-    ("8", "the box passes the array, whose shape is [8, 12, 5]"),
-    ("-9", "the box passes the array, whose shape is [8, 12, 5]"),
+    (
+        "8",
+        "the subset passes the array, whose shape is [8, 12, 5]",
+    ),
+    (
+        "-9",
+        "the subset passes the array, whose shape is [8, 12, 5]",
+    ),
     (
         "..=8",
-        "the box passes the array, whose shape is [8, 12, 5]",
+        "the subset passes the array, whose shape is [8, 12, 5]",
     ),
     (
         "..=-9",
-        "the box passes the array, whose shape is [8, 12, 5]",
+        "the subset passes the array, whose shape is [8, 12, 5]",
     ),
     (
         "-9..",
-        "the box passes the array, whose shape is [8, 12, 5]",
+        "the subset passes the array, whose shape is [8, 12, 5]",
     ),
     (
         "9..9",
-        "the box passes the array, whose shape is [8, 12, 5]",
+        "the subset passes the array, whose shape is [8, 12, 5]",
     ),
     (
         "5..3,12",
-        "the box passes the array, whose shape is [8, 12, 5]",
+        "the subset passes the array, whose shape is [8, 12, 5]",
     ),
     // a start past its end
     (
@@ -103,8 +109,11 @@ const TEXTS: &[(&str, &str)] = &[
     ),
     // too many
     ("...,1,...", "\"...\" stands more than once"),
-    ("1,2,3,4", "the box names 4 axes, and the array has 3"),
-    ("1,2,...,3,4", "the box names 4 axes, and the array has 3"),
+    ("1,2,3,4", "the subset names 4 axes, and the array has 3"),
+    (
+        "1,2,...,3,4",
+        "the subset names 4 axes, and the array has 3",
+    ),
     // words that are none
     ("", "column 1: "),
     ("[]", "column 2: "),
@@ -139,7 +148,7 @@ const LONG_TEXTS: &[(&str, &str)] = &[
     ("...", "[0] [18446744073709551615] [false]"),
     (
         "..=18446744073709551615",
-        "the box passes the array, whose shape is [18446744073709551615]",
+        "the subset passes the array, whose shape is [18446744073709551615]",
     ),
 ];
 

@@ -94,10 +94,10 @@ fn corner_counts<R: Abort>(rt: &R, alloc: Global) -> (u64, u64) {
     )
 }
 
-// An index of 64 bytes and four slices of 4 bytes.
+// An index of 64 bytes, and four slices of 4 elements of a byte, of which one is read twice.
 #[test]
-fn only_the_slice_of_a_cell_is_read(rt: HostRuntime) {
-    same(&rt, corner_counts(&rt, rt.alloc()), (64, 64 + 2 * 4));
+fn only_the_element_of_a_cell_is_read(rt: HostRuntime) {
+    same(&rt, corner_counts(&rt, rt.alloc()), (64, 64 + 2));
 }
 
 // Those of a shard of two shards, of which a cell of the second is read; and how long it is.
